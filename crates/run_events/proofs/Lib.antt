@@ -1,0 +1,3 @@
+pub mod Counts
+pub mod Counting
+pub mod Verdicts

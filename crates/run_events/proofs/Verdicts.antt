@@ -1,0 +1,63 @@
+-- Each finished test counts in one way, and so does each finished script.
+use Rattle.std.proofs.Common.{◌≡◌, ◌+◌, ◌<◌, ◌^◌, List, length, Bool, true, false, cond, not, ◌&&◌, ◌||◌, refl, arith}
+use Rattle.std.specs.Prelude.{Some}
+use Rattle.run_events.specs.Counters.{UnitView, count_of, stats_of, tests_of, scripts_of, test_of, script_of}
+use Rattle.run_events.specs.Level.{flaky_level, has_level_fail, is_level_fail, success_level}
+use Rattle.run_events.specs.Results.{succeeds, is_leak_fail, is_fail, is_exec_fail, is_timeout_fail, flaky_fails}
+use Rattle.run_events.specs.ScriptCounters.{script_passed, script_failed, script_exec_failed, script_timed_out}
+use Rattle.run_events.specs.Summary.{FailuresFit}
+use Rattle.run_events.specs.TestCounters.{is_failed, is_exec_failed, is_failed_timed_out, was_retried}
+use Rattle.run_events.specs.TestView.{TestView}
+use Rattle.run_events.specs.declared.config.FlakyResult.{FlakyResult}
+use Rattle.run_events.specs.declared.config.FlakyResult.TheVariants as flaky
+use Rattle.run_events.specs.declared.config.LeakTimeoutResult.TheVariants as leak
+use Rattle.run_events.specs.declared.config.SlowTimeoutResult.TheVariants as slow
+use Rattle.run_events.specs.declared.levels.StatusLevel.TheVariants as level
+use Rattle.run_events.specs.declared.results.ExecutionResultDescription.{ExecutionResultDescription}
+use Rattle.run_events.specs.declared.results.ExecutionResultDescription.TheVariants as result
+use Rattle.run_events.specs.declared.stats.RunStart.{RunStart}
+use Rattle.run_events.proofs.Counts.{one, count_of-le, count_of-three, length-filter_map-le}
+
+-- the same of a test with this last result, retried or not, with this setting
+one_failure_by : (r : ExecutionResultDescription) (retried : Bool) (setting : FlakyResult) → one ((succeeds r && retried && flaky_fails setting) || is_leak_fail r || is_fail r) + one (is_exec_fail r) + one (is_timeout_fail r) ≡ one (is_level_fail (cond (succeeds r) (cond retried (Some (flaky_level setting)) (success_level r)) (Some level.Fail)))
+one_failure_by result.Pass true flaky.Pass = refl
+one_failure_by result.Pass true flaky.Fail = refl
+one_failure_by result.Pass false setting = refl
+one_failure_by (result.Leak leak.Pass) true flaky.Pass = refl
+one_failure_by (result.Leak leak.Pass) true flaky.Fail = refl
+one_failure_by (result.Leak leak.Pass) false setting = refl
+one_failure_by (result.Leak leak.Fail) retried setting = refl
+one_failure_by (result.Fail failure leaked) retried setting = refl
+one_failure_by result.ExecFail retried setting = refl
+one_failure_by (result.Timeout slow.Pass) true flaky.Pass = refl
+one_failure_by (result.Timeout slow.Pass) true flaky.Fail = refl
+one_failure_by (result.Timeout slow.Pass) false setting = refl
+one_failure_by (result.Timeout slow.Fail) retried setting = refl
+
+-- a test of level `Fail`, and no other, is counted in one of the three failure counters
+one_failure : (t : TestView) → one (is_failed t) + one (is_exec_failed t) + one (is_failed_timed_out t) ≡ one (has_level_fail t)
+one_failure t = one_failure_by t.result (was_retried t) t.setting
+
+-- the failure counters of tests count the tests of level `Fail`
+pub failed-level : (tests : List TestView) → count_of is_failed tests + count_of is_exec_failed tests + count_of is_failed_timed_out tests ≡ count_of has_level_fail tests
+failed-level tests = count_of-three is_failed is_exec_failed is_failed_timed_out has_level_fail one_failure tests
+
+one_script_failure : (r : ExecutionResultDescription) → one (script_failed r) + one (script_exec_failed r) + one (script_timed_out r) ≡ one (not (script_passed r))
+one_script_failure result.Pass = refl
+one_script_failure (result.Leak leak.Pass) = refl
+one_script_failure (result.Leak leak.Fail) = refl
+one_script_failure (result.Fail failure leaked) = refl
+one_script_failure result.ExecFail = refl
+one_script_failure (result.Timeout slow.Pass) = refl
+one_script_failure (result.Timeout slow.Fail) = refl
+
+-- the failure counters of scripts count the scripts that did not pass
+pub failed-scripts : (scripts : List ExecutionResultDescription) → count_of script_failed scripts + count_of script_exec_failed scripts + count_of script_timed_out scripts ≡ count_of (λ r. not (script_passed r)) scripts
+failed-scripts scripts = count_of-three script_failed script_exec_failed script_timed_out (λ r. not (script_passed r)) one_script_failure scripts
+
+-- the sums of failures fit where the list does
+pub failures-fit : (us : List UnitView) (start : RunStart) → length us < 2 ^ 64 → FailuresFit (stats_of us start)
+failures-fit us start short = record {
+  tests = omega (arith, failed-level (tests_of us), count_of-le has_level_fail (tests_of us), length-filter_map-le test_of us);
+  scripts = omega (arith, failed-scripts (scripts_of us), count_of-le (λ r. not (script_passed r)) (scripts_of us), length-filter_map-le script_of us);
+}

@@ -1,0 +1,15 @@
+-- An error and what caused it, as texts.
+use Rattle.std.specs.Prelude.{ℕ, ◌+◌, List, ◌∷◌, length}
+
+-- a message, and the messages of what caused it, the nearest cause first
+pub record ErrorChain : Type 0 where
+  pub message : List ℕ
+  pub causes : List (List ℕ)
+
+-- the chain as a list of texts, which is never empty
+abbrev pub texts : ErrorChain → List (List ℕ)
+texts c = c.message ∷ c.causes
+
+-- how many texts a chain has
+abbrev pub text_count : ErrorChain → ℕ
+text_count c = length c.causes + 1

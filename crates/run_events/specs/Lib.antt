@@ -1,0 +1,10 @@
+pub mod Config
+pub mod Counters
+pub mod ErrorChain
+pub mod Level
+pub mod ListedErrors
+pub mod Results
+pub mod ScriptCounters
+pub mod Summary
+pub mod TestCounters
+pub mod TestView

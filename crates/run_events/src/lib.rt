@@ -1,0 +1,11 @@
+//! What a test runner tells its reporters: results, attempts, counters and summaries of a run.
+#![tactic(auto)]
+
+pub mod attempts;
+pub mod chain;
+pub mod child;
+pub mod config;
+pub mod levels;
+pub mod outcome;
+pub mod results;
+pub mod stats;
