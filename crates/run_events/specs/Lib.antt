@@ -1,5 +1,6 @@
 pub mod Config
 pub mod Counters
+pub mod Described
 pub mod ErrorChain
 pub mod Level
 pub mod ListedErrors

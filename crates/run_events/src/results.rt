@@ -2,6 +2,7 @@
 
 ghost use Rattle.std.specs.Prelude.{◌≡◌, Some};
 ghost use Rattle.run_events.specs.Results.{status_succeeds, status_word, succeeds, result_word};
+ghost use Rattle.run_events.specs.Described.{described_abort, described_failure, described_result};
 ghost use Rattle.run_events.specs.Results as spec;
 
 use crate::config::{LeakTimeoutResult, SlowTimeoutResult};
@@ -140,6 +141,26 @@ pub enum ExecutionResultDescription {
 }
 
 impl ExecutionResultDescription {
+    /// The description of a result: the same case. The name goes into the signal of a failure, and
+    /// is dropped in every other case.
+    pub fn from_status(status: ExecutionResult, name: Option<String>) -> Self
+        ensures { result ≡ described_result status name }
+    {
+        match status {
+            ExecutionResult::Pass => ExecutionResultDescription::Pass,
+            ExecutionResult::Leak { result } => ExecutionResultDescription::Leak { result },
+            ExecutionResult::Fail {
+                failure_status,
+                leaked,
+            } => ExecutionResultDescription::Fail {
+                failure: FailureDescription::from_status(failure_status, name),
+                leaked,
+            },
+            ExecutionResult::ExecFail => ExecutionResultDescription::ExecFail,
+            ExecutionResult::Timeout { result } => ExecutionResultDescription::Timeout { result },
+        }
+    }
+
     /// Whether the attempt succeeded: it passed, or leaked or ran out of time where that counts as
     /// passed.
     pub fn is_success(&self) -> bool
@@ -256,6 +277,21 @@ pub enum FailureDescription {
     },
 }
 
+impl FailureDescription {
+    /// The description of a failure: the same case. The name goes into a signal, and is dropped
+    /// where there is none.
+    pub fn from_status(status: FailureStatus, name: Option<String>) -> Self
+        ensures { result ≡ described_failure status name }
+    {
+        match status {
+            FailureStatus::ExitCode(code) => FailureDescription::ExitCode { code },
+            FailureStatus::Abort(abort) => FailureDescription::Abort {
+                abort: AbortDescription::from_status(abort, name),
+            },
+        }
+    }
+}
+
 /// What ended a process from outside. All platforms' cases are here, since a report may be read on
 /// another platform than the run's.
 #[derive(Debug, PartialEq, Eq, Drop)]
@@ -280,6 +316,17 @@ pub enum AbortDescription {
 
     /// The Windows job object that holds the process was ended.
     WindowsJobObject,
+}
+
+impl AbortDescription {
+    /// The description of an abort: the same case, with the name in a signal.
+    pub fn from_status(status: AbortStatus, name: Option<String>) -> Self
+        ensures { result ≡ described_abort status name }
+    {
+        match status {
+            AbortStatus::UnixSignal(signal) => AbortDescription::UnixSignal { signal, name },
+        }
+    }
 }
 
 /// What kind of unit a process belongs to.

@@ -1,0 +1,100 @@
+-- The reader goes over the results of a test.
+use Rattle.std.proofs.Common.{◌≡◌, ℕ, ◌+◌, ◌-◌, ◌<◌, ◌≤◌, List, [], ◌∷◌, ◌++◌, length, map, drop, get_or, refl, ap, sym, ◌∙◌, append_assoc, arith, length-append, le-leb, Bor}
+use Rattle.std.specs.Prelude.{Option, Some, None, slice_get, option_and_then, option_map, IfSome, Bool, false}
+use Rattle.std.proofs.Common.{inl, inr}
+use Rattle.std.specs.Prelude.{◌==◌}
+use Rattle.std.specs.List.{slice_split}
+use Rattle.std.specs.Option.{option_map_or}
+use Rattle.std.proofs.lemmas.Option.{slice_get-map, slice_get_cases}
+use Rattle.run_events.specs.TestView.{TestView, view_of, attempts_of, setting_of}
+use Rattle.run_events.specs.declared.attempts.ExecuteStatus.{ExecuteStatus}
+use Rattle.run_events.specs.declared.attempts.ExecutionStatuses.{ExecutionStatuses}
+use Rattle.run_events.specs.declared.config.FlakyResult.{FlakyResult}
+use Rattle.run_events.specs.declared.results.ExecutionResultDescription.TheVariants.{Pass}
+use Rattle.std.proofs.lemmas.List.{at_drop_more, at_drop_all, append-nil, length-map}
+use Rattle.digest_engine.specs.Reader.{result_of, all_results, results_of, flags_of, test_of_words, view_from}
+use Rattle.run_events.specs.declared.results.ExecutionResultDescription.{ExecutionResultDescription}
+
+-- the results that follow some
+abbrev pub with_front : List ExecutionResultDescription → Option (List ExecutionResultDescription) → Option (List ExecutionResultDescription)
+with_front front rest = option_map (λ rs. front ++ rs) rest
+
+-- the texts of words
+abbrev texts : List (Bor (List ℕ)) → List (List ℕ)
+texts words = map (λ w. w.now) words
+
+-- a word that names a result
+all_results-cons : (word : List ℕ) (words : List (List ℕ)) (r : ExecutionResultDescription) (front : List ExecutionResultDescription) → result_of word ≡ Some r → with_front front (all_results (word ∷ words)) ≡ with_front (front ++ r ∷ []) (all_results words)
+unfolding all_results
+all_results-cons word words r front is_r = rw is_r
+    (elim (all_results words) as (λ o. with_front front (option_and_then (λ rs. Some (r ∷ rs)) o) ≡ with_front (front ++ r ∷ []) o)
+    [ None ↦ refl | Some rs ↦ ap Some (sym (append_assoc front (r ∷ []) rs)) ])
+
+-- a word that names none
+all_results-none : (word : List ℕ) (words : List (List ℕ)) → result_of word ≡ None → all_results (word ∷ words) ≡ None
+unfolding all_results
+all_results-none word words none = rw none refl
+
+all_results-empty : all_results [] ≡ Some []
+unfolding all_results
+all_results-empty = refl
+
+-- one more word
+pub results_more : (words : List (Bor (List ℕ))) (i : ℕ) (d : Bor (List ℕ)) (r : ExecutionResultDescription) (front : List ExecutionResultDescription) (all : Option (List ExecutionResultDescription)) → i < length words → Some r ≡ result_of (get_or words i d).now → with_front front (all_results (texts (drop i words))) ≡ all → with_front (front ++ r ∷ []) (all_results (texts (drop (i + 1) words))) ≡ all
+results_more words i d r front all within is_r so_far =
+    sym (all_results-cons (get_or words i d).now (texts (drop (i + 1) words)) r front (sym is_r))
+    ∙ sym (at_drop_more (λ ws. with_front front (all_results (texts ws))) words i d within)
+    ∙ so_far
+
+-- a word that names no result
+pub results_none : (words : List (Bor (List ℕ))) (i : ℕ) (d : Bor (List ℕ)) (front : List ExecutionResultDescription) (all : Option (List ExecutionResultDescription)) → i < length words → None ≡ result_of (get_or words i d).now → with_front front (all_results (texts (drop i words))) ≡ all → None ≡ all
+results_none words i d front all within is_none so_far =
+    ap (with_front front) (sym (all_results-none (get_or words i d).now (texts (drop (i + 1) words)) (sym is_none)))
+    ∙ sym (at_drop_more (λ ws. with_front front (all_results (texts ws))) words i d within)
+    ∙ so_far
+
+-- no word is left
+pub results_end : (words : List (Bor (List ℕ))) (i : ℕ) (front : List ExecutionResultDescription) (all : Option (List ExecutionResultDescription)) → length words ≤ i → with_front front (all_results (texts (drop i words))) ≡ all → Some front ≡ all
+results_end words i front all past so_far =
+    ap Some (sym (append-nil front))
+    ∙ ap (with_front front) (sym all_results-empty)
+    ∙ sym (at_drop_all (λ ws. with_front front (all_results (texts ws))) words i past)
+    ∙ so_far
+
+at_end : {X : Type 0} (xs : List X) (y : X) → slice_get (xs ++ y ∷ []) (length xs) ≡ Some y
+at_end [] y = refl
+at_end (x ∷ xs) y = at_end xs y
+
+-- what was pushed last
+pub last_pushed : {X : Type 0} (xs ys : List X) (y : X) → ys ≡ xs ++ y ∷ [] → slice_get ys (length ys - 1) ≡ Some y
+last_pushed xs ys y pushed =
+    let place : length ys - 1 ≡ length xs = omega (arith, ap length pushed, length-append xs (y ∷ [])) in
+    ap (slice_get ys) place ∙ ap (λ zs. slice_get zs (length xs)) pushed ∙ at_end xs y
+
+-- the view of a test, by its attempts and its setting
+abbrev view_by : {S D : Type 0} → List (ExecuteStatus S D) → FlakyResult → TestView
+view_by attempts setting =
+    let last = slice_get attempts (length attempts - 1) in
+    record { result = option_map_or (λ s. s.result) last Pass; attempts = length attempts; is_slow = option_map_or (λ s. s.is_slow) last false; setting = setting }
+
+view_by_last : {S D : Type 0} (items : List (ExecuteStatus S D)) (setting : FlakyResult) (slow : Bool) (last : ExecuteStatus S D) → slice_get items (length items - 1) ≡ Some last → last.is_slow ≡ slow → view_by items setting ≡ view_from (map (λ s. s.result) items) (slow, setting)
+view_by_last items setting slow last is_last is_slow = rw (length-map, slice_get-map, is_last) (ap (λ b. record { result = last.result; attempts = length items; is_slow = b; setting = setting }) is_slow)
+
+-- the view of a test that was made of attempts
+pub view_made : {S D : Type 0} (t : ExecutionStatuses S D) (items : List (ExecuteStatus S D)) (setting : FlakyResult) (slow : Bool) → attempts_of t ≡ items → setting_of t ≡ setting → 0 < length items → IfSome (slice_get items (length items - 1)) (λ s. s.is_slow ≡ slow) → view_of t ≡ view_from (map (λ s. s.result) items) (slow, setting)
+view_made t items setting slow made set some last =
+    ap (λ xs. view_by xs (setting_of t)) made ∙ ap (view_by items) set
+    ∙ elim (slice_get_cases items (length items - 1)).1 [
+      | inl found ↦ let at : IfSome (Some found.0) (λ s. s.is_slow ≡ slow) = rw found.2 at last in view_by_last items setting slow found.0 found.2 at
+      | inr past ↦ absurd (omega (arith, past.0, some))
+    ]
+
+-- a test, by its list of results and its flags
+pub test_made : (list : List ℕ) (flags : List (List ℕ)) (f : Bool × FlakyResult) (rs : List ExecutionResultDescription) → flags_of flags ≡ Some f → results_of list ≡ Some rs → test_of_words (list ∷ flags) ≡ Some (view_from rs f)
+unfolding test_of_words
+test_made list flags f rs is_f is_rs = rw (is_f, is_rs) refl
+
+-- the results of a list with few parts
+pub results_few : (list : List ℕ) (o : Option (List ExecutionResultDescription)) → length (slice_split (λ b. b == 44) list) ≤ 100 → all_results (slice_split (λ b. b == 44) list) ≡ o → results_of list ≡ o
+unfolding results_of
+results_few list o few is_o = rw (le-leb (length (slice_split (λ b. b == 44) list)) 100 few) is_o

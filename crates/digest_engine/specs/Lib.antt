@@ -1,0 +1,16 @@
+pub mod Answer
+pub mod Command
+pub mod CountSteps
+pub mod Fault
+pub mod MemoryCalls
+pub mod MemoryDevice
+pub mod Number
+pub mod Reader
+pub mod Reading
+pub mod Report
+pub mod RunInput
+pub mod Spelling
+pub mod Statuses
+pub mod StdDevice
+pub use Rattle.run_events.specs.Counters
+pub use Rattle.run_events.specs.Summary

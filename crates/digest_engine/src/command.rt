@@ -1,0 +1,35 @@
+//! What the program is asked to do.
+
+ghost use Rattle.std.specs.Prelude.{◌≡◌, map, string_bytes};
+ghost use Rattle.digest_engine.specs.Command.{command_of};
+
+use crate::fault::Fault;
+
+/// What the program is asked to do.
+#[derive(Clone, Copy, Debug, PartialEq, Eq)]
+pub enum Command {
+    /// Count the units of a run.
+    Count,
+}
+
+impl Command {
+    /// What the words after the program's name ask for: `count`, which is also meant where there
+    /// is no word.
+    ///
+    /// Any other word, and more than one, is [`Fault::BadWord`].
+    pub fn from_words(words: &[String]) -> Result<Command, Fault>
+        ensures { result ≡ command_of (map string_bytes words.now) }
+    {
+        match words {
+            [] => Ok(Command::Count),
+            [word] => {
+                if word.as_str() == "count" {
+                    Ok(Command::Count)
+                } else {
+                    Err(Fault::BadWord)
+                }
+            }
+            _ => Err(Fault::BadWord),
+        }
+    }
+}

@@ -1,0 +1,75 @@
+//! What bytes are read from and written to.
+
+ghost use Rattle.std.specs.Prelude.{◌≡◌, ◌<◌, ◌≤◌, ℕ, Bool, true, false, List, Option, IfOk, OnOk, OnErr, length, take};
+ghost use Rattle.std.specs.Io.KnownBytes.{Appends, Consumes, IsAtEnd, Keeps};
+
+/// A read, a write or a flush failed.
+#[derive(Clone, Copy, Debug, PartialEq, Eq)]
+pub struct DeviceFailed;
+
+/// Bytes that can be read.
+pub trait Source {
+    // The bytes left, where the source tells them.
+    ghost left: { Self → Option (List ℕ) };
+
+    // Whether a read has failed.
+    ghost failed: { Self → Bool };
+
+    /// Whether a read has failed.
+    fn has_failed(&self) -> bool
+        ensures { result ≡ failed self.now };
+
+    /// Takes the first bytes left, as many as it chooses, into the front of the buffer, and
+    /// answers how many bytes that are: never more than the buffer holds, and 0 only where none is
+    /// left.
+    ///
+    /// The buffer must not be empty. After [`DeviceFailed`] the source has failed, and nothing is
+    /// said of the bytes left.
+    fn read(&mut self, buffer: &mut [u8]) -> Result<usize, DeviceFailed>
+        requires { 0 < length buffer.old }
+        ensures count { IfOk result (λ n. n ≤ length buffer.new) }
+        ensures bytes { IfOk result (λ n. Consumes (left self.old) (left self.new) (take n buffer.new)) }
+        ensures end { IfOk result (λ n. n ≡ 0 → IsAtEnd (left self.new)) }
+        ensures ok { OnOk result (failed self.new ≡ failed self.old) }
+        ensures err { OnErr result (failed self.new ≡ true) };
+}
+
+/// Somewhere to write bytes.
+pub trait Sink {
+    // The bytes written, where the sink tells them.
+    ghost written: { Self → Option (List ℕ) };
+
+    // Whether a write or a flush has failed.
+    ghost failed: { Self → Bool };
+
+    // Whether all that was written is on its way: a flush came after the last write.
+    ghost flushed: { Self → Bool };
+
+    /// Whether a write or a flush has failed.
+    fn has_failed(&self) -> bool
+        ensures { result ≡ failed self.now };
+
+    /// Appends the first bytes of the buffer, as many as it chooses but at least one, and answers
+    /// how many bytes that are.
+    ///
+    /// The buffer must not be empty. After [`DeviceFailed`] the sink has failed, and the bytes
+    /// written are as they were.
+    fn write(&mut self, buffer: &[u8]) -> Result<usize, DeviceFailed>
+        requires { 0 < length buffer.now }
+        ensures some { IfOk result (λ n. 0 < n) }
+        ensures count { IfOk result (λ n. n ≤ length buffer.now) }
+        ensures bytes { IfOk result (λ n. Appends (written self.old) (written self.new) (take n buffer.now)) }
+        ensures kept { OnErr result (Keeps (written self.old) (written self.new)) }
+        ensures held { flushed self.new ≡ false }
+        ensures ok { OnOk result (failed self.new ≡ failed self.old) }
+        ensures err { OnErr result (failed self.new ≡ true) };
+
+    /// Sends on what was written and held back. The bytes written are as they were.
+    ///
+    /// After [`DeviceFailed`] the sink has failed.
+    fn flush(&mut self) -> Result<(), DeviceFailed>
+        ensures kept { Keeps (written self.old) (written self.new) }
+        ensures sent { OnOk result (flushed self.new ≡ true) }
+        ensures ok { OnOk result (failed self.new ≡ failed self.old) }
+        ensures err { OnErr result (failed self.new ≡ true) };
+}

@@ -1,0 +1,14 @@
+//! What the program `run-digest` does, over any source and any sink of bytes.
+#![tactic(auto)]
+
+pub mod command;
+pub mod count;
+pub mod device;
+pub mod fault;
+mod lines;
+pub mod memory_device;
+mod report;
+pub mod std_device;
+mod transfer;
+mod units;
+mod words;

@@ -1,0 +1,32 @@
+-- A result as its runner saw it, described: the same case, with a name for a signal.
+use Rattle.std.specs.Prelude.{Option, String}
+use Rattle.std.specs.declared.alloc.Global.{Global}
+use Rattle.run_events.specs.declared.results.AbortDescription.{AbortDescription}
+use Rattle.run_events.specs.declared.results.AbortDescription.TheVariants as abort
+use Rattle.run_events.specs.declared.results.AbortStatus.{AbortStatus}
+use Rattle.run_events.specs.declared.results.AbortStatus.TheVariants.{UnixSignal}
+use Rattle.run_events.specs.declared.results.ExecutionResult.{ExecutionResult}
+use Rattle.run_events.specs.declared.results.ExecutionResult.TheVariants as status
+use Rattle.run_events.specs.declared.results.ExecutionResultDescription.{ExecutionResultDescription}
+use Rattle.run_events.specs.declared.results.ExecutionResultDescription.TheVariants as result
+use Rattle.run_events.specs.declared.results.FailureDescription.{FailureDescription}
+use Rattle.run_events.specs.declared.results.FailureDescription.TheVariants as failure
+use Rattle.run_events.specs.declared.results.FailureStatus.{FailureStatus}
+use Rattle.run_events.specs.declared.results.FailureStatus.TheVariants as failed
+
+-- an abort: the name goes into a signal
+abbrev pub described_abort : AbortStatus → Option (String Global) → AbortDescription
+described_abort (UnixSignal signal) name = abort.UnixSignal signal name
+
+-- a failure: an exit code has no name
+abbrev pub described_failure : FailureStatus → Option (String Global) → FailureDescription
+described_failure (failed.ExitCode code) name = failure.ExitCode code
+described_failure (failed.Abort a) name = failure.Abort (described_abort a name)
+
+-- a result: only a failure may have a name
+abbrev pub described_result : ExecutionResult → Option (String Global) → ExecutionResultDescription
+described_result status.Pass name = result.Pass
+described_result (status.Leak r) name = result.Leak r
+described_result (status.Fail f leaked) name = result.Fail (described_failure f name) leaked
+described_result status.ExecFail name = result.ExecFail
+described_result (status.Timeout r) name = result.Timeout r
