@@ -1,6 +1,6 @@
 -- The reader goes over the results of a test.
-use Rattle.std.proofs.Common.{◌≡◌, ℕ, ◌+◌, ◌-◌, ◌<◌, ◌≤◌, List, [], ◌∷◌, ◌++◌, length, map, drop, get_or, refl, ap, sym, ◌∙◌, append_assoc, arith, length-append, le-leb, Bor}
-use Rattle.std.specs.Prelude.{Option, Some, None, slice_get, option_and_then, option_map, IfSome, Bool, false}
+use Rattle.std.proofs.Common.{◌≡◌, ℕ, zero, suc, ◌+◌, ◌-◌, ◌<◌, ◌≤◌, List, [], ◌∷◌, ◌++◌, length, map, drop, get_or, refl, ap, sym, ◌∙◌, append_assoc, arith, length-append, le-leb, Bor}
+use Rattle.std.specs.Prelude.{Option, Some, None, slice_get, option_and_then, option_map, IfSome, Bool, true, false, ◌&&◌}
 use Rattle.std.proofs.Common.{inl, inr}
 use Rattle.std.specs.Prelude.{◌==◌}
 use Rattle.std.specs.List.{slice_split}
@@ -8,9 +8,13 @@ use Rattle.std.specs.Option.{option_map_or}
 use Rattle.std.proofs.lemmas.Option.{slice_get-map, slice_get_cases}
 use Rattle.run_events.specs.TestView.{TestView, view_of, attempts_of, setting_of}
 use Rattle.run_events.specs.declared.attempts.ExecuteStatus.{ExecuteStatus}
-use Rattle.run_events.specs.declared.attempts.ExecutionStatuses.{ExecutionStatuses}
+use Rattle.run_events.specs.declared.child.ChildOutputDescription.{ChildOutputDescription}
+use Rattle.run_events.specs.declared.child.LiveSpec.{LiveSpec}
+use Rattle.digest_engine.specs.Statuses.{AreAttempts, IsAttempt}
+use Rattle.run_events.specs.declared.attempts.statuses.ExecutionStatuses.{ExecutionStatuses}
 use Rattle.run_events.specs.declared.config.FlakyResult.{FlakyResult}
 use Rattle.run_events.specs.declared.results.ExecutionResultDescription.TheVariants.{Pass}
+use Rattle.std.proofs.lemmas.Bool.{eq-eqb}
 use Rattle.std.proofs.lemmas.List.{at_drop_more, at_drop_all, append-nil, length-map}
 use Rattle.digest_engine.specs.Reader.{result_of, all_results, results_of, flags_of, test_of_words, view_from}
 use Rattle.run_events.specs.declared.results.ExecutionResultDescription.{ExecutionResultDescription}
@@ -61,6 +65,13 @@ results_end words i front all past so_far =
     ∙ sym (at_drop_all (λ ws. with_front front (all_results (texts ws))) words i past)
     ∙ so_far
 
+-- what holds of each element and its place holds of one more at the end
+pub placed_push : {X : Type 0} (P : ℕ → X → Type 0) (xs : List X) (y : X) → ((k : ℕ) → k < length xs → IfSome (slice_get xs k) (P k)) → P (length xs) y → (k : ℕ) → k < length (xs ++ y ∷ []) → IfSome (slice_get (xs ++ y ∷ []) k) (P k)
+placed_push P [] y all last zero within = last
+placed_push P [] y all last (suc k) within = absurd (omega (arith, within))
+placed_push P (x ∷ xs) y all last zero within = all zero (omega arith)
+placed_push P (x ∷ xs) y all last (suc k) within = placed_push (λ n. P (suc n)) xs y (λ j short. all (suc j) (omega (arith, short))) last k (omega (arith, within))
+
 at_end : {X : Type 0} (xs : List X) (y : X) → slice_get (xs ++ y ∷ []) (length xs) ≡ Some y
 at_end [] y = refl
 at_end (x ∷ xs) y = at_end xs y
@@ -98,3 +109,15 @@ test_made list flags f rs is_f is_rs = rw (is_f, is_rs) refl
 pub results_few : (list : List ℕ) (o : Option (List ExecutionResultDescription)) → length (slice_split (λ b. b == 44) list) ≤ 100 → all_results (slice_split (λ b. b == 44) list) ≡ o → results_of list ≡ o
 unfolding results_of
 results_few list o few is_o = rw (le-leb (length (slice_split (λ b. b == 44) list)) 100 few) is_o
+
+-- the last of all attempts is slow where that is said
+pub last_slow : (items : List (ExecuteStatus LiveSpec ChildOutputDescription)) (total : ℕ) (slow : Bool) → AreAttempts items total slow → length items ≡ total → 0 < length items → IfSome (slice_get items (length items - 1)) (λ s. s.is_slow ≡ slow)
+last_slow items total slow all count some =
+    let k : ℕ = length items - 1 in
+    let at = all k (omega (arith, some)) in
+    elim (slice_get_cases items k).1 [
+      | inl found ↦
+          let here : IfSome (Some found.0) (λ s. IsAttempt s (k + 1) total × (s.is_slow ≡ (slow && (k + 1 == total)))) = rw found.2 at at in
+          rw found.2 (here.1 ∙ ap (λ b. slow && b) (eq-eqb (k + 1) total (omega (arith, count, some))) ∙ elim slow as (λ s. (s && true) ≡ s) [ true ↦ refl | false ↦ refl ])
+      | inr past ↦ absurd (omega (arith, past.0, some))
+    ]

@@ -1,3 +1,3 @@
 pub mod Attempts
-pub mod Transfer
+pub mod KnownBytes
 pub mod UnitLines

@@ -60,7 +60,8 @@ impl Source for MemorySource<'_> {
     /// where no read was to come before the one that fails, and then no byte is taken.
     fn read(&mut self, buffer: &mut [u8]) -> Result<usize, DeviceFailed>
         requires { 0 < length buffer.old }
-        ensures count { IfOk result (λ n. n ≡ min (length (left_of self.old)) (length buffer.new)) }
+        ensures count { IfOk result (λ n. n ≤ length buffer.new) }
+        ensures all { IfOk result (λ n. n ≡ min (length (left_of self.old)) (length buffer.new)) }
         ensures bytes { IfOk result (λ n. Consumes (Some (left_of self.old)) (Some (left_of self.new)) (take n buffer.new)) }
         ensures end { IfOk result (λ n. n ≡ 0 → IsAtEnd (Some (left_of self.new))) }
         ensures kept { OnErr result (left_of self.new ≡ left_of self.old) }
@@ -161,7 +162,8 @@ impl Sink for MemorySink<'_> {
     fn write(&mut self, buffer: &[u8]) -> Result<usize, DeviceFailed>
         requires { 0 < length buffer.now }
         ensures some { IfOk result (λ n. 0 < n) }
-        ensures count { IfOk result (λ n. n ≡ min (room_of self.old) (length buffer.now)) }
+        ensures count { IfOk result (λ n. n ≤ length buffer.now) }
+        ensures all { IfOk result (λ n. n ≡ min (room_of self.old) (length buffer.now)) }
         ensures bytes { IfOk result (λ n. Appends (Some (written_of self.old)) (Some (written_of self.new)) (take n buffer.now)) }
         ensures kept { OnErr result (Keeps (Some (written_of self.old)) (Some (written_of self.new))) }
         ensures room { MatchResult result (λ n. room_of self.new ≡ room_of self.old - n) (λ _. room_of self.new ≡ room_of self.old) }

@@ -1,6 +1,6 @@
 use Rattle.std.proofs.Common.{◌∙◌, arith}
 use Rattle.std.proofs.lemmas.Grind.{common_steps}
-use Rattle.digest_engine.proofs.Transfer.{writing_more}
+use Rattle.digest_engine.proofs.KnownBytes.{writing_more}
 use Rattle.digest_engine.proofs.transfer.write_all.Goals as goal
 
 pub loop-rest-preserved : goal.loop-rest-preserved

@@ -1,5 +1,5 @@
 use Rattle.std.proofs.Common.{◌≡◌, false, length}
-use Rattle.digest_engine.proofs.Transfer.{Writing}
+use Rattle.digest_engine.proofs.KnownBytes.{Writing}
 use Rattle.digest_engine.proofs.transfer.write_all.Given as goal
 
 -- what was written is the text without its rest
