@@ -6,6 +6,7 @@ pub mod Description
 pub mod ErrorChain
 pub mod Level
 pub mod ListedErrors
+pub mod Ranks
 pub mod Results
 pub mod RunLaws
 pub mod ScriptCounters
