@@ -1,0 +1,16 @@
+pub mod OccursLemmas
+pub mod CharLemmas
+pub mod DigitLemmas
+pub mod TailLemmas
+pub mod HeadLemmas
+pub mod TakenLemmas
+pub mod TrimLemmas
+pub mod WideningLemmas
+pub mod ErrorLemmas
+pub mod NoteLemmas
+pub mod PartLemmas
+pub mod MoveLemmas
+pub mod ExistLemmas
+pub mod CutLemmas
+pub mod CrossLemmas
+pub mod LineLemmas

@@ -1,0 +1,101 @@
+//! The search for the last taken head, from the back.
+ghost use Rattle.std.specs.Prelude.{◌≡◌, ◌≤◌, ◌<◌, ◌+◌, ℕ, length, take, MatchOption, Option, Some, None};
+ghost use Rattle.output_slice.specs.declared.panic_head.HeadSpan.{HeadSpan};
+ghost use Rattle.output_slice.specs.Head.{IsLineStart, IsHead};
+ghost use Rattle.output_slice.specs.Taken.{IsLastTaken};
+ghost use Rattle.output_slice.specs.Cut.{IsCut};
+ghost use Rattle.output_slice.specs.Search.{IsLastOpening};
+
+use crate::byte_source::CountedBytes;
+use crate::lines::line_end;
+use crate::panic_head::quotes::opens;
+use crate::panic_head::{HeadSpan, last_panic_head};
+use bstr::ByteSlice;
+
+/// The last line start at which a head may stand.
+fn last_opening(bytes: &[u8]) -> Option<usize>
+    ensures value { MatchOption result ((s : ℕ) → (e : ℕ) → ¬ IsHead bytes.now s e) (λ s. IsLastOpening bytes.now s) }
+{
+    if let Some(feed) = bytes.rfind(b"\nthread '") {
+        return Some(feed + 1);
+    }
+    if bytes.starts_with_str(b"thread '") {
+        return Some(0);
+    }
+    None
+}
+
+/// A place by which every head ends, where the last opening is at `at`.
+fn heads_end(bytes: &[u8], at: usize) -> usize
+    requires { IsLastOpening bytes.now at }
+    ensures low { at < result }
+    ensures high { result ≤ length bytes.now }
+    ensures ends { (s : ℕ) → (e : ℕ) → IsHead bytes.now s e → e ≤ result }
+{
+    match (&bytes[at + 8..]).find_byte(b'\'') {
+        Some(gap) => line_end(bytes, at + 8 + gap),
+        None => line_end(bytes, at + 8),
+    }
+}
+
+/// Where the head may begin that crosses the line start `at`.
+fn crossing(bytes: &[u8], at: usize) -> Option<usize>
+    requires within { at ≤ length bytes.now }
+    requires line_start { IsLineStart bytes.now at }
+    ensures value { MatchOption result (IsCut bytes.now at) (λ s. (s < at) × IsLineStart bytes.now s) }
+{
+    let Some(quote) = (&bytes[..at]).rfind_byte(b'\'') else {
+        return None;
+    };
+    let mut source = CountedBytes::new(bytes);
+    if opens(&mut source, 0, quote) {
+        Some(quote - 7)
+    } else {
+        None
+    }
+}
+
+/// The last cut at or before the line start `at`.
+fn cut_before(bytes: &[u8], at: usize) -> usize
+    requires within { at ≤ length bytes.now }
+    requires line_start { IsLineStart bytes.now at }
+    ensures cut { IsCut bytes.now result }
+    ensures within { result ≤ at }
+{
+    let mut cut = at;
+    while let Some(start) = crossing(bytes, cut) {
+        cut = start;
+    }
+    cut
+}
+
+/// The last taken head, if one begins at the cut or after it.
+fn last_from(bytes: &[u8], cut: usize) -> Option<HeadSpan>
+    requires { IsCut bytes.now cut }
+    ensures { MatchOption result ((found : Option HeadSpan) → IsLastTaken (take cut bytes.now) found → IsLastTaken bytes.now found) (λ h. IsLastTaken bytes.now (Some h)) }
+{
+    let mut source = CountedBytes::new(&bytes[cut..]);
+    let Some(head) = last_panic_head(&mut source) else {
+        return None;
+    };
+    Some(HeadSpan {
+        start: cut + head.start,
+        stop: cut + head.stop,
+    })
+}
+
+/// The last taken head.
+pub fn last_head(bytes: &[u8]) -> Option<HeadSpan>
+    ensures { IsLastTaken bytes.now result }
+{
+    let mut rest = bytes;
+    while let Some(at) = last_opening(rest) {
+        let front = &rest[..heads_end(rest, at)];
+        let cut = cut_before(front, at);
+        if let Some(head) = last_from(front, cut) {
+            return Some(head);
+        }
+        rest = &front[..cut];
+    }
+    None
+}
