@@ -14,7 +14,7 @@ use Rattle.output_slice.specs.Cut.{IsCut, shifted}
 use Rattle.output_slice.proofs.HeadLemmas.{head-order, span-same}
 use Rattle.output_slice.proofs.MoveLemmas.{head-of-back, back-of-head, head-of-front, front-of-head}
 use Rattle.output_slice.proofs.ExistLemmas.{IsTaken-exists}
-use Rattle.output_slice.proofs.PartLemmas.{last-head}
+use Rattle.output_slice.proofs.TakenLemmas.{IsLastTaken-head}
 
 -- pairs within two lists, and across
 pairs-append : (R : HeadSpan → HeadSpan → Type 0) (xs ys : List HeadSpan) → AllPairs R xs → AllPairs R ys
@@ -154,7 +154,7 @@ last-before b c found cut none last =
 -- it ends within the bytes
 pub last-within : (b : List ℕ) (c : ℕ) (h : HeadSpan) → c ≤ length b → IsLastTaken (drop c b) (Some h) → (c + h.start < c + h.stop) × (c + h.stop ≤ length b)
 last-within b c h within last =
-    let head = last-head (drop c b) h last in
+    let head = IsLastTaken-head (drop c b) h last in
     let order = head-order (drop c b) h.start h.stop head in
     let ends = head.ends in
     let size = length-drop c b in

@@ -9,6 +9,7 @@ pub mod WideningLemmas
 pub mod ErrorLemmas
 pub mod NoteLemmas
 pub mod PartLemmas
+pub mod SameLemmas
 pub mod MoveLemmas
 pub mod ExistLemmas
 pub mod CutLemmas

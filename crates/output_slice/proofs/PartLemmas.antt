@@ -1,6 +1,6 @@
 -- The slices are parts of their parents, and not empty.
-use Rattle.std.proofs.Common.{◌≡◌, ℕ, ◌+◌, ◌-◌, ◌<◌, ◌≤◌, true, false, List, [], ◌∷◌, ◌++◌, length, get_or, take, drop, sym, ap, subst, ◌∙◌, arith, ⊎_elim, length-append, length-drop, get_or-drop, add-zero}
-use Rattle.std.specs.Prelude.{codes, Some, All, IsTrue, sum_by}
+use Rattle.std.proofs.Common.{◌≡◌, ℕ, ◌+◌, ◌-◌, ◌<◌, ◌≤◌, true, false, List, [], ◌∷◌, ◌++◌, length, get_or, take, drop, refl, sym, ap, subst, ◌∙◌, arith, ⊎_elim, length-append, length-drop, get_or-drop, add-zero}
+use Rattle.std.specs.Prelude.{codes, Option, Some, None, MatchOption, IfSome, All, IsTrue, sum_by, option_map}
 use Rattle.std.specs.Char.{IsScalar, is_whitespace}
 use Rattle.std.specs.Str.{encode_utf8_all}
 use Rattle.std.specs.List.{concat}
@@ -13,15 +13,19 @@ use Rattle.bstr.proofs.lemmas.RestLemmas.{concat-lines_of}
 use Rattle.output_slice.proofs.NoteLemmas.{length-concat}
 use Rattle.std.specs.Prelude.{nat_lt, ◌==◌, ◌&&◌, cond}
 use Rattle.std.proofs.lemmas.Str.{char_from_byte}
-use Rattle.std.proofs.lemmas.Option.{slice_get_within, get_or_from_slice_get}
 use Rattle.std.proofs.lemmas.List.Elements.{All-head}
 use Rattle.std.proofs.lemmas.List.{get_or-take, length-take-le}
-use Rattle.bstr.specs.Find.{OccursAt}
+use Rattle.bstr.specs.Find.{OccursAt, IsFirst}
 use Rattle.bstr.specs.Text.{lines_of, without_terminator, no_cr}
 use Rattle.output_slice.specs.declared.panic_head.HeadSpan.{HeadSpan}
+use Rattle.output_slice.specs.declared.subslice.TestOutputErrorSlice.{TestOutputErrorSlice}
+use Rattle.output_slice.specs.declared.subslice.TestOutputErrorSlice.TheVariants.{PanicMessage, ErrorStr, ShouldPanic}
 use Rattle.output_slice.specs.Head.{IsHead}
 use Rattle.output_slice.specs.Taken.{IsLastTaken}
-use Rattle.output_slice.specs.Slices.{Slice, IsPart, IsNote, IsBlank, IsTrimmedSlice, IsWidened}
+use Rattle.output_slice.specs.Slices.{Slice, IsPart, IsBlank, IsWidened, IsTrimmedSlice, IsPanicSlice, IsErrorStart, IsErrorSlice, IsNote, IsNoteLine}
+use Rattle.output_slice.specs.Extraction.{OfStream, IsExtract, IsPartOf, LiesIn}
+use Rattle.output_slice.specs.Shown.{slice_of, extract_of}
+use Rattle.output_slice.proofs.TakenLemmas.{IsLastTaken-head}
 use Rattle.output_slice.proofs.CharLemmas.{length-part, get_or-part}
 
 -- text that begins with an ASCII byte that is no white space is not blank
@@ -36,7 +40,7 @@ not_blank bs some low other h = by_chars h.0 h.1 h.2 where
       absurd (cc)
 
 -- a trimmed slice that begins with such a byte is a part
-pub trimmed-part : (b : List ℕ) (s : ℕ) (x : Slice) → IsTrimmedSlice b s x → s < length b → get_or b s 0 < 128 → is_whitespace (get_or b s 0) ≡ false → IsPart b x
+trimmed-part : (b : List ℕ) (s : ℕ) (x : Slice) → IsTrimmedSlice b s x → s < length b → get_or b s 0 < 128 → is_whitespace (get_or b s 0) ≡ false → IsPart b x
 trimmed-part b s x h within low other =
     let e = h.0 in
     let first = h.1.0 in
@@ -52,16 +56,8 @@ trimmed-part b s x h within low other =
       record { fits = omega arith; reads = λ j l. sym (get_or-part b s e j (omega arith)) },
     )
 
--- the last taken head is a head
-pub last-head : (b : List ℕ) (h : HeadSpan) → IsLastTaken b (Some h) → IsHead b h.start h.stop
-last-head b h l =
-    let taken = l.0 in
-    let at = length taken - 1 in
-    let within = slice_get_within taken at h (sym l.2) in
-    subst (λ (g : HeadSpan). IsHead b g.start g.stop) (get_or_from_slice_get taken at h h (sym l.2)) (l.1.heads at h within)
-
 -- a widened start has an `E` or the `t` of the head
-pub widened-letter : (b : List ℕ) (s e t : ℕ) → IsHead b s e → IsWidened b s t → (t < length b) × (get_or b t 0 < 128) × (is_whitespace (get_or b t 0) ≡ false)
+widened-letter : (b : List ℕ) (s e t : ℕ) → IsHead b s e → IsWidened b s t → (t < length b) × (get_or b t 0 < 128) × (is_whitespace (get_or b t 0) ≡ false)
 widened-letter b s e t head wide = ⊎_elim
     (λ line.
     let j = line.0 in
@@ -80,7 +76,7 @@ widened-letter b s e t head wide = ⊎_elim
     (omega (arith, plain.1), omega arith, ap is_whitespace at))
     wide
 
-pub error-letter : (b : List ℕ) (s : ℕ) → OccursAt b (codes "Error: ") s → (s < length b) × (get_or b s 0 < 128) × (is_whitespace (get_or b s 0) ≡ false)
+error-letter : (b : List ℕ) (s : ℕ) → OccursAt b (codes "Error: ") s → (s < length b) × (get_or b s 0 < 128) × (is_whitespace (get_or b s 0) ≡ false)
 error-letter b s h =
     let fits = h.fits in
     let letter : get_or b s 0 ≡ 69 = ap (λ k. get_or b k 0) (sym (add-zero s)) ∙ h.reads 0 (omega arith) in
@@ -111,7 +107,7 @@ line-front line =
     (λ (no : feed ≡ false). (n, (omega arith, omega arith, ap (λ t. cond t (no_cr short) line) no ∙ sym (take-length line))))
     (cases_Bool feed)
 
-pub note-part : (b : List ℕ) (before : List (List ℕ)) (line : List ℕ) (rest : List (List ℕ)) (start : ℕ) → lines_of b ≡ before ++ line ∷ rest → start ≡ sum_by length before → IsNote line
+note-part : (b : List ℕ) (before : List (List ℕ)) (line : List ℕ) (rest : List (List ℕ)) (start : ℕ) → lines_of b ≡ before ++ line ∷ rest → start ≡ sum_by length before → IsNote line
     → IsPart b (record { start = start; bytes = without_terminator line })
 note-part b before line rest start e is note =
     let long = note.1.fits in
@@ -130,3 +126,42 @@ note-part b before line rest start e is note =
             ∙ sym (get_or-take m line j 0 (omega arith)) ∙ ap (λ xs. get_or xs j 0) (sym front.1.2);
       },
     )
+
+-- a panic slice is a part
+pub IsPanicSlice-part : (b : List ℕ) (x : Slice) → IsPanicSlice b (Some x) → IsPart b x
+IsPanicSlice-part b x p = by_head p.0 p.1 p.2 where
+  by_head : (head : Option HeadSpan) → IsLastTaken b head
+      → MatchOption head (Some x ≡ None) (λ h. (t : ℕ) × IsWidened b h.start t × (y : Slice) × IsTrimmedSlice b t y × (Some x ≡ Some y)) → IsPart b x
+  by_head None last q = absurd (cc)
+  by_head (Some h) last q =
+      let letter = widened-letter b h.start h.stop q.0 (IsLastTaken-head b h last) q.1 in
+      let same : q.2 ≡ x = let e = q.4 in cc in
+      subst (IsPart b) same (trimmed-part b q.0 q.2 q.3 letter.0 letter.1 letter.2)
+
+-- an error slice is a part
+pub IsErrorSlice-part : (b : List ℕ) (x : Slice) → IsErrorSlice b (Some x) → IsPart b x
+IsErrorSlice-part b x p = by_start p.0 p.1 p.2 where
+  by_start : (start : Option ℕ) → IsFirst (IsErrorStart b) 0 (length b + 1) start
+      → MatchOption start (Some x ≡ None) (λ s. (y : Slice) × IsTrimmedSlice b s y × (Some x ≡ Some y)) → IsPart b x
+  by_start None first q = absurd (cc)
+  by_start (Some s) first q =
+      let letter = error-letter b s first.1.1 in
+      let same : q.0 ≡ x = let e = q.2 in cc in
+      subst (IsPart b) same (trimmed-part b s q.0 q.1 letter.0 letter.1 letter.2)
+
+-- a note line is a part
+pub IsNoteLine-part : (b : List ℕ) (x : Slice) → IsNoteLine b (Some x) → IsPart b x
+IsNoteLine-part b x p = subst (IsPart b) (sym p.6) (note-part b p.0 p.1 p.2 (sum_by length p.0) p.3 refl p.5)
+
+-- what holds of the slice of each stream's bytes holds of a stream's
+OfStream-part : (Is : List ℕ → Option Slice → Type 0) → ((b : List ℕ) (x : Slice) → Is b (Some x) → IsPart b x)
+    → (stream : Option (List ℕ)) (x : Slice) → OfStream Is stream (Some x) → IsPartOf stream x
+OfStream-part Is part None x p = absurd (cc)
+OfStream-part Is part (Some b) x p = part b x p
+
+-- what is extracted lies in its parent
+pub IsExtract-part : (out err : Option (List ℕ)) (found : Option TestOutputErrorSlice) → IsExtract out err (option_map extract_of found) → IfSome found (λ x. LiesIn out err (extract_of x))
+IsExtract-part out err None p = tt
+IsExtract-part out err (Some (PanicMessage x)) p = OfStream-part IsPanicSlice IsPanicSlice-part err (slice_of x) p
+IsExtract-part out err (Some (ErrorStr x)) p = OfStream-part IsErrorSlice IsErrorSlice-part err (slice_of x) p.1
+IsExtract-part out err (Some (ShouldPanic x)) p = OfStream-part IsNoteLine IsNoteLine-part out (slice_of x) p.2

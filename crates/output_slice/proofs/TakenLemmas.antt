@@ -1,9 +1,9 @@
 -- There is one list of taken heads.
 use Rattle.std.proofs.Common.{◌≡◌, ℕ, zero, suc, ◌-◌, ◌<◌, ◌≤◌, ◌⊎◌, ◌↔◌, List, [], ◌∷◌, length, get_or, refl, sym, ap, subst, ◌∙◌, arith, ⊎_elim, inl, inr}
-use Rattle.std.specs.Prelude.{All, AllPairs, Contains, None, IsSome, is_some}
+use Rattle.std.specs.Prelude.{All, AllPairs, Contains, Option, Some, None, IsSome, is_some}
 use Rattle.std.proofs.lemmas.Bool.{cases_lt}
 use Rattle.std.proofs.lemmas.List.Elements.{All-cons, All-head, All-tail, All-nil, All-contains, Contains-get_or}
-use Rattle.std.proofs.lemmas.Option.{slice_get-get_or}
+use Rattle.std.proofs.lemmas.Option.{slice_get-get_or, slice_get_within, get_or_from_slice_get}
 use Rattle.output_slice.specs.declared.panic_head.HeadSpan.{HeadSpan}
 use Rattle.output_slice.specs.Head.{IsHead}
 use Rattle.output_slice.specs.Taken.{IsTaken, IsLastTaken, last_of}
@@ -91,10 +91,30 @@ whole b xs h = record { heads = h.heads; rising = h.rising; low = λ k d l. omeg
 pub IsTaken-same : (b : List ℕ) (xs ys : List HeadSpan) → IsTaken b xs → IsTaken b ys → xs ≡ ys
 IsTaken-same b xs ys h k = from-same b 0 xs ys (whole b xs h) (whole b ys k)
 
+-- there is one last taken head
+pub IsLastTaken-same : (b : List ℕ) (f g : Option HeadSpan) → IsLastTaken b f → IsLastTaken b g → f ≡ g
+IsLastTaken-same b f g p q = p.2 ∙ ap last_of (IsTaken-same b p.0 q.0 p.1 q.1) ∙ sym q.2
+
+-- the last taken head is a head
+pub IsLastTaken-head : (b : List ℕ) (h : HeadSpan) → IsLastTaken b (Some h) → IsHead b h.start h.stop
+IsLastTaken-head b h l =
+    let taken = l.0 in
+    let at = length taken - 1 in
+    let within = slice_get_within taken at h (sym l.2) in
+    subst (λ (g : HeadSpan). IsHead b g.start g.stop) (get_or_from_slice_get taken at h h (sym l.2)) (l.1.heads at h within)
+
 -- there is a last one exactly where there is a head
 pub IsTaken-some : (b : List ℕ) (xs : List HeadSpan) → IsTaken b xs → IsSome (last_of xs) ↔ ((s : ℕ) × (e : ℕ) × IsHead b s e)
 IsTaken-some b [] h = (λ none. cc, λ head. let x : HeadSpan = record { start = head.0; stop = head.1 } in let among = (h.rule x head.2).1 (All-nil _) in absurd (omega (arith, among.1)))
 IsTaken-some b (x ∷ xs) h = (λ some. (x.start, x.stop, All-head (λ g. IsHead b g.start g.stop) x xs h.heads), λ head. ap is_some (slice_get-get_or (x ∷ xs) (length (x ∷ xs) - 1) x (omega arith)))
+
+-- what is the last of one list by the rule is the last of each
+pub IsLastTaken-only : (b : List ℕ) (found : Option HeadSpan) (taken : List HeadSpan) → IsLastTaken b found → IsTaken b taken → found ≡ last_of taken
+IsLastTaken-only b found taken last is = last.2 ∙ ap last_of (IsTaken-same b last.0 taken last.1 is)
+
+-- so there is a last taken head exactly where there is a head
+pub IsLastTaken-some : (b : List ℕ) (found : Option HeadSpan) → IsLastTaken b found → IsSome found ↔ ((s : ℕ) × (e : ℕ) × IsHead b s e)
+IsLastTaken-some b found last = rw last.2 (IsTaken-some b last.0 last.1)
 
 -- where there is no head, none is taken
 pub IsLastTaken-none : (b : List ℕ) → ((s e : ℕ) → IsHead b s e → ⊥) → IsLastTaken b None

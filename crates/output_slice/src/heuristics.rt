@@ -1,9 +1,9 @@
 //! The three heuristics, and which of them is used.
-ghost use Rattle.std.specs.Prelude.{◌≡◌, ◌+◌, ◌≤◌, ◌<◌, ℕ, ◌-◌, length, slice_index, option_map, IfSome};
+ghost use Rattle.std.specs.Prelude.{◌≡◌, ◌+◌, ◌≤◌, ◌<◌, ℕ, ◌-◌, length, slice_index, Option, option_map, IfSome};
 ghost use Rattle.std.specs.Option.{option_copied};
 ghost use Rattle.bstr.specs.Text.{without_terminator};
-ghost use Rattle.output_slice.specs.Slices.{IsErrorSlice, IsNoteLine, IsPart, IsPanicSlice, IsTrimmedSlice, IsWidened, IsBreak};
-ghost use Rattle.output_slice.specs.Extraction.{IsExtract};
+ghost use Rattle.output_slice.specs.Slices.{Slice, IsErrorSlice, IsNoteLine, IsPart, IsPanicSlice, IsTrimmedSlice, IsWidened, IsBreak};
+ghost use Rattle.output_slice.specs.Extraction.{Extract, IsExtract, LiesIn};
 ghost use Rattle.output_slice.specs.Shown.{slice_of, extract_of};
 
 use crate::last_head::last_head;
@@ -12,30 +12,55 @@ use crate::subslice::{ByteSubslice, TestOutputErrorSlice};
 use bstr::ByteSlice;
 
 impl<'a> TestOutputErrorSlice<'a> {
-    /// The slice of a test's output.
+    /// The part of a test's output that says why it failed: the panic slice of standard error, else
+    /// its error slice, else the note line of standard output. A stream that was not captured is
+    /// `None`. Output whose two streams were captured as one is handed in as both.
+    ///
+    /// The rules are those of nextest-runner: see [`heuristic_panic_message`],
+    /// [`heuristic_error_str`] and [`heuristic_should_panic`].
     pub fn heuristic_extract(stdout: Option<&'a [u8]>, stderr: Option<&'a [u8]>) -> Option<Self>
-        ensures { IsExtract (option_copied stdout.entry) (option_copied stderr.entry) (option_map extract_of result) }
+        ensures value { IsExtract (option_copied stdout.entry) (option_copied stderr.entry) (option_map extract_of result) }
+
+        // Whatever is the extraction equals the result, so `None` says that there is none.
+        ensures only { (found : Option Extract) → IsExtract (option_copied stdout.entry) (option_copied stderr.entry) found → found ≡ option_map extract_of result }
+        ensures part { IfSome result (λ x. LiesIn (option_copied stdout.entry) (option_copied stderr.entry) (extract_of x)) }
     {
-        if let Some(stderr) = stderr {
-            if let Some(stderr_subslice) = heuristic_panic_message(stderr) {
-                return Some(TestOutputErrorSlice::PanicMessage { stderr_subslice });
-            }
-            if let Some(stderr_subslice) = heuristic_error_str(stderr) {
-                return Some(TestOutputErrorSlice::ErrorStr { stderr_subslice });
-            }
-        }
-        if let Some(stdout) = stdout {
-            if let Some(stdout_subslice) = heuristic_should_panic(stdout) {
-                return Some(TestOutputErrorSlice::ShouldPanic { stdout_subslice });
-            }
-        }
-        None
+        first_slice(stdout, stderr)
     }
 }
 
-/// The panic message of `stderr`.
+/// The first of the three slices that there is.
+fn first_slice<'a>(
+    stdout: Option<&'a [u8]>,
+    stderr: Option<&'a [u8]>,
+) -> Option<TestOutputErrorSlice<'a>>
+    ensures { IsExtract (option_copied stdout.entry) (option_copied stderr.entry) (option_map extract_of result) }
+{
+    if let Some(stderr) = stderr {
+        if let Some(stderr_subslice) = heuristic_panic_message(stderr) {
+            return Some(TestOutputErrorSlice::PanicMessage { stderr_subslice });
+        }
+        if let Some(stderr_subslice) = heuristic_error_str(stderr) {
+            return Some(TestOutputErrorSlice::ErrorStr { stderr_subslice });
+        }
+    }
+    if let Some(stdout) = stdout {
+        if let Some(stdout_subslice) = heuristic_should_panic(stdout) {
+            return Some(TestOutputErrorSlice::ShouldPanic { stdout_subslice });
+        }
+    }
+    None
+}
+
+/// The panic slice: from the last taken head of `stderr`, or from the start of the line before it
+/// where that begins with `Error:`, up to the white space at the end. None where there is no head.
+///
+/// A head is `thread '`, a name and `' panicked at `, as Rust's panic hook writes it at a line start;
+/// heads are taken leftmost first, and disjoint. Line ends between the line before and the head are
+/// passed over. The very first line of the output is never taken for a line before.
 pub fn heuristic_panic_message(stderr: &[u8]) -> Option<ByteSubslice<'_>>
     ensures value { IsPanicSlice stderr.now (option_map slice_of result) }
+    ensures only { (found : Option Slice) → IsPanicSlice stderr.now found → found ≡ option_map slice_of result }
     ensures part { IfSome result (λ x. IsPart stderr.now (slice_of x)) }
 {
     let Some(head) = last_head(stderr) else {
@@ -45,9 +70,13 @@ pub fn heuristic_panic_message(stderr: &[u8]) -> Option<ByteSubslice<'_>>
     Some(trimmed(stderr, start))
 }
 
-/// The error of `stderr`.
+/// The error slice: from the first line of `stderr` that begins with `Error: ` up to the white space
+/// at the end. None where no line begins so.
+///
+/// So Rust prints the error of a test or of a `main` that returns a `Result`.
 pub fn heuristic_error_str(stderr: &[u8]) -> Option<ByteSubslice<'_>>
     ensures value { IsErrorSlice stderr.now (option_map slice_of result) }
+    ensures only { (found : Option Slice) → IsErrorSlice stderr.now found → found ≡ option_map slice_of result }
     ensures part { IfSome result (λ x. IsPart stderr.now (slice_of x)) }
 {
     if stderr.starts_with_str(b"Error: ") {
@@ -59,9 +88,13 @@ pub fn heuristic_error_str(stderr: &[u8]) -> Option<ByteSubslice<'_>>
     Some(trimmed(stderr, at + 1))
 }
 
-/// The line of `stdout` that says that the test did not panic.
+/// The note line: the first line of `stdout` that holds `note: test did not panic as expected`,
+/// without the `\n` or `\r\n` that ends it. None where no line holds it.
+///
+/// So the test harness says that a test with `should_panic` did not panic.
 pub fn heuristic_should_panic(stdout: &[u8]) -> Option<ByteSubslice<'_>>
     ensures value { IsNoteLine stdout.now (option_map slice_of result) }
+    ensures only { (found : Option Slice) → IsNoteLine stdout.now found → found ≡ option_map slice_of result }
     ensures part { IfSome result (λ x. IsPart stdout.now (slice_of x)) }
 {
     let Some(at) = stdout.find(b"note: test did not panic as expected") else {
@@ -86,14 +119,13 @@ fn without_end(line: &[u8]) -> &[u8]
     }
 }
 
-/// The start of the line before `start`, if it begins with `Error:`.
+/// The start of the line before `start`, if it begins with `Error:`, and else `start`.
 fn widened(stderr: &[u8], start: usize) -> usize
     requires { start ≤ length stderr.now }
     ensures value { IsWidened stderr.now start result }
     ensures within { result ≤ length stderr.now }
 {
-    let stop = text_end(stderr, start);
-    let front = &stderr[..stop];
+    let front = &stderr[..text_end(stderr, start)];
     let Some(at) = front.rfind_byte(b'\n') else {
         return start;
     };
@@ -116,7 +148,7 @@ fn text_end(stderr: &[u8], start: usize) -> usize
         .len()
 }
 
-/// The bytes from `start` on without white space at the end.
+/// The bytes from `start` on without the white space at the end.
 fn trimmed(stderr: &[u8], start: usize) -> ByteSubslice<'_>
     requires { start ≤ length stderr.now }
     ensures { IsTrimmedSlice stderr.now start (slice_of result) }

@@ -1,8 +1,8 @@
 //! The search for the last taken head, from the back.
-ghost use Rattle.std.specs.Prelude.{◌≡◌, ◌≤◌, ◌<◌, ◌+◌, ℕ, length, take, MatchOption, Option, Some, None};
+ghost use Rattle.std.specs.Prelude.{◌≡◌, ◌≤◌, ◌<◌, ◌+◌, ◌↔◌, ℕ, List, length, take, MatchOption, IsSome, Option, Some, None};
 ghost use Rattle.output_slice.specs.declared.panic_head.HeadSpan.{HeadSpan};
 ghost use Rattle.output_slice.specs.Head.{IsLineStart, IsHead};
-ghost use Rattle.output_slice.specs.Taken.{IsLastTaken};
+ghost use Rattle.output_slice.specs.Taken.{IsLastTaken, IsTaken, last_of};
 ghost use Rattle.output_slice.specs.Cut.{IsCut};
 ghost use Rattle.output_slice.specs.Search.{IsLastOpening};
 
@@ -84,8 +84,22 @@ fn last_from(bytes: &[u8], cut: usize) -> Option<HeadSpan>
     })
 }
 
-/// The last taken head.
+/// The last taken head of `bytes`, and none where there is no head: what
+/// [`last_panic_head`](crate::panic_head::last_panic_head) finds, looked for from the back. So a panic near the end of long
+/// output costs no search of what stands before it.
+///
+/// Each byte is passed a bounded number of times: the search goes window by window, and a window
+/// reaches from a line start that no head crosses to the end of what is not searched yet.
 pub fn last_head(bytes: &[u8]) -> Option<HeadSpan>
+    ensures last { IsLastTaken bytes.now result }
+    ensures only { (taken : List HeadSpan) → IsTaken bytes.now taken → result ≡ last_of taken }
+    ensures found { IsSome result ↔ ((s : ℕ) × (e : ℕ) × IsHead bytes.now s e) }
+{
+    last_in_windows(bytes)
+}
+
+/// The last taken head, from the last window on.
+fn last_in_windows(bytes: &[u8]) -> Option<HeadSpan>
     ensures { IsLastTaken bytes.now result }
 {
     let mut rest = bytes;

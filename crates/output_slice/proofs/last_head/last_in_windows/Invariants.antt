@@ -2,7 +2,7 @@ use Rattle.std.proofs.Common.{length}
 use Rattle.std.specs.Prelude.{Option}
 use Rattle.output_slice.specs.declared.panic_head.HeadSpan.{HeadSpan}
 use Rattle.output_slice.specs.Taken.{IsLastTaken}
-use Rattle.output_slice.proofs.last_head.last_head.Given as goal
+use Rattle.output_slice.proofs.last_head.last_in_windows.Given as goal
 
 -- the last of the rest is the last of all
 abbrev pub invariant-loop-at : goal.invariant-loop-at

@@ -1,0 +1,126 @@
+-- Each slice is the only one.
+use Rattle.std.proofs.Common.{◌≡◌, ℕ, ◌+◌, ◌<◌, ◌≤◌, List, [], ◌∷◌, ◌++◌, length, refl, sym, ap, subst, ◌∙◌, arith, ⊎_elim}
+use Rattle.std.specs.Prelude.{All, Contains, Option, Some, None, MatchOption, sum_by}
+use Rattle.std.proofs.lemmas.Bool.{cases_lt}
+use Rattle.std.proofs.lemmas.List.Elements.{All-contains, All-head, All-tail, Contains-append_right}
+use Rattle.bstr.specs.Find.{IsFirst}
+use Rattle.bstr.specs.Text.{part, lines_of, without_terminator}
+use Rattle.output_slice.specs.declared.panic_head.HeadSpan.{HeadSpan}
+use Rattle.output_slice.specs.Slices.{Slice, IsErrorStart, IsWidened, IsTrimmedSlice, IsPanicSlice, IsErrorSlice, IsNote, IsNoteLine}
+use Rattle.output_slice.specs.Extraction.{Extract, panic_slice, error_slice, note_line, OfStream, IsExtract}
+use Rattle.output_slice.proofs.TakenLemmas.{IsLastTaken-same}
+use Rattle.output_slice.proofs.WideningLemmas.{IsWidened-same}
+
+-- there is one first place
+IsFirst-same : (P : ℕ → Type 0) (i j : ℕ) (x y : Option ℕ) → IsFirst P i j x → IsFirst P i j y → x ≡ y
+IsFirst-same P i j None None g h = refl
+IsFirst-same P i j None (Some k) g h = absurd (g k h.0.low h.0.high h.1)
+IsFirst-same P i j (Some k) None g h = absurd (h k g.0.low g.0.high g.1)
+IsFirst-same P i j (Some k) (Some l) g h = ap Some (⊎_elim
+    (λ (less : k < l). absurd (h.0.before k g.0.low less g.1))
+    (λ (more : l ≤ k). ⊎_elim (λ (less : l < k). absurd (g.0.before l h.0.low less h.1)) (λ (same : k ≤ l). omega arith) (cases_lt l k))
+    (cases_lt k l))
+
+some-same : {A : Type 0} (x y : A) → Some x ≡ Some y → x ≡ y
+some-same x y e = cc
+
+-- trimming gives one slice
+IsTrimmedSlice-same : (b : List ℕ) (s : ℕ) (x y : Slice) → IsTrimmedSlice b s x → IsTrimmedSlice b s y → x ≡ y
+IsTrimmedSlice-same b s x y g h =
+    let ends : g.0 ≡ h.0 = some-same g.0 h.0 (IsFirst-same _ _ _ (Some g.0) (Some h.0) g.1 h.1) in
+    g.2 ∙ ap slice ends ∙ sym h.2 where
+      slice : ℕ → Slice
+      slice e = record { start = s; bytes = part s e b }
+
+-- there is one panic slice
+pub IsPanicSlice-same : (b : List ℕ) (f g : Option Slice) → IsPanicSlice b f → IsPanicSlice b g → f ≡ g
+IsPanicSlice-same b f g p q = by_head q.0 (subst Is (IsLastTaken-same b p.0 q.0 p.1 q.1) p.2) q.2 where
+  From : Option Slice → HeadSpan → Type 0
+  From found h = (t : ℕ) × IsWidened b h.start t × (x : Slice) × IsTrimmedSlice b t x × (found ≡ Some x)
+  Is : Option HeadSpan → Type 0
+  Is head = MatchOption head (f ≡ None) (From f)
+  by_head : (head : Option HeadSpan) → Is head → MatchOption head (g ≡ None) (From g) → f ≡ g
+  by_head None one two = one ∙ sym two
+  by_head (Some h) one two =
+      let starts = IsWidened-same b h.start one.0 two.0 one.1 two.1 in
+      let same = IsTrimmedSlice-same b two.0 one.2 two.2 (subst (λ t. IsTrimmedSlice b t one.2) starts one.3) two.3 in
+      one.4 ∙ ap Some same ∙ sym two.4
+
+-- there is one error slice
+pub IsErrorSlice-same : (b : List ℕ) (f g : Option Slice) → IsErrorSlice b f → IsErrorSlice b g → f ≡ g
+IsErrorSlice-same b f g p q = by_start q.0 (subst Is (IsFirst-same (IsErrorStart b) 0 (length b + 1) p.0 q.0 p.1 q.1) p.2) q.2 where
+  From : Option Slice → ℕ → Type 0
+  From found s = (x : Slice) × IsTrimmedSlice b s x × (found ≡ Some x)
+  Is : Option ℕ → Type 0
+  Is start = MatchOption start (f ≡ None) (From f)
+  by_start : (start : Option ℕ) → Is start → MatchOption start (g ≡ None) (From g) → f ≡ g
+  by_start None one two = one ∙ sym two
+  by_start (Some s) one two = one.2 ∙ ap Some (IsTrimmedSlice-same b s one.0 two.0 one.1 two.1) ∙ sym two.2
+
+-- there is one first element for which P holds
+first-same : (P : List ℕ → Type 0) (xs ys : List (List ℕ)) (x y : List ℕ) (us vs : List (List ℕ)) → xs ++ x ∷ us ≡ ys ++ y ∷ vs
+    → All (λ z. ¬ P z) xs → All (λ z. ¬ P z) ys → P x → P y → (xs ≡ ys) × (x ≡ y)
+first-same P [] [] x y us vs e none one p q = (refl, cc)
+first-same P [] (z ∷ zs) x y us vs e none one p q = let same : x ≡ z = cc in absurd (All-head (λ w. ¬ P w) z zs one (subst P same p))
+first-same P (z ∷ zs) [] x y us vs e none one p q = let same : y ≡ z = cc in absurd (All-head (λ w. ¬ P w) z zs none (subst P same q))
+first-same P (z ∷ zs) (w ∷ ws) x y us vs e none one p q =
+    let heads : z ≡ w = cc in
+    let tails : zs ++ x ∷ us ≡ ws ++ y ∷ vs = cc in
+    let rest = first-same P zs ws x y us vs tails (All-tail (λ v. ¬ P v) z zs none) (All-tail (λ v. ¬ P v) w ws one) p q in
+    (ap (λ v. v ∷ zs) heads ∙ ap (λ vs. w ∷ vs) rest.0, rest.1)
+
+none-first : (P : List ℕ → Type 0) (all xs : List (List ℕ)) (x : List ℕ) (us : List (List ℕ)) → all ≡ xs ++ x ∷ us → All (λ z. ¬ P z) all → P x → ⊥
+none-first P all xs x us e none p =
+    All-contains (λ z. ¬ P z) (xs ++ x ∷ us) x (subst (All (λ z. ¬ P z)) e none) (Contains-append_right xs (x ∷ us) x (0, omega arith, refl)) p
+
+-- there is one note line
+pub IsNoteLine-same : (b : List ℕ) (f g : Option Slice) → IsNoteLine b f → IsNoteLine b g → f ≡ g
+IsNoteLine-same b None None p q = refl
+IsNoteLine-same b None (Some y) p q = absurd (none-first IsNote (lines_of b) q.0 q.1 q.2 q.3 p q.5)
+IsNoteLine-same b (Some x) None p q = absurd (none-first IsNote (lines_of b) p.0 p.1 p.2 p.3 q p.5)
+IsNoteLine-same b (Some x) (Some y) p q =
+    let same = first-same IsNote p.0 q.0 p.1 q.1 p.2 q.2 (sym p.3 ∙ q.3) p.4 q.4 p.5 q.5 in
+    ap Some (p.6 ∙ ap (λ before. slice before p.1) same.0 ∙ ap (slice q.0) same.1 ∙ sym q.6) where
+      slice : List (List ℕ) → List ℕ → Slice
+      slice before line = record { start = sum_by length before; bytes = without_terminator line }
+
+-- what holds of each stream's bytes holds of a stream
+OfStream-same : (Is : List ℕ → Option Slice → Type 0) → ((b : List ℕ) (f g : Option Slice) → Is b f → Is b g → f ≡ g)
+    → (stream : Option (List ℕ)) (f g : Option Slice) → OfStream Is stream f → OfStream Is stream g → f ≡ g
+OfStream-same Is same None f g p q = p ∙ sym q
+OfStream-same Is same (Some b) f g p q = same b f g p q
+
+module _ (out err : Option (List ℕ)) where
+  panics : (f g : Option Slice) → OfStream IsPanicSlice err f → OfStream IsPanicSlice err g → f ≡ g
+  panics = OfStream-same IsPanicSlice IsPanicSlice-same err
+
+  errors : (f g : Option Slice) → OfStream IsErrorSlice err f → OfStream IsErrorSlice err g → f ≡ g
+  errors = OfStream-same IsErrorSlice IsErrorSlice-same err
+
+  notes : (f g : Option Slice) → OfStream IsNoteLine out f → OfStream IsNoteLine out g → f ≡ g
+  notes = OfStream-same IsNoteLine IsNoteLine-same out
+
+  of_kind : (kind : Slice → Extract) (x y : Slice) → Some x ≡ Some y → Some (kind x) ≡ Some (kind y)
+  of_kind kind x y e = ap (λ z. Some (kind z)) (some-same x y e)
+
+  apart : {A : Type 0} (x : Slice) → Some x ≡ None → A
+  apart x e = absurd (cc)
+
+  -- there is one extraction
+  pub IsExtract-same : (f g : Option Extract) → IsExtract out err f → IsExtract out err g → f ≡ g
+  IsExtract-same None None p q = refl
+  IsExtract-same None (Some (panic_slice y)) p q = apart y (panics (Some y) None q p.0)
+  IsExtract-same None (Some (error_slice y)) p q = apart y (errors (Some y) None q.1 p.1)
+  IsExtract-same None (Some (note_line y)) p q = apart y (notes (Some y) None q.2 p.2)
+  IsExtract-same (Some (panic_slice x)) None p q = apart x (panics (Some x) None p q.0)
+  IsExtract-same (Some (panic_slice x)) (Some (panic_slice y)) p q = of_kind panic_slice x y (panics (Some x) (Some y) p q)
+  IsExtract-same (Some (panic_slice x)) (Some (error_slice y)) p q = apart x (panics (Some x) None p q.0)
+  IsExtract-same (Some (panic_slice x)) (Some (note_line y)) p q = apart x (panics (Some x) None p q.0)
+  IsExtract-same (Some (error_slice x)) None p q = apart x (errors (Some x) None p.1 q.1)
+  IsExtract-same (Some (error_slice x)) (Some (panic_slice y)) p q = apart y (panics (Some y) None q p.0)
+  IsExtract-same (Some (error_slice x)) (Some (error_slice y)) p q = of_kind error_slice x y (errors (Some x) (Some y) p.1 q.1)
+  IsExtract-same (Some (error_slice x)) (Some (note_line y)) p q = apart x (errors (Some x) None p.1 q.1)
+  IsExtract-same (Some (note_line x)) None p q = apart x (notes (Some x) None p.2 q.2)
+  IsExtract-same (Some (note_line x)) (Some (panic_slice y)) p q = apart y (panics (Some y) None q p.0)
+  IsExtract-same (Some (note_line x)) (Some (error_slice y)) p q = apart y (errors (Some y) None q.1 p.1)
+  IsExtract-same (Some (note_line x)) (Some (note_line y)) p q = of_kind note_line x y (notes (Some x) (Some y) p.2 q.2)
