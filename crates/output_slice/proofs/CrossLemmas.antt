@@ -8,7 +8,7 @@ use Rattle.bstr.specs.Text.{part}
 use Rattle.output_slice.specs.Head.{IsLineStart, IsTail, IsHead}
 use Rattle.output_slice.specs.Steps.{NoQuoteBetween}
 use Rattle.output_slice.specs.Cut.{IsCut}
-use Rattle.output_slice.specs.Search.{IsLastOpening}
+use Rattle.output_slice.specs.Search.{IsLastOpening, MayCross}
 use Rattle.output_slice.proofs.OccursLemmas.{occurs-front, occurs-back, occurs-both}
 use Rattle.output_slice.proofs.TailLemmas.{not-in, tail_cases, AreDigits-feed}
 use Rattle.output_slice.proofs.HeadLemmas.{head-order, head-quote, name-quiet}
@@ -68,6 +68,13 @@ IsCut-from b c within line none = record {
       (cases_lt c e);
 }
 
+-- a quote is a text of one byte
+quote-here : (b : List ℕ) (q : ℕ) → q < length b → get_or b q 0 ≡ 39 → OccursAt b (codes "'") q
+quote-here b q within is = record {
+  fits = omega arith;
+  reads = λ j l. let zero_j : j ≡ 0 = omega arith in let place : q + j ≡ q = omega arith in ap (λ k. get_or b k 0) place ∙ is ∙ sym (ap (λ k. get_or (codes "'") k 0) zero_j);
+}
+
 module _ (b : List ℕ) (c : ℕ) (within : c ≤ length b) (line : IsLineStart b c) where
   size : length (take c b) ≡ c
   size = length-take-le c b within
@@ -86,6 +93,25 @@ module _ (b : List ℕ) (c : ℕ) (within : c ≤ length b) (line : IsLineStart 
       let not_before : s + 7 ≤ q = ⊎_elim (λ (less : q < s + 7). absurd (h.0.after (s + 7) (omega arith) (omega (arith, size)) (quote-byte (s + 7) (omega arith) is))) (λ l. l) (cases_lt q (s + 7)) in
       let at : s ≡ q - 7 = omega arith in
       closed (omega arith, subst (IsLineStart b) at start, subst (OccursAt b (codes "thread ")) at word))
+
+  -- the last quote before c opens
+  pub cut-crossed : (q : ℕ) → IsLastByte (is_byte 39) (take c b) (Some q) → (0 + 7 ≤ q) × IsLineStart b (q - 7) × OccursAt b (codes "thread ") (q - 7) → MayCross b (q - 7) c
+  cut-crossed q h opens =
+      let far = opens.0 in
+      let up : q < c = omega (arith, size, h.0.high) in
+      let is_q : get_or b q 0 ≡ 39 = sym (get_or-take c b q 0 up) ∙ eqb-true _ _ h.1 in record {
+        low = omega arith;
+        line_start = opens.1;
+        opening = occurs-both b (codes "thread ") (codes "'") (q - 7) opens.2 (quote-here b (q - 7 + 7) (omega arith) (let at : q - 7 + 7 ≡ q = omega arith in ap (λ k. get_or b k 0) at ∙ is_q));
+        quiet = λ k l u is. h.0.after k (omega arith) (omega (arith, size)) (quote-byte k u is);
+      }
+
+-- what lies between two places that one opening crosses may be crossed too
+pub crossed-more : (b : List ℕ) (s cut at : ℕ) → MayCross b s cut → ((c : ℕ) → cut < c → c ≤ at → (t : ℕ) × MayCross b t c) → (c : ℕ) → s < c → c ≤ at → (t : ℕ) × MayCross b t c
+crossed-more b s cut at h more c low high = ⊎_elim
+    (λ (past : cut < c). more c past high)
+    (λ (within : c ≤ cut). (s, record { low = low; line_start = h.line_start; opening = h.opening; quiet = λ k l u. h.quiet k l (omega arith) }))
+    (cases_lt cut c)
 
 -- a head past the front has a line feed before it
 feed-head : (b : List ℕ) (s e : ℕ) → IsHead b s e → 0 < s → OccursAt b (codes "\nthread '") (s - 1)

@@ -7,6 +7,7 @@ pub mod TakenLemmas
 pub mod TrimLemmas
 pub mod WideningLemmas
 pub mod ErrorLemmas
+pub mod DivisionLemmas
 pub mod NoteLemmas
 pub mod PartLemmas
 pub mod SameLemmas

@@ -14,6 +14,7 @@ use Rattle.bstr.proofs.lemmas.RestLemmas.{concat-lines_of}
 use Rattle.output_slice.specs.Head.{IsLineStart}
 use Rattle.output_slice.specs.Steps.{NoFeedBetween}
 use Rattle.output_slice.specs.Slices.{Slice, IsNote, IsNoteLine}
+use Rattle.output_slice.proofs.DivisionLemmas.{AreLines-lines_of}
 use Rattle.output_slice.proofs.CharLemmas.{length-part, get_or-part}
 use Rattle.output_slice.proofs.CrossLemmas.{text-feed}
 use Rattle.output_slice.proofs.TailLemmas.{not-in}
@@ -67,9 +68,6 @@ line-size b s e low high quiet last =
     (cases_lt k (e - s - 1))) in omega arith)
     (cases_eq (get_or b (e - 1) 0) 10)
 
-note : List ℕ
-note = codes "note: test did not panic as expected"
-
 module _ (b : List ℕ) (at s e : ℕ) (found : FindsNeedle b (codes "note: test did not panic as expected") 0 (Some at)) (low : s ≤ at) (line : IsLineStart b s) (front : NoFeedBetween b s at)
     (more : at ≤ e) (high : e ≤ length b) (last : e < length b → (at < e) × (get_or b (e - 1) 0 ≡ 10)) (quiet : NoFeedBetween b at (e - 1)) where
   here : OccursAt b (codes "note: test did not panic as expected") at
@@ -89,14 +87,14 @@ module _ (b : List ℕ) (at s e : ℕ) (found : FindsNeedle b (codes "note: test
   size-of-line = let in' = inside in line-size b s e (omega arith) high
       (λ k l u is. ⊎_elim (λ (less : k < at). front k l less is) (λ (past : at ≤ k). quiet k past u is) (cases_lt k at)) (λ less. (last less).1)
 
-  pub lines-are : lines_of b ≡ lines_of (take s b) ++ part s e b ∷ lines_of (drop (e - s) (drop s b))
+  lines-are : lines_of b ≡ lines_of (take s b) ++ part s e b ∷ lines_of (drop (e - s) (drop s b))
   lines-are =
       let in' = inside in
       let left = length-drop s b in
       lines-divide b s (omega arith) line
       ∙ ap (λ ls. lines_of (take s b) ++ ls) (lines-step (drop s b) (omega arith) ∙ ap (λ k. take k (drop s b) ∷ lines_of (drop k (drop s b))) size-of-line)
 
-  pub is-note : IsNote (part s e b)
+  is-note : IsNote (part s e b)
   is-note =
       let in' = inside in
       let size = length-part b s e high in (
@@ -107,7 +105,7 @@ module _ (b : List ℕ) (at s e : ℕ) (found : FindsNeedle b (codes "note: test
         },
       )
 
-  pub start-is : s ≡ sum_by length (lines_of (take s b))
+  start-is : s ≡ sum_by length (lines_of (take s b))
   start-is = sym (length-take-le s b (omega arith)) ∙ sym (ap length (concat-lines_of (take s b))) ∙ length-concat (lines_of (take s b))
 
   none-before : All (λ line. ¬ IsNote line) (lines_of (take s b))
@@ -118,16 +116,12 @@ module _ (b : List ℕ) (at s e : ℕ) (found : FindsNeedle b (codes "note: test
 
   pub note-line : IsNoteLine b (Some (record { start = s; bytes = without_terminator (part s e b) }))
   note-line = (
-    lines_of (take s b),
-    part s e b,
-    lines_of (drop (e - s) (drop s b)),
-    lines-are,
-    none-before,
-    is-note,
-    ap (λ k. slice k) start-is,
+    lines_of b,
+    AreLines-lines_of b,
+    (lines_of (take s b), part s e b, lines_of (drop (e - s) (drop s b)), lines-are, none-before, is-note, ap slice start-is),
   ) where
     slice : ℕ → Slice
     slice k = record { start = k; bytes = without_terminator (part s e b) }
 
 pub note-none : (b : List ℕ) → FindsNeedle b (codes "note: test did not panic as expected") 0 None → IsNoteLine b None
-note-none b none = none-in (codes "note: test did not panic as expected") b (λ h. let fits = h.1.fits in none h.0 (omega arith) (omega arith) h.1)
+note-none b none = (lines_of b, AreLines-lines_of b, none-in (codes "note: test did not panic as expected") b (λ h. let fits = h.1.fits in none h.0 (omega arith) (omega arith) h.1))

@@ -9,7 +9,6 @@ use Rattle.std.proofs.Math.ListN.{get_or-append}
 use Rattle.std.proofs.Math.Seq.{take-length}
 use Rattle.std.proofs.lemmas.List.{get_or-append-add, take-take}
 use Rattle.std.proofs.lemmas.List.Folds.{concat-append}
-use Rattle.bstr.proofs.lemmas.RestLemmas.{concat-lines_of}
 use Rattle.output_slice.proofs.NoteLemmas.{length-concat}
 use Rattle.std.specs.Prelude.{nat_lt, ◌==◌, ◌&&◌, cond}
 use Rattle.std.proofs.lemmas.Str.{char_from_byte}
@@ -107,15 +106,17 @@ line-front line =
     (λ (no : feed ≡ false). (n, (omega arith, omega arith, ap (λ t. cond t (no_cr short) line) no ∙ sym (take-length line))))
     (cases_Bool feed)
 
-note-part : (b : List ℕ) (before : List (List ℕ)) (line : List ℕ) (rest : List (List ℕ)) (start : ℕ) → lines_of b ≡ before ++ line ∷ rest → start ≡ sum_by length before → IsNote line
-    → IsPart b (record { start = start; bytes = without_terminator line })
-note-part b before line rest start e is note =
+-- a line that holds the note is a part, without its end too
+note-part : (b : List ℕ) (before : List (List ℕ)) (line : List ℕ) (rest : List (List ℕ)) → concat (before ++ line ∷ rest) ≡ b → IsNote line
+    → IsPart b (record { start = sum_by length before; bytes = without_terminator line })
+note-part b before line rest joined note =
+    let start = sum_by length before in
     let long = note.1.fits in
     let front = line-front line in
     let m = front.0 in
     let size : length (without_terminator line) ≡ m = ap length front.1.2 ∙ length-take-le m line front.1.0 in
-    let whole : b ≡ concat before ++ (line ++ concat rest) = sym (concat-lines_of b) ∙ ap concat e ∙ concat-append before (line ∷ rest) in
-    let at : length (concat before) ≡ start = length-concat before ∙ sym is in
+    let whole : b ≡ concat before ++ (line ++ concat rest) = sym joined ∙ concat-append before (line ∷ rest) in
+    let at : length (concat before) ≡ start = length-concat before in
     let total : length b ≡ length (concat before) + (length line + length (concat rest)) = ap length whole ∙ length-append (concat before) (line ++ concat rest) ∙ ap (λ k. length (concat before) + k) (length-append line (concat rest)) in (
       omega arith,
       record {
@@ -151,7 +152,7 @@ IsErrorSlice-part b x p = by_start p.0 p.1 p.2 where
 
 -- a note line is a part
 pub IsNoteLine-part : (b : List ℕ) (x : Slice) → IsNoteLine b (Some x) → IsPart b x
-IsNoteLine-part b x p = subst (IsPart b) (sym p.6) (note-part b p.0 p.1 p.2 (sum_by length p.0) p.3 refl p.5)
+IsNoteLine-part b x p = let h = p.2 in subst (IsPart b) (sym h.6) (note-part b h.0 h.1 h.2 (ap concat (sym h.3) ∙ p.1.joined) h.5)
 
 -- what holds of the slice of each stream's bytes holds of a stream's
 OfStream-part : (Is : List ℕ → Option Slice → Type 0) → ((b : List ℕ) (x : Slice) → Is b (Some x) → IsPart b x)

@@ -8,6 +8,7 @@ use Rattle.bstr.specs.Text.{part, lines_of, without_terminator}
 use Rattle.output_slice.specs.declared.panic_head.HeadSpan.{HeadSpan}
 use Rattle.output_slice.specs.Slices.{Slice, IsErrorStart, IsWidened, IsTrimmedSlice, IsPanicSlice, IsErrorSlice, IsNote, IsNoteLine}
 use Rattle.output_slice.specs.Extraction.{Extract, panic_slice, error_slice, note_line, OfStream, IsExtract}
+use Rattle.output_slice.proofs.DivisionLemmas.{AreLines-same}
 use Rattle.output_slice.proofs.TakenLemmas.{IsLastTaken-same}
 use Rattle.output_slice.proofs.WideningLemmas.{IsWidened-same}
 
@@ -75,12 +76,18 @@ none-first P all xs x us e none p =
 
 -- there is one note line
 pub IsNoteLine-same : (b : List ℕ) (f g : Option Slice) → IsNoteLine b f → IsNoteLine b g → f ≡ g
-IsNoteLine-same b None None p q = refl
-IsNoteLine-same b None (Some y) p q = absurd (none-first IsNote (lines_of b) q.0 q.1 q.2 q.3 p q.5)
-IsNoteLine-same b (Some x) None p q = absurd (none-first IsNote (lines_of b) p.0 p.1 p.2 p.3 q p.5)
-IsNoteLine-same b (Some x) (Some y) p q =
-    let same = first-same IsNote p.0 q.0 p.1 q.1 p.2 q.2 (sym p.3 ∙ q.3) p.4 q.4 p.5 q.5 in
-    ap Some (p.6 ∙ ap (λ before. slice before p.1) same.0 ∙ ap (slice q.0) same.1 ∙ sym q.6) where
+IsNoteLine-same b f g p q = by_found f g (subst (Is f) (AreLines-same b p.0 p.1) p.2) (subst (Is g) (AreLines-same b q.0 q.1) q.2) where
+  Is : Option Slice → List (List ℕ) → Type 0
+  Is found lines = MatchOption found (All (λ line. ¬ IsNote line) lines)
+      (λ x. (before : List (List ℕ)) × (line : List ℕ) × (after : List (List ℕ)) × (lines ≡ before ++ line ∷ after)
+      × All (λ line. ¬ IsNote line) before × IsNote line × (x ≡ record { start = sum_by length before; bytes = without_terminator line }))
+  by_found : (x y : Option Slice) → Is x (lines_of b) → Is y (lines_of b) → x ≡ y
+  by_found None None one two = refl
+  by_found None (Some y) one two = absurd (none-first IsNote (lines_of b) two.0 two.1 two.2 two.3 one two.5)
+  by_found (Some x) None one two = absurd (none-first IsNote (lines_of b) one.0 one.1 one.2 one.3 two one.5)
+  by_found (Some x) (Some y) one two =
+    let same = first-same IsNote one.0 two.0 one.1 two.1 one.2 two.2 (sym one.3 ∙ two.3) one.4 two.4 one.5 two.5 in
+    ap Some (one.6 ∙ ap (λ before. slice before one.1) same.0 ∙ ap (slice two.0) same.1 ∙ sym two.6) where
       slice : List (List ℕ) → List ℕ → Slice
       slice before line = record { start = sum_by length before; bytes = without_terminator line }
 

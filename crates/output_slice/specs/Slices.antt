@@ -3,10 +3,11 @@ use Rattle.std.specs.Prelude.{◌≡◌, ℕ, ◌+◌, ◌-◌, ◌<◌, ◌≤�
 use Rattle.std.specs.Char.{IsScalar, is_whitespace}
 use Rattle.std.specs.Str.{encode_utf8_all}
 use Rattle.bstr.specs.Find.{OccursAt, IsFirst}
-use Rattle.bstr.specs.Text.{Contains, lines_of, part, without_terminator}
+use Rattle.bstr.specs.Text.{Contains, part, without_terminator}
 use Rattle.output_slice.specs.declared.panic_head.HeadSpan.{HeadSpan}
 use Rattle.output_slice.specs.Head.{IsLineStart}
 use Rattle.output_slice.specs.Taken.{IsLastTaken}
+use Rattle.output_slice.specs.Lines.{AreLines}
 
 -- Some bytes, and where in their parent they begin.
 pub record Slice : Type 0 where
@@ -66,6 +67,6 @@ IsNote line = Contains line (codes "note: test did not panic as expected")
 
 -- What is found is the first line that holds the note, without its line end, and none where no line holds it.
 abbrev pub IsNoteLine : List ℕ → Option Slice → Type 0
-IsNoteLine b found = MatchOption found (All (λ line. ¬ IsNote line) (lines_of b))
-    (λ x. (before : List (List ℕ)) × (line : List ℕ) × (after : List (List ℕ)) × (lines_of b ≡ before ++ line ∷ after)
+IsNoteLine b found = (lines : List (List ℕ)) × AreLines b lines × MatchOption found (All (λ line. ¬ IsNote line) lines)
+    (λ x. (before : List (List ℕ)) × (line : List ℕ) × (after : List (List ℕ)) × (lines ≡ before ++ line ∷ after)
     × All (λ line. ¬ IsNote line) before × IsNote line × (x ≡ record { start = sum_by length before; bytes = without_terminator line }))

@@ -4,7 +4,7 @@ ghost use Rattle.output_slice.specs.declared.panic_head.HeadSpan.{HeadSpan};
 ghost use Rattle.output_slice.specs.Head.{IsLineStart, IsHead};
 ghost use Rattle.output_slice.specs.Taken.{IsLastTaken, IsTaken, last_of};
 ghost use Rattle.output_slice.specs.Cut.{IsCut};
-ghost use Rattle.output_slice.specs.Search.{IsLastOpening};
+ghost use Rattle.output_slice.specs.Search.{IsLastOpening, MayCross};
 
 use crate::byte_source::CountedBytes;
 use crate::lines::line_end;
@@ -14,7 +14,7 @@ use bstr::ByteSlice;
 
 /// The last line start at which a head may stand.
 fn last_opening(bytes: &[u8]) -> Option<usize>
-    ensures value { MatchOption result ((s : ℕ) → (e : ℕ) → ¬ IsHead bytes.now s e) (λ s. IsLastOpening bytes.now s) }
+    ensures { MatchOption result ((s : ℕ) → (e : ℕ) → ¬ IsHead bytes.now s e) (λ s. IsLastOpening bytes.now s) }
 {
     if let Some(feed) = bytes.rfind(b"\nthread '") {
         return Some(feed + 1);
@@ -38,11 +38,11 @@ fn heads_end(bytes: &[u8], at: usize) -> usize
     }
 }
 
-/// Where the head may begin that crosses the line start `at`.
+/// Where a head may begin that crosses the line start `at`. None where `at` is a cut.
 fn crossing(bytes: &[u8], at: usize) -> Option<usize>
     requires within { at ≤ length bytes.now }
     requires line_start { IsLineStart bytes.now at }
-    ensures value { MatchOption result (IsCut bytes.now at) (λ s. (s < at) × IsLineStart bytes.now s) }
+    ensures { MatchOption result (IsCut bytes.now at) (λ s. MayCross bytes.now s at) }
 {
     let Some(quote) = (&bytes[..at]).rfind_byte(b'\'') else {
         return None;
@@ -55,12 +55,13 @@ fn crossing(bytes: &[u8], at: usize) -> Option<usize>
     }
 }
 
-/// The last cut at or before the line start `at`.
+/// The last line start at or before `at` that no head may cross, by what stands before it.
 fn cut_before(bytes: &[u8], at: usize) -> usize
     requires within { at ≤ length bytes.now }
     requires line_start { IsLineStart bytes.now at }
     ensures cut { IsCut bytes.now result }
     ensures within { result ≤ at }
+    ensures last { (c : ℕ) → result < c → c ≤ at → (s : ℕ) × MayCross bytes.now s c }
 {
     let mut cut = at;
     while let Some(start) = crossing(bytes, cut) {

@@ -8,6 +8,7 @@
 pub mod byte_source;
 pub mod heuristics;
 pub mod last_head;
+pub mod laws;
 mod lines;
 pub mod panic_head;
 pub mod subslice;

@@ -14,4 +14,4 @@ loop-at-preserved c = λ found last.
     c.loop-at.invariant found (last-within-front c.loop-at.rest.now c.heads_end.result found e.high e.ends (c.in_default-last_from.ensures found last))
 
 pub returns : goal.returns
-returns c = c.loop-at.invariant None (IsLastTaken-none c.loop-at.rest.now c.in_default.ensures.value)
+returns c = c.loop-at.invariant None (IsLastTaken-none c.loop-at.rest.now c.in_default.ensures)
