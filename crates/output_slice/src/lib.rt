@@ -12,6 +12,8 @@ pub mod laws;
 mod lines;
 pub mod panic_head;
 pub mod subslice;
+#[cfg(test)]
+mod tests;
 
 pub use byte_source::{ByteSource, CountedBytes};
 pub use heuristics::{heuristic_error_str, heuristic_panic_message, heuristic_should_panic};
