@@ -4,17 +4,14 @@ use Rattle.std.specs.Prelude.{codes, Some, None}
 use Rattle.std.proofs.lemmas.Bool.{cases_lt}
 use Rattle.bstr.specs.Find.{OccursAt, IsFirst, FindsNeedle}
 use Rattle.output_slice.specs.Slices.{IsErrorStart}
-use Rattle.output_slice.proofs.OccursLemmas.{occurs-back, occurs-both}
+use Rattle.output_slice.proofs.OccursLemmas.{occurs-byte, occurs-back, occurs-both}
 
 -- past the front, it is a line feed with the text behind it
 feed-error : (b : List ℕ) (i : ℕ) → 0 < i → IsErrorStart b i → OccursAt b (codes "\nError: ") (i - 1)
 feed-error b i pos h =
     let place : i ≡ i - 1 + 1 = omega arith in
     let fits = h.1.fits in
-    occurs-both b (codes "\n") (codes "Error: ") (i - 1) (record {
-      fits = omega arith;
-      reads = λ j l. let zero_j : j ≡ 0 = omega arith in let at : i - 1 + j ≡ i - 1 = omega arith in ap (λ k. get_or b k 0) at ∙ h.0 pos ∙ sym (ap (λ k. get_or (codes "\n") k 0) zero_j);
-    }) (subst (OccursAt b (codes "Error: ")) place h.1)
+    occurs-both b (codes "\n") (codes "Error: ") (i - 1) (occurs-byte b 10 (i - 1) (omega arith) (h.0 pos)) (subst (OccursAt b (codes "Error: ")) place h.1)
 
 pub error-feed : (b : List ℕ) (at : ℕ) → OccursAt b (codes "\nError: ") at → IsErrorStart b (at + 1)
 error-feed b at h = (λ pos. let place : at + 1 - 1 ≡ at + 0 = omega arith in ap (λ k. get_or b k 0) place ∙ h.reads 0 (omega arith), occurs-back b (codes "\n") (codes "Error: ") at h)

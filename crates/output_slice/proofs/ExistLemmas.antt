@@ -16,7 +16,8 @@ use Rattle.output_slice.specs.Steps.{IsCharAt, AreDigits, IsDigitRun, IsTailEnd,
 use Rattle.output_slice.proofs.CharLemmas.{length-part, IsCharAt-decoded, not_char-decoded, char-same}
 use Rattle.output_slice.proofs.DigitLemmas.{digits-none, digits-more}
 use Rattle.output_slice.proofs.TailLemmas.{occurs-part, part-occurs, Found, IsTailEnd-plain, IsTailEnd-none, IsTailEnd-numbered}
-use Rattle.output_slice.proofs.HeadLemmas.{Settled, settled-first, settled-none, settled-head, settled-done, name-from, IsHeadEnd-name, IsHeadStop-none, IsHeadStop-closed, IsHeadStop-opened, head_stop-order}
+use Rattle.output_slice.proofs.SettledLemmas.{Settled, settled-first, settled-none, settled-head, settled-done}
+use Rattle.output_slice.proofs.StepLemmas.{name-from, IsHeadEnd-name, IsHeadStop-none, IsHeadStop-closed, IsHeadStop-opened, head_stop-order}
 
 list-dec : (xs ys : List ℕ) → (xs ≡ ys) ⊎ (xs ≡ ys → ⊥)
 list-dec [] [] = inl refl

@@ -3,6 +3,9 @@ pub mod CharLemmas
 pub mod DigitLemmas
 pub mod TailLemmas
 pub mod HeadLemmas
+pub mod StepLemmas
+pub mod SettledLemmas
+pub mod SearchLemmas
 pub mod TakenLemmas
 pub mod TrimLemmas
 pub mod WideningLemmas
@@ -15,4 +18,5 @@ pub mod MoveLemmas
 pub mod ExistLemmas
 pub mod CutLemmas
 pub mod CrossLemmas
+pub mod OpeningLemmas
 pub mod LineLemmas

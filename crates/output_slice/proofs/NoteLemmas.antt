@@ -16,7 +16,7 @@ use Rattle.output_slice.specs.Steps.{NoFeedBetween}
 use Rattle.output_slice.specs.Slices.{Slice, IsNote, IsNoteLine}
 use Rattle.output_slice.proofs.DivisionLemmas.{AreLines-lines_of}
 use Rattle.output_slice.proofs.CharLemmas.{length-part, get_or-part}
-use Rattle.output_slice.proofs.CrossLemmas.{text-feed}
+use Rattle.output_slice.proofs.OccursLemmas.{text-feed}
 use Rattle.output_slice.proofs.TailLemmas.{not-in}
 
 sum-cons : (x : List ℕ) (xs : List (List ℕ)) → sum_by length (x ∷ xs) ≡ length x + sum_by length xs

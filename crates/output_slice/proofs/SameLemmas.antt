@@ -38,8 +38,10 @@ pub IsPanicSlice-same : (b : List ℕ) (f g : Option Slice) → IsPanicSlice b f
 IsPanicSlice-same b f g p q = by_head q.0 (subst Is (IsLastTaken-same b p.0 q.0 p.1 q.1) p.2) q.2 where
   From : Option Slice → HeadSpan → Type 0
   From found h = (t : ℕ) × IsWidened b h.start t × (x : Slice) × IsTrimmedSlice b t x × (found ≡ Some x)
+
   Is : Option HeadSpan → Type 0
   Is head = MatchOption head (f ≡ None) (From f)
+
   by_head : (head : Option HeadSpan) → Is head → MatchOption head (g ≡ None) (From g) → f ≡ g
   by_head None one two = one ∙ sym two
   by_head (Some h) one two =
@@ -52,8 +54,10 @@ pub IsErrorSlice-same : (b : List ℕ) (f g : Option Slice) → IsErrorSlice b f
 IsErrorSlice-same b f g p q = by_start q.0 (subst Is (IsFirst-same (IsErrorStart b) 0 (length b + 1) p.0 q.0 p.1 q.1) p.2) q.2 where
   From : Option Slice → ℕ → Type 0
   From found s = (x : Slice) × IsTrimmedSlice b s x × (found ≡ Some x)
+
   Is : Option ℕ → Type 0
   Is start = MatchOption start (f ≡ None) (From f)
+
   by_start : (start : Option ℕ) → Is start → MatchOption start (g ≡ None) (From g) → f ≡ g
   by_start None one two = one ∙ sym two
   by_start (Some s) one two = one.2 ∙ ap Some (IsTrimmedSlice-same b s one.0 two.0 one.1 two.1) ∙ sym two.2
@@ -81,15 +85,16 @@ IsNoteLine-same b f g p q = by_found f g (subst (Is f) (AreLines-same b p.0 p.1)
   Is found lines = MatchOption found (All (λ line. ¬ IsNote line) lines)
       (λ x. (before : List (List ℕ)) × (line : List ℕ) × (after : List (List ℕ)) × (lines ≡ before ++ line ∷ after)
       × All (λ line. ¬ IsNote line) before × IsNote line × (x ≡ record { start = sum_by length before; bytes = without_terminator line }))
+
   by_found : (x y : Option Slice) → Is x (lines_of b) → Is y (lines_of b) → x ≡ y
   by_found None None one two = refl
   by_found None (Some y) one two = absurd (none-first IsNote (lines_of b) two.0 two.1 two.2 two.3 one two.5)
   by_found (Some x) None one two = absurd (none-first IsNote (lines_of b) one.0 one.1 one.2 one.3 two one.5)
   by_found (Some x) (Some y) one two =
-    let same = first-same IsNote one.0 two.0 one.1 two.1 one.2 two.2 (sym one.3 ∙ two.3) one.4 two.4 one.5 two.5 in
-    ap Some (one.6 ∙ ap (λ before. slice before one.1) same.0 ∙ ap (slice two.0) same.1 ∙ sym two.6) where
-      slice : List (List ℕ) → List ℕ → Slice
-      slice before line = record { start = sum_by length before; bytes = without_terminator line }
+      let same = first-same IsNote one.0 two.0 one.1 two.1 one.2 two.2 (sym one.3 ∙ two.3) one.4 two.4 one.5 two.5 in
+      ap Some (one.6 ∙ ap (λ before. slice before one.1) same.0 ∙ ap (slice two.0) same.1 ∙ sym two.6) where
+        slice : List (List ℕ) → List ℕ → Slice
+        slice before line = record { start = sum_by length before; bytes = without_terminator line }
 
 -- what holds of each stream's bytes holds of a stream
 OfStream-same : (Is : List ℕ → Option Slice → Type 0) → ((b : List ℕ) (f g : Option Slice) → Is b f → Is b g → f ≡ g)

@@ -85,12 +85,13 @@ fn last_from(bytes: &[u8], cut: usize) -> Option<HeadSpan>
     })
 }
 
-/// The last taken head of `bytes`, and none where there is no head: what
-/// [`last_panic_head`](crate::panic_head::last_panic_head) finds, looked for from the back. So a panic near the end of long
-/// output costs no search of what stands before it.
+/// The last taken head of `bytes`, and none where there is no head: what [`last_panic_head`] finds,
+/// looked for from the back, so that a panic near the end of long output costs no search of what
+/// stands before it.
 ///
-/// Each byte is passed a bounded number of times: the search goes window by window, and a window
-/// reaches from a line start that no head crosses to the end of what is not searched yet.
+/// The search goes window by window. A window begins at a line start that no head crosses, and ends
+/// where the window behind it begins. The taken heads of the whole are those of the windows, one
+/// window after the other, so the first window from the back that has a head has the last one.
 pub fn last_head(bytes: &[u8]) -> Option<HeadSpan>
     ensures last { IsLastTaken bytes.now result }
     ensures only { (taken : List HeadSpan) → IsTaken bytes.now taken → result ≡ last_of taken }

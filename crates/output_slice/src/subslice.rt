@@ -66,26 +66,27 @@ impl<'a> TestOutputErrorSlice<'a> {
     pub fn combined_subslice(&self) -> Option<ByteSubslice<'a>>
         ensures { result ≡ Some (part_of self.now) }
     {
-        match self {
-            Self::PanicMessage { stderr_subslice } | Self::ErrorStr { stderr_subslice } => {
-                Some(*stderr_subslice)
-            }
-            Self::ShouldPanic { stdout_subslice } => Some(*stdout_subslice),
-        }
+        Some(self.part())
     }
-}
 
-/// Writes the part as text. Each malformed piece of it is written as U+FFFD.
-impl<'a> fmt::Display for TestOutputErrorSlice<'a> {
-    ghost output = { λ s. Some (encode_utf8_all (lossy_chars (part_of s).slice.now)) };
-
-    fn fmt<W: fmt::Write>(&self, f: &mut fmt::Formatter<W>) -> fmt::Result {
-        let part = match self {
+    fn part(&self) -> ByteSubslice<'a>
+        ensures { result ≡ part_of self.now }
+    {
+        match self {
             Self::PanicMessage { stderr_subslice } | Self::ErrorStr { stderr_subslice } => {
                 *stderr_subslice
             }
             Self::ShouldPanic { stdout_subslice } => *stdout_subslice,
-        };
-        part.slice.as_bstr().fmt(f)
+        }
+    }
+}
+
+/// Writes the part as text: its exact bytes where they are UTF-8, and U+FFFD for each malformed
+/// piece of it.
+impl<'a> fmt::Display for TestOutputErrorSlice<'a> {
+    ghost output = { λ s. Some (encode_utf8_all (lossy_chars (part_of s).slice.now)) };
+
+    fn fmt<W: fmt::Write>(&self, f: &mut fmt::Formatter<W>) -> fmt::Result {
+        self.part().slice.as_bstr().fmt(f)
     }
 }

@@ -9,7 +9,7 @@ use crate::panic_head::characters::{digits_end, is_utf8_between};
 use crate::panic_head::quotes::opens;
 
 /// Where `text` ends, if it stands at `at`.
-fn after<S: ByteSource>(source: &mut S, at: usize, text: &[u8]) -> Option<usize>
+fn end_of_text<S: ByteSource>(source: &mut S, at: usize, text: &[u8]) -> Option<usize>
     requires room { S.count source.old + length (S.bytes source.old) < 2 ^ 128 + at }
     requires within { at ≤ length (S.bytes source.old) }
     ensures value { MatchOption result (¬ (OccursAt (S.bytes source.old) text.now at)) (λ e. OccursAt (S.bytes source.old) text.now at × (e ≡ at + length text.now)) }
@@ -36,14 +36,14 @@ fn tail_end<S: ByteSource>(source: &mut S, at: usize) -> Option<usize>
     ensures reads { ReadsUpTo (S.bytes source.old) at (S.count source.old) (S.count source.new) result }
     ensures same { S.bytes source.new ≡ S.bytes source.old }
 {
-    let Some(number) = after(source, at, b" (") else {
-        return after(source, at, b" panicked at ");
+    let Some(number) = end_of_text(source, at, b" (") else {
+        return end_of_text(source, at, b" panicked at ");
     };
     let close = digits_end(source, number);
     if close == number {
         return None;
     }
-    after(source, close, b") panicked at ")
+    end_of_text(source, close, b") panicked at ")
 }
 
 /// Where the head ends whose name stands between the quotes at `quote` and `close`.

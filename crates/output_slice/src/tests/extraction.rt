@@ -250,12 +250,20 @@ fn is_part(found: Option<ByteSubslice<'_>>, start: usize, text: &[u8]) -> bool {
 #[test]
 fn each_heuristic(rt: HostRuntime) {
     let found = heuristic_panic_message(WITH_BACKTRACE);
-    let text = WITH_BACKTRACE.get(11..WITH_BACKTRACE.len() - 3).unwrap_or(b"");
+    let text = WITH_BACKTRACE
+        .get(11..WITH_BACKTRACE.len() - 3)
+        .unwrap_or(b"");
     assert!(rt; is_part(found, 11, text), "a panic");
     let found = heuristic_error_str(b"foobar\nError: \"this is an error\"\n");
-    assert!(rt; is_part(found, 7, b"Error: \"this is an error\""), "an error");
+    assert!(rt;
+        is_part(found, 7, b"Error: \"this is an error\""),
+        "an error"
+    );
     let found = heuristic_should_panic(b"a\r\nnote: test did not panic as expected\r\nb");
-    assert!(rt; is_part(found, 3, b"note: test did not panic as expected"), "a note");
+    assert!(rt;
+        is_part(found, 3, b"note: test did not panic as expected"),
+        "a note"
+    );
 }
 
 #[test]
@@ -276,7 +284,19 @@ fn each_stream(rt: HostRuntime) -> Result<(), AllocError> {
         return Ok(());
     };
     assert!(rt; note.stderr_subslice().is_none());
-    assert!(rt; is_part(note.stdout_subslice(), 0, b"note: test did not panic as expected"));
-    assert!(rt; is_part(note.combined_subslice(), 0, b"note: test did not panic as expected"));
+    assert!(rt;
+        is_part(
+            note.stdout_subslice(),
+            0,
+            b"note: test did not panic as expected"
+        )
+    );
+    assert!(rt;
+        is_part(
+            note.combined_subslice(),
+            0,
+            b"note: test did not panic as expected"
+        )
+    );
     Ok(())
 }

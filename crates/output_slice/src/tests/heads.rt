@@ -72,8 +72,16 @@ fn worked_heads(rt: HostRuntime) -> Result<(), AllocError> {
     for case in &CASES {
         list_heads(case.bytes, &mut heads)?;
         list_taken(heads.as_slice(), &mut taken)?;
-        assert!(rt; are_spans(heads.as_slice(), case.heads), "heads of {}", case.shows);
-        assert!(rt; are_spans(taken.as_slice(), case.taken), "taken of {}", case.shows);
+        assert!(rt;
+            are_spans(heads.as_slice(), case.heads),
+            "heads of {}",
+            case.shows
+        );
+        assert!(rt;
+            are_spans(taken.as_slice(), case.taken),
+            "taken of {}",
+            case.shows
+        );
         let mut source = CountedBytes::new(case.bytes);
         let found = last_panic_head(&mut source);
         assert_eq!(rt; found, taken.last().copied(), "last of {}", case.shows);

@@ -29,7 +29,10 @@ fn few_reads_where_no_head_is(rt: HostRuntime) -> Result<(), AllocError> {
     let mut number = repeated(rt.alloc(), b"thread 'a' (", 1)?;
     let ones = repeated(rt.alloc(), b"1", 1_000_000)?;
     number.extend_from_slice(ones.as_slice())?;
-    assert!(rt; finds_none_soon(number.as_slice()), "a number without an end");
+    assert!(rt;
+        finds_none_soon(number.as_slice()),
+        "a number without an end"
+    );
     Ok(())
 }
 

@@ -114,7 +114,9 @@ impl Trial {
         };
         *taken = taken.wrapping_add(1);
         met.overlapping = met.overlapping.wrapping_add(u32::from(self.overlaps()));
-        met.crossing_line = met.crossing_line.wrapping_add(u32::from(self.crosses_line()));
+        met.crossing_line = met
+            .crossing_line
+            .wrapping_add(u32::from(self.crosses_line()));
         met.widened = met.widened.wrapping_add(u32::from(self.is_widened()));
     }
 }

@@ -3,7 +3,9 @@ use Rattle.std.specs.Prelude.{None, Option}
 use Rattle.output_slice.specs.declared.panic_head.HeadSpan.{HeadSpan}
 use Rattle.output_slice.specs.Taken.{IsTaken, last_of}
 use Rattle.output_slice.specs.Steps.{IsNextQuote}
-use Rattle.output_slice.proofs.HeadLemmas.{Searched, searched-first, searched-none, searched-found, settled-done, head_stop-order}
+use Rattle.output_slice.proofs.SearchLemmas.{Searched, searched-first, searched-none, searched-found}
+use Rattle.output_slice.proofs.SettledLemmas.{settled-done}
+use Rattle.output_slice.proofs.StepLemmas.{head_stop-order}
 use Rattle.output_slice.proofs.TakenLemmas.{IsTaken-same, IsTaken-some}
 use Rattle.output_slice.proofs.panic_head.last_panic_head.Goals as goal
 

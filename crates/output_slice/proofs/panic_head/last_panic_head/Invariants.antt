@@ -1,5 +1,5 @@
 use Rattle.std.proofs.Common.{◌≡◌, ◌-◌, length}
-use Rattle.output_slice.proofs.HeadLemmas.{Searched}
+use Rattle.output_slice.proofs.SearchLemmas.{Searched}
 use Rattle.output_slice.proofs.panic_head.last_panic_head.Given as goal
 
 abbrev pub invariant-loop-next : goal.invariant-loop-next

@@ -1,5 +1,5 @@
 use Rattle.std.proofs.Common.{◌+◌, ap, arith}
-use Rattle.output_slice.proofs.HeadLemmas.{name-from, IsHeadEnd-name}
+use Rattle.output_slice.proofs.StepLemmas.{name-from, IsHeadEnd-name}
 use Rattle.output_slice.proofs.panic_head.ends.head_end.Goals as goal
 use Rattle.output_slice.proofs.panic_head.ends.head_end.Goals.{then-quote-close-via-then-quote-close, then-quote-close-via-else-quote-close+then-not-is_utf8_between}
 
