@@ -8,7 +8,7 @@ ghost use Rattle.output_slice.specs.Search.{IsLastOpening, MayCross};
 
 use crate::byte_source::CountedBytes;
 use crate::lines::line_end;
-use crate::panic_head::quotes::opens;
+use crate::panic_head::quotes::{OPENING_SIZE, WORD_SIZE, opens};
 use crate::panic_head::{HeadSpan, last_panic_head};
 use bstr::ByteSlice;
 
@@ -32,9 +32,10 @@ fn heads_end(bytes: &[u8], at: usize) -> usize
     ensures high { result ≤ length bytes.now }
     ensures ends { (s : ℕ) → (e : ℕ) → IsHead bytes.now s e → e ≤ result }
 {
-    match (&bytes[at + 8..]).find_byte(b'\'') {
-        Some(gap) => line_end(bytes, at + 8 + gap),
-        None => line_end(bytes, at + 8),
+    let name = at + OPENING_SIZE;
+    match (&bytes[name..]).find_byte(b'\'') {
+        Some(gap) => line_end(bytes, name + gap),
+        None => line_end(bytes, name),
     }
 }
 
@@ -49,7 +50,7 @@ fn crossing(bytes: &[u8], at: usize) -> Option<usize>
     };
     let mut source = CountedBytes::new(bytes);
     if opens(&mut source, 0, quote) {
-        Some(quote - 7)
+        Some(quote - WORD_SIZE)
     } else {
         None
     }

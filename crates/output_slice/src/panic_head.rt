@@ -10,7 +10,7 @@ pub(crate) mod quotes;
 
 use crate::byte_source::ByteSource;
 use crate::panic_head::ends::head_stop;
-use crate::panic_head::quotes::next_quote;
+use crate::panic_head::quotes::{WORD_SIZE, next_quote};
 
 /// Where a head stands: the front of a panic message, as `thread 'main' panicked at `.
 #[derive(Clone, Copy, Debug, PartialEq, Eq)]
@@ -50,7 +50,7 @@ pub fn last_panic_head<S: ByteSource>(source: &mut S) -> Option<HeadSpan>
         match head_stop(source, place, quote, close) {
             Some(stop) => {
                 last = Some(HeadSpan {
-                    start: quote - 7,
+                    start: quote - WORD_SIZE,
                     stop,
                 });
                 place = stop;

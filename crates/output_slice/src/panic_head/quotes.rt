@@ -6,6 +6,12 @@ ghost use Rattle.output_slice.specs.Steps.{IsNextQuote};
 
 use crate::byte_source::ByteSource;
 
+/// How many bytes the word `thread ` has, which stands before the opening quote of a head.
+pub(crate) const WORD_SIZE: usize = 7;
+
+/// How many bytes the word has with the quote.
+pub(crate) const OPENING_SIZE: usize = WORD_SIZE + 1;
+
 /// The next quote at or after `from`.
 pub(crate) fn next_quote<S: ByteSource>(source: &mut S, from: usize) -> Option<usize>
     requires within { from ≤ length (S.bytes source.old) }
@@ -33,12 +39,12 @@ pub(crate) fn opens<S: ByteSource>(source: &mut S, place: usize, quote: usize) -
     ensures none { quote < place + 7 → S.count source.new ≡ S.count source.old }
     ensures same { S.bytes source.new ≡ S.bytes source.old }
 {
-    if quote < 7 || quote - 7 < place {
+    if quote < WORD_SIZE || quote - WORD_SIZE < place {
         return false;
     }
-    let start = quote - 7;
+    let start = quote - WORD_SIZE;
     let word = b"thread ";
-    for i in (0..7).rev() {
+    for i in (0..WORD_SIZE).rev() {
         if source.byte(start + i) != word[i] {
             return false;
         }
