@@ -1,15 +1,15 @@
 -- Which line starts a head crosses.
-use Rattle.std.proofs.Common.{◌≡◌, ◌⊎◌, inl, inr, length-drop, get_or-drop, ℕ, ◌+◌, ◌-◌, ◌<◌, ◌≤◌, true, List, length, get_or, take, drop, refl, sym, ap, subst, ◌∙◌, arith, ⊎_elim}
+use Rattle.std.proofs.Common.{◌≡◌, ℕ, ◌+◌, ◌-◌, ◌<◌, ◌≤◌, true, List, length, get_or, take, refl, sym, ap, subst, ◌∙◌, arith, ⊎_elim}
 use Rattle.std.specs.Prelude.{codes, Some, None}
 use Rattle.std.proofs.lemmas.Bool.{cases_lt, eq-eqb, eqb-true}
 use Rattle.std.proofs.lemmas.List.{get_or-take, length-take-le}
-use Rattle.bstr.specs.Find.{OccursAt, IsFirstByte, IsLastByte, is_byte, FindsLastNeedle}
+use Rattle.bstr.specs.Find.{OccursAt, IsLastByte, is_byte}
 use Rattle.bstr.specs.Text.{part}
 use Rattle.output_slice.specs.Head.{IsLineStart, IsTail, IsHead}
 use Rattle.output_slice.specs.Steps.{NoQuoteBetween}
 use Rattle.output_slice.specs.Cut.{IsCut}
-use Rattle.output_slice.specs.Search.{IsLastOpening, MayCross}
-use Rattle.output_slice.proofs.OccursLemmas.{occurs-front, occurs-back, occurs-both}
+use Rattle.output_slice.specs.Search.{MayCross}
+use Rattle.output_slice.proofs.OccursLemmas.{occurs-front, occurs-both}
 use Rattle.output_slice.proofs.TailLemmas.{not-in, tail_cases, AreDigits-feed}
 use Rattle.output_slice.proofs.HeadLemmas.{name-quiet, head-quote, head-order}
 use Rattle.output_slice.proofs.OccursLemmas.{text-feed, occurs-byte}

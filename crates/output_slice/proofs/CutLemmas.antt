@@ -54,9 +54,6 @@ contains-unmap c ys h k =
     (k.0, low, span-same g h (omega arith) (omega arith))
 
 module _ (b : List ℕ) (c : ℕ) (xs ys : List HeadSpan) (cut : IsCut b c) (front : IsTaken (take c b) xs) (back : IsTaken (drop c b) ys) where
-  all : List HeadSpan
-  all = xs ++ map (shifted c) ys
-
   within : c ≤ length b
   within = cut.within
 

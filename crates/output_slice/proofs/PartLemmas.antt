@@ -1,5 +1,5 @@
 -- The slices are parts of their parents, and not empty.
-use Rattle.std.proofs.Common.{◌≡◌, ℕ, ◌+◌, ◌-◌, ◌<◌, ◌≤◌, true, false, List, [], ◌∷◌, ◌++◌, length, get_or, take, drop, refl, sym, ap, subst, ◌∙◌, arith, ⊎_elim, length-append, length-drop, get_or-drop, add-zero}
+use Rattle.std.proofs.Common.{◌≡◌, ℕ, ◌+◌, ◌-◌, ◌<◌, ◌≤◌, true, false, List, [], ◌∷◌, ◌++◌, length, get_or, take, drop, sym, ap, subst, ◌∙◌, arith, ⊎_elim, length-append, length-drop, get_or-drop, add-zero}
 use Rattle.std.specs.Prelude.{codes, Option, Some, None, MatchOption, IfSome, All, IsTrue, sum_by, option_map}
 use Rattle.std.specs.Char.{IsScalar, is_whitespace}
 use Rattle.std.specs.Str.{encode_utf8_all}
@@ -15,7 +15,7 @@ use Rattle.std.proofs.lemmas.Str.{char_from_byte}
 use Rattle.std.proofs.lemmas.List.Elements.{All-head}
 use Rattle.std.proofs.lemmas.List.{get_or-take, length-take-le}
 use Rattle.bstr.specs.Find.{OccursAt, IsFirst}
-use Rattle.bstr.specs.Text.{lines_of, without_terminator, no_cr}
+use Rattle.bstr.specs.Text.{without_terminator, no_cr}
 use Rattle.output_slice.specs.declared.panic_head.HeadSpan.{HeadSpan}
 use Rattle.output_slice.specs.declared.subslice.TestOutputErrorSlice.{TestOutputErrorSlice}
 use Rattle.output_slice.specs.declared.subslice.TestOutputErrorSlice.TheVariants.{PanicMessage, ErrorStr, ShouldPanic}

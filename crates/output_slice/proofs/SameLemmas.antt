@@ -1,6 +1,6 @@
 -- Each slice is the only one.
 use Rattle.std.proofs.Common.{◌≡◌, ℕ, ◌+◌, ◌<◌, ◌≤◌, List, [], ◌∷◌, ◌++◌, length, refl, sym, ap, subst, ◌∙◌, arith, ⊎_elim}
-use Rattle.std.specs.Prelude.{All, Contains, Option, Some, None, MatchOption, sum_by}
+use Rattle.std.specs.Prelude.{All, Option, Some, None, MatchOption, sum_by}
 use Rattle.std.proofs.lemmas.Bool.{cases_lt}
 use Rattle.std.proofs.lemmas.List.Elements.{All-contains, All-head, All-tail, Contains-append_right}
 use Rattle.bstr.specs.Find.{IsFirst}

@@ -1,22 +1,13 @@
 -- The state of the counted search, and its reads.
-use Rattle.std.proofs.Common.{◌≡◌, ◌≢◌, ℕ, ◌+◌, ◌-◌, ◌*◌, ◌<◌, ◌≤◌, ◌↔◌, List, [], ◌∷◌, ◌++◌, length, get_or, refl, sym, ap, subst, ◌∙◌, arith, ⊎_elim, length-append}
-use Rattle.std.specs.Prelude.{codes, All, AllPairs, Contains, Option, Some, None, MatchOption, IfSome, ◌^◌}
+use Rattle.std.proofs.Common.{◌≡◌, ◌≢◌, ℕ, ◌+◌, ◌-◌, ◌*◌, ◌<◌, ◌≤◌, List, [], ◌∷◌, ◌++◌, length, get_or, refl, sym, ap, ◌∙◌, arith, ⊎_elim, length-append}
+use Rattle.std.specs.Prelude.{Option, Some, None, MatchOption, IfSome, ◌^◌}
 use Rattle.std.proofs.lemmas.Bool.{cases_lt}
-use Rattle.std.proofs.lemmas.List.{get_or_past, get_or_at}
+use Rattle.std.proofs.lemmas.List.{get_or_at}
 use Rattle.std.proofs.lemmas.Option.{slice_get-get_or}
-use Rattle.std.proofs.Math.ListN.{get_or-append}
-use Rattle.std.proofs.lemmas.List.Elements.{All-push, All-nil, All-weaker, All-contains, All-from_get_or, Contains-push, Contains-push_cases, Contains-append_left}
-use Rattle.std.proofs.lemmas.List.Quantifiers.{all_pairs_push}
-use Rattle.bstr.specs.Find.{OccursAt}
-use Rattle.bstr.specs.Text.{part}
 use Rattle.output_slice.specs.declared.panic_head.HeadSpan.{HeadSpan}
-use Rattle.output_slice.specs.Head.{IsLineStart, IsName, IsTail, IsHead}
-use Rattle.output_slice.specs.Taken.{IsTaken, last_of}
-use Rattle.output_slice.specs.Steps.{IsTailEnd, IsHeadEnd, IsHeadStop, IsNextQuote, NoQuoteBetween, HeadReads, NoFeedBetween}
-use Rattle.std.specs.Str.{IsUtf8}
-use Rattle.output_slice.proofs.OccursLemmas.{occurs-front, occurs-both}
-use Rattle.output_slice.proofs.CharLemmas.{length-part, get_or-part}
-use Rattle.output_slice.proofs.TailLemmas.{not-in, tail-same}
+use Rattle.output_slice.specs.Head.{IsLineStart}
+use Rattle.output_slice.specs.Taken.{last_of}
+use Rattle.output_slice.specs.Steps.{IsHeadStop, IsNextQuote, NoQuoteBetween, HeadReads, NoFeedBetween}
 use Rattle.output_slice.proofs.StepLemmas.{IsHeadStop-none}
 use Rattle.output_slice.proofs.SettledLemmas.{Settled, settled-first, settled-none, settled-head}
 

@@ -1,22 +1,14 @@
 -- The taken heads so far, as the search goes from quote to quote.
-use Rattle.std.proofs.Common.{◌≡◌, ◌≢◌, ℕ, ◌+◌, ◌-◌, ◌*◌, ◌<◌, ◌≤◌, ◌↔◌, List, [], ◌∷◌, ◌++◌, length, get_or, refl, sym, ap, subst, ◌∙◌, arith, ⊎_elim, length-append}
-use Rattle.std.specs.Prelude.{codes, All, AllPairs, Contains, Option, Some, None, MatchOption, IfSome, ◌^◌}
+use Rattle.std.proofs.Common.{◌≡◌, ℕ, ◌+◌, ◌<◌, ◌≤◌, ◌↔◌, List, [], ◌∷◌, ◌++◌, length, get_or, sym, ap, subst, arith, ⊎_elim, length-append}
+use Rattle.std.specs.Prelude.{All, AllPairs, Contains}
 use Rattle.std.proofs.lemmas.Bool.{cases_lt}
-use Rattle.std.proofs.lemmas.List.{get_or_past, get_or_at}
-use Rattle.std.proofs.lemmas.Option.{slice_get-get_or}
 use Rattle.std.proofs.Math.ListN.{get_or-append}
-use Rattle.std.proofs.lemmas.List.Elements.{All-push, All-nil, All-weaker, All-contains, All-from_get_or, Contains-push, Contains-push_cases, Contains-append_left}
+use Rattle.std.proofs.lemmas.List.Elements.{All-push, All-nil, All-weaker, All-contains, Contains-push, Contains-push_cases, Contains-append_left}
 use Rattle.std.proofs.lemmas.List.Quantifiers.{all_pairs_push}
-use Rattle.bstr.specs.Find.{OccursAt}
-use Rattle.bstr.specs.Text.{part}
 use Rattle.output_slice.specs.declared.panic_head.HeadSpan.{HeadSpan}
-use Rattle.output_slice.specs.Head.{IsLineStart, IsName, IsTail, IsHead}
-use Rattle.output_slice.specs.Taken.{IsTaken, last_of}
-use Rattle.output_slice.specs.Steps.{IsTailEnd, IsHeadEnd, IsHeadStop, IsNextQuote, NoQuoteBetween, HeadReads, NoFeedBetween}
-use Rattle.std.specs.Str.{IsUtf8}
-use Rattle.output_slice.proofs.OccursLemmas.{occurs-front, occurs-both}
-use Rattle.output_slice.proofs.CharLemmas.{length-part, get_or-part}
-use Rattle.output_slice.proofs.TailLemmas.{not-in, tail-same}
+use Rattle.output_slice.specs.Head.{IsHead}
+use Rattle.output_slice.specs.Taken.{IsTaken}
+use Rattle.output_slice.specs.Steps.{NoQuoteBetween}
 use Rattle.output_slice.proofs.HeadLemmas.{head-quote, head-letters, head-order, head-same, span-same}
 
 -- every head that starts below `place` is dealt with, and every taken head ends by then

@@ -168,11 +168,9 @@ IsTrimmedSlice-trim_end b s low =
 abbrev pub is_break : ℕ → Bool
 is_break c = c == 10 || c == 13
 
+-- such a character is a break
 is_break-holds : (c : ℕ) → is_break c ≡ true → IsBreak c
 is_break-holds c h = grind (arith, nat_tests)
-
-is_break-of : (c : ℕ) → IsBreak c → is_break c ≡ true
-is_break-of c h = ⊎_elim (λ e. ap is_break e) (λ e. ap is_break e) h
 
 -- where all characters are breaks, all bytes are
 break-bytes : (cs : List ℕ) → All (λ c. IsScalar c × IsTrue (is_break c)) cs → All IsBreak (encode_utf8_all cs)

@@ -1,6 +1,6 @@
 -- Where a panic slice begins.
 use Rattle.std.proofs.Common.{◌≡◌, ℕ, ◌+◌, ◌-◌, ◌<◌, ◌≤◌, true, List, length, get_or, take, drop, refl, sym, ap, subst, ◌∙◌, arith, ⊎_elim, inl, inr, length-drop, get_or-drop, add-zero, zero-add}
-use Rattle.std.specs.Prelude.{codes, Some, None}
+use Rattle.std.specs.Prelude.{codes, Some}
 use Rattle.std.proofs.lemmas.Bool.{cases_lt, eq-eqb, eqb-true}
 use Rattle.std.proofs.lemmas.List.{get_or-take, length-take, length-take-le}
 use Rattle.bstr.specs.Find.{OccursAt, IsLastByte, is_byte}
@@ -60,9 +60,6 @@ module _ (b : List ℕ) (s stop : ℕ) (low : stop ≤ s) (high : s ≤ length b
       let within : j < stop = omega (arith, size) in
       let read : get_or (take stop b) j 0 ≡ 10 = ap (λ k. get_or (take stop b) k 0) (sym (add-zero j)) ∙ h.reads 0 (omega arith) in
       (within, sym (get_or-take stop b j 0 within) ∙ read, eq-eqb _ 10 read)
-
-  pub widened-none : IsLastByte (is_byte 10) (take stop b) None → IsWidened b s s
-  widened-none h = inr (λ j line. let feed = feed-at j (begins-at j line) in h j (omega arith) (omega (arith, size, feed.0)) feed.2, refl)
 
   pub widened-some : (at t : ℕ) → IsLastByte (is_byte 10) (take stop b) (Some at) → OccursAt (drop at (take stop b)) (codes "\nError:") 0 → t ≡ at + 1 → IsWidened b s t
   widened-some at t h starts is =

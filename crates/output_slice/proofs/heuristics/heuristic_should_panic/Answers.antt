@@ -1,6 +1,5 @@
 use Rattle.std.specs.Prelude.{Some, None}
 use Rattle.output_slice.specs.Slices.{IsNoteLine}
-use Rattle.output_slice.specs.Shown.{slice_of}
 use Rattle.output_slice.proofs.NoteLemmas.{note-none, note-line}
 use Rattle.output_slice.proofs.PartLemmas.{IsNoteLine-part}
 use Rattle.output_slice.proofs.SameLemmas.{IsNoteLine-same}
