@@ -13,7 +13,7 @@ use Rattle.bstr.proofs.lemmas.LineLemmas.{EndsLine, lines-append, lines-step, li
 use Rattle.bstr.proofs.lemmas.RestLemmas.{concat-lines_of}
 use Rattle.output_slice.specs.Head.{IsLineStart}
 use Rattle.output_slice.specs.Steps.{NoFeedBetween}
-use Rattle.output_slice.specs.Slices.{Slice, IsNote, IsNoteLine}
+use Rattle.output_slice.specs.Slices.{IsNote, IsNoteLine}
 use Rattle.output_slice.proofs.DivisionLemmas.{AreLines-lines_of}
 use Rattle.output_slice.proofs.CharLemmas.{length-part, get_or-part}
 use Rattle.output_slice.proofs.OccursLemmas.{text-feed}
@@ -118,10 +118,8 @@ module _ (b : List ℕ) (at s e : ℕ) (found : FindsNeedle b (codes "note: test
   note-line = (
     lines_of b,
     AreLines-lines_of b,
-    (lines_of (take s b), part s e b, lines_of (drop (e - s) (drop s b)), lines-are, none-before, is-note, ap slice start-is),
-  ) where
-    slice : ℕ → Slice
-    slice k = record { start = k; bytes = without_terminator (part s e b) }
+    (lines_of (take s b), part s e b, lines_of (drop (e - s) (drop s b)), lines-are, none-before, is-note, start-is, refl),
+  )
 
 pub note-none : (b : List ℕ) → FindsNeedle b (codes "note: test did not panic as expected") 0 None → IsNoteLine b None
 note-none b none = (lines_of b, AreLines-lines_of b, none-in (codes "note: test did not panic as expected") b (λ h. let fits = h.1.fits in none h.0 (omega arith) (omega arith) h.1))

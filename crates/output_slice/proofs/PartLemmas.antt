@@ -1,6 +1,6 @@
 -- The slices are parts of their parents, and not empty.
 use Rattle.std.proofs.Common.{◌≡◌, ℕ, ◌+◌, ◌-◌, ◌<◌, ◌≤◌, true, false, List, [], ◌∷◌, ◌++◌, length, get_or, take, drop, sym, ap, subst, ◌∙◌, arith, ⊎_elim, length-append, length-drop, get_or-drop, add-zero}
-use Rattle.std.specs.Prelude.{codes, Option, Some, None, MatchOption, IfSome, All, IsTrue, sum_by, option_map}
+use Rattle.std.specs.Prelude.{codes, Option, Some, None, IfSome, All, IsTrue, sum_by, option_map}
 use Rattle.std.specs.Char.{IsScalar, is_whitespace}
 use Rattle.std.specs.Str.{encode_utf8_all}
 use Rattle.std.specs.List.{concat}
@@ -14,14 +14,12 @@ use Rattle.std.specs.Prelude.{nat_lt, ◌==◌, ◌&&◌, cond}
 use Rattle.std.proofs.lemmas.Str.{char_from_byte}
 use Rattle.std.proofs.lemmas.List.Elements.{All-head}
 use Rattle.std.proofs.lemmas.List.{get_or-take, length-take-le}
-use Rattle.bstr.specs.Find.{OccursAt, IsFirst}
+use Rattle.bstr.specs.Find.{OccursAt}
 use Rattle.bstr.specs.Text.{without_terminator, no_cr}
-use Rattle.output_slice.specs.declared.panic_head.HeadSpan.{HeadSpan}
 use Rattle.output_slice.specs.declared.subslice.TestOutputErrorSlice.{TestOutputErrorSlice}
 use Rattle.output_slice.specs.declared.subslice.TestOutputErrorSlice.TheVariants.{PanicMessage, ErrorStr, ShouldPanic}
 use Rattle.output_slice.specs.Head.{IsHead}
-use Rattle.output_slice.specs.Taken.{IsLastTaken}
-use Rattle.output_slice.specs.Slices.{Slice, IsPart, IsBlank, IsWidened, IsTrimmedSlice, IsPanicSlice, IsErrorStart, IsErrorSlice, IsNote, IsNoteLine}
+use Rattle.output_slice.specs.Slices.{Slice, IsPart, IsBlank, IsWidened, IsTrimmedSlice, IsPanicSlice, IsErrorSlice, IsNote, IsNoteLine}
 use Rattle.output_slice.specs.Extraction.{OfStream, IsExtract, IsPartOf, LiesIn}
 use Rattle.output_slice.specs.Shown.{slice_of, extract_of}
 use Rattle.output_slice.proofs.TakenLemmas.{IsLastTaken-head}
@@ -39,8 +37,12 @@ not_blank bs some low other h = by_chars h.0 h.1 h.2 where
       absurd (cc)
 
 -- a trimmed slice that begins with such a byte is a part
-trimmed-part : (b : List ℕ) (s : ℕ) (x : Slice) → IsTrimmedSlice b s x → s < length b → get_or b s 0 < 128 → is_whitespace (get_or b s 0) ≡ false → IsPart b x
-trimmed-part b s x h within low other =
+trimmed-part : (b : List ℕ) (x : Slice) → IsTrimmedSlice b x → (x.start < length b) × (get_or b x.start 0 < 128) × (is_whitespace (get_or b x.start 0) ≡ false) → IsPart b x
+trimmed-part b x h letter =
+    let s = x.start in
+    let within = letter.0 in
+    let low = letter.1 in
+    let other = letter.2 in
     let e = h.0 in
     let first = h.1.0 in
     let begin = first.low in
@@ -50,9 +52,9 @@ trimmed-part b s x h within low other =
     let here : get_or (drop s b) 0 0 ≡ get_or b s 0 = get_or-drop s b 0 0 ∙ ap (λ k. get_or b k 0) (add-zero s) in
     let longer : s < e = ⊎_elim (λ (l : s < e). l) (λ (m : e ≤ s). let same : e ≡ s = omega arith in
     absurd (not_blank (drop s b) (omega arith) (omega (arith, here)) (ap is_whitespace here ∙ other) (subst (λ k. IsBlank (drop k b)) same h.1.1))) (cases_lt s e) in
-    subst (IsPart b) (sym h.2) (
+    let count : length x.bytes ≡ e - s = ap length h.2 ∙ size in (
       omega arith,
-      record { fits = omega arith; reads = λ j l. sym (get_or-part b s e j (omega arith)) },
+      record { fits = omega arith; reads = λ j l. sym (get_or-part b s e j (omega arith)) ∙ sym (ap (λ xs. get_or xs j 0) h.2) },
     )
 
 -- a widened start has an `E` or the `t` of the head
@@ -107,16 +109,16 @@ line-front line =
     (cases_Bool feed)
 
 -- a line that holds the note is a part, without its end too
-note-part : (b : List ℕ) (before : List (List ℕ)) (line : List ℕ) (rest : List (List ℕ)) → concat (before ++ line ∷ rest) ≡ b → IsNote line
-    → IsPart b (record { start = sum_by length before; bytes = without_terminator line })
-note-part b before line rest joined note =
-    let start = sum_by length before in
+note-part : (b : List ℕ) (before : List (List ℕ)) (line : List ℕ) (rest : List (List ℕ)) (x : Slice) → concat (before ++ line ∷ rest) ≡ b → IsNote line
+    → x.start ≡ sum_by length before → x.bytes ≡ without_terminator line → IsPart b x
+note-part b before line rest x joined note is text =
+    let start = x.start in
     let long = note.1.fits in
     let front = line-front line in
     let m = front.0 in
-    let size : length (without_terminator line) ≡ m = ap length front.1.2 ∙ length-take-le m line front.1.0 in
+    let size : length x.bytes ≡ m = ap length text ∙ ap length front.1.2 ∙ length-take-le m line front.1.0 in
     let whole : b ≡ concat before ++ (line ++ concat rest) = sym joined ∙ concat-append before (line ∷ rest) in
-    let at : length (concat before) ≡ start = length-concat before in
+    let at : length (concat before) ≡ start = length-concat before ∙ sym is in
     let total : length b ≡ length (concat before) + (length line + length (concat rest)) = ap length whole ∙ length-append (concat before) (line ++ concat rest) ∙ ap (λ k. length (concat before) + k) (length-append line (concat rest)) in (
       omega arith,
       record {
@@ -124,35 +126,21 @@ note-part b before line rest joined note =
         reads = λ j l.
             ap (λ xs. get_or xs (start + j) 0) whole ∙ ap (λ k. get_or (concat before ++ (line ++ concat rest)) (k + j) 0) (sym at)
             ∙ get_or-append-add (concat before) (line ++ concat rest) j 0 ∙ get_or-append line (concat rest) 0 j (omega arith)
-            ∙ sym (get_or-take m line j 0 (omega arith)) ∙ ap (λ xs. get_or xs j 0) (sym front.1.2);
+            ∙ sym (get_or-take m line j 0 (omega arith)) ∙ ap (λ xs. get_or xs j 0) (sym front.1.2) ∙ sym (ap (λ xs. get_or xs j 0) text);
       },
     )
 
 -- a panic slice is a part
 pub IsPanicSlice-part : (b : List ℕ) (x : Slice) → IsPanicSlice b (Some x) → IsPart b x
-IsPanicSlice-part b x p = by_head p.0 p.1 p.2 where
-  by_head : (head : Option HeadSpan) → IsLastTaken b head
-      → MatchOption head (Some x ≡ None) (λ h. (t : ℕ) × IsWidened b h.start t × (y : Slice) × IsTrimmedSlice b t y × (Some x ≡ Some y)) → IsPart b x
-  by_head None last q = absurd (cc)
-  by_head (Some h) last q =
-      let letter = widened-letter b h.start h.stop q.0 (IsLastTaken-head b h last) q.1 in
-      let same : q.2 ≡ x = let e = q.4 in cc in
-      subst (IsPart b) same (trimmed-part b q.0 q.2 q.3 letter.0 letter.1 letter.2)
+IsPanicSlice-part b x p = trimmed-part b x p.3 (widened-letter b p.0.start p.0.stop x.start (IsLastTaken-head b p.0 p.1) p.2)
 
 -- an error slice is a part
 pub IsErrorSlice-part : (b : List ℕ) (x : Slice) → IsErrorSlice b (Some x) → IsPart b x
-IsErrorSlice-part b x p = by_start p.0 p.1 p.2 where
-  by_start : (start : Option ℕ) → IsFirst (IsErrorStart b) 0 (length b + 1) start
-      → MatchOption start (Some x ≡ None) (λ s. (y : Slice) × IsTrimmedSlice b s y × (Some x ≡ Some y)) → IsPart b x
-  by_start None first q = absurd (cc)
-  by_start (Some s) first q =
-      let letter = error-letter b s first.1.1 in
-      let same : q.0 ≡ x = let e = q.2 in cc in
-      subst (IsPart b) same (trimmed-part b s q.0 q.1 letter.0 letter.1 letter.2)
+IsErrorSlice-part b x p = trimmed-part b x p.1 (error-letter b x.start p.0.1.1)
 
 -- a note line is a part
 pub IsNoteLine-part : (b : List ℕ) (x : Slice) → IsNoteLine b (Some x) → IsPart b x
-IsNoteLine-part b x p = let h = p.2 in subst (IsPart b) (sym h.6) (note-part b h.0 h.1 h.2 (ap concat (sym h.3) ∙ p.1.joined) h.5)
+IsNoteLine-part b x p = let h = p.2 in note-part b h.0 h.1 h.2 x (ap concat (sym h.3) ∙ p.1.joined) h.5 h.6 h.7
 
 -- what holds of the slice of each stream's bytes holds of a stream's
 OfStream-part : (Is : List ℕ → Option Slice → Type 0) → ((b : List ℕ) (x : Slice) → Is b (Some x) → IsPart b x)

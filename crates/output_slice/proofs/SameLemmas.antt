@@ -1,12 +1,12 @@
 -- Each slice is the only one.
 use Rattle.std.proofs.Common.{◌≡◌, ℕ, ◌+◌, ◌<◌, ◌≤◌, List, [], ◌∷◌, ◌++◌, length, refl, sym, ap, subst, ◌∙◌, arith, ⊎_elim}
-use Rattle.std.specs.Prelude.{All, Option, Some, None, MatchOption, sum_by}
+use Rattle.std.specs.Prelude.{All, Option, Some, None, MatchOption, IfSome, option_map, sum_by}
 use Rattle.std.proofs.lemmas.Bool.{cases_lt}
 use Rattle.std.proofs.lemmas.List.Elements.{All-contains, All-head, All-tail, Contains-append_right}
 use Rattle.bstr.specs.Find.{IsFirst}
 use Rattle.bstr.specs.Text.{part, lines_of, without_terminator}
 use Rattle.output_slice.specs.declared.panic_head.HeadSpan.{HeadSpan}
-use Rattle.output_slice.specs.Slices.{Slice, IsErrorStart, IsWidened, IsTrimmedSlice, IsPanicSlice, IsErrorSlice, IsNote, IsNoteLine}
+use Rattle.output_slice.specs.Slices.{Slice, IsErrorStart, IsWidened, IsTrimmed, IsTrimmedSlice, IsPanicSlice, IsErrorSlice, IsNote, IsNoteLine}
 use Rattle.output_slice.specs.Extraction.{Extract, panic_slice, error_slice, note_line, OfStream, IsExtract}
 use Rattle.output_slice.proofs.DivisionLemmas.{AreLines-same}
 use Rattle.output_slice.proofs.TakenLemmas.{IsLastTaken-same}
@@ -25,42 +25,38 @@ IsFirst-same P i j (Some k) (Some l) g h = ap Some (⊎_elim
 some-same : {A : Type 0} (x y : A) → Some x ≡ Some y → x ≡ y
 some-same x y e = cc
 
+-- a slice is its start and its bytes
+slice-same : (x y : Slice) → x.start ≡ y.start → x.bytes ≡ y.bytes → x ≡ y
+slice-same x y p q = ap (λ s. slice s x.bytes) p ∙ ap (slice y.start) q where
+  slice : ℕ → List ℕ → Slice
+  slice s bytes = record { start = s; bytes = bytes }
+
 -- trimming gives one slice
-IsTrimmedSlice-same : (b : List ℕ) (s : ℕ) (x y : Slice) → IsTrimmedSlice b s x → IsTrimmedSlice b s y → x ≡ y
-IsTrimmedSlice-same b s x y g h =
-    let ends : g.0 ≡ h.0 = some-same g.0 h.0 (IsFirst-same _ _ _ (Some g.0) (Some h.0) g.1 h.1) in
-    g.2 ∙ ap slice ends ∙ sym h.2 where
-      slice : ℕ → Slice
-      slice e = record { start = s; bytes = part s e b }
+IsTrimmedSlice-same : (b : List ℕ) (x y : Slice) → x.start ≡ y.start → IsTrimmedSlice b x → IsTrimmedSlice b y → x ≡ y
+IsTrimmedSlice-same b x y p g h =
+    let ends : g.0 ≡ h.0 = some-same g.0 h.0 (IsFirst-same _ _ _ (Some g.0) (Some h.0) (subst (λ s. IsTrimmed b s g.0) p g.1) h.1) in
+    slice-same x y p (g.2 ∙ ap (λ s. part s g.0 b) p ∙ ap (λ e. part y.start e b) ends ∙ sym h.2)
 
 -- there is one panic slice
 pub IsPanicSlice-same : (b : List ℕ) (f g : Option Slice) → IsPanicSlice b f → IsPanicSlice b g → f ≡ g
-IsPanicSlice-same b f g p q = by_head q.0 (subst Is (IsLastTaken-same b p.0 q.0 p.1 q.1) p.2) q.2 where
-  From : Option Slice → HeadSpan → Type 0
-  From found h = (t : ℕ) × IsWidened b h.start t × (x : Slice) × IsTrimmedSlice b t x × (found ≡ Some x)
-
-  Is : Option HeadSpan → Type 0
-  Is head = MatchOption head (f ≡ None) (From f)
-
-  by_head : (head : Option HeadSpan) → Is head → MatchOption head (g ≡ None) (From g) → f ≡ g
-  by_head None one two = one ∙ sym two
-  by_head (Some h) one two =
-      let starts = IsWidened-same b h.start one.0 two.0 one.1 two.1 in
-      let same = IsTrimmedSlice-same b two.0 one.2 two.2 (subst (λ t. IsTrimmedSlice b t one.2) starts one.3) two.3 in
-      one.4 ∙ ap Some same ∙ sym two.4
+IsPanicSlice-same b None None p q = refl
+IsPanicSlice-same b None (Some y) p q = let heads = IsLastTaken-same b None (Some q.0) p q.1 in absurd (cc)
+IsPanicSlice-same b (Some x) None p q = let heads = IsLastTaken-same b None (Some p.0) q p.1 in absurd (cc)
+IsPanicSlice-same b (Some x) (Some y) p q =
+    let heads : p.0 ≡ q.0 = some-same p.0 q.0 (IsLastTaken-same b (Some p.0) (Some q.0) p.1 q.1) in
+    let starts = IsWidened-same b q.0.start x.start y.start (subst (λ (h : HeadSpan). IsWidened b h.start x.start) heads p.2) q.2 in
+    ap Some (IsTrimmedSlice-same b x y starts p.3 q.3)
 
 -- there is one error slice
 pub IsErrorSlice-same : (b : List ℕ) (f g : Option Slice) → IsErrorSlice b f → IsErrorSlice b g → f ≡ g
-IsErrorSlice-same b f g p q = by_start q.0 (subst Is (IsFirst-same (IsErrorStart b) 0 (length b + 1) p.0 q.0 p.1 q.1) p.2) q.2 where
-  From : Option Slice → ℕ → Type 0
-  From found s = (x : Slice) × IsTrimmedSlice b s x × (found ≡ Some x)
-
-  Is : Option ℕ → Type 0
-  Is start = MatchOption start (f ≡ None) (From f)
-
-  by_start : (start : Option ℕ) → Is start → MatchOption start (g ≡ None) (From g) → f ≡ g
-  by_start None one two = one ∙ sym two
-  by_start (Some s) one two = one.2 ∙ ap Some (IsTrimmedSlice-same b s one.0 two.0 one.1 two.1) ∙ sym two.2
+IsErrorSlice-same b f g p q = by_found f g (IsFirst-same (IsErrorStart b) 0 (length b + 1) (option_map start f) (option_map start g) p.0 q.0) p.1 q.1 where
+  start : Slice → ℕ
+  start x = x.start
+  by_found : (x y : Option Slice) → option_map start x ≡ option_map start y → IfSome x (IsTrimmedSlice b) → IfSome y (IsTrimmedSlice b) → x ≡ y
+  by_found None None e one two = refl
+  by_found None (Some y) e one two = absurd (cc)
+  by_found (Some x) None e one two = absurd (cc)
+  by_found (Some x) (Some y) e one two = ap Some (IsTrimmedSlice-same b x y (some-same x.start y.start e) one two)
 
 -- there is one first element for which P holds
 first-same : (P : List ℕ → Type 0) (xs ys : List (List ℕ)) (x y : List ℕ) (us vs : List (List ℕ)) → xs ++ x ∷ us ≡ ys ++ y ∷ vs
@@ -84,7 +80,7 @@ IsNoteLine-same b f g p q = by_found f g (subst (Is f) (AreLines-same b p.0 p.1)
   Is : Option Slice → List (List ℕ) → Type 0
   Is found lines = MatchOption found (All (λ line. ¬ IsNote line) lines)
       (λ x. (before : List (List ℕ)) × (line : List ℕ) × (after : List (List ℕ)) × (lines ≡ before ++ line ∷ after)
-      × All (λ line. ¬ IsNote line) before × IsNote line × (x ≡ record { start = sum_by length before; bytes = without_terminator line }))
+      × All (λ line. ¬ IsNote line) before × IsNote line × (x.start ≡ sum_by length before) × (x.bytes ≡ without_terminator line))
 
   by_found : (x y : Option Slice) → Is x (lines_of b) → Is y (lines_of b) → x ≡ y
   by_found None None one two = refl
@@ -92,9 +88,7 @@ IsNoteLine-same b f g p q = by_found f g (subst (Is f) (AreLines-same b p.0 p.1)
   by_found (Some x) None one two = absurd (none-first IsNote (lines_of b) one.0 one.1 one.2 one.3 two one.5)
   by_found (Some x) (Some y) one two =
       let same = first-same IsNote one.0 two.0 one.1 two.1 one.2 two.2 (sym one.3 ∙ two.3) one.4 two.4 one.5 two.5 in
-      ap Some (one.6 ∙ ap (λ before. slice before one.1) same.0 ∙ ap (slice two.0) same.1 ∙ sym two.6) where
-        slice : List (List ℕ) → List ℕ → Slice
-        slice before line = record { start = sum_by length before; bytes = without_terminator line }
+      ap Some (slice-same x y (one.6 ∙ ap (sum_by length) same.0 ∙ sym two.6) (one.7 ∙ ap without_terminator same.1 ∙ sym two.7))
 
 -- what holds of each stream's bytes holds of a stream
 OfStream-same : (Is : List ℕ → Option Slice → Type 0) → ((b : List ℕ) (f g : Option Slice) → Is b f → Is b g → f ≡ g)

@@ -12,7 +12,7 @@ use Rattle.bstr.proofs.lemmas.SoundLemmas.{SpellsChar-decoded}
 use Rattle.bstr.proofs.lemmas.PieceLemmas.{piece-bounds, pieces-nil, pieces-step, tail-continues, continuation-alone}
 use Rattle.std.proofs.lemmas.Bool.Decides.{nat_tests}
 use Rattle.std.proofs.lemmas.List.{get_or-take, length-take-le}
-use Rattle.output_slice.specs.Slices.{IsBlank, IsBreak, IsTrimmedSlice, Slice}
+use Rattle.output_slice.specs.Slices.{IsBlank, IsBreak, IsTrimmedSlice}
 
 -- text whose characters all pass the test
 abbrev pub AllPass : (ℕ → Bool) → List ℕ → Type 0
@@ -142,7 +142,7 @@ module _ (t : ℕ → Bool) (other : t 65533 ≡ false) where
       (kept (length bs) bs (omega arith) 0 0)
 
 -- the trim leaves the trimmed slice
-pub IsTrimmedSlice-trim_end : (b : List ℕ) (s : ℕ) → s ≤ length b → IsTrimmedSlice b s (record { start = s; bytes = trim_end_by is_whitespace (drop s b) })
+pub IsTrimmedSlice-trim_end : (b : List ℕ) (s : ℕ) → s ≤ length b → IsTrimmedSlice b (record { start = s; bytes = trim_end_by is_whitespace (drop s b) })
 IsTrimmedSlice-trim_end b s low =
     let bs = drop s b in
     let size = length-drop s b in
@@ -159,10 +159,8 @@ IsTrimmedSlice-trim_end b s low =
         },
         subst IsBlank (drop-drop n s b) left.3,
       ),
-      ap (slice s) (left.2 ∙ ap (λ k. take k bs) count),
-    ) where
-      slice : ℕ → List ℕ → Slice
-      slice i text = record { start = i; bytes = text }
+      left.2 ∙ ap (λ k. take k bs) count,
+    )
 
 -- the test of a line feed or a carriage return
 abbrev pub is_break : ℕ → Bool

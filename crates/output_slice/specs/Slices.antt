@@ -1,5 +1,5 @@
 -- The three slices of output: where each begins and ends.
-use Rattle.std.specs.Prelude.{◌≡◌, ℕ, ◌+◌, ◌-◌, ◌<◌, ◌≤◌, ◌≢◌, ◌⊎◌, List, ◌∷◌, ◌++◌, length, slice_index, take, drop, codes, IsTrue, All, Option, None, Some, MatchOption, sum_by}
+use Rattle.std.specs.Prelude.{◌≡◌, ℕ, ◌+◌, ◌-◌, ◌<◌, ◌≤◌, ◌≢◌, ◌⊎◌, List, ◌∷◌, ◌++◌, length, slice_index, take, drop, codes, IsTrue, All, Option, None, Some, MatchOption, IfSome, option_map, sum_by}
 use Rattle.std.specs.Char.{IsScalar, is_whitespace}
 use Rattle.std.specs.Str.{encode_utf8_all}
 use Rattle.bstr.specs.Find.{OccursAt, IsFirst}
@@ -26,9 +26,9 @@ IsBlank text = (cs : List ℕ) × All (λ c. IsScalar c × IsTrue (is_whitespace
 abbrev pub IsTrimmed : List ℕ → ℕ → ℕ → Type 0
 IsTrimmed b s e = IsFirst (λ i. IsBlank (drop i b)) s (length b + 1) (Some e)
 
--- The slice is what stands in b from s on, trimmed.
-abbrev pub IsTrimmedSlice : List ℕ → ℕ → Slice → Type 0
-IsTrimmedSlice b s x = (e : ℕ) × IsTrimmed b s e × (x ≡ record { start = s; bytes = part s e b })
+-- The slice's bytes are what stands in b from its start on, trimmed.
+abbrev pub IsTrimmedSlice : List ℕ → Slice → Type 0
+IsTrimmedSlice b x = (e : ℕ) × IsTrimmed b x.start e × (x.bytes ≡ part x.start e b)
 
 -- The byte is a line feed or a carriage return.
 abbrev pub IsBreak : ℕ → Type 0
@@ -47,26 +47,26 @@ pub record IsErrorLine (b : List ℕ) (s j : ℕ) : Type 0 where
 abbrev pub IsWidened : List ℕ → ℕ → ℕ → Type 0
 IsWidened b s t = ((j : ℕ) × IsErrorLine b s j × (t ≡ j + 1)) ⊎ (((j : ℕ) → ¬ IsErrorLine b s j) × (t ≡ s))
 
--- What is found is the trimmed slice from the widened start of the last taken head, and none where no head is taken.
+-- What is found starts at the widened start of the last taken head, and is trimmed; it is none where no head is taken.
 abbrev pub IsPanicSlice : List ℕ → Option Slice → Type 0
-IsPanicSlice b found = (head : Option HeadSpan) × IsLastTaken b head
-    × MatchOption head (found ≡ None) (λ h. (t : ℕ) × IsWidened b h.start t × (x : Slice) × IsTrimmedSlice b t x × (found ≡ Some x))
+IsPanicSlice b found = MatchOption found (IsLastTaken b None)
+    (λ x. (head : HeadSpan) × IsLastTaken b (Some head) × IsWidened b head.start x.start × IsTrimmedSlice b x)
 
 -- `Error: ` stands at the line start s.
 abbrev pub IsErrorStart : List ℕ → ℕ → Type 0
 IsErrorStart b s = IsLineStart b s × OccursAt b (codes "Error: ") s
 
--- What is found is the trimmed slice from the first line start at which `Error: ` stands, and none where it stands at none.
+-- What is found starts at the first line start at which `Error: ` stands, and is trimmed; it is none where there is no such start.
 abbrev pub IsErrorSlice : List ℕ → Option Slice → Type 0
-IsErrorSlice b found = (start : Option ℕ) × IsFirst (IsErrorStart b) 0 (length b + 1) start
-    × MatchOption start (found ≡ None) (λ s. (x : Slice) × IsTrimmedSlice b s x × (found ≡ Some x))
+IsErrorSlice b found = IsFirst (IsErrorStart b) 0 (length b + 1) (option_map (λ x. x.start) found) × IfSome found (IsTrimmedSlice b)
 
 -- The line holds the note that a test did not panic.
 abbrev pub IsNote : List ℕ → Type 0
 IsNote line = Contains line (codes "note: test did not panic as expected")
 
--- What is found is the first line that holds the note, without its line end, and none where no line holds it.
+-- What is found is the first line that holds the note, without its line end, behind the lines before it; it is none where no line
+-- holds the note.
 abbrev pub IsNoteLine : List ℕ → Option Slice → Type 0
 IsNoteLine b found = (lines : List (List ℕ)) × AreLines b lines × MatchOption found (All (λ line. ¬ IsNote line) lines)
     (λ x. (before : List (List ℕ)) × (line : List ℕ) × (after : List (List ℕ)) × (lines ≡ before ++ line ∷ after)
-    × All (λ line. ¬ IsNote line) before × IsNote line × (x ≡ record { start = sum_by length before; bytes = without_terminator line }))
+    × All (λ line. ¬ IsNote line) before × IsNote line × (x.start ≡ sum_by length before) × (x.bytes ≡ without_terminator line))

@@ -151,7 +151,8 @@ fn text_end(stderr: &[u8], start: usize) -> usize
 /// The bytes from `start` on without the white space at the end.
 fn trimmed(stderr: &[u8], start: usize) -> ByteSubslice<'_>
     requires { start ≤ length stderr.now }
-    ensures { IsTrimmedSlice stderr.now start (slice_of result) }
+    ensures start { result.start ≡ start }
+    ensures trimmed { IsTrimmedSlice stderr.now (slice_of result) }
 {
     ByteSubslice {
         slice: (&stderr[start..]).trim_end(),
