@@ -1,6 +1,7 @@
 pub mod Answer
 pub mod Command
 pub mod CountSteps
+pub mod ExtractAnswer
 pub mod Fault
 pub mod MemoryCalls
 pub mod MemoryDevice
@@ -14,3 +15,5 @@ pub mod Statuses
 pub mod StdDevice
 pub use Rattle.run_events.specs.Counters
 pub use Rattle.run_events.specs.Summary
+pub use Rattle.output_slice.specs.Extraction
+pub use Rattle.output_slice.specs.Slices

@@ -4,6 +4,7 @@
 pub mod command;
 pub mod count;
 pub mod device;
+pub mod extract;
 pub mod fault;
 mod lines;
 pub mod memory_device;

@@ -13,3 +13,6 @@ pub mod ScriptCounters
 pub mod Summary
 pub mod TestCounters
 pub mod TestView
+pub use Rattle.output_slice.specs.Extraction
+pub use Rattle.output_slice.specs.Shown
+pub use Rattle.output_slice.specs.Slices

@@ -1,6 +1,8 @@
 //! What a test runner tells its reporters: results, attempts, counters and summaries of a run.
 #![tactic(auto)]
 
+pub use output_slice;
+
 pub mod attempts;
 pub mod chain;
 pub mod child;
