@@ -3,8 +3,8 @@ use Rattle.std.specs.Prelude.{◌≡◌, ℕ, ◌++◌, Bool, List, length, code
 use Rattle.std.specs.Fmt.{decimal}
 use Rattle.std.specs.Io.KnownBytes.{Appends}
 use Rattle.std.specs.declared.result.Result.{Result}
-use Rattle.output_slice.specs.Extraction.{Extract, IsExtract, error_slice, note_line, panic_slice}
-use Rattle.output_slice.specs.Slices.{Slice}
+use Rattle.run_events.specs.Extraction.{Extract, IsExtract, error_slice, note_line, panic_slice}
+use Rattle.run_events.specs.Slices.{Slice}
 use Rattle.digest_engine.specs.Answer.{AppendsStart}
 use Rattle.digest_engine.specs.declared.fault.Fault.{Fault}
 use Rattle.digest_engine.specs.declared.fault.Fault.TheVariants as faults

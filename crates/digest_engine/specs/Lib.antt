@@ -15,5 +15,3 @@ pub mod Statuses
 pub mod StdDevice
 pub use Rattle.run_events.specs.Counters
 pub use Rattle.run_events.specs.Summary
-pub use Rattle.output_slice.specs.Extraction
-pub use Rattle.output_slice.specs.Slices
