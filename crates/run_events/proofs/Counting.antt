@@ -25,6 +25,7 @@ pub counted-script : (tests : List TestView) (scripts : List ExecutionResultDesc
 counted-script tests scripts start r =
     let more = λ (p : ExecutionResultDescription → Bool). count_of-push p scripts r in
     simp (length-append, more script_passed, more script_failed, more script_exec_failed, more script_timed_out)
+
 -- one more unit at the end, a test
 pub stats_of-test : (us : List UnitView) (t : TestView) (start : RunStart) → stats_of (us ++ TestUnit t ∷ []) start ≡ with_test (stats_of us start) t
 stats_of-test us t start =

@@ -1,0 +1,10 @@
+//! What no clause says: rows worked by hand, printed text, and that each public call succeeds once.
+
+mod attempts;
+mod builders;
+mod chain;
+mod child;
+mod config;
+mod counters;
+mod results;
+mod summary;
