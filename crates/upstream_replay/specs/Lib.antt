@@ -1,0 +1,4 @@
+pub mod Kind
+pub mod Tally
+pub mod Units
+pub mod Verdict
