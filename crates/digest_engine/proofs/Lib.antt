@@ -1,3 +1,9 @@
+pub mod Answering
 pub mod Attempts
 pub mod KnownBytes
+pub mod Numbers
+pub mod Readings
+pub mod ResultWords
+pub mod SpelledStart
+pub mod SpelledUnits
 pub mod UnitLines

@@ -14,7 +14,7 @@ use Rattle.run_events.specs.declared.stats.RunStart.{RunStart}
 use Rattle.digest_engine.specs.Number.{SpellsNumber}
 
 -- the word of a reason, and `-` for none
-unfoldable pub reason_word : Option CancelReason → List ℕ
+abbrev pub reason_word : Option CancelReason → List ℕ
 reason_word None = codes "-"
 reason_word (Some reason.SetupScriptFailure) = codes "setup-script-failure"
 reason_word (Some reason.TestFailure) = codes "test-failure"

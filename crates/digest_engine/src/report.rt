@@ -11,7 +11,6 @@ use run_events::stats::RunStats;
 use std::alloc::{AllocError, Global};
 
 /// The word of a reason, as line 1 spells it.
-#[tactic(auto, unfolding(crate::specs::Spelling::reason_word))]
 fn word_of(reason: Option<CancelReason>) -> &'static str
     ensures { result.now ≡ reason_word reason }
 {

@@ -1,0 +1,159 @@
+-- The reader of line 1 against its spelling.
+use Rattle.std.proofs.Common.{◌≡◌, ℕ, ◌+◌, ◌<◌, List, [], ◌∷◌, ◌++◌, false, length, map, refl, ap, sym, ◌∙◌, subst, append_assoc, arith, cond, inl, inr}
+use Rattle.std.specs.Prelude.{◌==◌, ◌⊎◌, All, Option, None, Some, option_and_then, codes}
+use Rattle.std.specs.List.{slice_split, join_with_byte}
+use Rattle.std.specs.Str.{bytes_eq}
+use Rattle.std.proofs.lemmas.Bool.Decides.{eqb_tells}
+use Rattle.std.proofs.lemmas.List.{append-nil}
+use Rattle.std.proofs.lemmas.List.Splits.{join_with_byte-slice_split}
+use Rattle.std.proofs.lemmas.Option.{option_and_then_some}
+use Rattle.std.proofs.lemmas.Slice.Eq.{bytes_eq-Decides}
+use Rattle.run_events.specs.declared.results.CancelReason.{CancelReason}
+use Rattle.run_events.specs.declared.results.CancelReason.TheVariants as reason
+use Rattle.run_events.specs.declared.stats.RunStart.{RunStart}
+use Rattle.digest_engine.specs.Number.{SpellsNumber}
+use Rattle.digest_engine.specs.Reader.{number_of, reason_of, start_of_words, words_of}
+use Rattle.digest_engine.specs.Spelling.{SpellsStart, reason_word}
+use Rattle.digest_engine.proofs.Numbers.{byte_of, number_read, number_spelled}
+use Rattle.digest_engine.proofs.ResultWords.{JoinsFirst, chosen}
+
+-- a reason's word is read
+reason_read : (why : Option CancelReason) → reason_of (reason_word why) ≡ Some why
+unfolding reason_of
+reason_read None = refl
+reason_read (Some reason.SetupScriptFailure) = refl
+reason_read (Some reason.TestFailure) = refl
+reason_read (Some reason.ReportError) = refl
+reason_read (Some reason.TestFailureImmediate) = refl
+reason_read (Some reason.GlobalTimeout) = refl
+reason_read (Some reason.Signal) = refl
+reason_read (Some reason.Interrupt) = refl
+reason_read (Some reason.SecondSignal) = refl
+
+-- a reason's word has no space
+reason_whole : (why : Option CancelReason) → slice_split (λ b. b == 32) (reason_word why) ≡ reason_word why ∷ []
+reason_whole None = refl
+reason_whole (Some reason.SetupScriptFailure) = refl
+reason_whole (Some reason.TestFailure) = refl
+reason_whole (Some reason.ReportError) = refl
+reason_whole (Some reason.TestFailureImmediate) = refl
+reason_whole (Some reason.GlobalTimeout) = refl
+reason_whole (Some reason.Signal) = refl
+reason_whole (Some reason.Interrupt) = refl
+reason_whole (Some reason.SecondSignal) = refl
+
+word_or_rest : (word : List ℕ) (why : Option CancelReason) (rest : Option (Option CancelReason)) (found : Option CancelReason) → cond (bytes_eq word (reason_word why)) (Some why) rest ≡ Some found → (word ≡ reason_word found) ⊎ (rest ≡ Some found)
+word_or_rest word why rest found e =
+    elim (chosen (bytes_eq word (reason_word why)) (Some why) rest (Some found) e) [
+      | inl held ↦
+          let same : word ≡ reason_word why = (bytes_eq-Decides word (reason_word why)).0 held.0 in
+          let is : why ≡ found = cc in
+          inl (same ∙ ap reason_word is)
+      | inr failed ↦ inr failed.1
+    ]
+
+-- a word that is read as a reason is its word
+reason_inverse : (word : List ℕ) (found : Option CancelReason) → reason_of word ≡ Some found → word ≡ reason_word found
+unfolding reason_of
+reason_inverse word found e =
+    elim (word_or_rest word None _ found e) [
+      | inl is ↦ is
+      | inr e ↦
+          elim (word_or_rest word (Some reason.SetupScriptFailure) _ found e) [
+            | inl is ↦ is
+            | inr e ↦
+                elim (word_or_rest word (Some reason.TestFailure) _ found e) [
+                  | inl is ↦ is
+                  | inr e ↦
+                      elim (word_or_rest word (Some reason.ReportError) _ found e) [
+                        | inl is ↦ is
+                        | inr e ↦
+                            elim (word_or_rest word (Some reason.TestFailureImmediate) _ found e) [
+                              | inl is ↦ is
+                              | inr e ↦
+                                  elim (word_or_rest word (Some reason.GlobalTimeout) _ found e) [
+                                    | inl is ↦ is
+                                    | inr e ↦
+                                        elim (word_or_rest word (Some reason.Signal) _ found e) [
+                                          | inl is ↦ is
+                                          | inr e ↦
+                                              elim (word_or_rest word (Some reason.Interrupt) _ found e) [
+                                                | inl is ↦ is
+                                                | inr e ↦
+                                                    elim (word_or_rest word (Some reason.SecondSignal) _ found e) [ inl is ↦ is | inr e ↦ absurd cc ]
+                                              ]
+                                        ]
+                                  ]
+                            ]
+                      ]
+                ]
+          ]
+    ]
+
+not_space : (d : ℕ) → (48 + d == 32) ≡ false
+not_space d = elim (eqb_tells (48 + d) 32) [ inl same ↦ absurd (omega (arith, same.1)) | inr other ↦ other.0 ]
+
+-- digits have no space
+digits_join : (digits : List ℕ) → JoinsFirst (λ b. b == 32) (map byte_of digits)
+digits_join [] ys part parts e = e
+digits_join (d ∷ ds) ys part parts e = rw (not_space d, digits_join ds ys part parts e) refl
+
+number_joins : (text : List ℕ) (n : ℕ) → SpellsNumber text n → JoinsFirst (λ b. b == 32) text
+number_joins text n s =
+    let P : List ℕ → Type 0 = λ xs. JoinsFirst (λ b. b == 32) xs in
+    subst P (sym s.written) (digits_join s.digits)
+
+-- the text of line 1, nested the other way
+nested : (tests scripts why : List ℕ) → codes "run " ++ tests ++ codes " " ++ scripts ++ codes " " ++ why ≡ codes "run " ++ (tests ++ 32 ∷ (scripts ++ 32 ∷ why))
+nested tests scripts why = simp append_assoc
+
+-- the words of line 1
+start_words : (line : List ℕ) (start : RunStart) (s : SpellsStart line start) → words_of line ≡ codes "run" ∷ s.tests ∷ s.scripts ∷ reason_word start.cancel_reason ∷ []
+start_words line start s =
+    let why : List ℕ = reason_word start.cancel_reason in
+    let last : slice_split (λ b. b == 32) (32 ∷ why) ≡ [] ∷ why ∷ [] = rw (reason_whole start.cancel_reason) refl in
+    let scripts : slice_split (λ b. b == 32) (s.scripts ++ 32 ∷ why) ≡ s.scripts ∷ why ∷ [] =
+        number_joins s.scripts _ s.scripts_number (32 ∷ why) [] (why ∷ []) last ∙ ap (λ x. x ∷ why ∷ []) (append-nil s.scripts) in
+    let tests : slice_split (λ b. b == 32) (s.tests ++ 32 ∷ (s.scripts ++ 32 ∷ why)) ≡ s.tests ∷ s.scripts ∷ why ∷ [] =
+        number_joins s.tests _ s.tests_number (32 ∷ (s.scripts ++ 32 ∷ why)) [] (s.scripts ∷ why ∷ []) (rw scripts refl) ∙ ap (λ x. x ∷ s.scripts ∷ why ∷ []) (append-nil s.tests) in
+    ap words_of (s.written ∙ nested s.tests s.scripts why) ∙ rw tests refl
+
+-- what is spelled is read
+pub start_read : (line : List ℕ) (start : RunStart) → SpellsStart line start → start_of_words (words_of line) ≡ Some start
+unfolding start_of_words
+start_read line start s =
+    ap start_of_words (start_words line start s)
+    ∙ rw (number_read s.tests start.initial_run_count s.tests_number, number_read s.scripts start.setup_scripts_initial_count s.scripts_number, reason_read start.cancel_reason)
+    (ap (λ n. Some (record { initial_run_count = start.initial_run_count; setup_scripts_initial_count = start.setup_scripts_initial_count; skipped = n; cancel_reason = start.cancel_reason })) (sym s.none_skipped))
+
+start_inverse : (line : List ℕ) (words : List (List ℕ)) (start : RunStart) → join_with_byte 32 words ≡ line → start_of_words words ≡ Some start → SpellsStart line start
+unfolding start_of_words
+start_inverse line [] start is_line e = absurd cc
+start_inverse line (a ∷ []) start is_line e = absurd cc
+start_inverse line (a ∷ b ∷ []) start is_line e = absurd cc
+start_inverse line (a ∷ b ∷ c ∷ []) start is_line e = absurd cc
+start_inverse line (a ∷ b ∷ c ∷ d ∷ f ∷ words) start is_line e = absurd cc
+start_inverse line (run ∷ tests ∷ scripts ∷ why ∷ []) start is_line e =
+    let begun : ℕ → ℕ → Option CancelReason → RunStart = λ t s r. record { initial_run_count = t; setup_scripts_initial_count = s; skipped = 0; cancel_reason = r } in
+    elim (chosen (bytes_eq run (codes "run")) (option_and_then (λ t. option_and_then (λ s. option_and_then (λ r. Some (begun t s r)) (reason_of why)) (number_of scripts)) (number_of tests)) None (Some start) e) [
+      | inl held ↦
+          let is_run : run ≡ codes "run" = (bytes_eq-Decides run (codes "run")).0 held.0 in
+          option_and_then_some (λ t. option_and_then (λ s. option_and_then (λ r. Some (begun t s r)) (reason_of why)) (number_of scripts)) (number_of tests) start held.1 (λ t is_t more.
+          option_and_then_some (λ s. option_and_then (λ r. Some (begun t s r)) (reason_of why)) (number_of scripts) start more (λ s is_s last.
+          option_and_then_some (λ r. Some (begun t s r)) (reason_of why) start last (λ r is_r is_start.
+          let is : begun t s r ≡ start = cc in
+          let P : RunStart → Type 0 = SpellsStart line in
+          subst P is (record {
+            tests = tests;
+            scripts = scripts;
+            written = sym is_line ∙ ap (λ x. x ++ 32 ∷ (tests ++ 32 ∷ (scripts ++ 32 ∷ why))) is_run ∙ ap (λ x. codes "run" ++ 32 ∷ (tests ++ 32 ∷ (scripts ++ 32 ∷ x))) (reason_inverse why r is_r) ∙ sym (nested tests scripts (reason_word r));
+            tests_number = number_spelled tests t is_t;
+            scripts_number = number_spelled scripts s is_s;
+            none_skipped = refl;
+          }))))
+      | inr none ↦ absurd cc
+    ]
+
+-- what is read is spelled so
+pub start_spelled : (line : List ℕ) (start : RunStart) → start_of_words (words_of line) ≡ Some start → SpellsStart line start
+start_spelled line start e = start_inverse line (words_of line) start (join_with_byte-slice_split 32 line) e
