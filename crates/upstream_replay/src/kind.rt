@@ -8,11 +8,14 @@ ghost use Rattle.upstream_replay.specs.Kind.{word_of};
 pub(crate) enum Kind {
     /// The counters that one finished unit raises.
     Counter,
+
+    /// What `run-digest count` gives for an input.
+    Count,
 }
 
 impl Kind {
     /// All kinds, in the order in which they are reported.
-    pub(crate) const ALL: [Kind; 1] = [Kind::Counter];
+    pub(crate) const ALL: [Kind; 2] = [Kind::Counter, Kind::Count];
 
     /// The word that the lines of this kind begin with.
     pub(crate) fn word(self) -> &'static str
@@ -20,6 +23,7 @@ impl Kind {
     {
         match self {
             Kind::Counter => "counter",
+            Kind::Count => "count",
         }
     }
 

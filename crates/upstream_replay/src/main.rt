@@ -13,6 +13,7 @@ use crate::verdict::Verdict;
 use std::io::{self, BufRead, BufReader};
 use std::process::ExitCode;
 
+mod count;
 mod counter;
 mod kind;
 mod replay;

@@ -1,8 +1,8 @@
 //! One line of the list.
 
-use crate::counter;
 use crate::kind::Kind;
 use crate::verdict::Verdict;
+use crate::{count, counter};
 use std::alloc::{AllocError, Global};
 
 /// What comes of a line of the list: the word of its kind, a space, and the case.
@@ -14,6 +14,7 @@ pub(crate) fn judged(alloc: Global, line: &str) -> Result<Verdict, AllocError> {
         return Ok(Verdict::Malformed);
     };
     let agrees = match kind {
+        Kind::Count => count::agrees(alloc, case)?,
         Kind::Counter => counter::agrees(alloc, case)?,
     };
     Ok(match agrees {
