@@ -1,4 +1,6 @@
+pub mod Count
 pub mod Kind
 pub mod Tally
 pub mod Units
 pub mod Verdict
+pub mod Words

@@ -2,6 +2,10 @@
 //!
 //! A case is `STATUS INPUT STDOUT STDERR`: the exit status, and bytes in hex, `-` for none.
 
+ghost use Rattle.std.specs.Prelude.{◌≡◌, true, IfOk};
+ghost use Rattle.digest_engine.specs.Reading.{texts_of};
+ghost use Rattle.upstream_replay.specs.Count.{IsOutputFor};
+
 use digest_engine::count::count;
 use digest_engine::memory_device::{MemorySink, MemorySource};
 use hex::FromHexError;
@@ -16,7 +20,9 @@ struct Output {
 }
 
 /// What the program gives for an input, by the engine over memory.
-fn output_for(alloc: Global, input: &[u8]) -> Result<Output, AllocError> {
+fn output_for(alloc: Global, input: &[u8]) -> Result<Output, AllocError>
+    ensures { IfOk result (IsOutputFor (texts_of input.now)) }
+{
     let mut buffer = [0u8; 1024];
     let mut source = MemorySource::new(input, None);
     let mut sink = MemorySink::new(&mut buffer, None);
