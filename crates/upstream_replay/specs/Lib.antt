@@ -1,5 +1,6 @@
 pub mod Count
 pub mod Kind
+pub mod Levels
 pub mod Tally
 pub mod Units
 pub mod Verdict

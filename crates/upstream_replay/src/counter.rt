@@ -6,8 +6,8 @@
 ghost use Rattle.std.specs.Prelude.{◌≡◌, ◌↔◌, IsTrue};
 ghost use Rattle.upstream_replay.specs.Units.{counters_of, view_of_unit};
 
-use crate::unit::{Unit, script_of, test_of};
-use crate::words::{named_result, named_retry, named_setting, named_truth};
+use crate::unit::{Unit, script_of, test_in};
+use crate::words::named_result;
 use run_events::stats::{RunStart, RunStats};
 use std::alloc::{AllocError, Global};
 
@@ -43,23 +43,6 @@ fn raises(unit: &Unit, counters: &RunStats) -> bool
     updated(unit) == *counters && counted(unit) == *counters
 }
 
-/// The test that the words after `test` name.
-fn test_in(alloc: Global, words: &[&str]) -> Result<Option<Unit>, AllocError> {
-    let [result, attempts, setting, slow] = words else {
-        return Ok(None);
-    };
-    let (Some(outcome), Some(was_retried), Some(setting), Some(is_slow)) = (
-        named_result(result),
-        named_retry(attempts),
-        named_setting(setting),
-        named_truth(slow),
-    ) else {
-        return Ok(None);
-    };
-    let test = test_of(alloc, outcome, was_retried, setting, is_slow)?;
-    Ok(Some(Unit::Test(test)))
-}
-
 /// The unit that words name.
 fn unit_in(alloc: Global, text: &str) -> Result<Option<Unit>, AllocError> {
     let words: Vec<&str> = text.split(' ').collect(alloc)?;
@@ -67,7 +50,7 @@ fn unit_in(alloc: Global, text: &str) -> Result<Option<Unit>, AllocError> {
         ["script", result] => Ok(named_result(result).map(|outcome| Unit::Script(script_of(
             outcome,
         )))),
-        ["test", rest @ ..] => test_in(alloc, rest),
+        ["test", rest @ ..] => Ok(test_in(alloc, rest)?.map(Unit::Test)),
         _ => Ok(None),
     }
 }

@@ -9,13 +9,16 @@ pub(crate) enum Kind {
     /// The counters that one finished unit raises.
     Counter,
 
+    /// The levels of one finished test.
+    Level,
+
     /// What `run-digest count` gives for an input.
     Count,
 }
 
 impl Kind {
     /// All kinds, in the order in which they are reported.
-    pub(crate) const ALL: [Kind; 2] = [Kind::Counter, Kind::Count];
+    pub(crate) const ALL: [Kind; 3] = [Kind::Counter, Kind::Level, Kind::Count];
 
     /// The word that the lines of this kind begin with.
     pub(crate) fn word(self) -> &'static str
@@ -23,6 +26,7 @@ impl Kind {
     {
         match self {
             Kind::Counter => "counter",
+            Kind::Level => "level",
             Kind::Count => "count",
         }
     }

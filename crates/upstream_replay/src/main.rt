@@ -16,6 +16,7 @@ use std::process::ExitCode;
 mod count;
 mod counter;
 mod kind;
+mod level;
 mod replay;
 mod tally;
 mod unit;

@@ -6,6 +6,7 @@ ghost use Rattle.run_events.specs.Described.{described_result};
 ghost use Rattle.run_events.specs.TestView.{view_of};
 ghost use Rattle.upstream_replay.specs.Units.{view_of_unit};
 
+use crate::words::{named_result, named_retry, named_setting, named_truth};
 use jiff::Timestamp;
 use jiff::tz::Offset;
 use run_events::attempts::{ExecuteStatus, ExecutionStatuses, RetryData, SetupScriptExecuteStatus};
@@ -95,7 +96,7 @@ pub(crate) fn script_of(outcome: ExecutionResult) -> SetupScriptExecuteStatus<Li
 }
 
 /// A test whose last attempt ended so. Where it was retried, an attempt before it failed.
-pub(crate) fn test_of(
+fn test_of(
     alloc: Global,
     outcome: ExecutionResult,
     was_retried: bool,
@@ -122,4 +123,24 @@ pub(crate) fn test_of(
         statuses.push(attempt_of(outcome, 1, is_slow))?;
     }
     Ok(ExecutionStatuses::new(statuses, setting))
+}
+
+/// The test that four words name: the last result, the number of attempts, the setting, and
+/// whether the last attempt was slow.
+pub(crate) fn test_in(
+    alloc: Global,
+    words: &[&str],
+) -> Result<Option<ExecutionStatuses<LiveSpec>>, AllocError> {
+    let [result, attempts, setting, slow] = words else {
+        return Ok(None);
+    };
+    let (Some(outcome), Some(was_retried), Some(setting), Some(is_slow)) = (
+        named_result(result),
+        named_retry(attempts),
+        named_setting(setting),
+        named_truth(slow),
+    ) else {
+        return Ok(None);
+    };
+    Ok(Some(test_of(alloc, outcome, was_retried, setting, is_slow)?))
 }

@@ -144,3 +144,20 @@ fn a_run_has_at_most_ten_thousand_lines(rt: HostRuntime) -> Result<(), Fail> {
     }
     Ok(())
 }
+
+#[test]
+fn a_megabyte_of_lines_is_counted(rt: HostRuntime) -> Result<(), Fail> {
+    let mut input = String::from_str(rt.alloc(), "run 2000 0 -\n")?;
+    for _ in 0..2_000 {
+        input.push_str("test ")?;
+        for _ in 1..100 {
+            input.push_str("fail,")?;
+        }
+        input.push_str("pass\n")?;
+    }
+    assert!(rt; input.len() > 1_000_000);
+    let gives = given(rt.alloc(), input.as_bytes())?;
+    let stdout = "tests 2000 passed 2000 failed 0 flaky 2000\nscripts 0 failed 0\nsummary success\n";
+    assert!(rt; gives.is(0, stdout, ""));
+    Ok(())
+}

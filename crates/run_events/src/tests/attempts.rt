@@ -1,7 +1,7 @@
 //! The attempts of a test.
 
 use super::builders::{EXIT_ONE, PASS, attempt};
-use crate::attempts::{EmptyStatuses, ExecuteStatus, ExecutionStatuses, RetryData};
+use crate::attempts::{EmptyStatuses, ExecuteStatus, ExecutionStatuses};
 use crate::child::LiveSpec;
 use crate::config::FlakyResult;
 use std::test::Fail;
@@ -36,21 +36,4 @@ fn an_empty_list_is_no_test(rt: HostRuntime) {
     let none: Vec<ExecuteStatus<LiveSpec>> = Vec::new(rt.alloc());
     let refused = ExecutionStatuses::try_from_parts(none, FlakyResult::Pass).err();
     assert_eq!(rt; refused, Some(EmptyStatuses));
-}
-
-#[test]
-fn attempts_are_ordered_by_number_then_total(rt: HostRuntime) {
-    for (less, more) in [((1, 5), (2, 3)), ((2, 3), (2, 4))] {
-        let (attempt, total_attempts) = less;
-        let first = RetryData {
-            attempt,
-            total_attempts,
-        };
-        let (attempt, total_attempts) = more;
-        let next = RetryData {
-            attempt,
-            total_attempts,
-        };
-        assert!(rt; first < next);
-    }
 }

@@ -1,7 +1,6 @@
-//! Settings, and the order of levels.
+//! Settings.
 
 use crate::config::{FlakyResult, TestOutputDisplay};
-use crate::levels::{FinalStatusLevel, StatusLevel};
 
 #[test]
 fn displays_are_immediate_and_final(rt: HostRuntime) {
@@ -19,30 +18,4 @@ fn displays_are_immediate_and_final(rt: HostRuntime) {
 #[test]
 fn flaky_tests_pass_by_default(rt: HostRuntime) {
     assert_eq!(rt; FlakyResult::default(), FlakyResult::Pass);
-}
-
-#[test]
-fn levels_are_ordered_by_attention(rt: HostRuntime) {
-    for (first, next) in [
-        (StatusLevel::None, StatusLevel::Fail),
-        (StatusLevel::Fail, StatusLevel::Retry),
-        (StatusLevel::Retry, StatusLevel::Slow),
-        (StatusLevel::Slow, StatusLevel::Leak),
-        (StatusLevel::Leak, StatusLevel::Pass),
-        (StatusLevel::Pass, StatusLevel::Skip),
-        (StatusLevel::Skip, StatusLevel::All),
-    ] {
-        assert!(rt; first < next, "{first:?} and {next:?}");
-    }
-    for (first, next) in [
-        (FinalStatusLevel::None, FinalStatusLevel::Fail),
-        (FinalStatusLevel::Fail, FinalStatusLevel::Flaky),
-        (FinalStatusLevel::Flaky, FinalStatusLevel::Slow),
-        (FinalStatusLevel::Slow, FinalStatusLevel::Skip),
-        (FinalStatusLevel::Skip, FinalStatusLevel::Leak),
-        (FinalStatusLevel::Leak, FinalStatusLevel::Pass),
-        (FinalStatusLevel::Pass, FinalStatusLevel::All),
-    ] {
-        assert!(rt; first < next, "{first:?} and {next:?}");
-    }
 }

@@ -4,7 +4,7 @@ use super::builders::{
     EXEC_FAIL, EXIT_ONE, LEAK_FAIL, LEAK_PASS, PASS, SIGNAL_FIFTEEN, TIMEOUT_FAIL, TIMEOUT_PASS,
 };
 use crate::results::{
-    AbortDescription, AbortStatus, CancelReason, ExecutionResult, ExecutionResultDescription,
+    AbortDescription, AbortStatus, ExecutionResult, ExecutionResultDescription,
     FailureDescription, FailureStatus,
 };
 use std::test::Fail;
@@ -80,25 +80,4 @@ fn an_abort_status_prints_its_signal(rt: HostRuntime) -> Result<(), Fail> {
         assert_eq!(rt; format!(in rt.alloc(); "{status:#?}")?.as_str(), text);
     }
     Ok(())
-}
-
-#[test]
-fn reasons_rise_in_severity(rt: HostRuntime) {
-    for (less, more) in [
-        (CancelReason::SetupScriptFailure, CancelReason::TestFailure),
-        (CancelReason::TestFailure, CancelReason::ReportError),
-        (
-            CancelReason::ReportError,
-            CancelReason::TestFailureImmediate,
-        ),
-        (
-            CancelReason::TestFailureImmediate,
-            CancelReason::GlobalTimeout,
-        ),
-        (CancelReason::GlobalTimeout, CancelReason::Signal),
-        (CancelReason::Signal, CancelReason::Interrupt),
-        (CancelReason::Interrupt, CancelReason::SecondSignal),
-    ] {
-        assert!(rt; less < more, "{less:?} and {more:?}");
-    }
 }

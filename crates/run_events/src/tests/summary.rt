@@ -122,13 +122,3 @@ fn scripts_come_before_tests(rt: HostRuntime) {
     };
     assert_eq!(rt; stats.summarize_final(), FinalRunStats::Failed { kind });
 }
-
-#[test]
-fn counters_at_their_end_are_not_added(rt: HostRuntime) {
-    let stats = RunStats {
-        failed: usize::MAX,
-        exec_failed: 1,
-        ..RunStats::default()
-    };
-    assert_eq!(rt; stats.summarize_final(), failed(0, 0));
-}
