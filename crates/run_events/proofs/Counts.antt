@@ -1,7 +1,7 @@
 -- Laws of `count_of`, and of what is kept of a list.
-use Rattle.std.proofs.Common.{◌≡◌, ℕ, ◌+◌, ◌≤◌, List, [], ◌∷◌, ◌++◌, length, Bool, true, false, cond, refl, ap, sym, ◌∙◌, arith}
+use Rattle.std.proofs.Common.{◌≡◌, ℕ, ◌+◌, ◌≤◌, List, [], ◌∷◌, ◌++◌, length, Bool, true, false, cond, not, ◌&&◌, refl, ap, sym, ◌∙◌, arith}
 use Rattle.std.specs.Prelude.{filter, Option, Some, None}
-use Rattle.std.specs.List.{filter_map, cons_option}
+use Rattle.std.specs.List.{filter_map, cons_option, list_all}
 use Rattle.run_events.specs.Counters.{count_of, raised}
 
 -- one where a rule holds
@@ -28,6 +28,30 @@ count_of-le p (x ∷ xs) =
 pub count_of-three : {X : Type 0} (p q r whole : X → Bool) → ((x : X) → one (p x) + one (q x) + one (r x) ≡ one (whole x)) → (xs : List X) → count_of p xs + count_of q xs + count_of r xs ≡ count_of whole xs
 count_of-three p q r whole each [] = refl
 count_of-three p q r whole each (x ∷ xs) = omega (arith, each x, count_of-three p q r whole each xs, count_of-cons p x xs, count_of-cons q x xs, count_of-cons r x xs, count_of-cons whole x xs)
+
+-- rules that agree count the same
+pub count_of-same : {X : Type 0} (p q : X → Bool) → ((x : X) → p x ≡ q x) → (xs : List X) → count_of p xs ≡ count_of q xs
+count_of-same p q same [] = refl
+count_of-same p q same (x ∷ xs) = omega (arith, count_of-cons p x xs, count_of-cons q x xs, ap one (same x), count_of-same p q same xs)
+
+-- a rule holds of an element or it does not
+pub count_of-not : {X : Type 0} (p : X → Bool) (xs : List X) → count_of (λ x. not (p x)) xs + count_of p xs ≡ length xs
+count_of-not p [] = refl
+count_of-not p (x ∷ xs) =
+    let each : one (not (p x)) + one (p x) ≡ 1 = elim (p x) as (λ b. one (not b) + one b ≡ 1) [ true ↦ refl | false ↦ refl ] in
+    omega (arith, count_of-cons (λ y. not (p y)) x xs, count_of-cons p x xs, count_of-not p xs, each)
+
+-- a rule that holds of nothing in a list fails of each element
+pub count_of-zero : {X : Type 0} (p : X → Bool) (xs : List X) → count_of p xs ≡ 0 → list_all (λ x. not (p x)) xs ≡ true
+count_of-zero p [] e = refl
+count_of-zero p (x ∷ xs) e =
+    let step = count_of-cons p x xs in
+    elim (p x) as (λ b. one b + count_of p xs ≡ 0 → (not b && list_all (λ y. not (p y)) xs) ≡ true) [ true ↦ λ h. absurd (omega (arith, h)) | false ↦ λ h. count_of-zero p xs (omega (arith, h)) ] (sym step ∙ e)
+
+pub zero-count_of : {X : Type 0} (p : X → Bool) (xs : List X) → list_all (λ x. not (p x)) xs ≡ true → count_of p xs ≡ 0
+zero-count_of p [] e = refl
+zero-count_of p (x ∷ xs) e =
+    count_of-cons p x xs ∙ elim (p x) as (λ b. (not b && list_all (λ y. not (p y)) xs) ≡ true → one b + count_of p xs ≡ 0) [ true ↦ λ h. absurd cc | false ↦ λ h. omega (arith, zero-count_of p xs h) ] e
 
 -- what is kept of a list is no longer than the list
 pub length-filter_map-le : {X Y : Type 0} (h : X → Option Y) (xs : List X) → length (filter_map h xs) ≤ length xs

@@ -1,3 +1,6 @@
-pub mod Counts
 pub mod Counting
+pub mod Counts
+pub mod LastAttempt
+pub mod Parts
+pub mod SuccessLaws
 pub mod Verdicts

@@ -2,11 +2,12 @@
 use Rattle.std.proofs.Common.{◌≡◌, ◌+◌, ◌<◌, ◌^◌, List, length, Bool, true, false, cond, not, ◌&&◌, ◌||◌, refl, arith}
 use Rattle.std.specs.Prelude.{Some}
 use Rattle.run_events.specs.Counters.{UnitView, count_of, stats_of, tests_of, scripts_of, test_of, script_of}
-use Rattle.run_events.specs.Level.{flaky_level, has_level_fail, is_level_fail, success_level}
+use Rattle.run_events.specs.Level.{flaky_level, has_level_fail, has_level_retry, is_level_fail, is_level_retry, success_level}
 use Rattle.run_events.specs.Results.{succeeds, is_leak_fail, is_fail, is_exec_fail, is_timeout_fail, flaky_fails}
+use Rattle.run_events.specs.RunLaws.{has_no_failure}
 use Rattle.run_events.specs.ScriptCounters.{script_passed, script_failed, script_exec_failed, script_timed_out}
 use Rattle.run_events.specs.Summary.{FailuresFit}
-use Rattle.run_events.specs.TestCounters.{is_failed, is_exec_failed, is_failed_timed_out, was_retried}
+use Rattle.run_events.specs.TestCounters.{is_exec_failed, is_failed, is_failed_timed_out, is_flaky, is_passed, was_retried}
 use Rattle.run_events.specs.TestView.{TestView}
 use Rattle.run_events.specs.declared.config.FlakyResult.{FlakyResult}
 use Rattle.run_events.specs.declared.config.FlakyResult.TheVariants as flaky
@@ -16,7 +17,7 @@ use Rattle.run_events.specs.declared.levels.StatusLevel.TheVariants as level
 use Rattle.run_events.specs.declared.results.ExecutionResultDescription.{ExecutionResultDescription}
 use Rattle.run_events.specs.declared.results.ExecutionResultDescription.TheVariants as result
 use Rattle.run_events.specs.declared.stats.RunStart.{RunStart}
-use Rattle.run_events.proofs.Counts.{one, count_of-le, count_of-three, length-filter_map-le}
+use Rattle.run_events.proofs.Counts.{one, count_of-le, count_of-not, count_of-same, count_of-three, length-filter_map-le}
 
 -- the same of a test with this last result, retried or not, with this setting
 one_failure_by : (r : ExecutionResultDescription) (retried : Bool) (setting : FlakyResult) → one ((succeeds r && retried && flaky_fails setting) || is_leak_fail r || is_fail r) + one (is_exec_fail r) + one (is_timeout_fail r) ≡ one (is_level_fail (cond (succeeds r) (cond retried (Some (flaky_level setting)) (success_level r)) (Some level.Fail)))
@@ -42,6 +43,48 @@ one_failure t = one_failure_by t.result (was_retried t) t.setting
 pub failed-level : (tests : List TestView) → count_of is_failed tests + count_of is_exec_failed tests + count_of is_failed_timed_out tests ≡ count_of has_level_fail tests
 failed-level tests = count_of-three is_failed is_exec_failed is_failed_timed_out has_level_fail one_failure tests
 
+passed_by : (r : ExecutionResultDescription) (retried : Bool) (setting : FlakyResult) → (succeeds r && not (retried && flaky_fails setting)) ≡ not (is_level_fail (cond (succeeds r) (cond retried (Some (flaky_level setting)) (success_level r)) (Some level.Fail)))
+passed_by result.Pass true flaky.Pass = refl
+passed_by result.Pass true flaky.Fail = refl
+passed_by result.Pass false setting = refl
+passed_by (result.Leak leak.Pass) true flaky.Pass = refl
+passed_by (result.Leak leak.Pass) true flaky.Fail = refl
+passed_by (result.Leak leak.Pass) false setting = refl
+passed_by (result.Leak leak.Fail) retried setting = refl
+passed_by (result.Fail failure leaked) retried setting = refl
+passed_by result.ExecFail retried setting = refl
+passed_by (result.Timeout slow.Pass) true flaky.Pass = refl
+passed_by (result.Timeout slow.Pass) true flaky.Fail = refl
+passed_by (result.Timeout slow.Pass) false setting = refl
+passed_by (result.Timeout slow.Fail) retried setting = refl
+
+-- `passed` counts the tests whose level is not `Fail`
+pub passed-level : (tests : List TestView) → count_of is_passed tests ≡ count_of has_no_failure tests
+passed-level tests = count_of-same is_passed has_no_failure (λ t. passed_by t.result (was_retried t) t.setting) tests
+
+flaky_by : (r : ExecutionResultDescription) (retried : Bool) (setting : FlakyResult) → (succeeds r && retried && not (flaky_fails setting)) ≡ is_level_retry (cond (succeeds r) (cond retried (Some (flaky_level setting)) (success_level r)) (Some level.Fail))
+flaky_by result.Pass true flaky.Pass = refl
+flaky_by result.Pass true flaky.Fail = refl
+flaky_by result.Pass false setting = refl
+flaky_by (result.Leak leak.Pass) true flaky.Pass = refl
+flaky_by (result.Leak leak.Pass) true flaky.Fail = refl
+flaky_by (result.Leak leak.Pass) false setting = refl
+flaky_by (result.Leak leak.Fail) retried setting = refl
+flaky_by (result.Fail failure leaked) retried setting = refl
+flaky_by result.ExecFail retried setting = refl
+flaky_by (result.Timeout slow.Pass) true flaky.Pass = refl
+flaky_by (result.Timeout slow.Pass) true flaky.Fail = refl
+flaky_by (result.Timeout slow.Pass) false setting = refl
+flaky_by (result.Timeout slow.Fail) retried setting = refl
+
+-- `flaky` counts the tests of level `Retry`
+pub flaky-level : (tests : List TestView) → count_of is_flaky tests ≡ count_of has_level_retry tests
+flaky-level tests = count_of-same is_flaky has_level_retry (λ t. flaky_by t.result (was_retried t) t.setting) tests
+
+-- a finished test passed or failed
+pub tests-verdicts : (tests : List TestView) → count_of is_passed tests + (count_of is_failed tests + count_of is_exec_failed tests + count_of is_failed_timed_out tests) ≡ length tests
+tests-verdicts tests = omega (arith, failed-level tests, passed-level tests, count_of-not has_level_fail tests)
+
 one_script_failure : (r : ExecutionResultDescription) → one (script_failed r) + one (script_exec_failed r) + one (script_timed_out r) ≡ one (not (script_passed r))
 one_script_failure result.Pass = refl
 one_script_failure (result.Leak leak.Pass) = refl
@@ -54,6 +97,10 @@ one_script_failure (result.Timeout slow.Fail) = refl
 -- the failure counters of scripts count the scripts that did not pass
 pub failed-scripts : (scripts : List ExecutionResultDescription) → count_of script_failed scripts + count_of script_exec_failed scripts + count_of script_timed_out scripts ≡ count_of (λ r. not (script_passed r)) scripts
 failed-scripts scripts = count_of-three script_failed script_exec_failed script_timed_out (λ r. not (script_passed r)) one_script_failure scripts
+
+-- a finished script passed or failed
+pub scripts-verdicts : (scripts : List ExecutionResultDescription) → count_of script_passed scripts + (count_of script_failed scripts + count_of script_exec_failed scripts + count_of script_timed_out scripts) ≡ length scripts
+scripts-verdicts scripts = omega (arith, failed-scripts scripts, count_of-not script_passed scripts)
 
 -- the sums of failures fit where the list does
 pub failures-fit : (us : List UnitView) (start : RunStart) → length us < 2 ^ 64 → FailuresFit (stats_of us start)

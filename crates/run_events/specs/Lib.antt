@@ -1,10 +1,14 @@
+pub mod Attempts
 pub mod Config
 pub mod Counters
 pub mod Described
+pub mod Description
 pub mod ErrorChain
 pub mod Level
 pub mod ListedErrors
+pub mod Ranks
 pub mod Results
+pub mod RunLaws
 pub mod ScriptCounters
 pub mod Summary
 pub mod TestCounters

@@ -1,15 +1,19 @@
 //! The attempts to run a test or a setup script, and what is known of each.
 
+ghost use Rattle.std.specs.Prelude.{◌↔◌, ◌≤◌, IsTrue};
+
 use crate::child::{ChildExecutionOutputDescription, OutputSpec};
 use crate::config::Moment;
 use crate::results::ExecutionResultDescription;
 use std::collections::BTreeMap;
 use std::time::Duration;
 
+mod description;
 mod statuses;
 mod verdict;
 
-pub use crate::attempts::statuses::{EmptyStatuses, ExecutionStatuses};
+pub use crate::attempts::description::ExecutionDescription;
+pub use crate::attempts::statuses::{EmptyStatuses, ExecutionStatuses, ExecutionStatusesIter};
 
 /// Which attempt this is, of how many. Ordered by the attempt, then by the total.
 #[derive(Clone, Copy, Debug, PartialEq, Eq, PartialOrd, Ord)]
@@ -19,6 +23,15 @@ pub struct RetryData {
 
     /// How many attempts there are at most.
     pub total_attempts: u32,
+}
+
+impl RetryData {
+    /// Whether no attempt follows this one: its number has reached the most there are.
+    pub fn is_last_attempt(&self) -> bool
+        ensures { IsTrue result ↔ (self.now.total_attempts ≤ self.now.attempt) }
+    {
+        self.attempt >= self.total_attempts
+    }
 }
 
 /// The errors of an attempt in words.

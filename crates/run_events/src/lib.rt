@@ -5,6 +5,7 @@ pub mod attempts;
 pub mod chain;
 pub mod child;
 pub mod config;
+pub mod laws;
 pub mod levels;
 pub mod outcome;
 pub mod results;

@@ -3,6 +3,7 @@
 ghost use Rattle.std.specs.Prelude.{◌<◌, vec_len};
 
 use crate::attempts::ExecuteStatus;
+use crate::attempts::description::ExecutionDescription;
 use crate::child::OutputSpec;
 use crate::config::FlakyResult;
 
@@ -21,7 +22,10 @@ pub struct EmptyStatuses;
 
 impl<S: OutputSpec> ExecutionStatuses<S> {
     ghost use Rattle.std.specs.Prelude.{◌≡◌, ◌↔◌, ◌<◌, [], IfOk, IsErr, Some, length, vec_len};
-    ghost use Rattle.run_events.specs.TestView.{attempts_of, last_of, setting_of};
+    ghost use Rattle.run_events.specs.Attempts.{attempts_left};
+    ghost use Rattle.run_events.specs.Description.{ComesTo, IsConsistent, described_final_level, described_level};
+    ghost use Rattle.run_events.specs.Level.{final_level_of, level_of};
+    ghost use Rattle.run_events.specs.TestView.{attempts_of, last_of, setting_of, view_of};
 
     /// A test with these attempts, in order, of which there must be at least one.
     pub fn new(statuses: Vec<ExecuteStatus<S>>, flaky_result: FlakyResult) -> Self
@@ -73,5 +77,85 @@ impl<S: OutputSpec> ExecutionStatuses<S> {
         ensures not_empty { 0 < result }
     {
         self.statuses.len()
+    }
+
+    /// The attempts, in order, from both ends.
+    pub fn iter(&self) -> ExecutionStatusesIter<'_, S>
+        ensures { attempts_left result ≡ attempts_of self.now }
+    {
+        ExecutionStatusesIter {
+            rest: self.statuses.as_slice(),
+        }
+    }
+
+    /// What the attempts come to: a success where there is one and it succeeded, flaky where there
+    /// are more and the last one succeeded, otherwise a failure. Earlier results are not looked at.
+    pub fn describe(&self) -> ExecutionDescription<'_, S>
+        ensures parts { ComesTo (attempts_of self.now) (setting_of self.now) result }
+        ensures consistent { IsConsistent result }
+        ensures level { described_level result ≡ level_of (view_of self.now) }
+        ensures final_level { described_final_level result ≡ final_level_of (view_of self.now) }
+    {
+        ExecutionDescription::of_attempts(self.statuses.as_slice(), self.flaky_result)
+    }
+}
+
+/// The attempts of a test that are left to visit, from both ends.
+#[derive(Drop)]
+pub struct ExecutionStatusesIter<'a, S: OutputSpec> {
+    rest: &'a [ExecuteStatus<S>],
+}
+
+impl<'a, S: OutputSpec> Iterator for ExecutionStatusesIter<'a, S> {
+    ghost use Rattle.std.specs.Iterator.{YieldsFirstRef, item_count};
+    ghost use Rattle.run_events.specs.Attempts.{attempts_left};
+
+    type Item = &'a ExecuteStatus<S>;
+
+    ghost next_gives = { YieldsFirstRef attempts_left };
+
+    ghost remaining = { item_count attempts_left };
+
+    fn next(&mut self) -> Option<&'a ExecuteStatus<S>> {
+        let (first, rest) = self.rest.split_first()?;
+        self.rest = rest;
+        Some(first)
+    }
+}
+
+impl<'a, S: OutputSpec> DoubleEndedIterator for ExecutionStatusesIter<'a, S> {
+    ghost use Rattle.std.specs.Iterator.{YieldsLastRef};
+    ghost use Rattle.run_events.specs.Attempts.{attempts_left};
+
+    ghost next_back_gives = { YieldsLastRef attempts_left };
+
+    fn next_back(&mut self) -> Option<&'a ExecuteStatus<S>> {
+        let (last, rest) = self.rest.split_last()?;
+        self.rest = rest;
+        Some(last)
+    }
+}
+
+/// The attempts by value, in order, from both ends.
+impl<S: OutputSpec> IntoIterator for ExecutionStatuses<S>
+where
+    S::ChildOutputDesc: Drop,
+{
+    ghost use Rattle.std.specs.Prelude.{◌≡◌};
+    ghost use Rattle.std.specs.Vec.Iter.{into_iter_items};
+    ghost use Rattle.run_events.specs.TestView.{attempts_of};
+
+    type Item = ExecuteStatus<S>;
+
+    type IntoIter = std::vec::IntoIter<ExecuteStatus<S>>;
+
+    ghost into_iter_gives = { λ t i. into_iter_items i ≡ attempts_of t };
+
+    fn into_iter(self) -> std::vec::IntoIter<ExecuteStatus<S>> {
+        let ExecutionStatuses {
+            statuses,
+            flaky_result: _,
+        } = self;
+        statuses.into_iter()
     }
 }

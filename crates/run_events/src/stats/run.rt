@@ -1,8 +1,11 @@
 //! The counters of a whole run.
 
-ghost use Rattle.std.specs.Prelude.{◌≡◌, map};
-ghost use Rattle.run_events.specs.Counters.{stats_of, unit_view};
-ghost use Rattle.run_events.specs.Summary.{FailuresFit};
+ghost use Rattle.std.specs.Prelude.{◌≡◌, ◌↔◌, ◌+◌, ◌++◌, List, map};
+ghost use Rattle.run_events.specs.Counters.{UnitView, count_of, stats_of, tests_of, unit_view};
+ghost use Rattle.run_events.specs.Level.{has_level_fail, has_level_retry};
+ghost use Rattle.run_events.specs.RunLaws.{IsSum, RunSucceeds, has_no_failure};
+ghost use Rattle.run_events.specs.Summary.{FailuresFit, failed_scripts, failed_tests, summary_of};
+ghost use Rattle.run_events.specs.declared.outcome.FinalRunStats.TheVariants.{Success};
 
 use crate::stats::{FinishedUnit, RunStart, RunStats};
 
@@ -11,7 +14,23 @@ impl RunStats {
     /// they are handed in.
     pub fn of_run(units: &[FinishedUnit<'_>], start: RunStart) -> RunStats
         ensures counts { result ≡ stats_of (map unit_view units.now) start }
+
+        // Two neighbouring parts of the list may change places, and so, step by step, any.
+        ensures exchange { (a p q b : List UnitView) → map unit_view units.now ≡ a ++ p ++ q ++ b → stats_of (a ++ q ++ p ++ b) start ≡ result }
+        // For each cut of the list in two, each counter is the sum of both parts'.
+        ensures cut { (a b : List UnitView) → map unit_view units.now ≡ a ++ b → IsSum (stats_of a start) (stats_of b start) result }
+
+        // Each finished test, and each finished script, is counted in one way.
+        ensures tests { result.passed + failed_tests result ≡ result.finished_count }
+        ensures scripts { result.setup_scripts_passed + failed_scripts result ≡ result.setup_scripts_finished_count }
+
+        // The counters of tests by their levels.
+        ensures failed_level { failed_tests result ≡ count_of has_level_fail (tests_of (map unit_view units.now)) }
+        ensures flaky_level { result.flaky ≡ count_of has_level_retry (tests_of (map unit_view units.now)) }
+        ensures passed_level { result.passed ≡ count_of has_no_failure (tests_of (map unit_view units.now)) }
+
         ensures failures_fit { FailuresFit result }
+        ensures success { (summary_of result ≡ Success) ↔ RunSucceeds (map unit_view units.now) start }
     {
         RunStats::count_units(units, start)
     }

@@ -1,7 +1,7 @@
 //! What the counters amount to.
 
-ghost use Rattle.std.specs.Prelude.{◌≡◌, ◌<◌, ◌^◌};
-ghost use Rattle.run_events.specs.Summary.{failed_scripts, failed_tests, failure, summary_of};
+ghost use Rattle.std.specs.Prelude.{◌≡◌, ◌↔◌, ◌<◌, ◌^◌, ◌||◌, IsTrue};
+ghost use Rattle.run_events.specs.Summary.{FailuresFit, any_script_failed, any_test_failed, failed_scripts, failed_tests, failure, summary_of};
 
 use crate::outcome::{FinalRunStats, RunStatsFailureKind};
 use crate::results::CancelReason;
@@ -27,6 +27,49 @@ impl RunStats {
         self.setup_scripts_failed + self.setup_scripts_exec_failed + self.setup_scripts_timed_out
     }
 
+    /// Whether both sums of failures fit `usize`, so that [`failed_count`] and
+    /// [`failed_setup_script_count`] may be called.
+    ///
+    /// [`failed_count`]: RunStats::failed_count
+    /// [`failed_setup_script_count`]: RunStats::failed_setup_script_count
+    pub fn failed_counts_fit(&self) -> bool
+        ensures { IsTrue result ↔ FailuresFit self.now }
+    {
+        self.failed
+            .checked_add(self.exec_failed)
+            .and_then(|failed| failed.checked_add(self.failed_timed_out))
+            .is_some()
+            && self
+                .setup_scripts_failed
+                .checked_add(self.setup_scripts_exec_failed)
+                .and_then(|failed| failed.checked_add(self.setup_scripts_timed_out))
+                .is_some()
+    }
+
+    /// Whether a test or a setup script did not pass, for any values of the counters: one of the
+    /// six counters of failures is above 0. They are looked at one by one and never added.
+    pub fn has_failures(&self) -> bool
+        ensures { result ≡ (any_script_failed self.now || any_test_failed self.now) }
+    {
+        self.any_script_failed() || self.any_test_failed()
+    }
+
+    /// Whether a setup script did not pass.
+    fn any_script_failed(&self) -> bool
+        ensures { result ≡ any_script_failed self.now }
+    {
+        self.setup_scripts_failed > 0
+            || self.setup_scripts_exec_failed > 0
+            || self.setup_scripts_timed_out > 0
+    }
+
+    /// Whether a test did not pass.
+    fn any_test_failed(&self) -> bool
+        ensures { result ≡ any_test_failed self.now }
+    {
+        self.failed > 0 || self.exec_failed > 0 || self.failed_timed_out > 0
+    }
+
     /// What the counters of a finished run amount to, for any values of them. The first that
     /// holds:
     ///
@@ -46,17 +89,14 @@ impl RunStats {
             initial_run_count: self.initial_run_count,
             not_run: self.initial_run_count.saturating_sub(self.finished_count),
         };
-        if self.setup_scripts_failed > 0
-            || self.setup_scripts_exec_failed > 0
-            || self.setup_scripts_timed_out > 0
-        {
+        if self.any_script_failed() {
             self.summarize_failure(RunStatsFailureKind::SetupScript)
         } else if self.setup_scripts_initial_count > self.setup_scripts_finished_count {
             FinalRunStats::Cancelled {
                 reason: self.cancel_reason,
                 kind: RunStatsFailureKind::SetupScript,
             }
-        } else if self.failed > 0 || self.exec_failed > 0 || self.failed_timed_out > 0 {
+        } else if self.any_test_failed() {
             self.summarize_failure(tests)
         } else if self.initial_run_count > self.finished_count {
             FinalRunStats::Cancelled {

@@ -1,8 +1,8 @@
 //! How a finished unit changes the counters.
 
-ghost use Rattle.std.specs.Prelude.{◌≡◌};
+ghost use Rattle.std.specs.Prelude.{◌≡◌, ◌↔◌, ◌<◌, ◌^◌, IsTrue};
 ghost use Rattle.run_events.specs.TestView.{view_of};
-ghost use Rattle.run_events.specs.Counters.{with_test, with_script, TestCountersFit, ScriptCountersFit};
+ghost use Rattle.run_events.specs.Counters.{ScriptCountersFit, TestCountersFit, raised, with_script, with_test};
 
 use crate::attempts::{ExecutionStatuses, SetupScriptExecuteStatus};
 use crate::child::LiveSpec;
@@ -32,6 +32,25 @@ impl RunStats {
         self.exec_failed += usize::from(test.last_result().is_exec_fail());
     }
 
+    /// Whether one more finished test can be counted: every counter that it raises is below
+    /// `usize::MAX`.
+    pub fn can_count_test(&self, test: &ExecutionStatuses<LiveSpec>) -> bool
+        ensures { IsTrue result ↔ TestCountersFit (with_test self.now (view_of test.now)) }
+    {
+        let result = test.last_result();
+        fits(self.finished_count, true)
+            && fits(self.passed, test.is_passed())
+            && fits(self.passed_slow, test.is_passed_slow())
+            && fits(self.passed_timed_out, test.is_passed_timed_out())
+            && fits(self.flaky, test.is_flaky())
+            && fits(self.failed, test.is_failed())
+            && fits(self.failed_slow, test.is_failed_slow())
+            && fits(self.failed_timed_out, result.is_timeout_fail())
+            && fits(self.leaky, result.is_leak_pass())
+            && fits(self.leaky_failed, result.is_leak_fail())
+            && fits(self.exec_failed, result.is_exec_fail())
+    }
+
     /// Counts one more finished setup script: each counter whose rule holds of its result is
     /// raised by one, and every other field stays.
     ///
@@ -54,4 +73,33 @@ impl RunStats {
             ExecutionResultDescription::Timeout { .. } => self.setup_scripts_timed_out += 1,
         }
     }
+
+    /// Whether one more finished setup script can be counted: every counter that it raises is
+    /// below `usize::MAX`.
+    pub fn can_count_script(&self, script: &SetupScriptExecuteStatus<LiveSpec>) -> bool
+        ensures { IsTrue result ↔ ScriptCountersFit (with_script self.now script.now.result) }
+    {
+        let result = &script.result;
+        fits(self.setup_scripts_finished_count, true)
+            && fits(
+                self.setup_scripts_passed,
+                result.is_pass() || result.is_leak_pass(),
+            )
+            && fits(
+                self.setup_scripts_failed,
+                result.is_fail() || result.is_leak_fail(),
+            )
+            && fits(self.setup_scripts_exec_failed, result.is_exec_fail())
+            && fits(
+                self.setup_scripts_timed_out,
+                result.is_timeout_pass() || result.is_timeout_fail(),
+            )
+    }
+}
+
+/// Whether a counter has room to be raised, where it is.
+fn fits(counter: usize, is_raised: bool) -> bool
+    ensures { IsTrue result ↔ (raised counter is_raised < 2 ^ 64) }
+{
+    !is_raised || counter < usize::MAX
 }

@@ -1,0 +1,41 @@
+//! `run-digest`: counts a run of tests that its standard input says.
+#![tactic(auto)]
+
+use digest_engine::command::Command;
+use digest_engine::count::count;
+use digest_engine::fault::Fault;
+use digest_engine::std_device::{StdSink, StdSource};
+use std::process::ExitCode;
+use std::rt::Env;
+use std::{env, io};
+
+/// Does what the words after the program's name ask for, from standard input to standard output.
+fn run<R: Env + AllocGlobal + Input + Print>(rt: &R) -> Result<bool, Fault> {
+    let mut words = Vec::new(rt.alloc());
+    let mut args = match env::args(rt) {
+        Ok(args) => args,
+        Err(_) => return Err(Fault::OutOfMemory),
+    };
+    let _program = args.next();
+    for word in args {
+        words.push(word)?;
+    }
+    match Command::from_words(words.as_slice())? {
+        Command::Count => {
+            let mut source = StdSource::new(rt.reader());
+            let mut sink = StdSink::new(io::writer(rt));
+            count(rt.alloc(), &mut source, &mut sink)
+        }
+    }
+}
+
+fn main(rt: HostRuntime) -> ExitCode {
+    match run(&rt) {
+        Ok(true) => ExitCode::SUCCESS,
+        Ok(false) => ExitCode::from(1),
+        Err(fault) => {
+            let _ = eprintln!(rt; "{fault}");
+            ExitCode::from(fault.status())
+        }
+    }
+}

@@ -1,0 +1,58 @@
+-- The last attempt of a test decides its view, and its view its levels.
+use Rattle.std.proofs.Common.{◌≡◌, ℕ, ◌+◌, ◌-◌, ◌<◌, List, [], ◌∷◌, ◌++◌, length, get_or, take, drop, drop-cons, true, false, refl, ap, sym, ◌∙◌, arith, length-append, lt-ltb}
+use Rattle.std.specs.Prelude.{Some, slice_get}
+use Rattle.std.proofs.lemmas.List.{take_rest}
+use Rattle.std.proofs.lemmas.Option.{slice_get-get_or}
+use Rattle.run_events.specs.Description.{ComesTo, described_final_level, described_level}
+use Rattle.run_events.specs.Level.{final_level_of, level_of}
+use Rattle.run_events.specs.Results.{succeeds}
+use Rattle.run_events.specs.TestView.{TestView, attempts_of, last_of, setting_of, view_of}
+use Rattle.run_events.specs.declared.attempts.ExecuteStatus.{ExecuteStatus}
+use Rattle.run_events.specs.declared.attempts.description.ExecutionDescription.{ExecutionDescription}
+use Rattle.run_events.specs.declared.attempts.description.ExecutionDescription.TheVariants.{Failure, Flaky, Success}
+use Rattle.run_events.specs.declared.attempts.statuses.ExecutionStatuses.{ExecutionStatuses}
+
+-- a list is its first element and the rest
+pub first-rest : {X : Type 0} (xs : List X) (x : X) → 0 < length xs → x ≡ get_or xs 0 x → xs ≡ x ∷ take (length xs - 1) (drop 1 xs)
+first-rest xs x some is = drop-cons xs 0 x some ∙ ap (λ y. y ∷ drop 1 xs) (sym is) ∙ ap (λ ys. x ∷ ys) (sym (take_rest xs 1))
+
+-- what stands at the last place is the last
+pub last-at : {X : Type 0} (xs : List X) (x : X) → 0 < length xs → x ≡ get_or xs (length xs - 1) x → last_of xs ≡ Some x
+last-at xs x some is = slice_get-get_or xs (length xs - 1) x (omega (arith, some)) ∙ ap Some (sym is)
+
+at_end : {X : Type 0} (xs : List X) (x : X) → slice_get (xs ++ x ∷ []) (length xs) ≡ Some x
+at_end [] x = refl
+at_end (y ∷ xs) x = at_end xs x
+
+last-push : {X : Type 0} (xs : List X) (x : X) → last_of (xs ++ x ∷ []) ≡ Some x
+last-push xs x =
+    let place : length (xs ++ x ∷ []) - 1 ≡ length xs = omega (arith, length-append xs (x ∷ [])) in
+    ap (slice_get (xs ++ x ∷ [])) place ∙ at_end xs x
+
+view-last : {S D : Type 0} (t : ExecutionStatuses S D) (last : ExecuteStatus S D) → last_of (attempts_of t) ≡ Some last → view_of t ≡ record { result = last.result; attempts = length (attempts_of t); is_slow = last.is_slow; setting = setting_of t }
+view-last t last is = rw is refl
+
+-- the levels of a description are those of the view
+pub level-described : {S D : Type 0} (t : ExecutionStatuses S D) (d : ExecutionDescription S D) → ComesTo (attempts_of t) (setting_of t) d → described_level d ≡ level_of (view_of t)
+level-described t (Success only) is =
+    let last : last_of (attempts_of t) ≡ Some only.now = ap last_of is.0 in
+    let one : length (attempts_of t) ≡ 1 = ap length is.0 in
+    sym (ap level_of (view-last t only.now last) ∙ rw (is.1, one) refl)
+level-described t (Flaky last prior result) is =
+    let at : last_of (attempts_of t) ≡ Some last.now = ap last_of is.0 ∙ last-push prior.now last.now in
+    let more : 1 < length (attempts_of t) = omega (arith, ap length is.0, length-append prior.now (last.now ∷ []), is.1) in
+    sym (ap level_of (view-last t last.now at) ∙ rw (is.2, lt-ltb 1 (length (attempts_of t)) more, is.3) refl)
+level-described t (Failure first last retries) is =
+    sym (ap level_of (view-last t last.now is.1) ∙ rw is.2 refl)
+
+pub final-level-described : {S D : Type 0} (t : ExecutionStatuses S D) (d : ExecutionDescription S D) → ComesTo (attempts_of t) (setting_of t) d → described_final_level d ≡ final_level_of (view_of t)
+final-level-described t (Success only) is =
+    let last : last_of (attempts_of t) ≡ Some only.now = ap last_of is.0 in
+    let one : length (attempts_of t) ≡ 1 = ap length is.0 in
+    sym (ap final_level_of (view-last t only.now last) ∙ rw (is.1, one) refl)
+final-level-described t (Flaky last prior result) is =
+    let at : last_of (attempts_of t) ≡ Some last.now = ap last_of is.0 ∙ last-push prior.now last.now in
+    let more : 1 < length (attempts_of t) = omega (arith, ap length is.0, length-append prior.now (last.now ∷ []), is.1) in
+    sym (ap final_level_of (view-last t last.now at) ∙ rw (is.2, lt-ltb 1 (length (attempts_of t)) more, is.3) refl)
+final-level-described t (Failure first last retries) is =
+    sym (ap final_level_of (view-last t last.now is.1) ∙ rw is.2 refl)

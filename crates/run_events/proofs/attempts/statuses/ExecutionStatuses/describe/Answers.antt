@@ -1,0 +1,8 @@
+use Rattle.run_events.proofs.LastAttempt.{final-level-described, level-described}
+use Rattle.run_events.proofs.attempts.statuses.ExecutionStatuses.describe.Goals as goal
+
+pub returns-clause-level : goal.returns-clause-level
+returns-clause-level g c = level-described c.args.self.now c.of_attempts.result (rw c.as_slice.ensures.value at c.of_attempts.ensures)
+
+pub returns-clause-final_level : goal.returns-clause-final_level
+returns-clause-final_level g c = final-level-described c.args.self.now c.of_attempts.result (rw c.as_slice.ensures.value at c.of_attempts.ensures)
