@@ -89,11 +89,15 @@ fn tests_are_described_with_their_levels(rt: HostRuntime) -> Result<(), Fail> {
 }
 
 #[test]
-fn the_level_is_fail_exactly_where_the_test_counts_as_failed(
-    rt: HostRuntime,
-) -> Result<(), Fail> {
+fn the_level_is_fail_exactly_where_the_test_counts_as_failed(rt: HostRuntime) -> Result<(), Fail> {
     for last in [
-        PASS, LEAK_PASS, LEAK_FAIL, EXIT_ONE, EXEC_FAIL, TIMEOUT_FAIL, TIMEOUT_PASS,
+        PASS,
+        LEAK_PASS,
+        LEAK_FAIL,
+        EXIT_ONE,
+        EXEC_FAIL,
+        TIMEOUT_FAIL,
+        TIMEOUT_PASS,
     ] {
         for earlier in [[].as_slice(), [EXIT_ONE].as_slice()] {
             for setting in [FlakyResult::Pass, FlakyResult::Fail] {
@@ -125,9 +129,18 @@ fn attempts_come_from_both_ends(rt: HostRuntime) -> Result<(), Fail> {
     let earlier = [EXIT_ONE, EXIT_ONE];
     let test = finished_test(rt.alloc(), &earlier, PASS, false, FlakyResult::Pass)?;
     let mut attempts = test.iter();
-    assert_eq!(rt; attempts.next().map(|status| status.retry_data.attempt), Some(1));
-    assert_eq!(rt; attempts.next_back().map(|status| status.retry_data.attempt), Some(3));
-    assert_eq!(rt; attempts.next().map(|status| status.retry_data.attempt), Some(2));
+    assert_eq!(rt;
+        attempts.next().map(|status| status.retry_data.attempt),
+        Some(1)
+    );
+    assert_eq!(rt;
+        attempts.next_back().map(|status| status.retry_data.attempt),
+        Some(3)
+    );
+    assert_eq!(rt;
+        attempts.next().map(|status| status.retry_data.attempt),
+        Some(2)
+    );
     assert!(rt; attempts.next().is_none());
     let mut number: u32 = 0;
     for status in test {
@@ -140,9 +153,12 @@ fn attempts_come_from_both_ends(rt: HostRuntime) -> Result<(), Fail> {
 
 #[test]
 fn the_last_attempt_has_reached_the_most(rt: HostRuntime) {
-    for (attempt, total_attempts, is_last) in
-        [(1, 3, false), (2, 3, false), (3, 3, true), (4, 3, true)]
-    {
+    for (attempt, total_attempts, is_last) in [
+        (1, 3, false),
+        (2, 3, false),
+        (3, 3, true),
+        (4, 3, true),
+    ] {
         let retry_data = RetryData {
             attempt,
             total_attempts,

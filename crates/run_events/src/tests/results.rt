@@ -4,8 +4,8 @@ use super::builders::{
     EXEC_FAIL, EXIT_ONE, LEAK_FAIL, LEAK_PASS, PASS, SIGNAL_FIFTEEN, TIMEOUT_FAIL, TIMEOUT_PASS,
 };
 use crate::results::{
-    AbortDescription, AbortStatus, ExecutionResult, ExecutionResultDescription,
-    FailureDescription, FailureStatus,
+    AbortDescription, AbortStatus, ExecutionResult, ExecutionResultDescription, FailureDescription,
+    FailureStatus,
 };
 use std::test::Fail;
 
