@@ -12,3 +12,5 @@ pub mod levels;
 pub mod outcome;
 pub mod results;
 pub mod stats;
+#[cfg(test)]
+mod tests;

@@ -1,0 +1,13 @@
+//! What no clause says: rows worked by hand, printed text, and that each public call succeeds once.
+
+mod attempts;
+mod builders;
+mod chain;
+mod child;
+mod conditions;
+mod config;
+mod counters;
+mod laws;
+mod levels;
+mod results;
+mod summary;
