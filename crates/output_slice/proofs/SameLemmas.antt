@@ -52,6 +52,7 @@ pub IsErrorSlice-same : (b : List ℕ) (f g : Option Slice) → IsErrorSlice b f
 IsErrorSlice-same b f g p q = by_found f g (IsFirst-same (IsErrorStart b) 0 (length b + 1) (option_map start f) (option_map start g) p.0 q.0) p.1 q.1 where
   start : Slice → ℕ
   start x = x.start
+
   by_found : (x y : Option Slice) → option_map start x ≡ option_map start y → IfSome x (IsTrimmedSlice b) → IfSome y (IsTrimmedSlice b) → x ≡ y
   by_found None None e one two = refl
   by_found None (Some y) e one two = absurd (cc)
