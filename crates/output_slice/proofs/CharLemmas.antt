@@ -26,6 +26,7 @@ use Rattle.output_slice.proofs.OccursLemmas.{occurs-drop}
 pub length-part : (b : List ℕ) (i j : ℕ) → j ≤ length b → length (part i j b) ≡ j - i
 length-part b i j high = length-take-le (j - i) (drop i b) (omega (arith, length-drop i b))
 
+-- a byte of a part
 pub get_or-part : (b : List ℕ) (i j k : ℕ) → i + k < j → get_or (part i j b) k 0 ≡ get_or b (i + k) 0
 get_or-part b i j k low = get_or-take (j - i) (drop i b) k 0 (omega arith) ∙ get_or-drop i b k 0
 
@@ -164,6 +165,7 @@ module _ (b buffer : List ℕ) (at stop i : ℕ) (four : length buffer ≡ 4) (s
   same : decoded (take (i + 1) buffer) ≡ decoded (part at (at + (i + 1)) b)
   same = decoded-buffer b at (at + (i + 1)) (i + 1) buffer (omega arith) (omega arith) (omega arith) four reads
 
+  -- what is decoded from the bytes read so far is the character that stands there
   pub char-some : (c : ℕ) → ((x : ℕ) → IsCharAt b at (at + i) x → ⊥) → (decoded (take (i + 1) buffer)).char ≡ Some c
       → IsCharAt b at stop c × (length (encode_utf8 c) ≡ (decoded (take (i + 1) buffer)).size) × (i < length (encode_utf8 c))
   char-some c before found =
@@ -178,6 +180,7 @@ module _ (b buffer : List ℕ) (at stop i : ℕ) (four : length buffer ≡ 4) (s
             (cases_lt i (length (encode_utf8 c))),
       )
 
+  -- where nothing is decoded, no character ends there
   pub char-none : (decoded (take (i + 1) buffer)).char ≡ None → (c : ℕ) → IsCharAt b at (at + (i + 1)) c → ⊥
   char-none none c = not_char-decoded b at (at + (i + 1)) c (omega arith) (ap (λ (p : Decoded). p.char) (sym same) ∙ none)
 

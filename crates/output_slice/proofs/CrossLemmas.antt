@@ -10,7 +10,7 @@ use Rattle.output_slice.specs.Steps.{NoQuoteBetween}
 use Rattle.output_slice.specs.Cut.{IsCut}
 use Rattle.output_slice.specs.Search.{MayCross}
 use Rattle.output_slice.proofs.OccursLemmas.{occurs-front, occurs-both}
-use Rattle.output_slice.proofs.TailLemmas.{not-in, tail_cases, AreDigits-feed}
+use Rattle.output_slice.proofs.TailLemmas.{not-in, tail_cases, AreDigits-without}
 use Rattle.output_slice.proofs.HeadLemmas.{name-quiet, head-quote, head-order}
 use Rattle.output_slice.proofs.OccursLemmas.{text-feed, occurs-byte}
 
@@ -25,7 +25,7 @@ tail-feed b at e k high h low up is = ⊎_elim
     ⊎_elim
     (λ (first : k < at + 2). text-feed b (codes " (") at k n.opens (not-in 10 (codes " (") (λ e. omega arith) refl) low first is)
     (λ (past : at + 2 ≤ k). ⊎_elim
-    (λ (number : k < n.close). AreDigits-feed b (at + 2) n.close digits k past number is)
+    (λ (number : k < n.close). AreDigits-without 10 (omega arith) (omega arith) b (at + 2) n.close digits k past number is)
     (λ (last : n.close ≤ k). text-feed b (codes ") panicked at ") n.close k n.closes (not-in 10 (codes ") panicked at ") (λ e. omega arith) refl) last (omega arith) is)
     (cases_lt k n.close))
     (cases_lt k (at + 2)))
@@ -70,9 +70,11 @@ module _ (b : List ℕ) (c : ℕ) (within : c ≤ length b) (line : IsLineStart 
   quote-byte : (i : ℕ) → i < c → get_or b i 0 ≡ 39 → is_byte 39 (get_or (take c b) i 0) ≡ true
   quote-byte i low is = eq-eqb _ 39 (get_or-take c b i 0 low ∙ is)
 
+  -- a line start without a quote before it is a cut
   pub cut-quiet : IsLastByte (is_byte 39) (take c b) None → IsCut b c
   cut-quiet h = IsCut-from b c within line (λ s far is quiet start word. h (s + 7) (omega arith) (omega (arith, size)) (quote-byte (s + 7) (omega arith) is))
 
+  -- so is one where the last quote before it does not open
   pub cut-closed : (q : ℕ) → IsLastByte (is_byte 39) (take c b) (Some q) → ((0 + 7 ≤ q) × IsLineStart b (q - 7) × OccursAt b (codes "thread ") (q - 7) → ⊥) → IsCut b c
   cut-closed q h closed = IsCut-from b c within line (λ s far is quiet start word.
       let up : q < c = omega (arith, size, h.0.high) in

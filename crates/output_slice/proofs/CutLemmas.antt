@@ -11,6 +11,7 @@ use Rattle.output_slice.specs.declared.panic_head.HeadSpan.{HeadSpan}
 use Rattle.output_slice.specs.Head.{IsHead}
 use Rattle.output_slice.specs.Taken.{IsTaken, IsLastTaken, last_of}
 use Rattle.output_slice.specs.Cut.{IsCut, shifted}
+use Rattle.output_slice.proofs.ListLemmas.{All-left, All-right}
 use Rattle.output_slice.proofs.HeadLemmas.{head-order, span-same}
 use Rattle.output_slice.proofs.MoveLemmas.{head-of-back, back-of-head, head-of-front, front-of-head}
 use Rattle.output_slice.proofs.ExistLemmas.{IsTaken-exists}
@@ -32,18 +33,15 @@ pairs-append R xs ys h k across = λ i j d low high.
     (cases_lt i (length xs))))
     (cases_lt j (length xs))
 
-All-left : (P : HeadSpan → Type 0) (xs ys : List HeadSpan) → All P (xs ++ ys) → All P xs
-All-left P xs ys h = λ k d l. subst P (get_or-append xs ys d k l) (h k d (omega (arith, length-append xs ys)))
-
-All-right : (P : HeadSpan → Type 0) (xs ys : List HeadSpan) → All P (xs ++ ys) → All P ys
-All-right P xs ys h = λ k d l. subst P (get_or-append-add xs ys k d) (h (length xs + k) d (omega (arith, length-append xs ys)))
-
+-- what holds of each shifted head, said of the heads themselves
 All-unmap : (P : HeadSpan → Type 0) (c : ℕ) (ys : List HeadSpan) → All P (map (shifted c) ys) → All (λ h. P (shifted c h)) ys
 All-unmap P c ys h = λ k d l. subst P (get_or-map (shifted c) ys k d (shifted c d) l) (h k (shifted c d) (omega (arith, length-map ys (shifted c))))
 
+-- a list has a head exactly where the shifted list has the shifted head
 contains-map : (c : ℕ) (ys : List HeadSpan) (h : HeadSpan) → Contains ys h → Contains (map (shifted c) ys) (shifted c h)
 contains-map c ys h k = (k.0, omega (arith, length-map ys (shifted c), k.1), get_or-map (shifted c) ys k.0 h (shifted c h) k.1 ∙ ap (shifted c) k.2)
 
+-- and back
 contains-unmap : (c : ℕ) (ys : List HeadSpan) (h : HeadSpan) → Contains (map (shifted c) ys) (shifted c h) → Contains ys h
 contains-unmap c ys h k =
     let low : k.0 < length ys = omega (arith, length-map ys (shifted c), k.1) in
@@ -69,6 +67,7 @@ module _ (b : List ℕ) (c : ℕ) (xs ys : List HeadSpan) (cut : IsCut b c) (fro
   starts-back : All (λ h. c ≤ h.start) (map (shifted c) ys)
   starts-back = All-map (λ h. c ≤ h.start) (shifted c) ys (λ k d l. omega arith)
 
+  -- the taken heads before the cut, then those behind it, shifted
   pub divides : IsTaken b (xs ++ map (shifted c) ys)
   divides = record {
     heads = All-append (λ h. IsHead b h.start h.stop) xs (map (shifted c) ys)
@@ -123,6 +122,7 @@ last_of-append xs ys h e =
     sym (slice_get-get_or (xs ++ ys) (length (xs ++ ys) - 1) h (omega arith)
     ∙ ap Some (ap (λ k. get_or (xs ++ ys) k h) (sym place) ∙ get_or-append-add xs ys (length ys - 1) h ∙ read))
 
+-- the last of a shifted list
 last_of-map : (c : ℕ) (ys : List HeadSpan) (h : HeadSpan) → Some h ≡ last_of ys → Some (shifted c h) ≡ last_of (map (shifted c) ys)
 last_of-map c ys h e =
     let low = slice_get_within ys (length ys - 1) h (sym e) in

@@ -11,6 +11,7 @@ use Rattle.output_slice.specs.Steps.{IsCharAt, AreDigits, IsDigitRun, NoDigitAt}
 use Rattle.output_slice.proofs.OccursLemmas.{occurs-front, occurs-back, occurs-both}
 use Rattle.output_slice.proofs.CharLemmas.{char-same}
 
+-- no digits stand from a place to itself
 pub digits-none : (b : List ℕ) (from : ℕ) → from ≤ length b → AreDigits b from from
 digits-none b from low = record {
   chars = [];
@@ -19,6 +20,7 @@ digits-none b from low = record {
   ends = omega arith;
 }
 
+-- one more digit behind digits
 pub digits-more : (b : List ℕ) (from at to c n : ℕ) → AreDigits b from at → IsCharAt b at to c → IsDigit c → n ≡ length (encode_utf8 c) → AreDigits b from (at + n)
 digits-more b from at to c n h k is size =
     let cs = h.chars in

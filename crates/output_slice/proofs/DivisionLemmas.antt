@@ -29,6 +29,7 @@ first-feed (x ∷ xs) = ⊎_elim
       by_place P other rest zero p is = other is
       by_place P other rest (suc k) p is = rest k p is
 
+-- a line feed stands within the line
 within-line : (line : List ℕ) (k : ℕ) → get_or line k 0 ≡ 10 → k < length line
 within-line line k is = ⊎_elim (λ l. l) (λ (out : length line ≤ k). absurd (omega (arith, get_or_past line k 0 out))) (cases_lt k (length line))
 
@@ -60,6 +61,7 @@ front-line bs some =
     ))
     (first-feed bs)
 
+-- one line in front of lines
 pairs-cons : (x : List ℕ) (xs : List (List ℕ)) → (0 < length xs → Ended x []) → AllPairs Ended xs → AllPairs Ended (x ∷ xs)
 pairs-cons x xs first rest = by_index where
   by_index : (i j : ℕ) (d : List ℕ) → i < j → j < length (x ∷ xs) → Ended (get_or (x ∷ xs) i d) (get_or (x ∷ xs) j d)
@@ -67,6 +69,7 @@ pairs-cons x xs first rest = by_index where
   by_index (suc i) zero d low high = absurd (omega arith)
   by_index (suc i) (suc j) d low high = rest i j d (omega arith) (omega arith)
 
+-- each of the lines is one, and each but the last ends with a line feed
 each-line : (f : ℕ) (bs : List ℕ) → length bs ≤ f → All IsLine (lines_of bs) × AllPairs Ended (lines_of bs)
 each-line f [] le = subst (λ ls. All IsLine ls × AllPairs Ended ls) (sym lines-nil) (All-nil _, λ i j d low high. absurd (omega arith))
 each-line zero (x ∷ xs) le = absurd (omega arith)
@@ -92,6 +95,7 @@ each-line (suc f) (x ∷ xs) le =
       joined_some [] all some none = omega arith
       joined_some (l ∷ ls) all some none = let first = (All-head IsLine l ls all).some in omega (arith, length-append l (concat ls))
 
+-- the lines are a division
 pub AreLines-lines_of : (b : List ℕ) → AreLines b (lines_of b)
 AreLines-lines_of b =
     let h = each-line (length b) b (omega arith) in
@@ -120,6 +124,7 @@ first-size l ls line ends =
       empty [] e = refl
       empty (x ∷ xs) e = absurd (omega arith)
 
+-- each division of the joined lines is the lines
 lines-same : (ls : List (List ℕ)) → All IsLine ls → AllPairs Ended ls → ls ≡ lines_of (concat ls)
 lines-same [] each ends = sym lines-nil
 lines-same (l ∷ ls) each ends =

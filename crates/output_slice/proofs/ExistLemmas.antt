@@ -19,6 +19,7 @@ use Rattle.output_slice.proofs.TailLemmas.{occurs-part, part-occurs, Found, IsTa
 use Rattle.output_slice.proofs.SettledLemmas.{Settled, settled-first, settled-none, settled-head, settled-done}
 use Rattle.output_slice.proofs.StepLemmas.{name-from, IsHeadEnd-name, IsHeadStop-none, IsHeadStop-closed, IsHeadStop-opened, head_stop-order}
 
+-- two lists are equal or not
 list-dec : (xs ys : List ℕ) → (xs ≡ ys) ⊎ (xs ≡ ys → ⊥)
 list-dec [] [] = inl refl
 list-dec [] (y ∷ ys) = inr (λ e. cc)
@@ -28,6 +29,7 @@ list-dec (x ∷ xs) (y ∷ ys) = ⊎_elim
     (λ n. inr (λ (g : x ∷ xs ≡ y ∷ ys). n (cc)))
     (cases_eq x y)
 
+-- a text stands at a place or not
 occurs-dec : (b xs : List ℕ) (at : ℕ) → 0 < length xs → OccursAt b xs at ⊎ (OccursAt b xs at → ⊥)
 occurs-dec b xs at some = ⊎_elim
     (λ (short : length b < at + length xs). inr (λ h. omega (arith, h.fits)))
@@ -37,9 +39,11 @@ occurs-dec b xs at some = ⊎_elim
     (list-dec (part at (at + length xs) b) xs))
     (cases_lt (length b) (at + length xs))
 
+-- the same, with where it ends
 after-dec : (b xs : List ℕ) (at : ℕ) → 0 < length xs → (found : Option ℕ) × Found b xs at found
 after-dec b xs at some = ⊎_elim (λ h. (Some (at + length xs), (h, refl))) (λ n. (None, n)) (occurs-dec b xs at some)
 
+-- a character is a digit or not
 digit-dec : (c : ℕ) → IsDigit c ⊎ (IsDigit c → ⊥)
 digit-dec c = ⊎_elim
     (λ (small : c < 48). inr (λ h. ⊎_elim (λ a. omega arith) (λ a. omega arith) h))
@@ -55,15 +59,18 @@ digit-dec c = ⊎_elim
     (cases_lt c 58))
     (cases_lt c 48)
 
+-- a character stands at a place or none does
 char-dec : (b : List ℕ) (at : ℕ) → at < length b → ((c : ℕ) × IsCharAt b at (length b) c) ⊎ ((c : ℕ) → IsCharAt b at (length b) c → ⊥)
 char-dec b at low = by_found (decoded (part at (length b) b)).char refl where
   by_found : (f : Option ℕ) → (decoded (part at (length b) b)).char ≡ f → ((c : ℕ) × IsCharAt b at (length b) c) ⊎ ((c : ℕ) → IsCharAt b at (length b) c → ⊥)
   by_found None e = inr (λ c. not_char-decoded b at (length b) c (omega arith) e)
   by_found (Some c) e = inl (c, (IsCharAt-decoded b at (length b) c low (omega arith) e).0)
 
+-- where the digits end, by the number of bytes left
 run-end : (b : List ℕ) (from at : ℕ) → AreDigits b from at → length b ≤ at → IsDigitRun b from at
 run-end b from at h done = record { digits = h; stops = λ x k d. let len = length-encode x in let some = len_utf8_bounds x in absurd (omega (arith, k.ends)) }
 
+-- where they end
 digit-run : (fuel : ℕ) (b : List ℕ) (from at : ℕ) → AreDigits b from at → length b ≤ at + fuel → (to : ℕ) × IsDigitRun b from to
 digit-run zero b from at h done = (at, run-end b from at h (omega arith))
 digit-run (suc fuel) b from at h done = ⊎_elim
@@ -78,6 +85,7 @@ digit-run (suc fuel) b from at h done = ⊎_elim
     (λ (end : length b ≤ at). (at, run-end b from at h end))
     (cases_lt at (length b))
 
+-- where a tail ends
 tail-end : (b : List ℕ) (at : ℕ) → (found : Option ℕ) × IsTailEnd b at found
 tail-end b at = ⊎_elim
     (λ (opens : OccursAt b (codes " (") at).
@@ -89,6 +97,7 @@ tail-end b at = ⊎_elim
     (λ none. let f = after-dec b (codes " panicked at ") at (omega arith) in (f.0, IsTailEnd-plain b at f.0 none f.1))
     (occurs-dec b (codes " (") at (omega arith))
 
+-- a byte is a quote or not
 quote-dec : (fuel : ℕ) (b : List ℕ) (from at : ℕ) → from ≤ at → NoQuoteBetween b from at → length b ≤ at + fuel → (found : Option ℕ) × IsNextQuote b from found
 quote-dec zero b from at low quiet done = (None, λ k l u. quiet k l (omega arith))
 quote-dec (suc fuel) b from at low quiet done = ⊎_elim
@@ -100,15 +109,18 @@ quote-dec (suc fuel) b from at low quiet done = ⊎_elim
     (λ (end : length b ≤ at). (None, λ k l u. quiet k l (omega arith)))
     (cases_lt at (length b))
 
+-- the next quote
 next-quote : (b : List ℕ) (from : ℕ) → (found : Option ℕ) × IsNextQuote b from found
 next-quote b from = quote-dec (length b) b from from (omega arith) (λ k l u is. omega arith) (omega arith)
 
+-- a place is a line start or not
 line-dec : (b : List ℕ) (s : ℕ) → IsLineStart b s ⊎ (IsLineStart b s → ⊥)
 line-dec b s = ⊎_elim
     (λ (later : 0 < s). ⊎_elim (λ (is : get_or b (s - 1) 0 ≡ 10). inl (λ p. is)) (λ n. inr (λ h. n (h later))) (cases_eq (get_or b (s - 1) 0) 10))
     (λ (first : s ≤ 0). inl (λ p. absurd (omega arith)))
     (cases_lt 0 s)
 
+-- a quote opens or not
 opens-dec : (b : List ℕ) (place q : ℕ) → ((place + 7 ≤ q) × IsLineStart b (q - 7) × OccursAt b (codes "thread ") (q - 7)) ⊎ ((place + 7 ≤ q) × IsLineStart b (q - 7) × OccursAt b (codes "thread ") (q - 7) → ⊥)
 opens-dec b place q = ⊎_elim
     (λ (near : q < place + 7). inr (λ h. omega (arith, h.0)))
@@ -118,6 +130,7 @@ opens-dec b place q = ⊎_elim
     (line-dec b (q - 7)))
     (cases_lt q (place + 7))
 
+-- a part is a name or not
 name-dec : (b : List ℕ) (i j : ℕ) → j ≤ length b → NoQuoteBetween b i j → IsName (part i j b) ⊎ (IsName (part i j b) → ⊥)
 name-dec b i j high quiet =
     let size = length-part b i j high in
@@ -129,6 +142,7 @@ name-dec b i j high quiet =
     (λ (none : j ≤ i). inr (λ h. omega (arith, h.some)))
     (cases_lt i j)
 
+-- where the head ends that a quote opens
 head-stop : (b : List ℕ) (place q : ℕ) → get_or b q 0 ≡ 39 → q < length b → (close : Option ℕ) → IsNextQuote b (q + 1) close → (found : Option ℕ) × IsHeadStop b place q found
 head-stop b place q is high None n = (None, IsHeadStop-none b place q n)
 head-stop b place q is high (Some c) n = ⊎_elim
@@ -143,6 +157,7 @@ head-stop b place q is high (Some c) n = ⊎_elim
 abbrev Step : List ℕ → ℕ → Type 0
 Step b place = ((xs : List HeadSpan) × IsTaken b xs) ⊎ ((later : ℕ) × ((xs : List HeadSpan) × ((place < later) × Settled b later xs)))
 
+-- one step from a quote
 step : (b : List ℕ) (place : ℕ) (taken : List HeadSpan) → Settled b place taken → Step b place
 step b place taken h = let n = next-quote b place in by_next n.0 n.1 where
   by_stop : (q : ℕ) → IsNextQuote b place (Some q) → (found : Option ℕ) → IsHeadStop b place q found → Step b place
@@ -159,6 +174,7 @@ step b place taken h = let n = next-quote b place in by_next n.0 n.1 where
       let stop = head-stop b place q n.1 n.0.high close.0 close.1 in
       by_stop q n stop.0 stop.1
 
+-- the search from a place, by the number of bytes left
 search-from : (fuel : ℕ) (b : List ℕ) (place : ℕ) (taken : List HeadSpan) → Settled b place taken → length b ≤ place + fuel → (xs : List HeadSpan) × IsTaken b xs
 search-from zero b place taken h done = (taken, settled-done b place taken h (λ k l u is. omega arith))
 search-from (suc fuel) b place taken h done = ⊎_elim

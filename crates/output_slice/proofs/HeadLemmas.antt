@@ -18,6 +18,7 @@ name-quiet b i j high h = λ k low up is.
     let size = length-part b i j high in
     h.no_quote (k - i) 0 (omega arith) (get_or-part b i j (k - i) (omega arith) ∙ ap (λ x. get_or b x 0) place ∙ is)
 
+-- a quote stands within the bytes
 closing-within : (b : List ℕ) (q : ℕ) → get_or b q 0 ≡ 39 → q < length b
 closing-within b q is = ⊎_elim (λ in'. in') (λ out. absurd (omega (arith, get_or_past b q 0 out))) (cases_lt q (length b))
 
@@ -60,6 +61,7 @@ head-same b s e e' h k =
     (cases_lt h.quote k.quote) in
     tail-same b (h.quote + 1) e e' h.ends k.ends h.tail (subst (λ q. IsTail (part (q + 1) e' b)) (sym quotes) k.tail)
 
+-- a head is its start and its end
 pub span-same : (g h : HeadSpan) → g.start ≡ h.start → g.stop ≡ h.stop → g ≡ h
 span-same g h p q = ap (λ s. spot s g.stop) p ∙ ap (λ e. spot h.start e) q where
   spot : ℕ → ℕ → HeadSpan

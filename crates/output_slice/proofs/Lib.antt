@@ -2,6 +2,7 @@ pub mod OccursLemmas
 pub mod CharLemmas
 pub mod DigitLemmas
 pub mod TailLemmas
+pub mod ListLemmas
 pub mod HeadLemmas
 pub mod StepLemmas
 pub mod SettledLemmas

@@ -15,5 +15,6 @@ module _ (b : List ℕ) (at : ℕ) (within : at ≤ length b) where
   pub end-some : (feed : ℕ) → IsFirstByte (is_byte 10) (drop at b) (Some feed) → NoFeedBetween b at (at + feed + 1 - 1)
   end-some feed h = λ k l u. none-to feed h.0.before k l (omega arith)
 
+  -- no line feed stands before the end of the bytes
   pub end-none : IsFirstByte (is_byte 10) (drop at b) None → NoFeedBetween b at (length b - 1)
   end-none h = let left = length-drop at b in λ k l u. none-to (length b - at) (λ i low high. h i low (omega (arith, left))) k l (omega arith)

@@ -19,9 +19,11 @@ use Rattle.output_slice.proofs.CharLemmas.{length-part, get_or-part}
 use Rattle.output_slice.proofs.OccursLemmas.{text-feed}
 use Rattle.output_slice.proofs.TailLemmas.{not-in}
 
+-- a sum with one more in front
 sum-cons : (x : List ℕ) (xs : List (List ℕ)) → sum_by length (x ∷ xs) ≡ length x + sum_by length xs
 sum-cons x xs = let parts : sum_by length (x ∷ xs) ≡ 0 + length x + sum_by length xs = sum_by-append length (x ∷ []) xs in omega arith
 
+-- the length of joined lines is the sum of their lengths
 pub length-concat : (xs : List (List ℕ)) → length (concat xs) ≡ sum_by length xs
 length-concat [] = refl
 length-concat (x ∷ xs) = length-append x (concat xs) ∙ ap (λ n. length x + n) (length-concat xs) ∙ sym (sum-cons x xs)
@@ -114,6 +116,7 @@ module _ (b : List ℕ) (at s e : ℕ) (found : FindsNeedle b (codes "note: test
       let size = length-take-le s b (omega arith) in
       found.0.before h.0 (omega arith) (omega arith) (record { fits = omega arith; reads = λ j l. sym (get_or-take s b (h.0 + j) 0 (omega arith)) ∙ h.1.reads j l }))
 
+  -- the line round the first note is the note line
   pub note-line : IsNoteLine b (Some (record { start = s; bytes = without_terminator (part s e b) }))
   note-line = (
     lines_of b,
@@ -121,5 +124,6 @@ module _ (b : List ℕ) (at s e : ℕ) (found : FindsNeedle b (codes "note: test
     (lines_of (take s b), part s e b, lines_of (drop (e - s) (drop s b)), lines-are, none-before, is-note, start-is, refl),
   )
 
+-- without a note there is no note line
 pub note-none : (b : List ℕ) → FindsNeedle b (codes "note: test did not panic as expected") 0 None → IsNoteLine b None
 note-none b none = (lines_of b, AreLines-lines_of b, none-in (codes "note: test did not panic as expected") b (λ h. let fits = h.1.fits in none h.0 (omega arith) (omega arith) h.1))

@@ -25,12 +25,14 @@ opening-none b none first s e h = ⊎_elim
     (λ (front : s ≤ 0). let place : s ≡ 0 = omega arith in first (subst (OccursAt b (codes "thread '")) place h.opening))
     (cases_lt 0 s)
 
+-- a place behind a line feed is a line start
 opening-line : (b : List ℕ) (feed : ℕ) → OccursAt b (codes "\nthread '") feed → (feed + 1 < length b) × IsLineStart b (feed + 1)
 opening-line b feed h =
     let fits = h.fits in
     let place : feed + 1 - 1 ≡ feed + 0 = omega arith in
     (omega arith, λ later. ap (λ k. get_or b k 0) place ∙ h.reads 0 (omega arith))
 
+-- an opening at the front is the last where none stands behind a line feed
 pub opening-first : (b : List ℕ) → FindsLastNeedle b (codes "\nthread '") None → OccursAt b (codes "thread '") 0 → IsLastOpening b 0
 opening-first b none here = record {
   line_start = λ p. absurd (omega arith);
@@ -41,6 +43,7 @@ opening-first b none here = record {
       (cases_lt 0 s);
 }
 
+-- else the last stands behind the last such line feed
 pub opening-last : (b : List ℕ) (feed : ℕ) → FindsLastNeedle b (codes "\nthread '") (Some feed) → IsLastOpening b (feed + 1)
 opening-last b feed h = record {
   line_start = (opening-line b feed h.1).1;
@@ -84,6 +87,7 @@ opening-quote b at q s e o far next h past =
     next)
     (cases_lt s at)
 
+-- all heads end by the end of the line of the first quote behind the last opening
 pub heads-end : (b : List ℕ) (at q end : ℕ) → IsLastOpening b at → at + 8 ≤ q → (get_or b q 0 ≡ 39 ⊎ NoQuoteBetween b (at + 8) (length b)) → q ≤ end → (end < length b → (q < end) × (get_or b (end - 1) 0 ≡ 10))
     → (s e : ℕ) → IsHead b s e → e ≤ end
 heads-end b at q end o far next up last s e h = ⊎_elim
@@ -92,10 +96,12 @@ heads-end b at q end o far next up last s e h = ⊎_elim
     (cases_lt at e)
 
 module _ (b : List ℕ) (at : ℕ) (o : IsLastOpening b at) where
+  -- where there is such a quote
   pub heads-end-some : (gap end : ℕ) → IsFirstByte (is_byte 39) (drop (at + 8) b) (Some gap) → at + 8 + gap ≤ end → (end < length b → (at + 8 + gap < end) × (get_or b (end - 1) 0 ≡ 10))
       → (s e : ℕ) → IsHead b s e → e ≤ end
   heads-end-some gap end h up last = heads-end b at (at + 8 + gap) end o (omega arith) (inl (sym (get_or-drop (at + 8) b gap 0) ∙ eqb-true _ _ h.1)) up last
 
+  -- where there is none
   pub heads-end-none : (end : ℕ) → IsFirstByte (is_byte 39) (drop (at + 8) b) None → at + 8 ≤ end → (end < length b → (at + 8 < end) × (get_or b (end - 1) 0 ≡ 10))
       → (s e : ℕ) → IsHead b s e → e ≤ end
   heads-end-none end h up last =

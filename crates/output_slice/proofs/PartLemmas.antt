@@ -77,6 +77,7 @@ widened-letter b s e t head wide = ⊎_elim
     (omega (arith, plain.1), omega arith, ap is_whitespace at))
     wide
 
+-- an error starts with an `E`
 error-letter : (b : List ℕ) (s : ℕ) → OccursAt b (codes "Error: ") s → (s < length b) × (get_or b s 0 < 128) × (is_whitespace (get_or b s 0) ≡ false)
 error-letter b s h =
     let fits = h.fits in

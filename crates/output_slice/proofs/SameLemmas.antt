@@ -22,6 +22,7 @@ IsFirst-same P i j (Some k) (Some l) g h = ap Some (⊎_elim
     (λ (more : l ≤ k). ⊎_elim (λ (less : l < k). absurd (g.0.before l h.0.low less h.1)) (λ (same : k ≤ l). omega arith) (cases_lt l k))
     (cases_lt k l))
 
+-- equal options hold equal values
 some-same : {A : Type 0} (x y : A) → Some x ≡ Some y → x ≡ y
 some-same x y e = cc
 
@@ -52,6 +53,7 @@ pub IsErrorSlice-same : (b : List ℕ) (f g : Option Slice) → IsErrorSlice b f
 IsErrorSlice-same b f g p q = by_found f g (IsFirst-same (IsErrorStart b) 0 (length b + 1) (option_map start f) (option_map start g) p.0 q.0) p.1 q.1 where
   start : Slice → ℕ
   start x = x.start
+
   by_found : (x y : Option Slice) → option_map start x ≡ option_map start y → IfSome x (IsTrimmedSlice b) → IfSome y (IsTrimmedSlice b) → x ≡ y
   by_found None None e one two = refl
   by_found None (Some y) e one two = absurd (cc)
@@ -70,6 +72,7 @@ first-same P (z ∷ zs) (w ∷ ws) x y us vs e none one p q =
     let rest = first-same P zs ws x y us vs tails (All-tail (λ v. ¬ P v) z zs none) (All-tail (λ v. ¬ P v) w ws one) p q in
     (ap (λ v. v ∷ zs) heads ∙ ap (λ vs. w ∷ vs) rest.0, rest.1)
 
+-- where P holds for none, it holds for no first one
 none-first : (P : List ℕ → Type 0) (all xs : List (List ℕ)) (x : List ℕ) (us : List (List ℕ)) → all ≡ xs ++ x ∷ us → All (λ z. ¬ P z) all → P x → ⊥
 none-first P all xs x us e none p =
     All-contains (λ z. ¬ P z) (xs ++ x ∷ us) x (subst (All (λ z. ¬ P z)) e none) (Contains-append_right xs (x ∷ us) x (0, omega arith, refl)) p

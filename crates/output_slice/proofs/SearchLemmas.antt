@@ -69,11 +69,11 @@ searched-first b old new next is fits reads = record {
   by_next (Some q) i r = let high = i.0.high in record { seen = q + 1; low = omega arith; high = omega arith; quiet = λ k low up e. omega arith; one_line = λ k low up e. omega arith; before = 0; from = omega arith; to = omega arith; line = λ l. absurd (omega arith); few = omega arith }
 
 -- a step at a quote that opens no head
-pub searched-none : (b : List ℕ) (old new new' new'' place q : ℕ) (close : Option ℕ) (last : Option HeadSpan) → Searched b old new place (Some q) last
+pub searched-none : (b : List ℕ) (old new scanned tested place q : ℕ) (close : Option ℕ) (last : Option HeadSpan) → Searched b old new place (Some q) last
     → IsNextQuote b (q + 1) close → IfSome close (λ c. c + 1 < 2 ^ 64)
-    → MatchOption close (new' + (q + 1) ≤ new + length b) (λ c. new' + (q + 1) ≤ new + (c + 1))
-    → IsHeadStop b place q None → (new' < new'' → place + 7 ≤ q) → (new' + 8 < new'' → IsLineStart b (q - 7)) → HeadReads b place new' new'' close None → Searched b old new'' (q + 1) close last
-searched-none b old new new' new'' place q close last h is fits reads none opened line more =
+    → MatchOption close (scanned + (q + 1) ≤ new + length b) (λ c. scanned + (q + 1) ≤ new + (c + 1))
+    → IsHeadStop b place q None → (scanned < tested → place + 7 ≤ q) → (scanned + 8 < tested → IsLineStart b (q - 7)) → HeadReads b place scanned tested close None → Searched b old tested (q + 1) close last
+searched-none b old new scanned tested place q close last h is fits reads none opened line more =
     let i = h.is_next in
     let high = i.0.high in record {
       taken = h.taken;
@@ -84,8 +84,8 @@ searched-none b old new new' new'' place q close last h is fits reads none opene
       within = omega arith;
       reads = by_close close is reads more;
     } where
-      by_close : (n : Option ℕ) → IsNextQuote b (q + 1) n → MatchOption n (new' + (q + 1) ≤ new + length b) (λ c. new' + (q + 1) ≤ new + (c + 1)) → HeadReads b place new' new'' n None
-          → MatchOption n (new'' ≤ old + (4 * length b + 8)) (λ c. WithReads b old new'' (q + 1) c)
+      by_close : (n : Option ℕ) → IsNextQuote b (q + 1) n → MatchOption n (scanned + (q + 1) ≤ new + length b) (λ c. scanned + (q + 1) ≤ new + (c + 1)) → HeadReads b place scanned tested n None
+          → MatchOption n (tested ≤ old + (4 * length b + 8)) (λ c. WithReads b old tested (q + 1) c)
       by_close None i r m = let w = h.reads in let seen = w.high in let few = w.few in let to = w.to in let low = h.is_next.0.low in let high = h.is_next.0.high in omega arith
       by_close (Some c) i r m =
           let w = h.reads in let few = w.few in let low = h.is_next.0.low in
@@ -107,25 +107,25 @@ searched-none b old new new' new'' place q close last h is fits reads none opene
                   (cases_lt q k),
             );
             few = ⊎_elim
-                (λ (read : new' < new'').
+                (λ (read : scanned < tested).
                 let far = opened read in
                 let to = w.to in
                 ⊎_elim
-                (λ (long : new' + 8 < new''). let behind = before-opening b old new place q w far (line long) in omega arith)
-                (λ (short : new'' ≤ new' + 8). omega arith)
-                (cases_lt (new' + 8) new''))
-                (λ (still : new'' ≤ new'). let to = w.to in omega arith)
-                (cases_lt new' new'');
+                (λ (long : scanned + 8 < tested). let behind = before-opening b old new place q w far (line long) in omega arith)
+                (λ (short : tested ≤ scanned + 8). omega arith)
+                (cases_lt (scanned + 8) tested))
+                (λ (still : tested ≤ scanned). let to = w.to in omega arith)
+                (cases_lt scanned tested);
           }
 
 -- a step at a quote that opens a head
-pub searched-head : (b : List ℕ) (old new new' new'' new3 place q c e : ℕ) (next : Option ℕ) (last : Option HeadSpan) → Searched b old new place (Some q) last
-    → IsNextQuote b (q + 1) (Some c) → new' + (q + 1) ≤ new + (c + 1)
-    → IsHeadStop b place q (Some e) → HeadReads b place new' new'' (Some c) (Some e)
+pub searched-head : (b : List ℕ) (old new scanned tested ended place q c e : ℕ) (next : Option ℕ) (last : Option HeadSpan) → Searched b old new place (Some q) last
+    → IsNextQuote b (q + 1) (Some c) → scanned + (q + 1) ≤ new + (c + 1)
+    → IsHeadStop b place q (Some e) → HeadReads b place scanned tested (Some c) (Some e)
     → IsNextQuote b e next → IfSome next (λ x. x + 1 < 2 ^ 64)
-    → MatchOption next (new3 + e ≤ new'' + length b) (λ x. new3 + e ≤ new'' + (x + 1))
-    → Searched b old new3 e next (Some (record { start = q - 7; stop = e }))
-searched-head b old new new' new'' new3 place q c e next last h is reads stop more is' fits reads' =
+    → MatchOption next (ended + e ≤ tested + length b) (λ x. ended + e ≤ tested + (x + 1))
+    → Searched b old ended e next (Some (record { start = q - 7; stop = e }))
+searched-head b old new scanned tested ended place q c e next last h is reads stop more is' fits reads' =
     let i = h.is_next in
     let far = stop.0 in
     let ends = stop.1.ends in
@@ -138,7 +138,7 @@ searched-head b old new new' new'' new3 place q c e next last h is reads stop mo
       within = ends;
       reads = by_next next is' reads';
     } where
-      by_next : (n : Option ℕ) → IsNextQuote b e n → MatchOption n (new3 + e ≤ new'' + length b) (λ x. new3 + e ≤ new'' + (x + 1)) → MatchOption n (new3 ≤ old + (4 * length b + 8)) (λ x. WithReads b old new3 e x)
+      by_next : (n : Option ℕ) → IsNextQuote b e n → MatchOption n (ended + e ≤ tested + length b) (λ x. ended + e ≤ tested + (x + 1)) → MatchOption n (ended ≤ old + (4 * length b + 8)) (λ x. WithReads b old ended e x)
       by_next None i r =
           let w = h.reads in let few = w.few in let behind = before-opening b old new place q w stop.0 stop.1.line_start in let far = stop.0 in let low = h.is_next.0.low in let high = h.is_next.0.high in
           let seen : w.seen ≤ c = ⊎_elim (λ (less : c < w.seen). absurd (w.quiet c is.0.low less is.1)) (λ l. l) (cases_lt c w.seen) in
@@ -150,14 +150,14 @@ searched-head b old new new' new'' new3 place q c e next last h is reads stop mo
           record { seen = x + 1; low = omega arith; high = omega arith; quiet = λ k low up is. omega arith; one_line = λ k low up is. omega arith; before = e; from = omega arith; to = omega arith; line = λ l. absurd (omega arith); few = omega arith }
 
 -- the same, where it is not yet known that there is a next quote
-pub searched-found : (b : List ℕ) (old new new' new'' new3 place q e : ℕ) (close next : Option ℕ) (last : Option HeadSpan) → Searched b old new place (Some q) last
+pub searched-found : (b : List ℕ) (old new scanned tested ended place q e : ℕ) (close next : Option ℕ) (last : Option HeadSpan) → Searched b old new place (Some q) last
     → IsNextQuote b (q + 1) close
-    → MatchOption close (new' + (q + 1) ≤ new + length b) (λ c. new' + (q + 1) ≤ new + (c + 1))
-    → IsHeadStop b place q (Some e) → HeadReads b place new' new'' close (Some e)
+    → MatchOption close (scanned + (q + 1) ≤ new + length b) (λ c. scanned + (q + 1) ≤ new + (c + 1))
+    → IsHeadStop b place q (Some e) → HeadReads b place scanned tested close (Some e)
     → IsNextQuote b e next → IfSome next (λ x. x + 1 < 2 ^ 64)
-    → MatchOption next (new3 + e ≤ new'' + length b) (λ x. new3 + e ≤ new'' + (x + 1))
-    → Searched b old new3 e next (Some (record { start = q - 7; stop = e }))
-searched-found b old new new' new'' new3 place q e None next last h is reads stop more is' fits reads' =
+    → MatchOption next (ended + e ≤ tested + length b) (λ x. ended + e ≤ tested + (x + 1))
+    → Searched b old ended e next (Some (record { start = q - 7; stop = e }))
+searched-found b old new scanned tested ended place q e None next last h is reads stop more is' fits reads' =
     let far = stop.0 in absurd (IsHeadStop-none b place q is (q - 7) e (omega arith) (omega arith) stop.1)
-searched-found b old new new' new'' new3 place q e (Some c) next last h is reads stop more is' fits reads' =
-    searched-head b old new new' new'' new3 place q c e next last h is reads stop more is' fits reads'
+searched-found b old new scanned tested ended place q e (Some c) next last h is reads stop more is' fits reads' =
+    searched-head b old new scanned tested ended place q c e next last h is reads stop more is' fits reads'

@@ -1,14 +1,14 @@
 -- The taken heads so far, as the search goes from quote to quote.
-use Rattle.std.proofs.Common.{◌≡◌, ℕ, ◌+◌, ◌<◌, ◌≤◌, ◌↔◌, List, [], ◌∷◌, ◌++◌, length, get_or, sym, ap, subst, arith, ⊎_elim, length-append}
+use Rattle.std.proofs.Common.{◌≡◌, ℕ, ◌+◌, ◌<◌, ◌≤◌, ◌↔◌, List, [], ◌∷◌, ◌++◌, length, get_or, sym, ap, subst, arith, ⊎_elim}
 use Rattle.std.specs.Prelude.{All, AllPairs, Contains}
 use Rattle.std.proofs.lemmas.Bool.{cases_lt}
-use Rattle.std.proofs.Math.ListN.{get_or-append}
 use Rattle.std.proofs.lemmas.List.Elements.{All-push, All-nil, All-weaker, All-contains, Contains-push, Contains-push_cases, Contains-append_left}
 use Rattle.std.proofs.lemmas.List.Quantifiers.{all_pairs_push}
 use Rattle.output_slice.specs.declared.panic_head.HeadSpan.{HeadSpan}
 use Rattle.output_slice.specs.Head.{IsHead}
 use Rattle.output_slice.specs.Taken.{IsTaken}
 use Rattle.output_slice.specs.Steps.{NoQuoteBetween}
+use Rattle.output_slice.proofs.ListLemmas.{All-left}
 use Rattle.output_slice.proofs.HeadLemmas.{head-quote, head-letters, head-order, head-same, span-same}
 
 -- every head that starts below `place` is dealt with, and every taken head ends by then
@@ -20,6 +20,7 @@ pub record Settled (b : List ℕ) (place : ℕ) (taken : List HeadSpan) : Type 0
   pub rule : (h : HeadSpan) → h.start < place → IsHead b h.start h.stop
       → (Contains taken h ↔ All (λ g. g.start < h.start → g.stop ≤ h.start) taken)
 
+-- at the front no head is taken yet
 pub settled-first : (b : List ℕ) → Settled b 0 []
 settled-first b = record {
   heads = All-nil _;
@@ -57,10 +58,7 @@ settled-done b place taken h quiet = record {
       (cases_lt x.start place);
 }
 
--- what holds of each of a list and one more holds of each of the list
-All-front : (P : HeadSpan → Type 0) (xs : List HeadSpan) (x : HeadSpan) → All P (xs ++ x ∷ []) → All P xs
-All-front P xs x h = λ k d l. subst P (get_or-append xs (x ∷ []) d k l) (h k d (omega (arith, length-append xs (x ∷ []))))
-
+-- what holds of each of a list and one more holds of the one more
 All-back : (P : HeadSpan → Type 0) (xs : List HeadSpan) (x : HeadSpan) → All P (xs ++ x ∷ []) → P x
 All-back P xs x h = All-contains P (xs ++ x ∷ []) x h (Contains-push xs x)
 
@@ -78,7 +76,7 @@ settled-head b place q taken x h low is quiet new here head =
           let P = λ (g : HeadSpan). g.start < y.start → g.stop ≤ y.start in
           let r = h.rule y old y_head in (
             λ among. All-push P taken x (⊎_elim r.0 (λ e. absurd (let same : x.start ≡ y.start = ap (λ (g : HeadSpan). g.start) e in omega arith)) (Contains-push_cases taken x y among)) (λ l. absurd (omega arith)),
-            λ all. Contains-append_left taken (x ∷ []) y (r.1 (All-front P taken x all)),
+            λ all. Contains-append_left taken (x ∷ []) y (r.1 (All-left P taken (x ∷ []) all)),
           ))
           (λ (late : place ≤ y.start).
           let P = λ (g : HeadSpan). g.start < y.start → g.stop ≤ y.start in

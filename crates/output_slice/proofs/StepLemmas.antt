@@ -21,6 +21,7 @@ name-from b i j low high utf8 quiet =
       no_quote = All-from_get_or (λ x. x ≢ 39) (part i j b) 0 (λ k l is. quiet (i + k) (omega arith) (omega arith) (sym (get_or-part b i j k (omega arith)) ∙ is));
     }
 
+-- behind a name the head ends where its tail does
 pub IsHeadEnd-name : (b : List ℕ) (quote close : ℕ) (found : Option ℕ) → IsName (part (quote + 1) close b) → IsTailEnd b (close + 1) found → IsHeadEnd b quote close found
 IsHeadEnd-name b quote close None name h = λ e high n. h e high
 IsHeadEnd-name b quote close (Some e) name h = (h.0, name, h.1)
@@ -34,15 +35,18 @@ closing-same b s e q close here h is low quiet =
     (λ (more : close ≤ h.quote). ⊎_elim (λ (less : close < h.quote). absurd (name close (omega arith) less is)) (λ (same : h.quote ≤ close). omega arith) (cases_lt close h.quote))
     (cases_lt h.quote close)
 
+-- where no quote follows, the quote opens no head
 pub IsHeadStop-none : (b : List ℕ) (place quote : ℕ) → IsNextQuote b (quote + 1) None → IsHeadStop b place quote None
 IsHeadStop-none b place quote h = λ s e low here head.
     let order = head-order b s e head in h head.quote (omega arith) (omega arith) head.closing
 
+-- a quote with another text before it opens no head
 pub IsHeadStop-closed : (b : List ℕ) (place quote : ℕ) → ((place + 7 ≤ quote) × IsLineStart b (quote - 7) × OccursAt b (codes "thread ") (quote - 7) → ⊥) → IsHeadStop b place quote None
 IsHeadStop-closed b place quote none = λ s e low here head.
     let at : s ≡ quote - 7 = omega arith in
     none (omega arith, subst (IsLineStart b) at head.line_start, subst (OccursAt b (codes "thread ")) at (occurs-front b (codes "thread ") (codes "'") s head.opening))
 
+-- a quote that opens has a head where one ends behind the next quote
 pub IsHeadStop-opened : (b : List ℕ) (place quote close : ℕ) (found : Option ℕ) → (place + 7 ≤ quote) × IsLineStart b (quote - 7) × OccursAt b (codes "thread ") (quote - 7)
     → get_or b quote 0 ≡ 39 → quote < length b → get_or b close 0 ≡ 39 → quote + 1 ≤ close → NoQuoteBetween b (quote + 1) close
     → IsHeadEnd b quote close found → IsHeadStop b place quote found

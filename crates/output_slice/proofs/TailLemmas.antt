@@ -12,7 +12,7 @@ use Rattle.std.proofs.lemmas.Str.{length-le-encodes}
 use Rattle.bstr.specs.Find.{OccursAt}
 use Rattle.bstr.specs.Text.{part}
 use Rattle.output_slice.specs.Head.{IsDigit, IsTail}
-use Rattle.output_slice.specs.Steps.{AreDigits, IsDigitRun, NoDigitAt, IsTailEnd, NoQuoteBetween, AgreesFor, ReadsUpTo, NoFeedBetween}
+use Rattle.output_slice.specs.Steps.{AreDigits, IsDigitRun, NoDigitAt, IsTailEnd, AgreesFor, ReadsUpTo}
 use Rattle.output_slice.proofs.OccursLemmas.{occurs-front, occurs-back, occurs-both, occurs-drop}
 use Rattle.output_slice.proofs.CharLemmas.{length-part, get_or-part}
 use Rattle.output_slice.proofs.DigitLemmas.{IsDigitRun-same}
@@ -61,6 +61,7 @@ pub record IsNumbered (b : List ℕ) (at e : ℕ) : Type 0 where
   pub closes : OccursAt b (codes ") panicked at ") close
   pub ends : e ≡ close + 14
 
+-- a tail is plain or numbered
 pub tail_cases : (b : List ℕ) (at e : ℕ) → e ≤ length b → IsTail (part at e b) → (OccursAt b (codes " panicked at ") at × (e ≡ at + 13)) ⊎ IsNumbered b at e
 tail_cases b at e high h = ⊎_elim
     (λ plain. inl (part-occurs b (codes " panicked at ") at e plain high (omega arith)))
@@ -87,6 +88,7 @@ tail_cases b at e high h = ⊎_elim
     }))
     h
 
+-- some characters have some bytes
 chars-some : (cs : List ℕ) → 0 < length (encode_utf8_all cs) → 0 < length cs
 chars-some [] h = h
 chars-some (c ∷ cs) h = omega arith
@@ -95,6 +97,7 @@ chars-some (c ∷ cs) h = omega arith
 pub IsTail-plain : (b : List ℕ) (at : ℕ) → OccursAt b (codes " panicked at ") at → (at + 13 ≤ length b) × IsTail (part at (at + 13) b)
 IsTail-plain b at h = (h.fits, inl (occurs-part b (codes " panicked at ") at (at + 13) h refl))
 
+-- what is numbered is a tail
 pub IsTail-numbered : (b : List ℕ) (at e : ℕ) → IsNumbered b at e → (e ≤ length b) × IsTail (part at e b)
 IsTail-numbered b at e h =
     let d = h.run.digits in
@@ -121,71 +124,61 @@ tail-same b at e e' high high' h k =
       apart : OccursAt b (codes " panicked at ") at → OccursAt b (codes " (") at → ⊥
       apart p q = omega (arith, p.reads 1 (omega arith), q.reads 1 (omega arith))
 
--- no digit has a quote
-digits-quiet : (b cs : List ℕ) (from k : ℕ) → All (λ x. IsScalar x × IsDigit x) cs → OccursAt b (encode_utf8_all cs) from → from ≤ k → k < from + length (encode_utf8_all cs) → get_or b k 0 ≡ 39 → ⊥
-digits-quiet b [] from k all h low high is = omega arith
-digits-quiet b (c ∷ cs) from k all h low high is =
-    let P = λ (x : ℕ). IsScalar x × IsDigit x in
-    let first = All-head P c cs all in
-    let at = occurs-front b (encode_utf8 c) (encode_utf8_all cs) from h in
-    let rest = occurs-back b (encode_utf8 c) (encode_utf8_all cs) from h in
-    let len = length-append (encode_utf8 c) (encode_utf8_all cs) in
-    ⊎_elim
-    (λ (here : k < from + length (encode_utf8 c)).
-    let j = k - from in
-    let place : from + j ≡ k = omega arith in
-    let read : get_or (encode_utf8 c) j 0 ≡ 39 = sym (at.reads j (omega arith)) ∙ ap (λ i. get_or b i 0) place ∙ is in
-    let same : c ≡ get_or (encode_utf8 c) j 0 = inside_one c [] (encode_utf8 c) j (sym (append-nil (encode_utf8 c))) (omega arith) (omega arith) in
-    ⊎_elim (λ a. omega arith) (λ a. omega arith) first.1)
-    (λ (later : from + length (encode_utf8 c) ≤ k). digits-quiet b cs (from + length (encode_utf8 c)) k (All-tail P c cs all) rest later (omega arith) is)
-    (cases_lt k (from + length (encode_utf8 c)))
+-- what stands at a place agrees there as far as it goes
+agrees : (b text : List ℕ) (at : ℕ) → OccursAt b text at → AgreesFor b text at (length text)
+agrees b text at h = record { short = omega arith; reads = h.reads; fits = h.fits }
 
-pub AreDigits-quiet : (b : List ℕ) (from to : ℕ) → AreDigits b from to → NoQuoteBetween b from to
-AreDigits-quiet b from to h = λ k low high is. digits-quiet b h.chars from k h.digits h.stands low (omega (arith, h.ends)) is
+-- the byte x stands nowhere in b from i up to j
+abbrev NoByteBetween : ℕ → List ℕ → ℕ → ℕ → Type 0
+NoByteBetween x b i j = (k : ℕ) → i ≤ k → k < j → get_or b k 0 ≡ x → ⊥
 
--- bytes that agree with a text without a quote
-pub AgreesFor-quiet : (b text : List ℕ) (at k : ℕ) → AgreesFor b text at k → list_all (λ x. not (x == 39)) text ≡ true → NoQuoteBetween b at (at + k)
-AgreesFor-quiet b text at k h all = λ i low high is.
-    let place : at + (i - at) ≡ i = omega arith in
-    not-in 39 text (λ e. omega arith) all (i - at) (sym (h.reads (i - at) (omega arith)) ∙ ap (λ j. get_or b j 0) place ∙ is)
+module _ (x : ℕ) (some : 0 < x) (small : x < 48) where
+  -- no character that is a digit has such a byte
+  digits-without : (b cs : List ℕ) (from : ℕ) → All (λ c. IsScalar c × IsDigit c) cs → OccursAt b (encode_utf8_all cs) from → NoByteBetween x b from (from + length (encode_utf8_all cs))
+  digits-without b [] from all h k low high is = omega arith
+  digits-without b (c ∷ cs) from all h k low high is =
+      let P = λ (d : ℕ). IsScalar d × IsDigit d in
+      let first = All-head P c cs all in
+      let at = occurs-front b (encode_utf8 c) (encode_utf8_all cs) from h in
+      let rest = occurs-back b (encode_utf8 c) (encode_utf8_all cs) from h in
+      let len = length-append (encode_utf8 c) (encode_utf8_all cs) in
+      ⊎_elim
+      (λ (here : k < from + length (encode_utf8 c)).
+      let j = k - from in
+      let place : from + j ≡ k = omega arith in
+      let read : get_or (encode_utf8 c) j 0 ≡ x = sym (at.reads j (omega arith)) ∙ ap (λ i. get_or b i 0) place ∙ is in
+      let same : c ≡ get_or (encode_utf8 c) j 0 = inside_one c [] (encode_utf8 c) j (sym (append-nil (encode_utf8 c))) (omega arith) (omega arith) in
+      ⊎_elim (λ a. omega arith) (λ a. omega arith) first.1)
+      (λ (later : from + length (encode_utf8 c) ≤ k). digits-without b cs (from + length (encode_utf8 c)) (All-tail P c cs all) rest k later (omega arith) is)
+      (cases_lt k (from + length (encode_utf8 c)))
 
-pub quiet-join : (b : List ℕ) (i j k : ℕ) → NoQuoteBetween b i j → NoQuoteBetween b j k → NoQuoteBetween b i k
-quiet-join b i j k h l = λ x low high is. ⊎_elim (λ (a : x < j). h x low a is) (λ (a : j ≤ x). l x a high is) (cases_lt x j)
+  -- no digits have it
+  pub AreDigits-without : (b : List ℕ) (from to : ℕ) → AreDigits b from to → NoByteBetween x b from to
+  AreDigits-without b from to h = λ k low high is. digits-without b h.chars from h.digits h.stands k low (omega (arith, h.ends)) is
 
--- no digit has a line feed
-digits-feed : (b cs : List ℕ) (from k : ℕ) → All (λ x. IsScalar x × IsDigit x) cs → OccursAt b (encode_utf8_all cs) from → from ≤ k → k < from + length (encode_utf8_all cs) → get_or b k 0 ≡ 10 → ⊥
-digits-feed b [] from k all h low high is = omega arith
-digits-feed b (c ∷ cs) from k all h low high is =
-    let P = λ (x : ℕ). IsScalar x × IsDigit x in
-    let first = All-head P c cs all in
-    let at = occurs-front b (encode_utf8 c) (encode_utf8_all cs) from h in
-    let rest = occurs-back b (encode_utf8 c) (encode_utf8_all cs) from h in
-    let len = length-append (encode_utf8 c) (encode_utf8_all cs) in
-    ⊎_elim
-    (λ (here : k < from + length (encode_utf8 c)).
-    let j = k - from in
-    let place : from + j ≡ k = omega arith in
-    let read : get_or (encode_utf8 c) j 0 ≡ 10 = sym (at.reads j (omega arith)) ∙ ap (λ i. get_or b i 0) place ∙ is in
-    let same : c ≡ get_or (encode_utf8 c) j 0 = inside_one c [] (encode_utf8 c) j (sym (append-nil (encode_utf8 c))) (omega arith) (omega arith) in
-    ⊎_elim (λ a. omega arith) (λ a. omega arith) first.1)
-    (λ (later : from + length (encode_utf8 c) ≤ k). digits-feed b cs (from + length (encode_utf8 c)) k (All-tail P c cs all) rest later (omega arith) is)
-    (cases_lt k (from + length (encode_utf8 c)))
+  -- nor have bytes that agree with a text without it
+  AgreesFor-without : (b text : List ℕ) (at k : ℕ) → AgreesFor b text at k → list_all (λ y. not (y == x)) text ≡ true → NoByteBetween x b at (at + k)
+  AgreesFor-without b text at k h all = λ i low high is.
+      let place : at + (i - at) ≡ i = omega arith in
+      not-in x text (λ e. omega arith) all (i - at) (sym (h.reads (i - at) (omega arith)) ∙ ap (λ j. get_or b j 0) place ∙ is)
 
-pub AreDigits-feed : (b : List ℕ) (from to : ℕ) → AreDigits b from to → NoFeedBetween b from to
-AreDigits-feed b from to h = λ k low high is. digits-feed b h.chars from k h.digits h.stands low (omega (arith, h.ends)) is
+  -- nor have two neighbouring parts of which neither has it
+  without-join : (b : List ℕ) (i j k : ℕ) → NoByteBetween x b i j → NoByteBetween x b j k → NoByteBetween x b i k
+  without-join b i j k h l = λ n low high is. ⊎_elim (λ (a : n < j). h n low a is) (λ (a : j ≤ n). l n a high is) (cases_lt n j)
 
-pub AgreesFor-feed : (b text : List ℕ) (at k : ℕ) → AgreesFor b text at k → list_all (λ x. not (x == 10)) text ≡ true → NoFeedBetween b at (at + k)
-AgreesFor-feed b text at k h all = λ i low high is.
-    let place : at + (i - at) ≡ i = omega arith in
-    not-in 10 text (λ e. omega arith) all (i - at) (sym (h.reads (i - at) (omega arith)) ∙ ap (λ j. get_or b j 0) place ∙ is)
+  -- nor has what stands from a number's parenthesis up to where its digits end, and behind that a text without it
+  numbered-without : (b text : List ℕ) (at close l : ℕ) → OccursAt b (codes " (") at → list_all (λ y. not (y == x)) (codes " (") ≡ true → AreDigits b (at + 2) close
+      → AgreesFor b text close l → list_all (λ y. not (y == x)) text ≡ true → NoByteBetween x b at (close + l)
+  numbered-without b text at close l opens none digits h all =
+      let ends = digits.ends in
+      without-join b at (at + 2) (close + l) (AgreesFor-without b (codes " (") at 2 (agrees b (codes " (") at opens) none)
+      (without-join b (at + 2) close (close + l) (AreDigits-without b (at + 2) close digits) (AgreesFor-without b text close l h all))
 
-feed-join : (b : List ℕ) (i j k : ℕ) → NoFeedBetween b i j → NoFeedBetween b j k → NoFeedBetween b i k
-feed-join b i j k h l = λ x low high is. ⊎_elim (λ (a : x < j). h x low a is) (λ (a : j ≤ x). l x a high is) (cases_lt x j)
-
--- what `after` says
+-- what the search for a text finds
 abbrev pub Found : List ℕ → List ℕ → ℕ → Option ℕ → Type 0
 Found b text at found = MatchOption found (OccursAt b text at → ⊥) (λ e. OccursAt b text at × (e ≡ at + length text))
 
+-- a plain tail is not numbered
 plain_numbered : (b : List ℕ) (at : ℕ) → OccursAt b (codes " panicked at ") at → OccursAt b (codes " (") at → ⊥
 plain_numbered b at p q = omega (arith, p.reads 1 (omega arith), q.reads 1 (omega arith))
 
@@ -194,10 +187,12 @@ pub IsTailEnd-plain : (b : List ℕ) (at : ℕ) (found : Option ℕ) → (Occurs
 IsTailEnd-plain b at None none h = λ e high tail. ⊎_elim (λ p. h p.0) (λ q. none q.opens) (tail_cases b at e high tail)
 IsTailEnd-plain b at (Some e) none h = subst (λ i. (i ≤ length b) × IsTail (part at i b)) (sym h.1) (IsTail-plain b at h.0)
 
+-- no tail stands where no digit stands between the parentheses
 pub IsTailEnd-none : (b : List ℕ) (at close : ℕ) → OccursAt b (codes " (") at → IsDigitRun b (at + 2) close → close ≡ at + 2 → IsTailEnd b at None
 IsTailEnd-none b at close opens run is = λ e high tail. ⊎_elim (λ p. plain_numbered b at p.0 opens)
     (λ q. let same = IsDigitRun-same b (at + 2) close q.close run q.run in let some = q.some in omega arith) (tail_cases b at e high tail)
 
+-- where a numbered tail ends
 pub IsTailEnd-numbered : (b : List ℕ) (at close : ℕ) (found : Option ℕ) → OccursAt b (codes " (") at → IsDigitRun b (at + 2) close → (close ≡ at + 2 → ⊥)
     → Found b (codes ") panicked at ") close found → IsTailEnd b at found
 IsTailEnd-numbered b at close None opens run is h = λ e high tail. ⊎_elim (λ p. plain_numbered b at p.0 opens)
@@ -211,6 +206,7 @@ before_end : (b text : List ℕ) (at k : ℕ) (found : Option ℕ) → AgreesFor
 before_end b text at k None h f = tt
 before_end b text at k (Some e) h f = let short = h.short in omega (arith, f.1)
 
+-- how far a plain tail is read
 pub ReadsUpTo-plain : (b : List ℕ) (at k l old mid new : ℕ) (found : Option ℕ) → AgreesFor b (codes " (") at k → mid ≤ old + k + 1
     → AgreesFor b (codes " panicked at ") at l → new ≤ mid + l + 1 → Found b (codes " panicked at ") at found → ReadsUpTo b at old new found
 ReadsUpTo-plain b at k l old mid new found h few h' few' f =
@@ -218,15 +214,13 @@ ReadsUpTo-plain b at k l old mid new found h few h' few' f =
       last = at + l;
       low = omega arith;
       high = fits;
-      quiet = AgreesFor-quiet b (codes " panicked at ") at l h' refl;
-      one_line = AgreesFor-feed b (codes " panicked at ") at l h' refl;
+      quiet = AgreesFor-without 39 (omega arith) (omega arith) b (codes " panicked at ") at l h' refl;
+      one_line = AgreesFor-without 10 (omega arith) (omega arith) b (codes " panicked at ") at l h' refl;
       few = omega arith;
       before = before_end b (codes " panicked at ") at l found h' f;
     }
 
-agrees : (b text : List ℕ) (at : ℕ) → OccursAt b text at → AgreesFor b text at (length text)
-agrees b text at h = record { short = omega arith; reads = h.reads; fits = h.fits }
-
+-- how far a numbered tail is read
 pub ReadsUpTo-numbered : (b : List ℕ) (at close k l old mid mid' new : ℕ) (found : Option ℕ) → OccursAt b (codes " (") at → AgreesFor b (codes " (") at k → mid ≤ old + k + 1
     → AreDigits b (at + 2) close → mid' + (at + 2) ≤ mid + close + 4
     → AgreesFor b (codes ") panicked at ") close l → new ≤ mid' + l + 1 → Found b (codes ") panicked at ") close found → ReadsUpTo b at old new found
@@ -235,23 +229,23 @@ ReadsUpTo-numbered b at close k l old mid mid' new found opens h few digits few'
       last = close + l;
       low = omega arith;
       high = fits;
-      quiet = quiet-join b at (at + 2) (close + l) (AgreesFor-quiet b (codes " (") at 2 (agrees b (codes " (") at opens) refl)
-          (quiet-join b (at + 2) close (close + l) (AreDigits-quiet b (at + 2) close digits) (AgreesFor-quiet b (codes ") panicked at ") close l h' refl));
-      one_line = feed-join b at (at + 2) (close + l) (AgreesFor-feed b (codes " (") at 2 (agrees b (codes " (") at opens) refl)
-          (feed-join b (at + 2) close (close + l) (AreDigits-feed b (at + 2) close digits) (AgreesFor-feed b (codes ") panicked at ") close l h' refl));
+      quiet = numbered-without 39 (omega arith) (omega arith) b (codes ") panicked at ") at close l opens refl digits h' refl;
+      one_line = numbered-without 10 (omega arith) (omega arith) b (codes ") panicked at ") at close l opens refl digits h' refl;
       few = omega arith;
       before = before_end b (codes ") panicked at ") close l found h' f;
     }
 
+-- how far is read where no digit stands
 pub ReadsUpTo-none : (b : List ℕ) (at close k old mid new : ℕ) → close ≤ length b → OccursAt b (codes " (") at → AgreesFor b (codes " (") at k → mid ≤ old + k + 1
     → AreDigits b (at + 2) close → new + (at + 2) ≤ mid + close + 4 → ReadsUpTo b at old new None
 ReadsUpTo-none b at close k old mid new high opens h few digits few' =
+    let none : AgreesFor b [] close 0 = record { short = omega arith; reads = λ j l. absurd (omega arith); fits = omega arith } in
     let short = h.short in let ends = digits.ends in record {
       last = close;
       low = omega arith;
       high = high;
-      quiet = quiet-join b at (at + 2) close (AgreesFor-quiet b (codes " (") at 2 (agrees b (codes " (") at opens) refl) (AreDigits-quiet b (at + 2) close digits);
-      one_line = feed-join b at (at + 2) close (AgreesFor-feed b (codes " (") at 2 (agrees b (codes " (") at opens) refl) (AreDigits-feed b (at + 2) close digits);
+      quiet = subst (NoByteBetween 39 b at) (add-zero close) (numbered-without 39 (omega arith) (omega arith) b [] at close 0 opens refl digits none refl);
+      one_line = subst (NoByteBetween 10 b at) (add-zero close) (numbered-without 10 (omega arith) (omega arith) b [] at close 0 opens refl digits none refl);
       few = omega arith;
       before = tt;
     }

@@ -16,9 +16,11 @@ record TakenFrom (b : List ℕ) (from : ℕ) (taken : List HeadSpan) : Type 0 wh
   low : All (λ h. from ≤ h.start) taken
   rule : (h : HeadSpan) → from ≤ h.start → IsHead b h.start h.stop → (Contains taken h ↔ All (λ g. g.start < h.start → g.stop ≤ h.start) taken)
 
+-- what a list has it has behind one more
 contains-later : (x y : HeadSpan) (xs : List HeadSpan) → Contains xs y → Contains (x ∷ xs) y
 contains-later x y xs h = (suc h.0, omega (arith, h.1), h.2)
 
+-- what a list with one more in front has
 contains-cases : (x y : HeadSpan) (xs : List HeadSpan) → Contains (x ∷ xs) y → (x ≡ y) ⊎ Contains xs y
 contains-cases x y xs h = by_index h.0 h.1 h.2 where
   by_index : (k : ℕ) → k < length (x ∷ xs) → get_or (x ∷ xs) k y ≡ y → (x ≡ y) ⊎ Contains xs y
@@ -63,11 +65,13 @@ module _ (b : List ℕ) (from : ℕ) (x : HeadSpan) (xs : List HeadSpan) (h : Ta
             );
       }
 
+-- no heads and some heads are not both taken
 none-rest : (b : List ℕ) (from : ℕ) (x : HeadSpan) (xs : List HeadSpan) → TakenFrom b from [] → TakenFrom b from (x ∷ xs) → ⊥
 none-rest b from x xs h k =
     let none = (h.rule x (All-head (λ g. from ≤ g.start) x xs k.low) (All-head (λ g. IsHead b g.start g.stop) x xs k.heads)).1 (All-nil _) in
     omega (arith, none.1)
 
+-- from each place on one list is taken
 from-same : (b : List ℕ) (from : ℕ) (xs ys : List HeadSpan) → TakenFrom b from xs → TakenFrom b from ys → xs ≡ ys
 from-same b from [] [] h k = refl
 from-same b from [] (y ∷ ys) h k = absurd (none-rest b from y ys h k)
@@ -85,9 +89,11 @@ from-same b from (x ∷ xs) (y ∷ ys) h k =
     let later = from-same b x.stop xs ys (rest b from x xs h) (subst (λ s. TakenFrom b s ys) (sym ends) (rest b from y ys k)) in
     ap (λ z. z ∷ xs) same ∙ ap (λ zs. y ∷ zs) later
 
+-- the taken heads are those from the front on
 whole : (b : List ℕ) (xs : List HeadSpan) → IsTaken b xs → TakenFrom b 0 xs
 whole b xs h = record { heads = h.heads; rising = h.rising; low = λ k d l. omega arith; rule = λ y low head. h.rule y head }
 
+-- there is one list of taken heads
 pub IsTaken-same : (b : List ℕ) (xs ys : List HeadSpan) → IsTaken b xs → IsTaken b ys → xs ≡ ys
 IsTaken-same b xs ys h k = from-same b 0 xs ys (whole b xs h) (whole b ys k)
 

@@ -1,5 +1,5 @@
 -- What is left when white space is trimmed at the end.
-use Rattle.std.proofs.Common.{◌≡◌, ℕ, zero, suc, ◌+◌, ◌-◌, ◌<◌, ◌≤◌, ◌⊎◌, Bool, true, false, cond, List, [], ◌∷◌, ◌++◌, length, get_or, take, drop, refl, sym, ap, subst, ◌∙◌, arith, ⊎_elim, inl, inr, length-drop, drop-drop, get_or-drop, add-zero, zero-add, drop-cons}
+use Rattle.std.proofs.Common.{◌≡◌, ℕ, zero, suc, ◌+◌, ◌-◌, ◌<◌, ◌≤◌, ◌⊎◌, Bool, true, false, cond, List, [], ◌∷◌, ◌++◌, length, get_or, take, drop, refl, sym, ap, subst, ◌∙◌, arith, ⊎_elim, inl, inr, length-drop, drop-drop, get_or-drop, add-zero, zero-add, drop-cons, drop_at}
 use Rattle.std.specs.Prelude.{All, Option, Some, None, IsTrue, ◌==◌, ◌||◌}
 use Rattle.std.specs.Char.{encode_utf8, IsScalar, is_whitespace}
 use Rattle.std.specs.Str.{encode_utf8_all}
@@ -17,10 +17,6 @@ use Rattle.output_slice.specs.Slices.{IsBlank, IsBreak, IsTrimmedSlice}
 -- text whose characters all pass the test
 abbrev pub AllPass : (ℕ → Bool) → List ℕ → Type 0
 AllPass t text = (cs : List ℕ) × All (λ c. IsScalar c × IsTrue (t c)) cs × (text ≡ encode_utf8_all cs)
-
-drop-front : (xs ys : List ℕ) → drop (length xs) (xs ++ ys) ≡ ys
-drop-front [] ys = refl
-drop-front (x ∷ xs) ys = drop-front xs ys
 
 -- no blank text begins inside a piece
 tail-at : (bs : List ℕ) (k : ℕ) → 0 < length bs → 0 < k → k < (decoded bs).size → continues (get_or bs k 0) ≡ true
@@ -50,7 +46,7 @@ module _ (t : ℕ → Bool) (other : t 65533 ≡ false) where
         let P = λ (x : ℕ). IsScalar x × IsTrue (t x) in
         let first = All-head P c cs all in
         let read : decoded bs ≡ good c (length (encode_utf8 c)) = ap decoded e ∙ decoded-encode c (encode_utf8_all cs) first.0 in
-        let rest : drop (decoded bs).size bs ≡ encode_utf8_all cs = ap (λ (p : Decoded). drop p.size bs) read ∙ ap (drop (length (encode_utf8 c))) e ∙ drop-front (encode_utf8 c) (encode_utf8_all cs) in
+        let rest : drop (decoded bs).size bs ≡ encode_utf8_all cs = ap (λ (p : Decoded). drop p.size bs) read ∙ ap (drop (length (encode_utf8 c))) e ∙ drop_at (encode_utf8 c) (encode_utf8_all cs) (length (encode_utf8 c)) refl in
         ((c, ap (λ (p : Decoded). p.char) read, first.1), (cs, All-tail P c cs all, rest))
 
   pass-inside : (bs : List ℕ) (i : ℕ) → 0 < length bs → 0 < i → i < (decoded bs).size → AllPass t (drop i bs) → ⊥

@@ -15,6 +15,7 @@ occurs-dropped b xs at low h =
       reads = λ j l. sym (get_or-drop at b j 0) ∙ ap (λ k. get_or (drop at b) k 0) (sym (zero-add j)) ∙ h.reads j l;
     }
 
+-- and back
 pub dropped-occurs : (b xs : List ℕ) (at : ℕ) → OccursAt b xs at → OccursAt (drop at b) xs 0
 dropped-occurs b xs at h =
     let fits = h.fits in
@@ -61,6 +62,7 @@ module _ (b : List ℕ) (s stop : ℕ) (low : stop ≤ s) (high : s ≤ length b
       let read : get_or (take stop b) j 0 ≡ 10 = ap (λ k. get_or (take stop b) k 0) (sym (add-zero j)) ∙ h.reads 0 (omega arith) in
       (within, sym (get_or-take stop b j 0 within) ∙ read, eq-eqb _ 10 read)
 
+  -- where the last line before begins with `Error:`
   pub widened-some : (at t : ℕ) → IsLastByte (is_byte 10) (take stop b) (Some at) → OccursAt (drop at (take stop b)) (codes "\nError:") 0 → t ≡ at + 1 → IsWidened b s t
   widened-some at t h starts is =
       let inside = h.0.high in
@@ -77,6 +79,7 @@ module _ (b : List ℕ) (s stop : ℕ) (low : stop ≤ s) (high : s ≤ length b
         is,
       )
 
+  -- where it begins with something else
   pub widened-other : (at : ℕ) → IsLastByte (is_byte 10) (take stop b) (Some at) → (OccursAt (drop at (take stop b)) (codes "\nError:") 0 → ⊥) → IsWidened b s s
   widened-other at h none =
       let inside = h.0.high in
