@@ -21,10 +21,7 @@ fn heading_of(alloc: Global, kind: &str, start: usize, len: usize) -> Result<Str
 }
 
 /// The text for what was extracted.
-fn text_of(
-    alloc: Global,
-    found: Option<TestOutputErrorSlice<'_>>,
-) -> Result<Vec<u8>, AllocError>
+fn text_of(alloc: Global, found: Option<TestOutputErrorSlice<'_>>) -> Result<Vec<u8>, AllocError>
     ensures { IfOk result (λ text. text.items ≡ extract_text (option_map extract_of found.entry)) }
 {
     let (kind, part) = match found {

@@ -2,6 +2,7 @@
 
 mod command;
 mod devices;
+mod extract;
 mod faults;
 mod given;
 mod line_limits;

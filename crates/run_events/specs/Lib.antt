@@ -16,3 +16,4 @@ pub mod TestView
 pub use Rattle.output_slice.specs.Extraction
 pub use Rattle.output_slice.specs.Shown
 pub use Rattle.output_slice.specs.Slices
+pub use Rattle.output_slice.specs.Taken

@@ -1,4 +1,5 @@
 pub mod Count
+pub mod Extracts
 pub mod Kind
 pub mod Levels
 pub mod Tally

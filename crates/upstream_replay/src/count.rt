@@ -6,9 +6,9 @@ ghost use Rattle.std.specs.Prelude.{◌≡◌, true, IfOk};
 ghost use Rattle.digest_engine.specs.Reading.{texts_of};
 ghost use Rattle.upstream_replay.specs.Count.{IsOutputFor};
 
+use crate::bytes::bytes_in;
 use digest_engine::count::count;
 use digest_engine::memory_device::{MemorySink, MemorySource};
-use hex::FromHexError;
 use std::alloc::{AllocError, Global};
 
 /// What a program gives: its exit status, and what it writes to standard output and error.
@@ -38,18 +38,6 @@ fn output_for(alloc: Global, input: &[u8]) -> Result<Output, AllocError>
         stdout,
         stderr,
     })
-}
-
-/// The bytes that a word spells; `None` for a word that spells none.
-fn bytes_in(alloc: Global, word: &str) -> Result<Option<Vec<u8>>, AllocError> {
-    if word == "-" {
-        return Ok(Some(Vec::new(alloc)));
-    }
-    match hex::decode(alloc, word) {
-        Ok(bytes) => Ok(Some(bytes)),
-        Err(FromHexError::OutOfMemory) => Err(AllocError),
-        Err(_) => Ok(None),
-    }
 }
 
 /// The input and what the program gives for it, by the words of a case.

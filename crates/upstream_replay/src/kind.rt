@@ -14,11 +14,23 @@ pub(crate) enum Kind {
 
     /// What `run-digest count` gives for an input.
     Count,
+
+    /// What is extracted from combined output.
+    Extract,
+
+    /// The last taken head of output.
+    Heads,
 }
 
 impl Kind {
     /// All kinds, in the order in which they are reported.
-    pub(crate) const ALL: [Kind; 3] = [Kind::Counter, Kind::Level, Kind::Count];
+    pub(crate) const ALL: [Kind; 5] = [
+        Kind::Counter,
+        Kind::Level,
+        Kind::Count,
+        Kind::Extract,
+        Kind::Heads,
+    ];
 
     /// The word that the lines of this kind begin with.
     pub(crate) fn word(self) -> &'static str
@@ -28,6 +40,8 @@ impl Kind {
             Kind::Counter => "counter",
             Kind::Level => "level",
             Kind::Count => "count",
+            Kind::Extract => "extract",
+            Kind::Heads => "heads",
         }
     }
 
@@ -35,6 +49,13 @@ impl Kind {
     pub(crate) fn from_word(word: &str) -> Option<Kind>
         ensures { MatchOption result ((kind : Kind) → word.now ≢ word_of kind) (λ kind. word.now ≡ word_of kind) }
     {
-        Kind::ALL.into_iter().find(|kind| kind.word() == word)
+        match word {
+            "counter" => Some(Kind::Counter),
+            "level" => Some(Kind::Level),
+            "count" => Some(Kind::Count),
+            "extract" => Some(Kind::Extract),
+            "heads" => Some(Kind::Heads),
+            _ => None,
+        }
     }
 }

@@ -2,7 +2,7 @@
 //!
 //! A case is `RESULT ATTEMPTS SETTING SLOW LEVEL FINAL_LEVEL`.
 
-ghost use Rattle.std.specs.Prelude.{◌≡◌, ◌≢◌, ◌↔◌, IsTrue, MatchOption, Some};
+ghost use Rattle.std.specs.Prelude.{◌≡◌, ◌≢◌, MatchOption, Some};
 ghost use Rattle.run_events.specs.Level.{final_level_of, level_of};
 ghost use Rattle.run_events.specs.TestView.{view_of};
 ghost use Rattle.upstream_replay.specs.Levels.{final_level_word, level_word};
@@ -13,16 +13,13 @@ use run_events::child::LiveSpec;
 use run_events::levels::{FinalStatusLevel, StatusLevel};
 use std::alloc::{AllocError, Global};
 
-/// Whether a test has these levels.
-fn has_levels(
-    test: &ExecutionStatuses<LiveSpec>,
-    level: StatusLevel,
-    final_level: FinalStatusLevel,
-) -> bool
-    ensures { IsTrue result ↔ ((level_of (view_of test.now) ≡ Some level) × (final_level_of (view_of test.now) ≡ Some final_level)) }
+/// The level and the final level of a test.
+fn levels_of(test: &ExecutionStatuses<LiveSpec>) -> (StatusLevel, FinalStatusLevel)
+    ensures level { level_of (view_of test.now) ≡ Some result.0 }
+    ensures final_level { final_level_of (view_of test.now) ≡ Some result.1 }
 {
     let description = test.describe();
-    description.status_level() == level && description.final_status_level() == final_level
+    (description.status_level(), description.final_status_level())
 }
 
 /// The level that a word names.
@@ -72,5 +69,5 @@ pub(crate) fn agrees(alloc: Global, case: &str) -> Result<Option<bool>, AllocErr
     ) else {
         return Ok(None);
     };
-    Ok(Some(has_levels(&test, level, final_level)))
+    Ok(Some(levels_of(&test) == (level, final_level)))
 }

@@ -13,8 +13,11 @@ use crate::verdict::Verdict;
 use std::io::{self, BufRead, BufReader};
 use std::process::ExitCode;
 
+mod bytes;
 mod count;
 mod counter;
+mod extract;
+mod heads;
 mod kind;
 mod level;
 mod replay;

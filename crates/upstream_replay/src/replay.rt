@@ -2,7 +2,7 @@
 
 use crate::kind::Kind;
 use crate::verdict::Verdict;
-use crate::{count, counter, level};
+use crate::{count, counter, extract, heads, level};
 use std::alloc::{AllocError, Global};
 
 /// What comes of a line of the list: the word of its kind, a space, and the case.
@@ -16,6 +16,8 @@ pub(crate) fn judged(alloc: Global, line: &str) -> Result<Verdict, AllocError> {
     let agrees = match kind {
         Kind::Count => count::agrees(alloc, case)?,
         Kind::Counter => counter::agrees(alloc, case)?,
+        Kind::Extract => extract::agrees(alloc, case)?,
+        Kind::Heads => heads::agrees(alloc, case)?,
         Kind::Level => level::agrees(alloc, case)?,
     };
     Ok(match agrees {

@@ -9,11 +9,11 @@ fn words_ask_for_a_command(rt: HostRuntime) -> Result<(), Fail> {
     let rows: [(&[&str], Result<Command, Fault>); 7] = [
         (&[], Ok(Command::Count)),
         (&["count"], Ok(Command::Count)),
-        (&["extract"], Err(Fault::BadWord)),
+        (&["extract"], Ok(Command::Extract)),
         (&["Count"], Err(Fault::BadWord)),
         (&[""], Err(Fault::BadWord)),
         (&["count", "count"], Err(Fault::BadWord)),
-        (&["count", ""], Err(Fault::BadWord)),
+        (&["count", "extract"], Err(Fault::BadWord)),
     ];
     for (words, wanted) in rows {
         let mut given = Vec::new(rt.alloc());

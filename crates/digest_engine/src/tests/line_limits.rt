@@ -157,7 +157,8 @@ fn a_megabyte_of_lines_is_counted(rt: HostRuntime) -> Result<(), Fail> {
     }
     assert!(rt; input.len() > 1_000_000);
     let gives = given(rt.alloc(), input.as_bytes())?;
-    let stdout = "tests 2000 passed 2000 failed 0 flaky 2000\nscripts 0 failed 0\nsummary success\n";
+    let stdout =
+        "tests 2000 passed 2000 failed 0 flaky 2000\nscripts 0 failed 0\nsummary success\n";
     assert!(rt; gives.is(0, stdout, ""));
     Ok(())
 }
