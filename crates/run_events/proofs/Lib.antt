@@ -1,5 +1,6 @@
 pub mod Counting
 pub mod Counts
+pub mod Hexadecimal
 pub mod LastAttempt
 pub mod Parts
 pub mod SuccessLaws

@@ -13,3 +13,4 @@ pub mod ScriptCounters
 pub mod Summary
 pub mod TestCounters
 pub mod TestView
+pub mod Texts
