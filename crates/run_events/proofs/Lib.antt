@@ -1,3 +1,4 @@
+pub mod ChainLemmas
 pub mod Counting
 pub mod Counts
 pub mod Hexadecimal

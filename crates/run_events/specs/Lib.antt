@@ -1,4 +1,7 @@
 pub mod Attempts
+pub mod ChainObject
+pub mod ChainReading
+pub mod ChainValue
 pub mod Config
 pub mod Counters
 pub mod Described
