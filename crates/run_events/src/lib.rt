@@ -12,3 +12,5 @@ pub mod outcome;
 pub mod results;
 pub mod run_mode;
 pub mod stats;
+#[cfg(test)]
+mod tests;
