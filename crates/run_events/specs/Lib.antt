@@ -1,4 +1,7 @@
 pub mod Attempts
+pub mod ChainObject
+pub mod ChainReading
+pub mod ChainValue
 pub mod Config
 pub mod Counters
 pub mod Described
@@ -13,6 +16,7 @@ pub mod ScriptCounters
 pub mod Summary
 pub mod TestCounters
 pub mod TestView
+pub mod Texts
 pub use Rattle.output_slice.specs.Extraction
 pub use Rattle.output_slice.specs.Shown
 pub use Rattle.output_slice.specs.Slices

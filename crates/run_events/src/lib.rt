@@ -7,10 +7,12 @@ pub mod attempts;
 pub mod chain;
 pub mod child;
 pub mod config;
+pub mod events;
 pub mod laws;
 pub mod levels;
 pub mod outcome;
 pub mod results;
+pub mod run_mode;
 pub mod stats;
 #[cfg(test)]
 mod tests;

@@ -3,6 +3,7 @@
 mod attempts;
 mod builders;
 mod chain;
+mod chain_values;
 mod child;
 mod conditions;
 mod config;
@@ -11,3 +12,4 @@ mod laws;
 mod levels;
 mod results;
 mod summary;
+mod texts;
