@@ -16,7 +16,8 @@ pub use crate::chain::json::FromValueError;
 /// and can be stored.
 ///
 /// Contracts see it as its texts: the message, then the causes, the nearest first. It is dropped
-/// and compared in loops, so a chain of any length needs no stack.
+/// and compared in loops, so that takes no stack however long the chain is; the derived `Debug`
+/// goes down the chain.
 #[derive(Debug)]
 pub struct SerializableError {
     message: String,
