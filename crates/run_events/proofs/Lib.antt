@@ -2,5 +2,6 @@ pub mod Counting
 pub mod Counts
 pub mod LastAttempt
 pub mod Parts
+pub mod SubRunIds
 pub mod SuccessLaws
 pub mod Verdicts

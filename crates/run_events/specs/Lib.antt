@@ -10,6 +10,7 @@ pub mod Ranks
 pub mod Results
 pub mod RunLaws
 pub mod ScriptCounters
+pub mod Stress
 pub mod Summary
 pub mod TestCounters
 pub mod TestView

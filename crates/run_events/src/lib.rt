@@ -10,3 +10,4 @@ pub mod levels;
 pub mod outcome;
 pub mod results;
 pub mod stats;
+pub mod stress;
