@@ -3,5 +3,6 @@ pub mod Counts
 pub mod LastAttempt
 pub mod Parts
 pub mod SubRunIds
+pub mod SubRuns
 pub mod SuccessLaws
 pub mod Verdicts

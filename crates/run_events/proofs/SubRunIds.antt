@@ -8,7 +8,7 @@ use Rattle.std.proofs.Math.Seq.{take-append_seam}
 use Rattle.uuid.specs.Text.{hyphenated_text, lower, parsed_hyphenated}
 use Rattle.uuid.proofs.TextLemmas.{by_index_length}
 use Rattle.uuid.proofs.RoundTrips.{parses_hyphenated_text}
-use Rattle.run_events.specs.Stress.{IsRunId, sub_run_id}
+use Rattle.run_events.specs.Stress.{IsRunId, TellsApart, sub_run_id}
 
 -- two texts of one length in front are equal where the whole is
 fronts_are_equal : (xs ys us vs : List ℕ) → length xs ≡ length ys → xs ++ us ≡ ys ++ vs → xs ≡ ys
@@ -21,8 +21,8 @@ text_length run = by_index_length 36 _
 same_run : (a b : List ℕ) → IsRunId a → IsRunId b → hyphenated_text lower a ≡ hyphenated_text lower b → a ≡ b
 same_run a b ida idb e =
     let both : Some a ≡ Some b =
-      parses_hyphenated_text lower a (inl refl) ida.bytes ida.in_range ∙ ap parsed_hyphenated e
-      ∙ sym (parses_hyphenated_text lower b (inl refl) idb.bytes idb.in_range) in
+    parses_hyphenated_text lower a (inl refl) ida.bytes ida.in_range ∙ ap parsed_hyphenated e
+    ∙ sym (parses_hyphenated_text lower b (inl refl) idb.bytes idb.in_range) in
     cc
 
 same_count : (a b : List ℕ) (m n : ℕ) → m < 2 ^ 32 → n < 2 ^ 32 → a ≡ b
@@ -51,3 +51,13 @@ pub written_id : {E : Type 0} (r : Result (String Global) E) (run : List ℕ) (m
 unfolding sub_run_id
 written_id (Ok s) run m n e h = h ∙ sym (append_assoc (hyphenated_text lower run) (codes ":@stress-") (decimal m)) ∙ ap (λ k. hyphenated_text lower run ++ codes ":@stress-" ++ decimal k) e
 written_id (Err x) run m n e h = tt
+
+-- and it is the id of nothing else
+pub written_alone : {E : Type 0} (r : Result (String Global) E) (run : List ℕ) (m n : ℕ) → m < 2 ^ 32 → m ≡ n
+    → IfOk r (λ s. string_bytes s ≡ hyphenated_text lower run ++ (codes ":@stress-" ++ decimal m))
+    → IfOk r (λ s. TellsApart (string_bytes s) run n)
+written_alone {E = E} (Ok s) run m n small e h = λ other count id other_id small_count.
+    let is_id : string_bytes s ≡ sub_run_id run n = written_id {E = E} (Ok s) run m n e h in
+    let small_n : n < 2 ^ 32 = omega arith in
+    rw is_id (ids_tell_apart run other n count id other_id small_n small_count)
+written_alone (Err x) run m n small e h = tt

@@ -6,6 +6,7 @@ pub mod Description
 pub mod ErrorChain
 pub mod Level
 pub mod ListedErrors
+pub mod Outcome
 pub mod Ranks
 pub mod Results
 pub mod RunLaws
@@ -14,3 +15,4 @@ pub mod Stress
 pub mod Summary
 pub mod TestCounters
 pub mod TestView
+pub mod Visibility

@@ -1,7 +1,7 @@
 //! How far a repeated run is.
 
 ghost use Rattle.std.specs.Prelude.{◌≡◌, IfOk, option_map, string_bytes};
-ghost use Rattle.run_events.specs.Stress.{completed_of, left_of, remaining_of, sub_run_id};
+ghost use Rattle.run_events.specs.Stress.{TellsApart, completed_of, left_of, remaining_of, sub_run_id};
 
 use crate::stress::NonZeroDuration;
 use std::alloc::{AllocError, Global};
@@ -96,7 +96,8 @@ impl StressProgress {
     ///
     /// The only error is that no memory is left.
     pub fn unique_id(&self, alloc: Global, run_id: Uuid) -> Result<String, AllocError>
-        ensures { IfOk result (λ text. string_bytes text ≡ sub_run_id run_id (completed_of self.now)) }
+        ensures text { IfOk result (λ text. string_bytes text ≡ sub_run_id run_id (completed_of self.now)) }
+        ensures tells_apart { IfOk result (λ text. TellsApart (string_bytes text) run_id (completed_of self.now)) }
     {
         let completed = self.completed();
         format!(in alloc; "{run_id}:@stress-{completed}")

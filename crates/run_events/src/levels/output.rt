@@ -1,0 +1,139 @@
+//! The decision what to show of a finished test.
+
+ghost use Rattle.std.specs.Prelude.{◌≡◌, ◌≢◌, ◌≤◌, IsTrue, Option, Some, if◌then◌else◌};
+ghost use Rattle.run_events.specs.Visibility.{IsException, IsNoMoreVisible, severity, terminated, visibility, wanted};
+
+use crate::config::TestOutputDisplay;
+use crate::levels::{
+    FinalStatusLevel, OutputOnTestFinished, OutputStoreFinal, StatusLevel, StatusLevels,
+};
+use crate::results::{
+    AbortDescription, CancelReason, ExecutionResultDescription, FailureDescription,
+};
+
+/// The number of the signal by which a runner asks a process to end.
+const SIGTERM: i32 = 15;
+
+impl StatusLevels {
+    /// What is shown of a test that has just finished, and what is stored of it.
+    ///
+    /// A line is written where the own status level is at or above the test's. Output is displayed
+    /// at once where the display is immediate, and stored where the display is final or the own
+    /// final level is at or above the test's; what is stored is displayed at the end of the run
+    /// where the display is final. A reason to cancel the run changes this:
+    ///
+    /// - as the run stops at once after a failure, nothing is shown or stored of a test that was
+    ///   ended, as the runner ends one;
+    /// - under a signal, output that is displayed at once is not displayed at the end as well;
+    /// - under an interrupt or a second signal nothing is shown or stored of any test.
+    ///
+    /// So no more is ever shown or stored under a greater reason, with one exception: output of a
+    /// test that was ended is hidden as the run stops at once, but neither when the time for the
+    /// run is over nor under a signal.
+    pub fn compute_output_on_test_finished(
+        &self,
+        display: TestOutputDisplay,
+        cancel_status: Option<CancelReason>,
+        test_status_level: StatusLevel,
+        test_final_status_level: FinalStatusLevel,
+        execution_result: &ExecutionResultDescription,
+    ) -> OutputOnTestFinished
+        ensures exact { let asked = wanted self.now display test_status_level test_final_status_level execution_result.now in
+            result ≡ visibility asked cancel_status }
+
+        // Under each lesser reason no less is shown, exactly but for the exception.
+        ensures never_grows { let asked = wanted self.now display test_status_level test_final_status_level execution_result.now in
+            (lesser : Option CancelReason) → severity lesser ≤ severity cancel_status
+            → ¬ (IsException asked lesser cancel_status) → IsNoMoreVisible result (visibility asked lesser) }
+        ensures exception { let asked = wanted self.now display test_status_level test_final_status_level execution_result.now in
+            (lesser : Option CancelReason) → IsException asked lesser cancel_status
+            → ¬ (IsNoMoreVisible result (visibility asked lesser)) }
+
+        // The line does not depend on the reason.
+        ensures line { let asked = wanted self.now display test_status_level test_final_status_level execution_result.now in
+            (other : Option CancelReason) → (visibility asked other).write_status_line ≡ result.write_status_line }
+
+        // From a signal on, output is never displayed twice.
+        ensures never_twice { severity (Some CancelReason.Signal) ≤ severity cancel_status
+            → IsTrue result.show_immediate → result.store_final ≢ OutputStoreFinal.Yes true }
+    {
+        self.output_of(
+            display,
+            cancel_status,
+            test_status_level,
+            test_final_status_level,
+            execution_result,
+        )
+    }
+
+    /// What is shown and stored, by the cases of the reason.
+    fn output_of(
+        &self,
+        display: TestOutputDisplay,
+        cancel_status: Option<CancelReason>,
+        test_status_level: StatusLevel,
+        test_final_status_level: FinalStatusLevel,
+        execution_result: &ExecutionResultDescription,
+    ) -> OutputOnTestFinished
+        ensures { let asked = wanted self.now display test_status_level test_final_status_level execution_result.now in
+            result ≡ visibility asked cancel_status }
+    {
+        let write_status_line = self.status_level >= test_status_level;
+        let is_stored = display.is_final() || self.final_status_level >= test_final_status_level;
+        let hidden = OutputOnTestFinished {
+            write_status_line,
+            show_immediate: false,
+            store_final: OutputStoreFinal::No,
+        };
+        match cancel_status {
+            Some(CancelReason::TestFailureImmediate) if is_terminated(execution_result) => hidden,
+            Some(CancelReason::Interrupt | CancelReason::SecondSignal) => hidden,
+            Some(CancelReason::Signal) => OutputOnTestFinished {
+                write_status_line,
+                show_immediate: display.is_immediate(),
+                store_final: stored(is_stored, display.is_final() && !display.is_immediate()),
+            },
+            None
+            | Some(
+                CancelReason::SetupScriptFailure
+                | CancelReason::TestFailure
+                | CancelReason::ReportError
+                | CancelReason::TestFailureImmediate
+                | CancelReason::GlobalTimeout,
+            ) => OutputOnTestFinished {
+                write_status_line,
+                show_immediate: display.is_immediate(),
+                store_final: stored(is_stored, display.is_final()),
+            },
+        }
+    }
+}
+
+/// What is stored of a test, if it is stored.
+fn stored(is_stored: bool, display_output: bool) -> OutputStoreFinal
+    ensures { result ≡ (if is_stored then OutputStoreFinal.Yes display_output else OutputStoreFinal.No) }
+{
+    if is_stored {
+        OutputStoreFinal::Yes { display_output }
+    } else {
+        OutputStoreFinal::No
+    }
+}
+
+/// Whether a test failed as one does that the runner ends: by `SIGTERM`, or with the Windows job
+/// object.
+fn is_terminated(execution_result: &ExecutionResultDescription) -> bool
+    ensures { result ≡ terminated execution_result.now }
+{
+    match execution_result {
+        ExecutionResultDescription::Fail {
+            failure: FailureDescription::Abort { abort },
+            ..
+        } => match abort {
+            AbortDescription::UnixSignal { signal, .. } => *signal == SIGTERM,
+            AbortDescription::WindowsNtStatus { .. } => false,
+            AbortDescription::WindowsJobObject => true,
+        },
+        _ => false,
+    }
+}
