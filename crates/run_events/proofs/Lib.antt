@@ -6,3 +6,4 @@ pub mod SubRunIds
 pub mod SubRuns
 pub mod SuccessLaws
 pub mod Verdicts
+pub mod VisibilityLaws

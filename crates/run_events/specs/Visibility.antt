@@ -1,5 +1,6 @@
 -- What is shown of a finished test, and when.
 use Rattle.std.specs.Prelude.{◌≡◌, ◌≤◌, ◌+◌, ◌⊎◌, ◌==◌, ◌&&◌, ◌||◌, ℕ, Bool, true, false, IsTrue, if◌then◌else◌, nat_le, nat_lt, pos, Option, None, Some}
+use Rattle.std.specs.Ordering.{int_eq}
 use Rattle.run_events.specs.Config.{is_final_display, is_immediate_display}
 use Rattle.run_events.specs.Ranks.{final_level_rank, level_rank, reason_rank}
 use Rattle.run_events.specs.declared.config.TestOutputDisplay.{TestOutputDisplay}
@@ -9,6 +10,7 @@ use Rattle.run_events.specs.declared.levels.OutputStoreFinal.{OutputStoreFinal}
 use Rattle.run_events.specs.declared.levels.OutputStoreFinal.TheVariants.{No, Yes}
 use Rattle.run_events.specs.declared.levels.StatusLevel.{StatusLevel}
 use Rattle.run_events.specs.declared.levels.StatusLevels.{StatusLevels}
+use Rattle.run_events.specs.declared.results.AbortDescription.{AbortDescription}
 use Rattle.run_events.specs.declared.results.AbortDescription.TheVariants as abort
 use Rattle.run_events.specs.declared.results.CancelReason.{CancelReason}
 use Rattle.run_events.specs.declared.results.CancelReason.TheVariants as reason
@@ -16,10 +18,15 @@ use Rattle.run_events.specs.declared.results.ExecutionResultDescription.{Executi
 use Rattle.run_events.specs.declared.results.ExecutionResultDescription.TheVariants as result
 use Rattle.run_events.specs.declared.results.FailureDescription.TheVariants as failure
 
--- whether a test failed as one does that the runner ends: by signal 15, or with the Windows job object
+-- whether an abort is one by which the runner ends a test: signal 15, or the end of the Windows job object
+abbrev pub ends_test : AbortDescription → Bool
+ends_test (abort.UnixSignal signal name) = int_eq signal (pos 15)
+ends_test (abort.WindowsNtStatus code message) = false
+ends_test abort.WindowsJobObject = true
+
+-- whether a test failed by such an abort
 abbrev pub terminated : ExecutionResultDescription → Bool
-terminated (result.Fail (failure.Abort (abort.UnixSignal signal name)) leaked) = signal == pos 15
-terminated (result.Fail (failure.Abort abort.WindowsJobObject) leaked) = true
+terminated (result.Fail (failure.Abort a) leaked) = ends_test a
 terminated _ = false
 
 -- what a finished test, its display and the levels ask for, whatever the reason
@@ -33,12 +40,17 @@ pub record Wanted : Type 0 where
   pub stored : Bool
   pub terminated : Bool
 
+-- output is stored that is displayed at the end, or whose final level the own one includes
+abbrev pub is_stored : StatusLevels → TestOutputDisplay → FinalStatusLevel → Bool
+is_stored own display final_level =
+    is_final_display display || nat_le (final_level_rank final_level) (final_level_rank own.final_status_level)
+
 abbrev pub wanted : StatusLevels → TestOutputDisplay → StatusLevel → FinalStatusLevel → ExecutionResultDescription → Wanted
 wanted own display level final_level result = record {
   line = nat_le (level_rank level) (level_rank own.status_level);
   at_once = is_immediate_display display;
   at_end = is_final_display display;
-  stored = is_final_display display || nat_le (final_level_rank final_level) (final_level_rank own.final_status_level);
+  stored = is_stored own display final_level;
   terminated = terminated result;
 }
 
@@ -60,7 +72,7 @@ abbrev pub visibility : Wanted → Option CancelReason → OutputOnTestFinished
 visibility w why =
     if is_stopped w why then visible w false No
     else if nat_lt (severity why) (severity (Some reason.Signal)) then visible w w.at_once (if w.stored then Yes w.at_end else No)
-    else if severity why == severity (Some reason.Signal) then visible w w.at_once (if w.stored then (if w.at_once then Yes false else Yes w.at_end) else No)
+    else if severity why == severity (Some reason.Signal) then visible w w.at_once (if w.stored then Yes (if w.at_once then false else w.at_end) else No)
     else visible w false No
 
 -- how much of the output is kept for the end of the run
@@ -74,10 +86,10 @@ pub record IsNoMoreVisible (x y : OutputOnTestFinished) : Type 0 where
   pub shown : IsTrue x.show_immediate → IsTrue y.show_immediate
   pub stored : stored_rank x.store_final ≤ stored_rank y.store_final
 
--- The one exception: a test was ended, and something of its output would be shown or stored. As the run stops at once
--- it is hidden, and under the next two greater reasons it is not.
-pub record IsException (w : Wanted) (lesser greater : Option CancelReason) : Type 0 where
-  pub lesser : lesser ≡ Some reason.TestFailureImmediate
-  pub greater : (greater ≡ Some reason.GlobalTimeout) ⊎ (greater ≡ Some reason.Signal)
+-- The one exception, from a reason to a greater one: a test was ended, and something of its output is asked for. As the
+-- run stops at once that is hidden, and under the next two greater reasons it is not.
+pub record IsException (w : Wanted) (why greater : Option CancelReason) : Type 0 where
+  pub stopped : why ≡ Some reason.TestFailureImmediate
+  pub later : (greater ≡ Some reason.GlobalTimeout) ⊎ (greater ≡ Some reason.Signal)
   pub terminated : IsTrue w.terminated
-  pub wanted : IsTrue (w.at_once || w.stored)
+  pub asked : IsTrue (w.at_once || w.stored)

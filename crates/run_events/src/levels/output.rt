@@ -1,7 +1,9 @@
 //! The decision what to show of a finished test.
 
-ghost use Rattle.std.specs.Prelude.{◌≡◌, ◌≢◌, ◌≤◌, IsTrue, Option, Some, if◌then◌else◌};
-ghost use Rattle.run_events.specs.Visibility.{IsException, IsNoMoreVisible, severity, terminated, visibility, wanted};
+ghost use Rattle.std.specs.Prelude.{◌≡◌, ◌≢◌, ◌≤◌, ◌==◌, ◌&&◌, IsTrue, Option, Some, false, true, if◌then◌else◌};
+ghost use Rattle.run_events.specs.Config.{is_final_display, is_immediate_display};
+ghost use Rattle.run_events.specs.Visibility.{IsException, IsNoMoreVisible, is_stored, severity, terminated, visibility, wanted};
+ghost use Rattle.run_events.specs.Visibility as spec;
 
 use crate::config::TestOutputDisplay;
 use crate::levels::{
@@ -79,19 +81,16 @@ impl StatusLevels {
             result ≡ visibility asked cancel_status }
     {
         let write_status_line = self.status_level >= test_status_level;
-        let is_stored = display.is_final() || self.final_status_level >= test_final_status_level;
-        let hidden = OutputOnTestFinished {
-            write_status_line,
-            show_immediate: false,
-            store_final: OutputStoreFinal::No,
-        };
+        let is_stored = self.is_stored(display, test_final_status_level);
+        if is_stopped(cancel_status, execution_result) {
+            return hidden(write_status_line);
+        }
         match cancel_status {
-            Some(CancelReason::TestFailureImmediate) if is_terminated(execution_result) => hidden,
-            Some(CancelReason::Interrupt | CancelReason::SecondSignal) => hidden,
+            Some(CancelReason::Interrupt | CancelReason::SecondSignal) => hidden(write_status_line),
             Some(CancelReason::Signal) => OutputOnTestFinished {
                 write_status_line,
                 show_immediate: display.is_immediate(),
-                store_final: stored(is_stored, display.is_final() && !display.is_immediate()),
+                store_final: stored(is_stored, is_only_final(display)),
             },
             None
             | Some(
@@ -107,6 +106,24 @@ impl StatusLevels {
             },
         }
     }
+
+    /// Whether a test is listed at the end of the run.
+    fn is_stored(&self, display: TestOutputDisplay, test_level: FinalStatusLevel) -> bool
+        ensures { result ≡ is_stored self.now display test_level }
+    {
+        display.is_final() || self.final_status_level >= test_level
+    }
+}
+
+/// Nothing is shown but the line, and nothing is stored.
+fn hidden(write_status_line: bool) -> OutputOnTestFinished
+    ensures { result ≡ record { write_status_line = write_status_line; show_immediate = false; store_final = OutputStoreFinal.No } }
+{
+    OutputOnTestFinished {
+        write_status_line,
+        show_immediate: false,
+        store_final: OutputStoreFinal::No,
+    }
 }
 
 /// What is stored of a test, if it is stored.
@@ -120,6 +137,26 @@ fn stored(is_stored: bool, display_output: bool) -> OutputStoreFinal
     }
 }
 
+/// Whether output is displayed at the end of the run and not before.
+fn is_only_final(display: TestOutputDisplay) -> bool
+    ensures { result ≡ (if is_immediate_display display then false else is_final_display display) }
+{
+    matches!(display, TestOutputDisplay::Final)
+}
+
+/// Whether a test was ended because the run stops at once after a failure.
+fn is_stopped(
+    cancel_status: Option<CancelReason>,
+    execution_result: &ExecutionResultDescription,
+) -> bool
+    ensures { result ≡ ((severity cancel_status == severity (Some CancelReason.TestFailureImmediate)) && terminated execution_result.now) }
+{
+    match cancel_status {
+        Some(CancelReason::TestFailureImmediate) => is_terminated(execution_result),
+        _ => false,
+    }
+}
+
 /// Whether a test failed as one does that the runner ends: by `SIGTERM`, or with the Windows job
 /// object.
 fn is_terminated(execution_result: &ExecutionResultDescription) -> bool
@@ -129,11 +166,18 @@ fn is_terminated(execution_result: &ExecutionResultDescription) -> bool
         ExecutionResultDescription::Fail {
             failure: FailureDescription::Abort { abort },
             ..
-        } => match abort {
-            AbortDescription::UnixSignal { signal, .. } => *signal == SIGTERM,
-            AbortDescription::WindowsNtStatus { .. } => false,
-            AbortDescription::WindowsJobObject => true,
-        },
+        } => ends_test(abort),
         _ => false,
+    }
+}
+
+/// Whether an abort is one by which the runner ends a test.
+fn ends_test(abort: &AbortDescription) -> bool
+    ensures { result ≡ spec.ends_test abort.now }
+{
+    match abort {
+        AbortDescription::UnixSignal { signal, .. } => *signal == SIGTERM,
+        AbortDescription::WindowsNtStatus { .. } => false,
+        AbortDescription::WindowsJobObject => true,
     }
 }
