@@ -3,6 +3,7 @@ pub mod Counts
 pub mod LastAttempt
 pub mod Parts
 pub mod SubRunIds
+pub mod SubRunOrder
 pub mod SubRuns
 pub mod SuccessLaws
 pub mod Verdicts

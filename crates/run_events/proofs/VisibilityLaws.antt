@@ -1,7 +1,7 @@
 -- Visibility under greater reasons.
-use Rattle.std.proofs.Common.{◌≡◌, ◌≢◌, ◌≤◌, ◌<◌, ◌+◌, ◌⊎◌, ◌==◌, ◌&&◌, ◌||◌, ℕ, Bool, true, false, IsTrue, if◌then◌else◌, nat_lt, Option, None, Some, refl, sym, ap, ◌∙◌, subst, inl, inr, arith, tests}
+use Rattle.std.proofs.Common.{◌≡◌, ◌≢◌, ◌≤◌, ◌<◌, ◌⊎◌, ◌==◌, ◌&&◌, ◌||◌, ℕ, Bool, true, false, IsTrue, if◌then◌else◌, nat_lt, Option, Some, refl, sym, ◌∙◌, inl, inr, arith}
 use Rattle.std.proofs.lemmas.Bool.Decides.{nat_tests}
-use Rattle.run_events.specs.Visibility.{IsException, IsNoMoreVisible, Wanted, severity, stored_rank, visibility, visible}
+use Rattle.run_events.specs.Visibility.{IsException, IsNoMoreVisible, Wanted, severity, visibility, visible}
 use Rattle.run_events.specs.declared.levels.OutputOnTestFinished.{OutputOnTestFinished}
 use Rattle.run_events.specs.declared.levels.OutputStoreFinal.TheVariants.{No, Yes}
 use Rattle.run_events.specs.declared.results.CancelReason.{CancelReason}
@@ -123,11 +123,11 @@ hidden-unasked : (w : Wanted) (why greater : Option CancelReason) → severity w
     → ((severity why == severity (Some reason.TestFailureImmediate)) && w.terminated) ≡ true
     → (w.at_once || w.stored) ≡ false
 hidden-unasked w why greater order usual goes_on seen stops =
-    let ended : w.terminated ≡ true = second-holds _ _ stops in
-    let stop : severity why ≡ severity (Some reason.TestFailureImmediate) = is-equal _ _ (first-holds _ _ stops) in
-    let other : severity greater ≢ severity (Some reason.TestFailureImmediate) = is-other _ _ (first-fails _ _ goes_on ended) in
+    let ended : w.terminated ≡ true = second-holds (severity why == severity (Some reason.TestFailureImmediate)) w.terminated stops in
+    let stop : severity why ≡ severity (Some reason.TestFailureImmediate) = is-equal (severity why) _ (first-holds _ w.terminated stops) in
+    let other : severity greater ≢ severity (Some reason.TestFailureImmediate) = is-other (severity greater) _ (first-fails _ w.terminated goes_on ended) in
     let low : severity (Some reason.TestFailureImmediate) < severity greater = omega arith in
-    let high : severity greater ≤ severity (Some reason.Signal) = up-to _ _ seen in
+    let high : severity greater ≤ severity (Some reason.Signal) = up-to (severity greater) _ seen in
     is-false _ (λ asked. usual (record {
       stopped = stop-reason why stop;
       later = later-reasons greater low high;

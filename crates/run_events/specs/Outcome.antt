@@ -1,5 +1,5 @@
 -- The outcome of a run and of sub-runs, and what is left of a run that is over.
-use Rattle.std.specs.Prelude.{◌≡◌, ◌≤◌, ◌⊎◌, ℕ, Bool, if◌then◌else◌, nat_le, nat_lt, List, [], All, Contains}
+use Rattle.std.specs.Prelude.{◌≡◌, ◌≤◌, ◌⊎◌, ℕ, if◌then◌else◌, nat_le, nat_lt, List, [], All, Contains}
 use Rattle.run_events.specs.Summary.{summary_of}
 use Rattle.run_events.specs.declared.outcome.FinalRunStats.{FinalRunStats}
 use Rattle.run_events.specs.declared.outcome.FinalRunStats.TheVariants as summary

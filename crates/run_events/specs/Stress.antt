@@ -1,10 +1,9 @@
 -- What is left of a repeated run, the ids of its sub-runs, and their order.
-use Rattle.std.specs.Prelude.{◌≡◌, ◌-◌, ◌<◌, ◌≤◌, ◌^◌, ◌==◌, ◌↔◌, ◌⊎◌, ◌++◌, ℕ, List, length, All, codes, Option, None, Some, if◌then◌else◌}
+use Rattle.std.specs.Prelude.{◌≡◌, ◌-◌, ◌<◌, ◌^◌, ◌==◌, ◌↔◌, ◌++◌, ℕ, List, length, All, codes, Option, None, Some, if◌then◌else◌}
 use Rattle.std.specs.Duration.{as_nanos}
 use Rattle.std.specs.Fmt.{decimal}
 use Rattle.std.specs.Int.NonZero.{non_zero_u32_get}
 use Rattle.uuid.specs.Text.{hyphenated_text, lower}
-use Rattle.run_events.specs.declared.stress.progress.StressCount.{StressCount}
 use Rattle.run_events.specs.declared.stress.progress.StressCount.TheVariants as total
 use Rattle.run_events.specs.declared.stress.progress.StressProgress.{StressProgress}
 use Rattle.run_events.specs.declared.stress.progress.StressProgress.TheVariants as progress

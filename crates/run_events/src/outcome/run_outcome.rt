@@ -50,13 +50,13 @@ impl RunOutcome {
         ensures rank { outcome_rank result ≡ max (outcome_rank self) (outcome_rank other) }
         ensures one_of_both { (result ≡ self) ⊎ (result ≡ other) }
 
-        // The laws of combining, over the outcome of the greater rank.
+        // The laws of combining, over the definition of the outcome of the greater rank.
         ensures exact { result ≡ combined self other }
         ensures commutative { result ≡ combined other self }
         ensures associative { (third : RunOutcome) → combined result third ≡ combined self (combined other third) }
-        ensures idempotent { combined result result ≡ result }
-        ensures identity_right { combined result RunOutcome.NoTestsRun ≡ result }
-        ensures identity_left { combined RunOutcome.NoTestsRun result ≡ result }
+        ensures idempotent { self ≡ other → result ≡ self }
+        ensures identity_left { self ≡ RunOutcome.NoTestsRun → result ≡ other }
+        ensures identity_right { other ≡ RunOutcome.NoTestsRun → result ≡ self }
     {
         self.higher(other)
     }

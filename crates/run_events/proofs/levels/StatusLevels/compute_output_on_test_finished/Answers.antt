@@ -1,6 +1,4 @@
-use Rattle.std.proofs.Common.{◌∙◌, ap, subst, sym}
-use Rattle.run_events.specs.Visibility.{IsNoMoreVisible, visibility, wanted}
-use Rattle.run_events.specs.declared.levels.OutputOnTestFinished.{OutputOnTestFinished}
+use Rattle.std.proofs.Common.{◌∙◌, sym}
 use Rattle.run_events.proofs.VisibilityLaws.{line-stays, never-grows}
 use Rattle.run_events.proofs.levels.StatusLevels.compute_output_on_test_finished.Goals as goal
 
