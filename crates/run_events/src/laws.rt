@@ -123,7 +123,8 @@ pub fn stress_index_hashes<H: Hasher>(
     ensures equality { IsTrue result ↔ (a ≡ b) }
     ensures alike { IsTrue result → first.old ≡ second.old → first.new ≡ second.new }
 {
+    let are_equal = a == b;
     a.hash(first);
     b.hash(second);
-    a == b
+    are_equal
 }

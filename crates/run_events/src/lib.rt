@@ -11,3 +11,5 @@ pub mod outcome;
 pub mod results;
 pub mod stats;
 pub mod stress;
+#[cfg(test)]
+mod tests;

@@ -17,21 +17,22 @@ use crate::results::{
 const SIGTERM: i32 = 15;
 
 impl StatusLevels {
-    /// What is shown of a test that has just finished, and what is stored of it.
+    /// What is shown of a test that has just finished, and what is stored of it for the end of the
+    /// run.
     ///
     /// A line is written where the own status level is at or above the test's. Output is displayed
-    /// at once where the display is immediate, and stored where the display is final or the own
-    /// final level is at or above the test's; what is stored is displayed at the end of the run
-    /// where the display is final. A reason to cancel the run changes this:
+    /// at once where the display is immediate. The test is stored where the display is final or the
+    /// own final level is at or above the test's, and its output is displayed at the end where the
+    /// display is final. A reason to cancel the run takes away from this:
     ///
-    /// - as the run stops at once after a failure, nothing is shown or stored of a test that was
-    ///   ended, as the runner ends one;
-    /// - under a signal, output that is displayed at once is not displayed at the end as well;
-    /// - under an interrupt or a second signal nothing is shown or stored of any test.
+    /// - while the run stops at once after a failure, nothing is shown or stored of a test that
+    ///   failed by `SIGTERM` or with the Windows job object, which is how the runner ends a test;
+    /// - under a signal, output that is displayed at once is not displayed again at the end;
+    /// - under an interrupt or a second signal, nothing is shown or stored of any test.
     ///
-    /// So no more is ever shown or stored under a greater reason, with one exception: output of a
-    /// test that was ended is hidden as the run stops at once, but neither when the time for the
-    /// run is over nor under a signal.
+    /// Under a greater reason no more is shown or stored than under a lesser one, with one
+    /// exception: a test that the runner seems to have ended is hidden while the run stops at once,
+    /// and neither when the time for the run is over nor under a signal.
     pub fn compute_output_on_test_finished(
         &self,
         display: TestOutputDisplay,
