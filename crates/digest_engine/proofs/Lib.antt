@@ -1,5 +1,6 @@
 pub mod Answering
 pub mod Attempts
+pub mod Extracting
 pub mod KnownBytes
 pub mod Numbers
 pub mod Readings

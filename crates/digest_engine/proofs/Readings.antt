@@ -169,10 +169,17 @@ run_given (line ∷ lines) =
     elim (option_cases (start_of_words (words_of line))) [
       | inl start ↦ rw start.1 (with-start line lines start.0 (units_from 2 lines) (start_spelled line start.0 start.1) (units_given 2 lines (omega arith)))
       | inr none ↦ rw none (
-        inr (inr (omega arith, (line, refl, λ reading. elim reading [
-          | inl first ↦ let clash = sym none ∙ start_read line first.1.0 first.1.1 in absurd cc
-          | inr other ↦ other.0 refl
-        ]))),
+        inr (inr (
+          omega arith,
+          (
+            line,
+            refl,
+            λ reading. elim reading [
+              | inl first ↦ let clash = sym none ∙ start_read line first.1.0 first.1.1 in absurd cc
+              | inr other ↦ other.0 refl
+            ],
+          ),
+        )),
         bad-positive (line ∷ lines),
       )
     ]

@@ -169,4 +169,3 @@ list_inverse list rs e =
           (named.0, omega (arith, some, same, mapped), omega (arith, few, same, mapped), sym (join_with_byte-slice_split 44 list) ∙ ap (join_with_byte 44) named.1, named.2)
       | inr none ↦ absurd cc
     ]
-

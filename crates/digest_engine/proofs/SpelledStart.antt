@@ -113,9 +113,9 @@ start_words line start s =
     let why : List ℕ = reason_word start.cancel_reason in
     let last : slice_split (λ b. b == 32) (32 ∷ why) ≡ [] ∷ why ∷ [] = rw (reason_whole start.cancel_reason) refl in
     let scripts : slice_split (λ b. b == 32) (s.scripts ++ 32 ∷ why) ≡ s.scripts ∷ why ∷ [] =
-        number_joins s.scripts _ s.scripts_number (32 ∷ why) [] (why ∷ []) last ∙ ap (λ x. x ∷ why ∷ []) (append-nil s.scripts) in
+    number_joins s.scripts _ s.scripts_number (32 ∷ why) [] (why ∷ []) last ∙ ap (λ x. x ∷ why ∷ []) (append-nil s.scripts) in
     let tests : slice_split (λ b. b == 32) (s.tests ++ 32 ∷ (s.scripts ++ 32 ∷ why)) ≡ s.tests ∷ s.scripts ∷ why ∷ [] =
-        number_joins s.tests _ s.tests_number (32 ∷ (s.scripts ++ 32 ∷ why)) [] (s.scripts ∷ why ∷ []) (rw scripts refl) ∙ ap (λ x. x ∷ s.scripts ∷ why ∷ []) (append-nil s.tests) in
+    number_joins s.tests _ s.tests_number (32 ∷ (s.scripts ++ 32 ∷ why)) [] (s.scripts ∷ why ∷ []) (rw scripts refl) ∙ ap (λ x. x ∷ s.scripts ∷ why ∷ []) (append-nil s.tests) in
     ap words_of (s.written ∙ nested s.tests s.scripts why) ∙ rw tests refl
 
 -- what is spelled is read

@@ -85,8 +85,7 @@ unit_read line unit (TestLine earlier last slow fails, ok, is_line, is_unit) =
 test_spelled : (line : List ℕ) (rs : List ResultWord) (slow fails : Bool) (t : TestView) → 0 < length rs → length rs ≤ 100 → line ≡ test_text rs slow fails → t ≡ view_from (map result_named rs) (slow, setting_by fails) → SpellsUnit line (TestUnit t)
 test_spelled line rs slow fails t some few is_line is_t =
     let end = ends_with rs some in
-    let count : length rs ≡ length end.0 + 1 = ap length end.2 ∙ length-append end.0 (end.1 ∷ []) in
-    (
+    let count : length rs ≡ length end.0 + 1 = ap length end.2 ∙ length-append end.0 (end.1 ∷ []) in (
       TestLine end.0 end.1 slow fails,
       omega (arith, count, few),
       is_line ∙ ap (λ xs. test_text xs slow fails) end.2,
@@ -109,8 +108,8 @@ test_inverse line (list ∷ flags) t is_line e =
     let named = list_inverse list rs is_rs in
     let is : view_from rs f ≡ t = cc in
     test_spelled line named.0 flag.0 flag.1 t named.1 named.2
-        (sym is_line ∙ ap (λ x. codes "test" ++ 32 ∷ x) flag.2 ∙ ap (λ x. codes "test" ++ 32 ∷ (x ++ flag_words flag.0 flag.1)) named.3)
-        (sym is ∙ ap (λ x. view_from x f) named.4 ∙ ap (view_from (map result_named named.0)) flag.3)))
+    (sym is_line ∙ ap (λ x. codes "test" ++ 32 ∷ x) flag.2 ∙ ap (λ x. codes "test" ++ 32 ∷ (x ++ flag_words flag.0 flag.1)) named.3)
+    (sym is ∙ ap (λ x. view_from x f) named.4 ∙ ap (view_from (map result_named named.0)) flag.3)))
 
 unit_inverse : (line : List ℕ) (words : List (List ℕ)) (u : UnitView) → join_with_byte 32 words ≡ line → unit_of_words words ≡ Some u → SpellsUnit line u
 unfolding unit_of_words

@@ -3,12 +3,15 @@ use Rattle.std.specs.Prelude.{List, [], ◌∷◌, ℕ, Ok, Err, codes, if◌the
 use Rattle.std.specs.Str.{bytes_eq}
 use Rattle.std.specs.declared.result.Result.{Result}
 use Rattle.digest_engine.specs.declared.command.Command.{Command}
-use Rattle.digest_engine.specs.declared.command.Command.TheVariants.{Count}
+use Rattle.digest_engine.specs.declared.command.Command.TheVariants.{Count, Extract}
 use Rattle.digest_engine.specs.declared.fault.Fault.{Fault}
 use Rattle.digest_engine.specs.declared.fault.Fault.TheVariants.{BadWord}
 
 -- the command that words ask for: the one that the only word names, and to count where there is no word
 abbrev pub command_of : List (List ℕ) → Result Command Fault
 command_of [] = Ok Count
-command_of (word ∷ []) = if bytes_eq word (codes "count") then Ok Count else Err BadWord
+command_of (word ∷ []) =
+    if bytes_eq word (codes "extract") then Ok Extract
+    else if bytes_eq word (codes "count") then Ok Count
+    else Err BadWord
 command_of _ = Err BadWord

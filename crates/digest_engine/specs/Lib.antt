@@ -1,6 +1,7 @@
 pub mod Answer
 pub mod Command
 pub mod CountSteps
+pub mod ExtractAnswer
 pub mod Fault
 pub mod MemoryCalls
 pub mod MemoryDevice

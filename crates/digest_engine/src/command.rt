@@ -8,13 +8,16 @@ use crate::fault::Fault;
 /// What the program is asked to do.
 #[derive(Clone, Copy, Debug, PartialEq, Eq)]
 pub enum Command {
+    /// Find the part of a test's output that says why it failed.
+    Extract,
+
     /// Count the units of a run.
     Count,
 }
 
 impl Command {
-    /// What the words after the program's name ask for: `count`, which is also meant where there
-    /// is no word.
+    /// What the words after the program's name ask for: `extract` or `count`, which is also meant
+    /// where there is no word.
     ///
     /// Any other word, and more than one, is [`Fault::BadWord`].
     pub fn from_words(words: &[String]) -> Result<Command, Fault>
@@ -23,7 +26,9 @@ impl Command {
         match words {
             [] => Ok(Command::Count),
             [word] => {
-                if word.as_str() == "count" {
+                if word.as_str() == "extract" {
+                    Ok(Command::Extract)
+                } else if word.as_str() == "count" {
                     Ok(Command::Count)
                 } else {
                     Err(Fault::BadWord)

@@ -53,11 +53,7 @@ fn digest(alloc: Global, bytes: &[u8]) -> Result<(String, bool), Fault>
 }
 
 /// [`count`], by what the reader gives.
-fn count_run<R: Source, W: Sink>(
-    alloc: Global,
-    source: &mut R,
-    sink: &mut W,
-) -> Result<bool, Fault>
+fn count_run<R: Source, W: Sink>(alloc: Global, source: &mut R, sink: &mut W) -> Result<bool, Fault>
     requires source_works { R.failed source.old ≡ false }
     requires sink_works { W.failed sink.old ≡ false }
     ensures read { IsErrOf result faults.Read ↔ (R.failed source.new ≡ true) }

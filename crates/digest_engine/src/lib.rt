@@ -4,11 +4,14 @@
 pub mod command;
 pub mod count;
 pub mod device;
+pub mod extract;
 pub mod fault;
 mod lines;
 pub mod memory_device;
 mod report;
 pub mod std_device;
+#[cfg(test)]
+mod tests;
 mod transfer;
 mod units;
 mod words;

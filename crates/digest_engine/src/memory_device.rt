@@ -106,6 +106,7 @@ impl<'a> MemorySink<'a> {
         ensures written { written_of result ≡ [] }
         ensures room { room_of result ≡ length buffer.old }
         ensures calls { calls_left result ≡ fail_at }
+        ensures held { sink_flushed result ≡ false }
         ensures works { sink_failed result ≡ false }
     {
         MemorySink {

@@ -72,11 +72,12 @@ pub struct StdSink<W> {
 
 impl<W: Write> StdSink<W> {
     ghost use Rattle.std.specs.Prelude.{◌≡◌, false};
-    ghost use Rattle.digest_engine.specs.StdDevice.{sink_failed, writer_of};
+    ghost use Rattle.digest_engine.specs.StdDevice.{sink_failed, sink_flushed, writer_of};
 
     /// The writer as a sink that has not failed. Nothing is written.
     pub fn new(writer: W) -> StdSink<W>
         ensures writer { writer_of result ≡ writer }
+        ensures held { sink_flushed result ≡ false }
         ensures works { sink_failed result ≡ false }
     {
         StdSink {

@@ -1,8 +1,10 @@
-//! `run-digest`: counts a run of tests that its standard input says.
+//! `run-digest`: counts a run of tests that its standard input says, or extracts from it, as a
+//! test's output, the part that says why the test failed.
 #![tactic(auto)]
 
 use digest_engine::command::Command;
 use digest_engine::count::count;
+use digest_engine::extract::extract;
 use digest_engine::fault::Fault;
 use digest_engine::std_device::{StdSink, StdSource};
 use std::process::ExitCode;
@@ -20,12 +22,12 @@ fn run<R: Env + AllocGlobal + Input + Print>(rt: &R) -> Result<bool, Fault> {
     for word in args {
         words.push(word)?;
     }
-    match Command::from_words(words.as_slice())? {
-        Command::Count => {
-            let mut source = StdSource::new(rt.reader());
-            let mut sink = StdSink::new(io::writer(rt));
-            count(rt.alloc(), &mut source, &mut sink)
-        }
+    let command = Command::from_words(words.as_slice())?;
+    let mut source = StdSource::new(rt.reader());
+    let mut sink = StdSink::new(io::writer(rt));
+    match command {
+        Command::Extract => extract(rt.alloc(), &mut source, &mut sink),
+        Command::Count => count(rt.alloc(), &mut source, &mut sink),
     }
 }
 

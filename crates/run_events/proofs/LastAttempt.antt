@@ -1,12 +1,11 @@
 -- The last attempt of a test decides its view, and its view its levels.
-use Rattle.std.proofs.Common.{◌≡◌, ℕ, ◌+◌, ◌-◌, ◌<◌, List, [], ◌∷◌, ◌++◌, length, get_or, take, drop, drop-cons, true, false, refl, ap, sym, ◌∙◌, arith, length-append, lt-ltb}
+use Rattle.std.proofs.Common.{◌≡◌, ◌-◌, ◌<◌, List, [], ◌∷◌, ◌++◌, length, get_or, take, drop, drop-cons, refl, ap, sym, ◌∙◌, arith, length-append, lt-ltb}
 use Rattle.std.specs.Prelude.{Some, slice_get}
 use Rattle.std.proofs.lemmas.List.{take_rest}
 use Rattle.std.proofs.lemmas.Option.{slice_get-get_or}
 use Rattle.run_events.specs.Description.{ComesTo, described_final_level, described_level}
 use Rattle.run_events.specs.Level.{final_level_of, level_of}
-use Rattle.run_events.specs.Results.{succeeds}
-use Rattle.run_events.specs.TestView.{TestView, attempts_of, last_of, setting_of, view_of}
+use Rattle.run_events.specs.TestView.{attempts_of, last_of, setting_of, view_of}
 use Rattle.run_events.specs.declared.attempts.ExecuteStatus.{ExecuteStatus}
 use Rattle.run_events.specs.declared.attempts.description.ExecutionDescription.{ExecutionDescription}
 use Rattle.run_events.specs.declared.attempts.description.ExecutionDescription.TheVariants.{Failure, Flaky, Success}

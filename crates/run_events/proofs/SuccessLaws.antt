@@ -1,5 +1,5 @@
 -- When the summary of a run is `Success`.
-use Rattle.std.proofs.Common.{◌≡◌, ℕ, ◌+◌, ◌<◌, ◌≤◌, zero, suc, List, [], ◌∷◌, length, cond, Bool, true, false, not, ◌||◌, ◌&&◌, refl, sym, ◌∙◌, arith, inl, inr, le-ltb, ltb-false}
+use Rattle.std.proofs.Common.{◌≡◌, ℕ, ◌+◌, ◌<◌, ◌≤◌, zero, suc, List, [], ◌∷◌, cond, Bool, true, false, not, ◌||◌, ◌&&◌, refl, sym, ◌∙◌, arith, inl, inr, le-ltb, ltb-false}
 use Rattle.std.specs.Prelude.{◌↔◌, ◌⊎◌, ◌==◌, nat_lt, Option}
 use Rattle.std.specs.List.{list_all}
 use Rattle.std.proofs.lemmas.Bool.Decides.{eqb_tells}

@@ -1,7 +1,9 @@
--- When captured output is displayed.
+-- When captured output is displayed, and what a run is for.
 use Rattle.std.specs.Prelude.{Bool, true, false}
 use Rattle.run_events.specs.declared.config.TestOutputDisplay.{TestOutputDisplay}
 use Rattle.run_events.specs.declared.config.TestOutputDisplay.TheVariants as display
+use Rattle.run_events.specs.declared.run_mode.NextestRunMode.{NextestRunMode}
+use Rattle.run_events.specs.declared.run_mode.NextestRunMode.TheVariants as mode
 
 -- whether output is displayed as soon as its test finishes
 abbrev pub is_immediate_display : TestOutputDisplay → Bool
@@ -16,3 +18,8 @@ is_final_display display.Immediate = false
 is_final_display display.ImmediateFinal = true
 is_final_display display.Final = true
 is_final_display display.Never = false
+
+-- whether a run runs benchmarks
+abbrev pub is_benchmark_mode : NextestRunMode → Bool
+is_benchmark_mode mode.Test = false
+is_benchmark_mode mode.Benchmark = true

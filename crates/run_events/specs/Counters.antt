@@ -69,6 +69,10 @@ counted tests scripts start = record {
 abbrev pub stats_of : List UnitView → RunStart → RunStats
 stats_of units start = counted (tests_of units) (scripts_of units) start
 
+-- the start of a run of which nothing is known
+abbrev pub nothing_known : RunStart
+nothing_known = record { initial_run_count = 0; setup_scripts_initial_count = 0; skipped = 0; cancel_reason = None }
+
 -- a counter, one higher where the rule holds
 abbrev pub raised : ℕ → Bool → ℕ
 raised n holds = n + (if holds then 1 else 0)

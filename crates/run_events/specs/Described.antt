@@ -1,18 +1,18 @@
 -- A result as its runner saw it, described: the same case, with a name for a signal.
 use Rattle.std.specs.Prelude.{Option, String}
 use Rattle.std.specs.declared.alloc.Global.{Global}
-use Rattle.run_events.specs.declared.results.AbortDescription.{AbortDescription}
-use Rattle.run_events.specs.declared.results.AbortDescription.TheVariants as abort
-use Rattle.run_events.specs.declared.results.AbortStatus.{AbortStatus}
-use Rattle.run_events.specs.declared.results.AbortStatus.TheVariants.{UnixSignal}
+use Rattle.run_events.specs.declared.results.failure.AbortDescription.{AbortDescription}
+use Rattle.run_events.specs.declared.results.failure.AbortDescription.TheVariants as abort
+use Rattle.run_events.specs.declared.results.failure.AbortStatus.{AbortStatus}
+use Rattle.run_events.specs.declared.results.failure.AbortStatus.TheVariants.{UnixSignal}
 use Rattle.run_events.specs.declared.results.ExecutionResult.{ExecutionResult}
 use Rattle.run_events.specs.declared.results.ExecutionResult.TheVariants as status
 use Rattle.run_events.specs.declared.results.ExecutionResultDescription.{ExecutionResultDescription}
 use Rattle.run_events.specs.declared.results.ExecutionResultDescription.TheVariants as result
-use Rattle.run_events.specs.declared.results.FailureDescription.{FailureDescription}
-use Rattle.run_events.specs.declared.results.FailureDescription.TheVariants as failure
-use Rattle.run_events.specs.declared.results.FailureStatus.{FailureStatus}
-use Rattle.run_events.specs.declared.results.FailureStatus.TheVariants as failed
+use Rattle.run_events.specs.declared.results.failure.FailureDescription.{FailureDescription}
+use Rattle.run_events.specs.declared.results.failure.FailureDescription.TheVariants as failure
+use Rattle.run_events.specs.declared.results.failure.FailureStatus.{FailureStatus}
+use Rattle.run_events.specs.declared.results.failure.FailureStatus.TheVariants as failed
 
 -- an abort: the name goes into a signal
 abbrev pub described_abort : AbortStatus → Option (String Global) → AbortDescription

@@ -1,5 +1,5 @@
 -- What the attempts of a test come to, and the levels of that.
-use Rattle.std.specs.Prelude.{◌≡◌, ◌<◌, ◌||◌, Bool, true, false, List, [], ◌∷◌, ◌++◌, length, IsTrue, Option, Some}
+use Rattle.std.specs.Prelude.{◌≡◌, ◌<◌, ◌||◌, Bool, true, false, List, [], ◌∷◌, ◌++◌, length, Option, Some}
 use Rattle.run_events.specs.Level.{final_flaky_level, final_success_level, flaky_level, success_level}
 use Rattle.run_events.specs.Results.{succeeds}
 use Rattle.run_events.specs.TestView.{last_of}

@@ -1,5 +1,5 @@
 -- An error and what caused it, as texts.
-use Rattle.std.specs.Prelude.{ℕ, ◌+◌, List, ◌∷◌, length}
+use Rattle.std.specs.Prelude.{ℕ, ◌+◌, List, [], ◌∷◌, length}
 
 -- a message, and the messages of what caused it, the nearest cause first
 pub record ErrorChain : Type 0 where
@@ -13,3 +13,8 @@ texts c = c.message ∷ c.causes
 -- how many texts a chain has
 abbrev pub text_count : ErrorChain → ℕ
 text_count c = length c.causes + 1
+
+-- each cause, as the chain that begins with it
+abbrev pub cause_chains : List (List ℕ) → List ErrorChain
+cause_chains [] = []
+cause_chains (t ∷ ts) = record { message = t; causes = ts } ∷ cause_chains ts

@@ -1,4 +1,7 @@
 pub mod Attempts
+pub mod ChainObject
+pub mod ChainReading
+pub mod ChainValue
 pub mod Config
 pub mod Counters
 pub mod Described
@@ -15,4 +18,9 @@ pub mod Stress
 pub mod Summary
 pub mod TestCounters
 pub mod TestView
+pub mod Texts
 pub mod Visibility
+pub use Rattle.output_slice.specs.Extraction
+pub use Rattle.output_slice.specs.Shown
+pub use Rattle.output_slice.specs.Slices
+pub use Rattle.output_slice.specs.Taken

@@ -1,12 +1,16 @@
 -- Results of attempts: which of them succeed, and their words.
-use Rattle.std.specs.Prelude.{Bool, true, false, ℕ, List, ◌++◌, codes}
+use Rattle.std.specs.Prelude.{Bool, true, false, ℕ, pos, List, ◌++◌, codes}
 use Rattle.std.specs.Fmt.{signed_decimal}
+use Rattle.std.specs.Ordering.{int_eq}
 use Rattle.run_events.specs.declared.config.FlakyResult.{FlakyResult}
 use Rattle.run_events.specs.declared.config.FlakyResult.TheVariants as flaky
 use Rattle.run_events.specs.declared.config.LeakTimeoutResult.TheVariants as leak
 use Rattle.run_events.specs.declared.config.SlowTimeoutResult.TheVariants as slow
-use Rattle.run_events.specs.declared.results.AbortStatus.{AbortStatus}
-use Rattle.run_events.specs.declared.results.AbortStatus.TheVariants.{UnixSignal}
+use Rattle.run_events.specs.declared.results.failure.AbortStatus.{AbortStatus}
+use Rattle.run_events.specs.declared.results.failure.AbortStatus.TheVariants.{UnixSignal}
+use Rattle.run_events.specs.declared.results.failure.AbortDescription.{AbortDescription}
+use Rattle.run_events.specs.declared.results.failure.AbortDescription.TheVariants as abort
+use Rattle.run_events.specs.declared.results.failure.FailureDescription.TheVariants as failure
 use Rattle.run_events.specs.declared.results.ExecutionResult.{ExecutionResult}
 use Rattle.run_events.specs.declared.results.ExecutionResult.TheVariants as status
 use Rattle.run_events.specs.declared.results.ExecutionResultDescription.{ExecutionResultDescription}
@@ -55,6 +59,17 @@ status_succeeds status.Pass = true
 status_succeeds (status.Leak leak.Pass) = true
 status_succeeds (status.Timeout slow.Pass) = true
 status_succeeds _ = false
+
+-- whether an abort is one by which a runner ends a test: signal 15, or the end of the job object
+abbrev pub is_termination : AbortDescription → Bool
+is_termination (abort.UnixSignal signal name) = int_eq signal (pos 15)
+is_termination (abort.WindowsNtStatus code message) = false
+is_termination abort.WindowsJobObject = true
+
+-- whether a result is a failure by such an abort
+abbrev pub is_termination_failure : ExecutionResultDescription → Bool
+is_termination_failure (result.Fail (failure.Abort a) leaked) = is_termination a
+is_termination_failure _ = false
 
 -- whether a flaky test counts as failed
 abbrev pub flaky_fails : FlakyResult → Bool

@@ -1,8 +1,8 @@
 -- What is shown of a finished test, and when.
-use Rattle.std.specs.Prelude.{◌≡◌, ◌≤◌, ◌+◌, ◌⊎◌, ◌==◌, ◌&&◌, ◌||◌, ℕ, Bool, true, false, IsTrue, if◌then◌else◌, nat_le, nat_lt, pos, Option, None, Some}
-use Rattle.std.specs.Ordering.{int_eq}
+use Rattle.std.specs.Prelude.{◌≡◌, ◌≤◌, ◌+◌, ◌⊎◌, ◌==◌, ◌&&◌, ◌||◌, ℕ, Bool, true, false, IsTrue, if◌then◌else◌, nat_le, nat_lt, Option, None, Some}
 use Rattle.run_events.specs.Config.{is_final_display, is_immediate_display}
 use Rattle.run_events.specs.Ranks.{final_level_rank, level_rank, reason_rank}
+use Rattle.run_events.specs.Results.{is_termination_failure}
 use Rattle.run_events.specs.declared.config.TestOutputDisplay.{TestOutputDisplay}
 use Rattle.run_events.specs.declared.levels.FinalStatusLevel.{FinalStatusLevel}
 use Rattle.run_events.specs.declared.levels.OutputOnTestFinished.{OutputOnTestFinished}
@@ -10,24 +10,9 @@ use Rattle.run_events.specs.declared.levels.OutputStoreFinal.{OutputStoreFinal}
 use Rattle.run_events.specs.declared.levels.OutputStoreFinal.TheVariants.{No, Yes}
 use Rattle.run_events.specs.declared.levels.StatusLevel.{StatusLevel}
 use Rattle.run_events.specs.declared.levels.StatusLevels.{StatusLevels}
-use Rattle.run_events.specs.declared.results.AbortDescription.{AbortDescription}
-use Rattle.run_events.specs.declared.results.AbortDescription.TheVariants as abort
 use Rattle.run_events.specs.declared.results.CancelReason.{CancelReason}
 use Rattle.run_events.specs.declared.results.CancelReason.TheVariants as reason
 use Rattle.run_events.specs.declared.results.ExecutionResultDescription.{ExecutionResultDescription}
-use Rattle.run_events.specs.declared.results.ExecutionResultDescription.TheVariants as result
-use Rattle.run_events.specs.declared.results.FailureDescription.TheVariants as failure
-
--- whether an abort is one by which the runner ends a test: signal 15, or the end of the Windows job object
-abbrev pub ends_test : AbortDescription → Bool
-ends_test (abort.UnixSignal signal name) = int_eq signal (pos 15)
-ends_test (abort.WindowsNtStatus code message) = false
-ends_test abort.WindowsJobObject = true
-
--- whether a test failed by such an abort
-abbrev pub terminated : ExecutionResultDescription → Bool
-terminated (result.Fail (failure.Abort a) leaked) = ends_test a
-terminated _ = false
 
 -- what a finished test, its display and the levels ask for, whatever the reason
 pub record Wanted : Type 0 where
@@ -38,6 +23,7 @@ pub record Wanted : Type 0 where
   pub at_end : Bool
   -- output is stored: it is displayed at the end, or the own final level is at or above the test's
   pub stored : Bool
+  -- the result is a termination failure
   pub terminated : Bool
 
 -- output is stored that is displayed at the end, or whose final level the own one includes
@@ -51,7 +37,7 @@ wanted own display level final_level result = record {
   at_once = is_immediate_display display;
   at_end = is_final_display display;
   stored = is_stored own display final_level;
-  terminated = terminated result;
+  terminated = is_termination_failure result;
 }
 
 -- how severe a reason is; no reason is below all reasons

@@ -1,16 +1,23 @@
 //! Errors with what caused them, kept as texts.
 
-ghost use Rattle.std.specs.Prelude.{◌≡◌, [], map, string_bytes, IfOk, MatchOption};
-ghost use Rattle.run_events.specs.ErrorChain.{texts};
+ghost use Rattle.std.specs.Prelude.{◌≡◌, [], map, string_bytes, IfOk, MatchOption, Some};
+ghost use Rattle.std.specs.Iterator.{YieldsFirstRef, item_count};
+ghost use Rattle.run_events.specs.ErrorChain.{cause_chains, texts};
 
 use std::alloc::{AllocError, Global};
+use std::fmt;
 use std::marker::Model;
+
+mod json;
+
+pub use crate::chain::json::FromValueError;
 
 /// An error as its message and the chain of what caused it: a form that outlives the error itself
 /// and can be stored.
 ///
 /// Contracts see it as its texts: the message, then the causes, the nearest first. It is dropped
-/// and compared in loops, so a chain of any length needs no stack.
+/// and compared in loops, so that takes no stack however long the chain is; the derived `Debug`
+/// goes down the chain.
 #[derive(Debug)]
 pub struct SerializableError {
     message: String,
@@ -82,6 +89,25 @@ impl SerializableError {
             Some(cause) => Some(cause),
         }
     }
+
+    /// The causes in order, the nearest first, each with all that caused it.
+    pub fn sources(&self) -> SerializableErrorSources<'_>
+        ensures { result ≡ self.now.causes }
+    {
+        SerializableErrorSources {
+            next: self.source(),
+        }
+    }
+}
+
+impl fmt::Display for SerializableError {
+    ghost output = { λ e. Some e.message };
+
+    /// The message, without its causes.
+    fn fmt<W: fmt::Write>(&self, f: &mut fmt::Formatter<W>) -> fmt::Result {
+        let message = self.message();
+        write!(f, "{message}")
+    }
 }
 
 impl PartialEq for SerializableError {
@@ -121,4 +147,37 @@ impl Eq for SerializableError {
     ghost use Rattle.run_events.specs.ErrorChain.{texts};
 
     ghost laws = { on_equiv texts (lists_equiv nat_list_eq_equiv) };
+}
+
+/// An iterator over the causes of an error, the nearest first.
+///
+/// Contracts see it as the texts of the causes that are left.
+#[derive(Debug, Drop)]
+pub struct SerializableErrorSources<'a> {
+    next: Option<&'a SerializableError>,
+}
+
+impl<'a> Model for SerializableErrorSources<'a> {
+    ghost use Rattle.std.specs.Prelude.{ℕ, List, []};
+    ghost use Rattle.std.specs.Option.{option_map_or};
+    ghost use Rattle.run_events.specs.ErrorChain.{texts};
+
+    ghost Value = { List (List ℕ) };
+
+    ghost view = { λ s. option_map_or (λ e. texts e.now) s.next [] };
+}
+
+impl<'a> Iterator for SerializableErrorSources<'a> {
+    type Item = &'a SerializableError;
+
+    ghost next_gives = { YieldsFirstRef cause_chains };
+
+    ghost remaining = { item_count cause_chains };
+
+    /// The next cause; `None` after the last.
+    fn next(&mut self) -> Option<&'a SerializableError> {
+        let error = self.next?;
+        self.next = error.source();
+        Some(error)
+    }
 }

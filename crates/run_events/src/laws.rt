@@ -1,14 +1,18 @@
 //! Laws that callers rely on, each carried by the contract of a function.
 
-ghost use Rattle.std.specs.Prelude.{◌≡◌, ◌≢◌, ◌↔◌, ◌≤◌, IsTrue};
+ghost use Rattle.std.specs.Prelude.{◌≡◌, ◌≢◌, ◌↔◌, ◌≤◌, [], IsTrue};
 ghost use Rattle.std.specs.Ordering.{nat_cmp};
+ghost use Rattle.run_events.specs.Counters.{counted, nothing_known};
 ghost use Rattle.run_events.specs.Outcome.{outcome_rank};
 ghost use Rattle.run_events.specs.Ranks.{IsNoLaterAttempt, IsNoLaterSubRun, final_level_rank, level_rank, reason_rank, step_rank};
 
 use crate::attempts::RetryData;
+use crate::config::FlakyResult;
 use crate::levels::{FinalStatusLevel, StatusLevel};
 use crate::outcome::{RunFailureStep, RunOutcome};
 use crate::results::CancelReason;
+use crate::run_mode::NextestRunMode;
+use crate::stats::RunStats;
 use crate::stress::StressIndex;
 use std::cmp::Ordering;
 use std::hash::{Hash, Hasher};
@@ -72,6 +76,28 @@ pub fn retry_data_at_most(a: RetryData, b: RetryData) -> bool
     ensures { IsTrue result ↔ IsNoLaterAttempt a b }
 {
     a <= b
+}
+
+/// By default a flaky test counts as passed.
+pub fn flaky_result_default() -> FlakyResult
+    ensures { result ≡ FlakyResult.Pass }
+{
+    FlakyResult::default()
+}
+
+/// By default a run runs tests.
+pub fn run_mode_default() -> NextestRunMode
+    ensures { result ≡ NextestRunMode.Test }
+{
+    NextestRunMode::default()
+}
+
+/// By default all counters are zero, and there is no reason to cancel: the statistics of a run
+/// of which nothing is known.
+pub fn run_stats_default() -> RunStats
+    ensures { result ≡ counted [] [] nothing_known }
+{
+    RunStats::default()
 }
 
 /// Steps of a run are ordered as they are declared, `Test` the least.

@@ -1,14 +1,18 @@
 //! What a test runner tells its reporters: results, attempts, counters and summaries of a run.
 #![tactic(auto)]
 
+pub use output_slice;
+
 pub mod attempts;
 pub mod chain;
 pub mod child;
 pub mod config;
+pub mod events;
 pub mod laws;
 pub mod levels;
 pub mod outcome;
 pub mod results;
+pub mod run_mode;
 pub mod stats;
 pub mod stress;
 #[cfg(test)]

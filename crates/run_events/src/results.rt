@@ -1,12 +1,18 @@
 //! How an attempt ended, and why a run is cancelled.
 
-ghost use Rattle.std.specs.Prelude.{◌≡◌, Some};
+ghost use Rattle.std.specs.Prelude.{◌≡◌};
 ghost use Rattle.run_events.specs.Results.{status_succeeds, status_word, succeeds, result_word};
-ghost use Rattle.run_events.specs.Described.{described_abort, described_failure, described_result};
+ghost use Rattle.run_events.specs.Described.{described_result};
+ghost use Rattle.run_events.specs.Texts.{cancel_text, executing_text, waiting_text};
 ghost use Rattle.run_events.specs.Results as spec;
 
 use crate::config::{LeakTimeoutResult, SlowTimeoutResult};
-use std::fmt;
+
+mod failure;
+
+pub use crate::results::failure::{
+    AbortDescription, AbortStatus, FailureDescription, FailureStatus, SIGTERM,
+};
 
 /// How an attempt ended, as its runner saw it: plain numbers, no names.
 #[derive(Clone, Copy, Debug, PartialEq, Eq)]
@@ -74,36 +80,6 @@ impl ExecutionResult {
             ExecutionResult::Fail { .. } => "fail",
             ExecutionResult::ExecFail => "exec-fail",
             ExecutionResult::Timeout { .. } => "timeout",
-        }
-    }
-}
-
-/// With what a failed process ended, as its runner saw it.
-#[derive(Clone, Copy, Debug, PartialEq, Eq)]
-pub enum FailureStatus {
-    /// It exited with this code.
-    ExitCode(i32),
-
-    /// It was ended from outside.
-    Abort(AbortStatus),
-}
-
-/// What ended a process from outside, as its runner saw it.
-#[derive(Clone, Copy, PartialEq, Eq)]
-pub enum AbortStatus {
-    /// A signal of this number.
-    UnixSignal(i32),
-}
-
-impl fmt::Debug for AbortStatus {
-    ghost use Rattle.run_events.specs.Results.{abort_status_text};
-
-    ghost debug_output = { λ s. Some (abort_status_text s) };
-
-    /// `UnixSignal(15)` for signal 15, on one line in every style.
-    fn fmt<W: fmt::Write>(&self, f: &mut fmt::Formatter<W>) -> fmt::Result {
-        match self {
-            AbortStatus::UnixSignal(signal) => write!(f, "UnixSignal({signal})"),
         }
     }
 }
@@ -198,6 +174,21 @@ impl ExecutionResultDescription {
         }
     }
 
+    /// Whether the attempt was ended in the way in which the runner itself ends a test: by the
+    /// signal [`SIGTERM`], or with the Windows job object. A test that was sent that signal by
+    /// another process is taken for one that the runner ended.
+    pub fn is_termination_failure(&self) -> bool
+        ensures { result ≡ spec.is_termination_failure self.now }
+    {
+        match self {
+            ExecutionResultDescription::Fail {
+                failure: FailureDescription::Abort { abort },
+                ..
+            } => abort.is_termination(),
+            _ => false,
+        }
+    }
+
     pub(crate) fn is_pass(&self) -> bool
         ensures { result ≡ spec.is_pass self.now }
     {
@@ -261,74 +252,6 @@ impl ExecutionResultDescription {
     }
 }
 
-/// With what a failed process ended.
-#[derive(Debug, PartialEq, Eq, Drop)]
-pub enum FailureDescription {
-    /// It exited with this code.
-    ExitCode {
-        /// The code.
-        code: i32,
-    },
-
-    /// It was ended from outside.
-    Abort {
-        /// By what.
-        abort: AbortDescription,
-    },
-}
-
-impl FailureDescription {
-    /// The description of a failure: the same case. The name goes into a signal, and is dropped
-    /// where there is none.
-    pub fn from_status(status: FailureStatus, name: Option<String>) -> Self
-        ensures { result ≡ described_failure status name }
-    {
-        match status {
-            FailureStatus::ExitCode(code) => FailureDescription::ExitCode { code },
-            FailureStatus::Abort(abort) => FailureDescription::Abort {
-                abort: AbortDescription::from_status(abort, name),
-            },
-        }
-    }
-}
-
-/// What ended a process from outside. All platforms' cases are here, since a report may be read on
-/// another platform than the run's.
-#[derive(Debug, PartialEq, Eq, Drop)]
-pub enum AbortDescription {
-    /// A signal.
-    UnixSignal {
-        /// Its number.
-        signal: i32,
-
-        /// Its name without `SIG`, where it was known.
-        name: Option<String>,
-    },
-
-    /// A Windows status code.
-    WindowsNtStatus {
-        /// The code, as a signed number of 32 bits.
-        code: i32,
-
-        /// The system's message for it, where there was one.
-        message: Option<String>,
-    },
-
-    /// The Windows job object that holds the process was ended.
-    WindowsJobObject,
-}
-
-impl AbortDescription {
-    /// The description of an abort: the same case, with the name in a signal.
-    pub fn from_status(status: AbortStatus, name: Option<String>) -> Self
-        ensures { result ≡ described_abort status name }
-    {
-        match status {
-            AbortStatus::UnixSignal(signal) => AbortDescription::UnixSignal { signal, name },
-        }
-    }
-}
-
 /// What kind of unit a process belongs to.
 #[derive(Clone, Copy, Debug, PartialEq, Eq)]
 pub enum UnitKind {
@@ -337,6 +260,40 @@ pub enum UnitKind {
 
     /// A script, as a setup script.
     Script,
+}
+
+impl UnitKind {
+    /// Shown while a test's process is waited for.
+    pub const WAITING_ON_TEST_MESSAGE: &'static str = "waiting on test process";
+
+    /// Shown while a script's process is waited for.
+    pub const WAITING_ON_SCRIPT_MESSAGE: &'static str = "waiting on script process";
+
+    /// Describes what was tried where a test could not be run.
+    pub const EXECUTING_TEST_MESSAGE: &'static str = "executing test";
+
+    /// Describes what was tried where a script could not be run.
+    pub const EXECUTING_SCRIPT_MESSAGE: &'static str = "executing script";
+
+    /// The kind's message while its process is waited for.
+    pub fn waiting_on_message(&self) -> &'static str
+        ensures { result.now ≡ waiting_text self.now }
+    {
+        match self {
+            UnitKind::Test => UnitKind::WAITING_ON_TEST_MESSAGE,
+            UnitKind::Script => UnitKind::WAITING_ON_SCRIPT_MESSAGE,
+        }
+    }
+
+    /// The kind's description of what was tried.
+    pub fn executing_message(&self) -> &'static str
+        ensures { result.now ≡ executing_text self.now }
+    {
+        match self {
+            UnitKind::Test => UnitKind::EXECUTING_TEST_MESSAGE,
+            UnitKind::Script => UnitKind::EXECUTING_SCRIPT_MESSAGE,
+        }
+    }
 }
 
 /// Why a run is cancelled, the least severe reason first. A run that has a reason may only be
@@ -366,4 +323,23 @@ pub enum CancelReason {
 
     /// A second signal came while the run was ending after the first.
     SecondSignal,
+}
+
+impl CancelReason {
+    /// The reason in words, as messages to a user name it. Both reasons that a failed test gives
+    /// have the same words.
+    pub fn to_static_str(self) -> &'static str
+        ensures { result.now ≡ cancel_text self }
+    {
+        match self {
+            CancelReason::SetupScriptFailure => "setup script failure",
+            CancelReason::TestFailure => "test failure",
+            CancelReason::ReportError => "reporting error",
+            CancelReason::TestFailureImmediate => "test failure",
+            CancelReason::GlobalTimeout => "global timeout",
+            CancelReason::Signal => "signal",
+            CancelReason::Interrupt => "interrupt",
+            CancelReason::SecondSignal => "second signal",
+        }
+    }
 }

@@ -2,19 +2,14 @@
 
 ghost use Rattle.std.specs.Prelude.{◌≡◌, ◌≢◌, ◌≤◌, ◌==◌, ◌&&◌, IsTrue, Option, Some, false, true, if◌then◌else◌};
 ghost use Rattle.run_events.specs.Config.{is_final_display, is_immediate_display};
-ghost use Rattle.run_events.specs.Visibility.{IsException, IsNoMoreVisible, is_stored, severity, terminated, visibility, wanted};
-ghost use Rattle.run_events.specs.Visibility as spec;
+ghost use Rattle.run_events.specs.Visibility.{IsException, IsNoMoreVisible, is_stored, severity, visibility, wanted};
+ghost use Rattle.run_events.specs.Results.{is_termination_failure};
 
 use crate::config::TestOutputDisplay;
 use crate::levels::{
     FinalStatusLevel, OutputOnTestFinished, OutputStoreFinal, StatusLevel, StatusLevels,
 };
-use crate::results::{
-    AbortDescription, CancelReason, ExecutionResultDescription, FailureDescription,
-};
-
-/// The number of the signal by which a runner asks a process to end.
-const SIGTERM: i32 = 15;
+use crate::results::{CancelReason, ExecutionResultDescription};
 
 impl StatusLevels {
     /// What is shown of a test that has just finished, and what is stored of it for the end of the
@@ -150,35 +145,10 @@ fn is_stopped(
     cancel_status: Option<CancelReason>,
     execution_result: &ExecutionResultDescription,
 ) -> bool
-    ensures { result ≡ ((severity cancel_status == severity (Some CancelReason.TestFailureImmediate)) && terminated execution_result.now) }
+    ensures { result ≡ ((severity cancel_status == severity (Some CancelReason.TestFailureImmediate)) && is_termination_failure execution_result.now) }
 {
     match cancel_status {
-        Some(CancelReason::TestFailureImmediate) => is_terminated(execution_result),
+        Some(CancelReason::TestFailureImmediate) => execution_result.is_termination_failure(),
         _ => false,
-    }
-}
-
-/// Whether a test failed as one does that the runner ends: by `SIGTERM`, or with the Windows job
-/// object.
-fn is_terminated(execution_result: &ExecutionResultDescription) -> bool
-    ensures { result ≡ terminated execution_result.now }
-{
-    match execution_result {
-        ExecutionResultDescription::Fail {
-            failure: FailureDescription::Abort { abort },
-            ..
-        } => ends_test(abort),
-        _ => false,
-    }
-}
-
-/// Whether an abort is one by which the runner ends a test.
-fn ends_test(abort: &AbortDescription) -> bool
-    ensures { result ≡ spec.ends_test abort.now }
-{
-    match abort {
-        AbortDescription::UnixSignal { signal, .. } => *signal == SIGTERM,
-        AbortDescription::WindowsNtStatus { .. } => false,
-        AbortDescription::WindowsJobObject => true,
     }
 }

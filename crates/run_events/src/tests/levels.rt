@@ -1,247 +1,168 @@
-//! What is shown of a finished test.
+//! What the attempts of a test come to, and how much attention it asks for.
 
-use crate::config::TestOutputDisplay;
-use crate::levels::{
-    FinalStatusLevel, OutputOnTestFinished, OutputStoreFinal, StatusLevel, StatusLevels,
+use super::builders::{
+    EXEC_FAIL, EXIT_ONE, LEAK_FAIL, LEAK_PASS, PASS, TIMEOUT_FAIL, TIMEOUT_PASS, attempt,
+    finished_test,
 };
-use crate::results::{
-    AbortDescription, CancelReason, ExecutionResultDescription, FailureDescription,
-};
-use std::process::Abort;
+use super::counters::EMPTY_START;
+use crate::attempts::{ExecutionDescription, RetryData};
+use crate::child::LiveSpec;
+use crate::config::FlakyResult;
+use crate::levels::{FinalStatusLevel, StatusLevel};
+use crate::results::ExecutionResult;
+use crate::stats::{FinishedUnit, RunStats};
+use std::test::Fail;
 
-/// No reason, and all reasons, the least first.
-const REASONS: [Option<CancelReason>; 9] = [
-    None,
-    Some(CancelReason::SetupScriptFailure),
-    Some(CancelReason::TestFailure),
-    Some(CancelReason::ReportError),
-    Some(CancelReason::TestFailureImmediate),
-    Some(CancelReason::GlobalTimeout),
-    Some(CancelReason::Signal),
-    Some(CancelReason::Interrupt),
-    Some(CancelReason::SecondSignal),
-];
-
-const DISPLAYS: [TestOutputDisplay; 4] = [
-    TestOutputDisplay::Immediate,
-    TestOutputDisplay::ImmediateFinal,
-    TestOutputDisplay::Final,
-    TestOutputDisplay::Never,
-];
-
-/// All final levels, the least first.
-const FINAL_LEVELS: [FinalStatusLevel; 8] = [
-    FinalStatusLevel::None,
-    FinalStatusLevel::Fail,
-    FinalStatusLevel::Flaky,
-    FinalStatusLevel::Slow,
-    FinalStatusLevel::Skip,
-    FinalStatusLevel::Leak,
-    FinalStatusLevel::Pass,
-    FinalStatusLevel::All,
-];
-
-/// A failure by a signal, which left no handle open.
-fn signalled(signal: i32) -> ExecutionResultDescription {
-    ExecutionResultDescription::Fail {
-        failure: FailureDescription::Abort {
-            abort: AbortDescription::UnixSignal { signal, name: None },
-        },
-        leaked: false,
+/// The case of a description in one word.
+fn case_of(description: &ExecutionDescription<'_, LiveSpec>) -> &'static str {
+    match description {
+        ExecutionDescription::Success { .. } => "success",
+        ExecutionDescription::Flaky { .. } => "flaky",
+        ExecutionDescription::Failure { .. } => "failure",
     }
 }
 
-/// A failure by exit code 1.
-fn exited() -> ExecutionResultDescription {
-    ExecutionResultDescription::Fail {
-        failure: FailureDescription::ExitCode { code: 1 },
-        leaked: false,
-    }
-}
+/// Earlier results, the last one, whether it was slow, and the setting; then the case, the level
+/// and the final level.
+type Row = (
+    &'static [ExecutionResult],
+    ExecutionResult,
+    bool,
+    FlakyResult,
+    &'static str,
+    StatusLevel,
+    FinalStatusLevel,
+);
 
-/// What is shown where a failed test has the final level `level`, and the own final level is
-/// `own`. Lines are written from `Pass` on.
-fn output(
-    own: FinalStatusLevel,
-    display: TestOutputDisplay,
-    reason: Option<CancelReason>,
-    level: FinalStatusLevel,
-    execution_result: &ExecutionResultDescription,
-) -> OutputOnTestFinished {
-    let levels = StatusLevels {
-        status_level: StatusLevel::Pass,
-        final_status_level: own,
-    };
-    levels.compute_output_on_test_finished(
-        display,
-        reason,
+const ROWS: [Row; 4] = [
+    (
+        &[],
+        LEAK_PASS,
+        true,
+        FlakyResult::Pass,
+        "success",
+        StatusLevel::Leak,
+        FinalStatusLevel::Slow,
+    ),
+    (
+        &[PASS],
+        PASS,
+        false,
+        FlakyResult::Pass,
+        "flaky",
+        StatusLevel::Retry,
+        FinalStatusLevel::Flaky,
+    ),
+    (
+        &[PASS],
+        EXIT_ONE,
+        false,
+        FlakyResult::Pass,
+        "failure",
         StatusLevel::Fail,
-        level,
-        execution_result,
-    )
+        FinalStatusLevel::Fail,
+    ),
+    (
+        &[EXIT_ONE],
+        LEAK_PASS,
+        false,
+        FlakyResult::Fail,
+        "flaky",
+        StatusLevel::Fail,
+        FinalStatusLevel::Fail,
+    ),
+];
+
+#[test]
+fn tests_are_described_with_their_levels(rt: HostRuntime) -> Result<(), Fail> {
+    for (earlier, last, is_slow, setting, case, level, final_level) in ROWS {
+        let test = finished_test(rt.alloc(), earlier, last, is_slow, setting)?;
+        let description = test.describe();
+        assert_eq!(rt; case_of(&description), case);
+        assert_eq!(rt; description.status_level(), level);
+        assert_eq!(rt; description.final_status_level(), final_level);
+        assert_eq!(rt; description.is_success_for_output(), case != "failure");
+        assert_eq!(rt; description.last_status().is_slow, is_slow);
+        assert!(rt; description.is_consistent());
+    }
+    Ok(())
 }
 
 #[test]
-fn a_terminated_test_is_hidden_as_the_run_stops(rt: HostRuntime) {
-    let terminated = signalled(15);
-    let other = exited();
-    for (reason, execution_result, show_immediate, store_final) in [
-        (
-            CancelReason::TestFailureImmediate,
-            &terminated,
-            false,
-            OutputStoreFinal::No,
-        ),
-        (
-            CancelReason::GlobalTimeout,
-            &terminated,
-            true,
-            OutputStoreFinal::Yes {
-                display_output: true,
-            },
-        ),
-        (
-            CancelReason::Signal,
-            &terminated,
-            true,
-            OutputStoreFinal::Yes {
-                display_output: false,
-            },
-        ),
-        (
-            CancelReason::SecondSignal,
-            &terminated,
-            false,
-            OutputStoreFinal::No,
-        ),
-        (
-            CancelReason::TestFailureImmediate,
-            &other,
-            true,
-            OutputStoreFinal::Yes {
-                display_output: true,
-            },
-        ),
+fn the_level_is_fail_exactly_where_the_test_counts_as_failed(rt: HostRuntime) -> Result<(), Fail> {
+    for last in [
+        PASS,
+        LEAK_PASS,
+        LEAK_FAIL,
+        EXIT_ONE,
+        EXEC_FAIL,
+        TIMEOUT_FAIL,
+        TIMEOUT_PASS,
     ] {
-        let shown = output(
-            FinalStatusLevel::Fail,
-            TestOutputDisplay::ImmediateFinal,
-            Some(reason),
-            FinalStatusLevel::Fail,
-            execution_result,
-        );
-        assert_eq!(rt;
-            shown,
-            OutputOnTestFinished {
-                write_status_line: true,
-                show_immediate,
-                store_final,
-            },
-            "{reason:?}"
-        );
-    }
-}
-
-#[test]
-fn a_failed_test_is_shown_and_stored_as_asked(rt: HostRuntime) {
-    for (own, display, reason, show_immediate, store_final) in [
-        (
-            FinalStatusLevel::Fail,
-            TestOutputDisplay::Never,
-            None,
-            false,
-            OutputStoreFinal::Yes {
-                display_output: false,
-            },
-        ),
-        (
-            FinalStatusLevel::None,
-            TestOutputDisplay::Immediate,
-            None,
-            true,
-            OutputStoreFinal::No,
-        ),
-        (
-            FinalStatusLevel::Fail,
-            TestOutputDisplay::Final,
-            Some(CancelReason::Signal),
-            false,
-            OutputStoreFinal::Yes {
-                display_output: true,
-            },
-        ),
-        (
-            FinalStatusLevel::Fail,
-            TestOutputDisplay::Immediate,
-            Some(CancelReason::Signal),
-            true,
-            OutputStoreFinal::Yes {
-                display_output: false,
-            },
-        ),
-    ] {
-        let shown = output(own, display, reason, FinalStatusLevel::Fail, &exited());
-        assert_eq!(rt; shown.show_immediate, show_immediate, "{display:?}");
-        assert_eq!(rt; shown.store_final, store_final, "{display:?}");
-    }
-}
-
-/// How much is stored.
-fn amount_stored(stored: OutputStoreFinal) -> u8 {
-    match stored {
-        OutputStoreFinal::No => 0,
-        OutputStoreFinal::Yes {
-            display_output: false,
-        } => 1,
-        OutputStoreFinal::Yes {
-            display_output: true,
-        } => 2,
-    }
-}
-
-/// Whether x shows and stores no more than y.
-fn is_no_more(x: OutputOnTestFinished, y: OutputOnTestFinished) -> bool {
-    (y.show_immediate || !x.show_immediate)
-        && amount_stored(x.store_final) <= amount_stored(y.store_final)
-}
-
-/// Whether more is shown under the greater of two reasons, for a failed test of any final level.
-fn grows_only_by_the_exception(
-    rt: &impl Abort,
-    own: FinalStatusLevel,
-    display: TestOutputDisplay,
-    execution_result: &ExecutionResultDescription,
-    is_terminated: bool,
-) {
-    for level in FINAL_LEVELS {
-        let is_asked_for = display != TestOutputDisplay::Never || own >= level;
-        for (place, lesser) in REASONS.iter().enumerate() {
-            for greater in &REASONS[place..] {
-                let is_exception = *lesser == Some(CancelReason::TestFailureImmediate)
-                    && (*greater == Some(CancelReason::GlobalTimeout)
-                        || *greater == Some(CancelReason::Signal))
-                    && is_terminated
-                    && is_asked_for;
-                let more = output(own, display, *greater, level, execution_result);
-                let less = output(own, display, *lesser, level, execution_result);
-                assert_eq!(rt;
-                    is_no_more(more, less),
-                    !is_exception,
-                    "{lesser:?} {greater:?}"
-                );
-                assert_eq!(rt; more.write_status_line, less.write_status_line);
+        for earlier in [[].as_slice(), [EXIT_ONE].as_slice()] {
+            for setting in [FlakyResult::Pass, FlakyResult::Fail] {
+                for is_slow in [false, true] {
+                    let test = finished_test(rt.alloc(), earlier, last, is_slow, setting)?;
+                    let stats = RunStats::of_run(&[FinishedUnit::Test(&test)], EMPTY_START);
+                    let fails = test.describe().status_level() == StatusLevel::Fail;
+                    assert_eq!(rt; stats.failed_count(), usize::from(fails), "{last:?}");
+                    assert_eq!(rt; stats.has_failures(), fails, "{last:?}");
+                }
             }
         }
     }
+    Ok(())
 }
 
 #[test]
-fn less_is_shown_under_a_greater_reason(rt: HostRuntime) {
-    for own in FINAL_LEVELS {
-        for display in DISPLAYS {
-            grows_only_by_the_exception(&rt, own, display, &signalled(15), true);
-            grows_only_by_the_exception(&rt, own, display, &signalled(9), false);
-            grows_only_by_the_exception(&rt, own, display, &exited(), false);
-        }
+fn a_success_that_did_not_succeed_is_not_consistent(rt: HostRuntime) {
+    let status = attempt(EXIT_ONE, 1, true);
+    let description = ExecutionDescription::Success {
+        single_status: &status,
+    };
+    assert!(rt; !description.is_consistent());
+    assert!(rt; description.is_success_for_output());
+}
+
+#[test]
+fn attempts_come_from_both_ends(rt: HostRuntime) -> Result<(), Fail> {
+    let earlier = [EXIT_ONE, EXIT_ONE];
+    let test = finished_test(rt.alloc(), &earlier, PASS, false, FlakyResult::Pass)?;
+    let mut attempts = test.iter();
+    assert_eq!(rt;
+        attempts.next().map(|status| status.retry_data.attempt),
+        Some(1)
+    );
+    assert_eq!(rt;
+        attempts.next_back().map(|status| status.retry_data.attempt),
+        Some(3)
+    );
+    assert_eq!(rt;
+        attempts.next().map(|status| status.retry_data.attempt),
+        Some(2)
+    );
+    assert!(rt; attempts.next().is_none());
+    let mut number: u32 = 0;
+    for status in test {
+        number = number.saturating_add(1);
+        assert_eq!(rt; status.retry_data.attempt, number);
+    }
+    assert_eq!(rt; number, 3);
+    Ok(())
+}
+
+#[test]
+fn the_last_attempt_has_reached_the_most(rt: HostRuntime) {
+    for (attempt, total_attempts, is_last) in [
+        (1, 3, false),
+        (2, 3, false),
+        (3, 3, true),
+        (4, 3, true),
+    ] {
+        let retry_data = RetryData {
+            attempt,
+            total_attempts,
+        };
+        assert_eq!(rt; retry_data.is_last_attempt(), is_last, "{retry_data:?}");
     }
 }

@@ -4,6 +4,6 @@ use Rattle.run_events.proofs.laws.stress_index_hashes.Goals as goal
 
 pub returns-clause-equality : goal.returns-clause-equality
 returns-clause-equality g c = (
-  λ e. tells-sub_run c.args.a c.args.b (sym c.eq.ensures ∙ e),
-  λ same. c.eq.ensures ∙ sub_run-itself c.args.a c.args.b same,
+  λ e. tells-sub_run c.args.a c.args.b (sym c.eq-are_equal.ensures ∙ e),
+  λ same. c.eq-are_equal.ensures ∙ sub_run-itself c.args.a c.args.b same,
 )

@@ -1,0 +1,124 @@
+//! Whole outputs with what the program extracts from them.
+
+use crate::device::Sink;
+use crate::extract::extract;
+use crate::fault::Fault;
+use crate::memory_device::{MemorySink, MemorySource};
+use std::alloc::Global;
+
+/// Extracts from an output, with devices that fail where they are told to.
+fn extracted<'a>(
+    alloc: Global,
+    output: &[u8],
+    buffer: &'a mut [u8],
+    read_fails: Option<usize>,
+    write_fails: Option<usize>,
+) -> (Result<bool, Fault>, MemorySink<'a>) {
+    let mut source = MemorySource::new(output, read_fails);
+    let mut sink = MemorySink::new(buffer, write_fails);
+    let answer = extract(alloc, &mut source, &mut sink);
+    (answer, sink)
+}
+
+/// An output, and the text that is written for it.
+type Row = (&'static [u8], &'static [u8]);
+
+const FOUND: [Row; 9] = [
+    (
+        b"foobar\nError: \"this is an error\"\n",
+        b"error-str 7 25\nError: \"this is an error\"\n",
+    ),
+    (
+        b"x\nnote: test did not panic as expected\n",
+        b"should-panic 2 36\nnote: test did not panic as expected\n",
+    ),
+    (
+        b"note: test did not panic as expected\nError: e\n",
+        b"error-str 37 8\nError: e\n",
+    ),
+    (
+        b"foobar\nthread 'main' panicked at 'foo', src/lib.rs:1\n\n",
+        b"panic-message 7 45\nthread 'main' panicked at 'foo', src/lib.rs:1\n",
+    ),
+    // A name may span lines.
+    (
+        b"thread 'a\nb' panicked at x",
+        b"panic-message 0 26\nthread 'a\nb' panicked at x\n",
+    ),
+    // A digit past ASCII.
+    (
+        b"thread 'a' (\xf0\x9d\x9f\x8e) panicked at x",
+        b"panic-message 0 31\nthread 'a' (\xf0\x9d\x9f\x8e) panicked at x\n",
+    ),
+    // A line before the head that is malformed behind `Error:`.
+    (
+        b"a\nError:\xff\nthread 'm' panicked at y",
+        b"panic-message 2 32\nError:\xff\nthread 'm' panicked at y\n",
+    ),
+    // White space past ASCII is trimmed.
+    (
+        b"Error: a\xc2\x85\xe3\x80\x80\n",
+        b"error-str 0 8\nError: a\n",
+    ),
+    // A character cut short is no white space.
+    (b"Error: a \xe2\x80", b"error-str 0 11\nError: a \xe2\x80\n"),
+];
+
+/// Outputs from which nothing is extracted.
+const NONE: [&[u8]; 7] = [
+    b"",
+    // A space stands before the error.
+    b" Error: e\n",
+    // A carriage return ends no line.
+    b"x\rthread 'a' panicked at y",
+    // A superscript two is no decimal digit.
+    b"thread 'a' (\xc2\xb2) panicked at x",
+    // Names that are no UTF-8: cut short, a surrogate, too long a form.
+    b"thread 'a\xe2\x82' panicked at x",
+    b"thread '\xed\xa0\x80' panicked at x",
+    b"thread '\xc0\x80' panicked at x",
+];
+
+#[test]
+fn the_text_of_what_is_found(rt: HostRuntime) {
+    for (output, text) in FOUND {
+        let mut buffer = [0; 200];
+        let (answer, sink) = extracted(rt.alloc(), output, &mut buffer, None, None);
+        assert_eq!(rt; answer, Ok(true), "{output:?}");
+        assert_eq!(rt; sink.written(), text, "{output:?}");
+    }
+}
+
+#[test]
+fn the_text_where_nothing_is_found(rt: HostRuntime) {
+    for output in NONE {
+        let mut buffer = [0; 200];
+        let (answer, sink) = extracted(rt.alloc(), output, &mut buffer, None, None);
+        assert_eq!(rt; answer, Ok(false), "{output:?}");
+        assert_eq!(rt; sink.written(), b"none\n".as_slice(), "{output:?}");
+    }
+}
+
+#[test]
+fn devices_fail_at_each_call(rt: HostRuntime) {
+    let (output, text) = FOUND[0];
+    // The read of the bytes, then the one that finds the end.
+    for at in 0..2 {
+        let mut buffer = [0; 200];
+        let (answer, sink) = extracted(rt.alloc(), output, &mut buffer, Some(at), None);
+        assert_eq!(rt; answer, Err(Fault::Read));
+        assert!(rt; sink.written().is_empty());
+    }
+    // The write, which takes the whole text, then the flush.
+    for (at, written) in [(0, b"".as_slice()), (1, text)] {
+        let mut buffer = [0; 200];
+        let (answer, sink) = extracted(rt.alloc(), output, &mut buffer, None, Some(at));
+        assert_eq!(rt; answer, Err(Fault::Write));
+        assert!(rt; sink.has_failed());
+        assert_eq!(rt; sink.written(), written);
+    }
+    let mut buffer = [0; 10];
+    let (answer, sink) = extracted(rt.alloc(), output, &mut buffer, None, None);
+    assert_eq!(rt; answer, Err(Fault::Write));
+    assert_eq!(rt; sink.written(), b"error-str ".as_slice());
+}

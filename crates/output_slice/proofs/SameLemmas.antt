@@ -1,0 +1,135 @@
+-- Each slice is the only one.
+use Rattle.std.proofs.Common.{◌≡◌, ℕ, ◌+◌, ◌<◌, ◌≤◌, List, [], ◌∷◌, ◌++◌, length, refl, sym, ap, subst, ◌∙◌, arith, ⊎_elim}
+use Rattle.std.specs.Prelude.{All, Option, Some, None, MatchOption, IfSome, option_map, sum_by}
+use Rattle.std.proofs.lemmas.Bool.{cases_lt}
+use Rattle.std.proofs.lemmas.List.Elements.{All-contains, All-head, All-tail, Contains-append_right}
+use Rattle.bstr.specs.Find.{IsFirst}
+use Rattle.bstr.specs.Text.{part, lines_of, without_terminator}
+use Rattle.output_slice.specs.declared.panic_head.HeadSpan.{HeadSpan}
+use Rattle.output_slice.specs.Slices.{Slice, IsErrorStart, IsWidened, IsTrimmed, IsTrimmedSlice, IsPanicSlice, IsErrorSlice, IsNote, IsNoteLine}
+use Rattle.output_slice.specs.Extraction.{Extract, panic_slice, error_slice, note_line, OfStream, IsExtract}
+use Rattle.output_slice.proofs.DivisionLemmas.{AreLines-same}
+use Rattle.output_slice.proofs.TakenLemmas.{IsLastTaken-same}
+use Rattle.output_slice.proofs.WideningLemmas.{IsWidened-same}
+
+-- there is one first place
+IsFirst-same : (P : ℕ → Type 0) (i j : ℕ) (x y : Option ℕ) → IsFirst P i j x → IsFirst P i j y → x ≡ y
+IsFirst-same P i j None None g h = refl
+IsFirst-same P i j None (Some k) g h = absurd (g k h.0.low h.0.high h.1)
+IsFirst-same P i j (Some k) None g h = absurd (h k g.0.low g.0.high g.1)
+IsFirst-same P i j (Some k) (Some l) g h = ap Some (⊎_elim
+    (λ (less : k < l). absurd (h.0.before k g.0.low less g.1))
+    (λ (more : l ≤ k). ⊎_elim (λ (less : l < k). absurd (g.0.before l h.0.low less h.1)) (λ (same : k ≤ l). omega arith) (cases_lt l k))
+    (cases_lt k l))
+
+-- equal options hold equal values
+some-same : {A : Type 0} (x y : A) → Some x ≡ Some y → x ≡ y
+some-same x y e = cc
+
+-- a slice is its start and its bytes
+slice-same : (x y : Slice) → x.start ≡ y.start → x.bytes ≡ y.bytes → x ≡ y
+slice-same x y p q = ap (λ s. slice s x.bytes) p ∙ ap (slice y.start) q where
+  slice : ℕ → List ℕ → Slice
+  slice s bytes = record { start = s; bytes = bytes }
+
+-- trimming gives one slice
+IsTrimmedSlice-same : (b : List ℕ) (x y : Slice) → x.start ≡ y.start → IsTrimmedSlice b x → IsTrimmedSlice b y → x ≡ y
+IsTrimmedSlice-same b x y p g h =
+    let ends : g.0 ≡ h.0 = some-same g.0 h.0 (IsFirst-same _ _ _ (Some g.0) (Some h.0) (subst (λ s. IsTrimmed b s g.0) p g.1) h.1) in
+    slice-same x y p (g.2 ∙ ap (λ s. part s g.0 b) p ∙ ap (λ e. part y.start e b) ends ∙ sym h.2)
+
+-- there is one panic slice
+pub IsPanicSlice-same : (b : List ℕ) (f g : Option Slice) → IsPanicSlice b f → IsPanicSlice b g → f ≡ g
+IsPanicSlice-same b None None p q = refl
+IsPanicSlice-same b None (Some y) p q = let heads = IsLastTaken-same b None (Some q.0) p q.1 in absurd (cc)
+IsPanicSlice-same b (Some x) None p q = let heads = IsLastTaken-same b None (Some p.0) q p.1 in absurd (cc)
+IsPanicSlice-same b (Some x) (Some y) p q =
+    let heads : p.0 ≡ q.0 = some-same p.0 q.0 (IsLastTaken-same b (Some p.0) (Some q.0) p.1 q.1) in
+    let starts = IsWidened-same b q.0.start x.start y.start (subst (λ (h : HeadSpan). IsWidened b h.start x.start) heads p.2) q.2 in
+    ap Some (IsTrimmedSlice-same b x y starts p.3 q.3)
+
+-- there is one error slice
+pub IsErrorSlice-same : (b : List ℕ) (f g : Option Slice) → IsErrorSlice b f → IsErrorSlice b g → f ≡ g
+IsErrorSlice-same b f g p q = by_found f g (IsFirst-same (IsErrorStart b) 0 (length b + 1) (option_map start f) (option_map start g) p.0 q.0) p.1 q.1 where
+  start : Slice → ℕ
+  start x = x.start
+
+  by_found : (x y : Option Slice) → option_map start x ≡ option_map start y → IfSome x (IsTrimmedSlice b) → IfSome y (IsTrimmedSlice b) → x ≡ y
+  by_found None None e one two = refl
+  by_found None (Some y) e one two = absurd (cc)
+  by_found (Some x) None e one two = absurd (cc)
+  by_found (Some x) (Some y) e one two = ap Some (IsTrimmedSlice-same b x y (some-same x.start y.start e) one two)
+
+-- there is one first element for which P holds
+first-same : (P : List ℕ → Type 0) (xs ys : List (List ℕ)) (x y : List ℕ) (us vs : List (List ℕ)) → xs ++ x ∷ us ≡ ys ++ y ∷ vs
+    → All (λ z. ¬ P z) xs → All (λ z. ¬ P z) ys → P x → P y → (xs ≡ ys) × (x ≡ y)
+first-same P [] [] x y us vs e none one p q = (refl, cc)
+first-same P [] (z ∷ zs) x y us vs e none one p q = let same : x ≡ z = cc in absurd (All-head (λ w. ¬ P w) z zs one (subst P same p))
+first-same P (z ∷ zs) [] x y us vs e none one p q = let same : y ≡ z = cc in absurd (All-head (λ w. ¬ P w) z zs none (subst P same q))
+first-same P (z ∷ zs) (w ∷ ws) x y us vs e none one p q =
+    let heads : z ≡ w = cc in
+    let tails : zs ++ x ∷ us ≡ ws ++ y ∷ vs = cc in
+    let rest = first-same P zs ws x y us vs tails (All-tail (λ v. ¬ P v) z zs none) (All-tail (λ v. ¬ P v) w ws one) p q in
+    (ap (λ v. v ∷ zs) heads ∙ ap (λ vs. w ∷ vs) rest.0, rest.1)
+
+-- where P holds for none, it holds for no first one
+none-first : (P : List ℕ → Type 0) (all xs : List (List ℕ)) (x : List ℕ) (us : List (List ℕ)) → all ≡ xs ++ x ∷ us → All (λ z. ¬ P z) all → P x → ⊥
+none-first P all xs x us e none p =
+    All-contains (λ z. ¬ P z) (xs ++ x ∷ us) x (subst (All (λ z. ¬ P z)) e none) (Contains-append_right xs (x ∷ us) x (0, omega arith, refl)) p
+
+-- there is one note line
+pub IsNoteLine-same : (b : List ℕ) (f g : Option Slice) → IsNoteLine b f → IsNoteLine b g → f ≡ g
+IsNoteLine-same b f g p q = by_found f g (subst (Is f) (AreLines-same b p.0 p.1) p.2) (subst (Is g) (AreLines-same b q.0 q.1) q.2) where
+  Is : Option Slice → List (List ℕ) → Type 0
+  Is found lines = MatchOption found (All (λ line. ¬ IsNote line) lines)
+      (λ x. (before : List (List ℕ)) × (line : List ℕ) × (after : List (List ℕ)) × (lines ≡ before ++ line ∷ after)
+      × All (λ line. ¬ IsNote line) before × IsNote line × (x.start ≡ sum_by length before) × (x.bytes ≡ without_terminator line))
+
+  by_found : (x y : Option Slice) → Is x (lines_of b) → Is y (lines_of b) → x ≡ y
+  by_found None None one two = refl
+  by_found None (Some y) one two = absurd (none-first IsNote (lines_of b) two.0 two.1 two.2 two.3 one two.5)
+  by_found (Some x) None one two = absurd (none-first IsNote (lines_of b) one.0 one.1 one.2 one.3 two one.5)
+  by_found (Some x) (Some y) one two =
+      let same = first-same IsNote one.0 two.0 one.1 two.1 one.2 two.2 (sym one.3 ∙ two.3) one.4 two.4 one.5 two.5 in
+      ap Some (slice-same x y (one.6 ∙ ap (sum_by length) same.0 ∙ sym two.6) (one.7 ∙ ap without_terminator same.1 ∙ sym two.7))
+
+-- what holds of each stream's bytes holds of a stream
+OfStream-same : (Is : List ℕ → Option Slice → Type 0) → ((b : List ℕ) (f g : Option Slice) → Is b f → Is b g → f ≡ g)
+    → (stream : Option (List ℕ)) (f g : Option Slice) → OfStream Is stream f → OfStream Is stream g → f ≡ g
+OfStream-same Is same None f g p q = p ∙ sym q
+OfStream-same Is same (Some b) f g p q = same b f g p q
+
+module _ (out err : Option (List ℕ)) where
+  panics : (f g : Option Slice) → OfStream IsPanicSlice err f → OfStream IsPanicSlice err g → f ≡ g
+  panics = OfStream-same IsPanicSlice IsPanicSlice-same err
+
+  errors : (f g : Option Slice) → OfStream IsErrorSlice err f → OfStream IsErrorSlice err g → f ≡ g
+  errors = OfStream-same IsErrorSlice IsErrorSlice-same err
+
+  notes : (f g : Option Slice) → OfStream IsNoteLine out f → OfStream IsNoteLine out g → f ≡ g
+  notes = OfStream-same IsNoteLine IsNoteLine-same out
+
+  of_kind : (kind : Slice → Extract) (x y : Slice) → Some x ≡ Some y → Some (kind x) ≡ Some (kind y)
+  of_kind kind x y e = ap (λ z. Some (kind z)) (some-same x y e)
+
+  apart : {A : Type 0} (x : Slice) → Some x ≡ None → A
+  apart x e = absurd (cc)
+
+  -- there is one extraction
+  pub IsExtract-same : (f g : Option Extract) → IsExtract out err f → IsExtract out err g → f ≡ g
+  IsExtract-same None None p q = refl
+  IsExtract-same None (Some (panic_slice y)) p q = apart y (panics (Some y) None q p.0)
+  IsExtract-same None (Some (error_slice y)) p q = apart y (errors (Some y) None q.1 p.1)
+  IsExtract-same None (Some (note_line y)) p q = apart y (notes (Some y) None q.2 p.2)
+  IsExtract-same (Some (panic_slice x)) None p q = apart x (panics (Some x) None p q.0)
+  IsExtract-same (Some (panic_slice x)) (Some (panic_slice y)) p q = of_kind panic_slice x y (panics (Some x) (Some y) p q)
+  IsExtract-same (Some (panic_slice x)) (Some (error_slice y)) p q = apart x (panics (Some x) None p q.0)
+  IsExtract-same (Some (panic_slice x)) (Some (note_line y)) p q = apart x (panics (Some x) None p q.0)
+  IsExtract-same (Some (error_slice x)) None p q = apart x (errors (Some x) None p.1 q.1)
+  IsExtract-same (Some (error_slice x)) (Some (panic_slice y)) p q = apart y (panics (Some y) None q p.0)
+  IsExtract-same (Some (error_slice x)) (Some (error_slice y)) p q = of_kind error_slice x y (errors (Some x) (Some y) p.1 q.1)
+  IsExtract-same (Some (error_slice x)) (Some (note_line y)) p q = apart x (errors (Some x) None p.1 q.1)
+  IsExtract-same (Some (note_line x)) None p q = apart x (notes (Some x) None p.2 q.2)
+  IsExtract-same (Some (note_line x)) (Some (panic_slice y)) p q = apart y (panics (Some y) None q p.0)
+  IsExtract-same (Some (note_line x)) (Some (error_slice y)) p q = apart y (errors (Some y) None q.1 p.1)
+  IsExtract-same (Some (note_line x)) (Some (note_line y)) p q = of_kind note_line x y (notes (Some x) (Some y) p.2 q.2)

@@ -1,0 +1,163 @@
+-- The state of the counted search, and its reads.
+use Rattle.std.proofs.Common.{◌≡◌, ◌≢◌, ℕ, ◌+◌, ◌-◌, ◌*◌, ◌<◌, ◌≤◌, List, [], ◌∷◌, ◌++◌, length, get_or, refl, sym, ap, ◌∙◌, arith, ⊎_elim, length-append}
+use Rattle.std.specs.Prelude.{Option, Some, None, MatchOption, IfSome, ◌^◌}
+use Rattle.std.proofs.lemmas.Bool.{cases_lt}
+use Rattle.std.proofs.lemmas.List.{get_or_at}
+use Rattle.std.proofs.lemmas.Option.{slice_get-get_or}
+use Rattle.output_slice.specs.declared.panic_head.HeadSpan.{HeadSpan}
+use Rattle.output_slice.specs.Head.{IsLineStart}
+use Rattle.output_slice.specs.Taken.{last_of}
+use Rattle.output_slice.specs.Steps.{IsHeadStop, IsNextQuote, NoQuoteBetween, HeadReads, NoFeedBetween}
+use Rattle.output_slice.proofs.StepLemmas.{IsHeadStop-none}
+use Rattle.output_slice.proofs.SettledLemmas.{Settled, settled-first, settled-none, settled-head}
+
+-- the reads so far, and a place before which no quote follows q
+pub record WithReads (b : List ℕ) (old new place q : ℕ) : Type 0 where
+  pub seen : ℕ
+  pub low : q < seen
+  pub high : seen ≤ length b
+  pub quiet : NoQuoteBetween b (q + 1) seen
+  pub one_line : NoFeedBetween b (q + 1) seen
+  -- how far the tail was read behind the quote before q
+  pub before : ℕ
+  pub from : place ≤ before
+  pub to : before ≤ q
+  pub line : place < before → (0 < place) × ((k : ℕ) → place ≤ k + 1 → k < before → get_or b k 0 ≢ 10)
+  pub few : new ≤ old + ((q + 1) + place + before + seen)
+
+-- an opening lies behind the tail that was read before it
+pub before-opening : (b : List ℕ) (old new place q : ℕ) → (w : WithReads b old new place q) → place + 7 ≤ q → IsLineStart b (q - 7) → w.before + 7 ≤ q
+before-opening b old new place q w far line = ⊎_elim
+    (λ (more : place < w.before).
+    let h = w.line more in
+    let some = h.0 in
+    let feed = line (omega arith) in
+    ⊎_elim (λ (less : q - 7 - 1 < w.before). absurd (h.1 (q - 7 - 1) (omega arith) less feed)) (λ (l : w.before ≤ q - 7 - 1). omega arith) (cases_lt (q - 7 - 1) w.before))
+    (λ (none : w.before ≤ place). omega arith)
+    (cases_lt place w.before)
+
+-- the state of the search: the list so far, the last of it, the next quote and the reads
+pub record Searched (b : List ℕ) (old new place : ℕ) (next : Option ℕ) (last : Option HeadSpan) : Type 0 where
+  pub taken : List HeadSpan
+  pub settled : Settled b place taken
+  pub is_last : last ≡ last_of taken
+  pub is_next : IsNextQuote b place next
+  pub fits : IfSome next (λ q. q + 1 < 2 ^ 64)
+  pub within : place ≤ length b
+  pub reads : MatchOption next (new ≤ old + (4 * length b + 8)) (λ q. WithReads b old new place q)
+
+-- the last of a list and one more
+last_of-push : (xs : List HeadSpan) (x : HeadSpan) → last_of (xs ++ x ∷ []) ≡ Some x
+last_of-push xs x =
+    let size = length-append xs (x ∷ []) in
+    slice_get-get_or (xs ++ x ∷ []) (length (xs ++ x ∷ []) - 1) x (omega arith) ∙ ap Some (get_or_at xs x [] x (length (xs ++ x ∷ []) - 1) (omega arith))
+
+-- the start of the search
+pub searched-first : (b : List ℕ) (old new : ℕ) (next : Option ℕ) → IsNextQuote b 0 next → IfSome next (λ q. q + 1 < 2 ^ 64)
+    → MatchOption next (new + 0 ≤ old + length b) (λ q. new + 0 ≤ old + (q + 1)) → Searched b old new 0 next None
+searched-first b old new next is fits reads = record {
+  taken = [];
+  settled = settled-first b;
+  is_last = refl;
+  is_next = is;
+  fits = fits;
+  within = omega arith;
+  reads = by_next next is reads;
+} where
+  by_next : (n : Option ℕ) → IsNextQuote b 0 n → MatchOption n (new + 0 ≤ old + length b) (λ q. new + 0 ≤ old + (q + 1)) → MatchOption n (new ≤ old + (4 * length b + 8)) (λ q. WithReads b old new 0 q)
+  by_next None i r = omega arith
+  by_next (Some q) i r = let high = i.0.high in record { seen = q + 1; low = omega arith; high = omega arith; quiet = λ k low up e. omega arith; one_line = λ k low up e. omega arith; before = 0; from = omega arith; to = omega arith; line = λ l. absurd (omega arith); few = omega arith }
+
+-- a step at a quote that opens no head
+pub searched-none : (b : List ℕ) (old new scanned tested place q : ℕ) (close : Option ℕ) (last : Option HeadSpan) → Searched b old new place (Some q) last
+    → IsNextQuote b (q + 1) close → IfSome close (λ c. c + 1 < 2 ^ 64)
+    → MatchOption close (scanned + (q + 1) ≤ new + length b) (λ c. scanned + (q + 1) ≤ new + (c + 1))
+    → IsHeadStop b place q None → (scanned < tested → place + 7 ≤ q) → (scanned + 8 < tested → IsLineStart b (q - 7)) → HeadReads b place scanned tested close None → Searched b old tested (q + 1) close last
+searched-none b old new scanned tested place q close last h is fits reads none opened line more =
+    let i = h.is_next in
+    let high = i.0.high in record {
+      taken = h.taken;
+      settled = settled-none b place q h.taken h.settled i.0.low i.1 i.0.before none;
+      is_last = h.is_last;
+      is_next = is;
+      fits = fits;
+      within = omega arith;
+      reads = by_close close is reads more;
+    } where
+      by_close : (n : Option ℕ) → IsNextQuote b (q + 1) n → MatchOption n (scanned + (q + 1) ≤ new + length b) (λ c. scanned + (q + 1) ≤ new + (c + 1)) → HeadReads b place scanned tested n None
+          → MatchOption n (tested ≤ old + (4 * length b + 8)) (λ c. WithReads b old tested (q + 1) c)
+      by_close None i r m = let w = h.reads in let seen = w.high in let few = w.few in let to = w.to in let low = h.is_next.0.low in let high = h.is_next.0.high in omega arith
+      by_close (Some c) i r m =
+          let w = h.reads in let few = w.few in let low = h.is_next.0.low in
+          let seen : w.seen ≤ c = ⊎_elim (λ (less : c < w.seen). absurd (w.quiet c i.0.low less i.1)) (λ l. l) (cases_lt c w.seen) in
+          let more_few = m.few in let more_low = m.low in record {
+            seen = m.last;
+            low = m.low;
+            high = m.high;
+            quiet = m.quiet;
+            one_line = m.one_line;
+            before = w.seen;
+            from = omega (arith, w.low);
+            to = seen;
+            line = λ l. (
+              omega arith,
+              λ k low up is. ⊎_elim
+                  (λ (past : q < k). w.one_line k (omega arith) up is)
+                  (λ (at : k ≤ q). let same : k ≡ q = omega arith in omega (arith, ap (λ j. get_or b j 0) same, h.is_next.1))
+                  (cases_lt q k),
+            );
+            few = ⊎_elim
+                (λ (read : scanned < tested).
+                let far = opened read in
+                let to = w.to in
+                ⊎_elim
+                (λ (long : scanned + 8 < tested). let behind = before-opening b old new place q w far (line long) in omega arith)
+                (λ (short : tested ≤ scanned + 8). omega arith)
+                (cases_lt (scanned + 8) tested))
+                (λ (still : tested ≤ scanned). let to = w.to in omega arith)
+                (cases_lt scanned tested);
+          }
+
+-- a step at a quote that opens a head
+pub searched-head : (b : List ℕ) (old new scanned tested ended place q c e : ℕ) (next : Option ℕ) (last : Option HeadSpan) → Searched b old new place (Some q) last
+    → IsNextQuote b (q + 1) (Some c) → scanned + (q + 1) ≤ new + (c + 1)
+    → IsHeadStop b place q (Some e) → HeadReads b place scanned tested (Some c) (Some e)
+    → IsNextQuote b e next → IfSome next (λ x. x + 1 < 2 ^ 64)
+    → MatchOption next (ended + e ≤ tested + length b) (λ x. ended + e ≤ tested + (x + 1))
+    → Searched b old ended e next (Some (record { start = q - 7; stop = e }))
+searched-head b old new scanned tested ended place q c e next last h is reads stop more is' fits reads' =
+    let i = h.is_next in
+    let far = stop.0 in
+    let ends = stop.1.ends in
+    let x : HeadSpan = record { start = q - 7; stop = e } in record {
+      taken = h.taken ++ x ∷ [];
+      settled = settled-head b place q h.taken x h.settled i.0.low i.1 i.0.before (omega arith) (omega arith) stop.1;
+      is_last = sym (last_of-push h.taken x);
+      is_next = is';
+      fits = fits;
+      within = ends;
+      reads = by_next next is' reads';
+    } where
+      by_next : (n : Option ℕ) → IsNextQuote b e n → MatchOption n (ended + e ≤ tested + length b) (λ x. ended + e ≤ tested + (x + 1)) → MatchOption n (ended ≤ old + (4 * length b + 8)) (λ x. WithReads b old ended e x)
+      by_next None i r =
+          let w = h.reads in let few = w.few in let behind = before-opening b old new place q w stop.0 stop.1.line_start in let far = stop.0 in let low = h.is_next.0.low in let high = h.is_next.0.high in
+          let seen : w.seen ≤ c = ⊎_elim (λ (less : c < w.seen). absurd (w.quiet c is.0.low less is.1)) (λ l. l) (cases_lt c w.seen) in
+          let more_few = more.few in let more_low = more.low in let before = more.before in let ends = stop.1.ends in let clow = is.0.low in omega arith
+      by_next (Some x) i r =
+          let w = h.reads in let few = w.few in let behind = before-opening b old new place q w stop.0 stop.1.line_start in let far = stop.0 in let low = h.is_next.0.low in let high = h.is_next.0.high in
+          let seen : w.seen ≤ c = ⊎_elim (λ (less : c < w.seen). absurd (w.quiet c is.0.low less is.1)) (λ l. l) (cases_lt c w.seen) in
+          let more_few = more.few in let more_low = more.low in let before = more.before in let xlow = i.0.low in let xhigh = i.0.high in let clow = is.0.low in
+          record { seen = x + 1; low = omega arith; high = omega arith; quiet = λ k low up is. omega arith; one_line = λ k low up is. omega arith; before = e; from = omega arith; to = omega arith; line = λ l. absurd (omega arith); few = omega arith }
+
+-- the same, where it is not yet known that there is a next quote
+pub searched-found : (b : List ℕ) (old new scanned tested ended place q e : ℕ) (close next : Option ℕ) (last : Option HeadSpan) → Searched b old new place (Some q) last
+    → IsNextQuote b (q + 1) close
+    → MatchOption close (scanned + (q + 1) ≤ new + length b) (λ c. scanned + (q + 1) ≤ new + (c + 1))
+    → IsHeadStop b place q (Some e) → HeadReads b place scanned tested close (Some e)
+    → IsNextQuote b e next → IfSome next (λ x. x + 1 < 2 ^ 64)
+    → MatchOption next (ended + e ≤ tested + length b) (λ x. ended + e ≤ tested + (x + 1))
+    → Searched b old ended e next (Some (record { start = q - 7; stop = e }))
+searched-found b old new scanned tested ended place q e None next last h is reads stop more is' fits reads' =
+    let far = stop.0 in absurd (IsHeadStop-none b place q is (q - 7) e (omega arith) (omega arith) stop.1)
+searched-found b old new scanned tested ended place q e (Some c) next last h is reads stop more is' fits reads' =
+    searched-head b old new scanned tested ended place q c e next last h is reads stop more is' fits reads'

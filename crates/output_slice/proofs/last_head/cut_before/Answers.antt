@@ -1,0 +1,10 @@
+use Rattle.std.proofs.Common.{arith}
+use Rattle.output_slice.proofs.CrossLemmas.{crossed-more}
+use Rattle.output_slice.proofs.last_head.cut_before.Goals as goal
+
+pub loop-start-preserved : goal.loop-start-preserved
+loop-start-preserved c =
+    let i = c.loop-start.invariant in
+    let crosses = c.in-Some.ensures in
+    let low = crosses.low in
+    (omega arith, crosses.line_start, crossed-more c.args.bytes.now c.in-Some.start c.loop-start.cut c.args.at crosses i.2)

@@ -1,0 +1,12 @@
+use Rattle.std.proofs.Common.{length}
+use Rattle.std.specs.Prelude.{Option}
+use Rattle.output_slice.specs.declared.panic_head.HeadSpan.{HeadSpan}
+use Rattle.output_slice.specs.Taken.{IsLastTaken}
+use Rattle.output_slice.proofs.last_head.last_in_windows.Given as goal
+
+-- the last of the rest is the last of all
+abbrev pub invariant-loop-at : goal.invariant-loop-at
+invariant-loop-at l = (found : Option HeadSpan) → IsLastTaken l.rest found → IsLastTaken l.fn.bytes found
+
+abbrev pub decreases-loop-at : goal.decreases-loop-at
+decreases-loop-at l = length l.rest

@@ -1,0 +1,34 @@
+use Rattle.std.proofs.Common.{◌≡◌, refl, ◌∙◌, arith, subst}
+use Rattle.output_slice.specs.Head.{IsDigit}
+use Rattle.std.proofs.Common.{true}
+use Rattle.std.proofs.lemmas.Str.{len_utf8_bounds, length-encode}
+use Rattle.output_slice.proofs.CharLemmas.{char-same}
+use Rattle.output_slice.proofs.DigitLemmas.{digits-none, digits-more}
+use Rattle.output_slice.proofs.panic_head.characters.digits_end.Goals as goal
+
+pub loop-at-init : goal.loop-at-init
+loop-at-init g c = (refl, c.len-end.ensures, omega arith, omega arith, omega arith, digits-none _ _ c.requires.within)
+
+pub loop-at-preserved : goal.loop-at-preserved
+loop-at-preserved g c =
+    let v = rw c.loop-at.invariant.0 at c.in-Some.ensures.value in
+    let i = c.loop-at.invariant in
+    let ends = v.0.ends in
+    let reads = c.in-Some.ensures.reads in
+    (c.in-Some.ensures.same ∙ i.0, i.1, omega arith, omega arith, omega arith, digits-more _ _ _ _ _ _ i.5 v.0 (c.is_digit.ensures.0 c.if-not-is_digit.false) v.1)
+
+pub returns-then-not-is_digit-clause-run : goal.returns-then-not-is_digit-clause-run
+returns-then-not-is_digit-clause-run g c =
+    let v = rw c.loop-at.invariant.0 at c.in-Some.ensures.value in
+    let f = c.if-not-is_digit.true in
+    record {
+      digits = c.loop-at.invariant.5;
+      stops = λ x h d.
+          let same = char-same _ _ _ _ x c.in-Some.c h v.0 in
+          let yes : c.is_digit.result ≡ true = c.is_digit.ensures.1 (subst IsDigit same d) in
+          absurd (cc);
+    }
+
+pub returns-clause-run : goal.returns-clause-run
+returns-clause-run g c =
+    record { digits = c.loop-at.invariant.5; stops = λ x h d. let len = length-encode x in let some = len_utf8_bounds x in absurd (omega (arith, h.ends)) }

@@ -1,0 +1,14 @@
+-- Line starts that no head crosses, at which the taken heads divide.
+use Rattle.std.specs.Prelude.{ℕ, ◌+◌, ◌<◌, ◌≤◌, List, length}
+use Rattle.output_slice.specs.declared.panic_head.HeadSpan.{HeadSpan}
+use Rattle.output_slice.specs.Head.{IsLineStart, IsHead}
+
+-- The place c is a line start, and each head that starts before it ends there or before it.
+pub record IsCut (b : List ℕ) (c : ℕ) : Type 0 where
+  pub within : c ≤ length b
+  pub line_start : IsLineStart b c
+  pub uncrossed : (s e : ℕ) → IsHead b s e → s < c → e ≤ c
+
+-- A head of what stands behind c, as a head of the whole.
+abbrev pub shifted : ℕ → HeadSpan → HeadSpan
+shifted c h = record { start = c + h.start; stop = c + h.stop }

@@ -1,0 +1,30 @@
+-- Laws of the definitions.
+use Rattle.std.specs.Prelude.{◌≡◌, ℕ, ◌++◌, List, take, drop, map}
+use Rattle.std.specs.Str.{IsUtf8, encode_utf8_all}
+use Rattle.bstr.specs.Utf8.{lossy_chars}
+use Rattle.output_slice.specs.declared.panic_head.HeadSpan.{HeadSpan}
+use Rattle.output_slice.specs.Head.{IsHead}
+use Rattle.output_slice.specs.Taken.{IsTaken}
+use Rattle.output_slice.specs.Cut.{IsCut, shifted}
+use Rattle.output_slice.specs.Lines.{AreLines}
+
+-- At one start there is at most one head.
+abbrev pub HeadsHaveOneEnd : Type 0
+HeadsHaveOneEnd = (b : List ℕ) (s e f : ℕ) → IsHead b s e → IsHead b s f → e ≡ f
+
+-- All bytes have a list of taken heads, and only one.
+abbrev pub TakenHeadsExist : Type 0
+TakenHeadsExist = (b : List ℕ) → (taken : List HeadSpan) × IsTaken b taken × ((other : List HeadSpan) → IsTaken b other → other ≡ taken)
+
+-- The taken heads of the whole are those before a cut, then those behind it, shifted.
+abbrev pub TakenHeadsDivide : Type 0
+TakenHeadsDivide = (b : List ℕ) (c : ℕ) (before behind : List HeadSpan) → IsCut b c → IsTaken (take c b) before → IsTaken (drop c b) behind
+    → IsTaken b (before ++ map (shifted c) behind)
+
+-- All bytes divide into lines, and in one way only.
+abbrev pub LinesExist : Type 0
+LinesExist = (b : List ℕ) → (lines : List (List ℕ)) × AreLines b lines × ((other : List (List ℕ)) → AreLines b other → other ≡ lines)
+
+-- The lossy text of bytes that are UTF-8 is those bytes.
+abbrev pub LossyTextIsExact : Type 0
+LossyTextIsExact = (b : List ℕ) → IsUtf8 b → encode_utf8_all (lossy_chars b) ≡ b

@@ -1,0 +1,10 @@
+pub mod Head
+pub mod Taken
+pub mod Cut
+pub mod Lines
+pub mod Slices
+pub mod Extraction
+pub mod Shown
+pub mod Laws
+pub mod Steps
+pub mod Search

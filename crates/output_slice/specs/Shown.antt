@@ -1,0 +1,35 @@
+-- How slices are seen: their bytes and starts, without addresses.
+use Rattle.std.specs.Prelude.{Option, None, Some}
+use Rattle.output_slice.specs.declared.subslice.ByteSubslice.{ByteSubslice}
+use Rattle.output_slice.specs.declared.subslice.TestOutputErrorSlice.{TestOutputErrorSlice}
+use Rattle.output_slice.specs.declared.subslice.TestOutputErrorSlice.TheVariants.{PanicMessage, ErrorStr, ShouldPanic}
+use Rattle.output_slice.specs.Slices.{Slice}
+use Rattle.output_slice.specs.Extraction.{Extract, panic_slice, error_slice, note_line}
+
+-- The bytes and the start of a subslice.
+abbrev pub slice_of : ByteSubslice → Slice
+slice_of x = record { start = x.start; bytes = x.slice.now }
+
+-- The slice of each kind: a panic message is a panic slice, an error an error slice, the other a note line.
+abbrev pub extract_of : TestOutputErrorSlice → Extract
+extract_of (PanicMessage x) = panic_slice (slice_of x)
+extract_of (ErrorStr x) = error_slice (slice_of x)
+extract_of (ShouldPanic x) = note_line (slice_of x)
+
+-- The subslice, of whichever stream.
+abbrev pub part_of : TestOutputErrorSlice → ByteSubslice
+part_of (PanicMessage x) = x
+part_of (ErrorStr x) = x
+part_of (ShouldPanic x) = x
+
+-- The subslice of standard error, which a panic message and an error have.
+abbrev pub stderr_part : TestOutputErrorSlice → Option ByteSubslice
+stderr_part (PanicMessage x) = Some x
+stderr_part (ErrorStr x) = Some x
+stderr_part (ShouldPanic x) = None
+
+-- The subslice of standard output, which a note line has.
+abbrev pub stdout_part : TestOutputErrorSlice → Option ByteSubslice
+stdout_part (PanicMessage x) = None
+stdout_part (ErrorStr x) = None
+stdout_part (ShouldPanic x) = Some x

@@ -1,0 +1,87 @@
+-- What the steps of the counted search find, and how far they read.
+use Rattle.std.specs.Prelude.{◌≡◌, ◌≢◌, ℕ, ◌+◌, ◌-◌, ◌<◌, ◌≤◌, List, length, slice_index, All, Option, MatchOption, IfSome}
+use Rattle.std.specs.Char.{encode_utf8, IsScalar}
+use Rattle.std.specs.Str.{encode_utf8_all}
+use Rattle.bstr.specs.Text.{part}
+use Rattle.bstr.specs.Find.{OccursAt, IsFirst}
+use Rattle.output_slice.specs.Head.{IsDigit, IsName, IsTail, IsHead}
+
+-- No line feed stands in b from i up to j.
+abbrev pub NoFeedBetween : List ℕ → ℕ → ℕ → Type 0
+NoFeedBetween b i j = (k : ℕ) → i ≤ k → k < j → slice_index b k ≢ 10
+
+-- No quote stands in b from i up to j.
+abbrev pub NoQuoteBetween : List ℕ → ℕ → ℕ → Type 0
+NoQuoteBetween b i j = (k : ℕ) → i ≤ k → k < j → slice_index b k ≢ 39
+
+-- What is found is the first place at or after `from` where a quote stands.
+abbrev pub IsNextQuote : List ℕ → ℕ → Option ℕ → Type 0
+IsNextQuote b from found = IsFirst (λ k. slice_index b k ≡ 39) from (length b) found
+
+-- The first k bytes of text stand in b at `at`.
+pub record AgreesFor (b text : List ℕ) (at k : ℕ) : Type 0 where
+  pub short : k ≤ length text
+  pub reads : (j : ℕ) → j < k → slice_index b (at + j) ≡ slice_index text j
+  pub fits : at + k ≤ length b
+
+-- The character c stands in b at `at` and ends by `stop`.
+pub record IsCharAt (b : List ℕ) (at stop c : ℕ) : Type 0 where
+  pub scalar : IsScalar c
+  pub stands : OccursAt b (encode_utf8 c) at
+  pub ends : at + length (encode_utf8 c) ≤ stop
+
+-- No digit stands in b at `at`.
+abbrev pub NoDigitAt : List ℕ → ℕ → Type 0
+NoDigitAt b at = (c : ℕ) → IsCharAt b at (length b) c → IsDigit c → ⊥
+
+-- From `from` to `to` stand digits, perhaps none.
+pub record AreDigits (b : List ℕ) (from to : ℕ) : Type 0 where
+  pub chars : List ℕ
+  pub digits : All (λ c. IsScalar c × IsDigit c) chars
+  pub stands : OccursAt b (encode_utf8_all chars) from
+  pub ends : to ≡ from + length (encode_utf8_all chars)
+
+-- From `from` to `to` stand digits, and at `to` none.
+pub record IsDigitRun (b : List ℕ) (from to : ℕ) : Type 0 where
+  pub digits : AreDigits b from to
+  pub stops : NoDigitAt b to
+
+-- What is found is where the tail that stands at `at` ends, and none where no tail stands there.
+abbrev pub IsTailEnd : List ℕ → ℕ → Option ℕ → Type 0
+IsTailEnd b at found = MatchOption found ((e : ℕ) → e ≤ length b → ¬ IsTail (part at e b)) (λ e. (e ≤ length b) × IsTail (part at e b))
+
+-- The reads went up to a place on the line of `at`, before which there is no quote, and not past what was found.
+pub record ReadsUpTo (b : List ℕ) (at old new : ℕ) (found : Option ℕ) : Type 0 where
+  pub last : ℕ
+  pub low : at ≤ last
+  pub high : last ≤ length b
+  pub quiet : NoQuoteBetween b at last
+  pub one_line : NoFeedBetween b at last
+  pub few : new + at ≤ old + last + 6
+  pub before : IfSome found (λ e. last ≤ e)
+
+-- What is found is where the head ends whose name stands between the quotes at `quote` and `close`.
+abbrev pub IsHeadEnd : List ℕ → ℕ → ℕ → Option ℕ → Type 0
+IsHeadEnd b quote close found = MatchOption found
+    ((e : ℕ) → e ≤ length b → IsName (part (quote + 1) close b) → ¬ IsTail (part (close + 1) e b))
+    (λ e. (e ≤ length b) × IsName (part (quote + 1) close b) × IsTail (part (close + 1) e b))
+
+-- What is found is where the head ends that the quote opens, at `place` or after it.
+abbrev pub IsHeadStop : List ℕ → ℕ → ℕ → Option ℕ → Type 0
+IsHeadStop b place quote found = MatchOption found
+    ((s e : ℕ) → place ≤ s → s + 7 ≡ quote → ¬ IsHead b s e)
+    (λ e. (place + 7 ≤ quote) × IsHead b (quote - 7) e)
+
+-- The reads went up to a place on the line of `close`, before which there is no quote behind `close`, and not past what was found.
+pub record HeadReadsTo (b : List ℕ) (place old new close : ℕ) (found : Option ℕ) : Type 0 where
+  pub last : ℕ
+  pub low : close < last
+  pub high : last ≤ length b
+  pub quiet : NoQuoteBetween b (close + 1) last
+  pub one_line : NoFeedBetween b (close + 1) last
+  pub few : new + place ≤ old + last + 6
+  pub before : IfSome found (λ e. last ≤ e)
+
+-- The same where there is a next quote, and no read at all where there is none.
+abbrev pub HeadReads : List ℕ → ℕ → ℕ → ℕ → Option ℕ → Option ℕ → Type 0
+HeadReads b place old new close found = MatchOption close (new ≡ old) (λ c. HeadReadsTo b place old new c found)

@@ -1,0 +1,161 @@
+//! The three heuristics, and which of them is used.
+ghost use Rattle.std.specs.Prelude.{◌≡◌, ◌+◌, ◌≤◌, ◌<◌, ℕ, ◌-◌, length, slice_index, Option, option_map, IfSome};
+ghost use Rattle.std.specs.Option.{option_copied};
+ghost use Rattle.bstr.specs.Text.{without_terminator};
+ghost use Rattle.output_slice.specs.Slices.{Slice, IsErrorSlice, IsNoteLine, IsPart, IsPanicSlice, IsTrimmedSlice, IsWidened, IsBreak};
+ghost use Rattle.output_slice.specs.Extraction.{Extract, IsExtract, LiesIn};
+ghost use Rattle.output_slice.specs.Shown.{slice_of, extract_of};
+
+use crate::last_head::last_head;
+use crate::lines::{line_end, line_start};
+use crate::subslice::{ByteSubslice, TestOutputErrorSlice};
+use bstr::ByteSlice;
+
+impl<'a> TestOutputErrorSlice<'a> {
+    /// The part of a test's output that says why it failed: the panic slice of standard error, else
+    /// its error slice, else the note line of standard output. A stream that was not captured is
+    /// `None`. Output whose two streams were captured as one is handed in as both.
+    ///
+    /// The rules are those of nextest-runner: see [`heuristic_panic_message`],
+    /// [`heuristic_error_str`] and [`heuristic_should_panic`].
+    pub fn heuristic_extract(stdout: Option<&'a [u8]>, stderr: Option<&'a [u8]>) -> Option<Self>
+        ensures value { IsExtract (option_copied stdout.entry) (option_copied stderr.entry) (option_map extract_of result) }
+
+        // Whatever is the extraction equals the result, so `None` says that there is none.
+        ensures only { (found : Option Extract) → IsExtract (option_copied stdout.entry) (option_copied stderr.entry) found → found ≡ option_map extract_of result }
+        ensures part { IfSome result (λ x. LiesIn (option_copied stdout.entry) (option_copied stderr.entry) (extract_of x)) }
+    {
+        first_slice(stdout, stderr)
+    }
+}
+
+/// The first of the three slices that there is.
+fn first_slice<'a>(
+    stdout: Option<&'a [u8]>,
+    stderr: Option<&'a [u8]>,
+) -> Option<TestOutputErrorSlice<'a>>
+    ensures { IsExtract (option_copied stdout.entry) (option_copied stderr.entry) (option_map extract_of result) }
+{
+    if let Some(stderr) = stderr {
+        if let Some(stderr_subslice) = heuristic_panic_message(stderr) {
+            return Some(TestOutputErrorSlice::PanicMessage { stderr_subslice });
+        }
+        if let Some(stderr_subslice) = heuristic_error_str(stderr) {
+            return Some(TestOutputErrorSlice::ErrorStr { stderr_subslice });
+        }
+    }
+    if let Some(stdout) = stdout {
+        if let Some(stdout_subslice) = heuristic_should_panic(stdout) {
+            return Some(TestOutputErrorSlice::ShouldPanic { stdout_subslice });
+        }
+    }
+    None
+}
+
+/// The panic slice: from the last taken head of `stderr`, or from the start of the line before it
+/// where that begins with `Error:`, up to the white space at the end. None where there is no head.
+///
+/// A head is `thread '`, a name and `' panicked at `, as Rust's panic hook writes it at a line start;
+/// heads are taken leftmost first, and disjoint. Line ends between the line before and the head are
+/// passed over. The very first line of the output is never taken for a line before.
+pub fn heuristic_panic_message(stderr: &[u8]) -> Option<ByteSubslice<'_>>
+    ensures value { IsPanicSlice stderr.now (option_map slice_of result) }
+    ensures only { (found : Option Slice) → IsPanicSlice stderr.now found → found ≡ option_map slice_of result }
+    ensures part { IfSome result (λ x. IsPart stderr.now (slice_of x)) }
+{
+    let Some(head) = last_head(stderr) else {
+        return None;
+    };
+    let start = widened(stderr, head.start);
+    Some(trimmed(stderr, start))
+}
+
+/// The error slice: from the first line of `stderr` that begins with `Error: ` up to the white space
+/// at the end. None where no line begins so.
+///
+/// So Rust prints the error of a test or of a `main` that returns a `Result`.
+pub fn heuristic_error_str(stderr: &[u8]) -> Option<ByteSubslice<'_>>
+    ensures value { IsErrorSlice stderr.now (option_map slice_of result) }
+    ensures only { (found : Option Slice) → IsErrorSlice stderr.now found → found ≡ option_map slice_of result }
+    ensures part { IfSome result (λ x. IsPart stderr.now (slice_of x)) }
+{
+    if stderr.starts_with_str(b"Error: ") {
+        return Some(trimmed(stderr, 0));
+    }
+    let Some(at) = stderr.find(b"\nError: ") else {
+        return None;
+    };
+    Some(trimmed(stderr, at + 1))
+}
+
+/// The note line: the first line of `stdout` that holds `note: test did not panic as expected`,
+/// without the `\n` or `\r\n` that ends it. None where no line holds it.
+///
+/// So the test harness says that a test with `should_panic` did not panic.
+pub fn heuristic_should_panic(stdout: &[u8]) -> Option<ByteSubslice<'_>>
+    ensures value { IsNoteLine stdout.now (option_map slice_of result) }
+    ensures only { (found : Option Slice) → IsNoteLine stdout.now found → found ≡ option_map slice_of result }
+    ensures part { IfSome result (λ x. IsPart stdout.now (slice_of x)) }
+{
+    let Some(at) = stdout.find(b"note: test did not panic as expected") else {
+        return None;
+    };
+    let start = line_start(stdout, at);
+    let end = line_end(stdout, at);
+    Some(ByteSubslice {
+        slice: without_end(&stdout[start..end]),
+        start,
+    })
+}
+
+/// The line without the `\n` or `\r\n` that ends it.
+fn without_end(line: &[u8]) -> &[u8]
+    ensures { result.now ≡ without_terminator line.now }
+{
+    match line {
+        [front @ .., b'\r', b'\n'] => front,
+        [front @ .., b'\n'] => front,
+        _ => line,
+    }
+}
+
+/// The start of the line before `start`, if it begins with `Error:`, and else `start`.
+fn widened(stderr: &[u8], start: usize) -> usize
+    requires { start ≤ length stderr.now }
+    ensures value { IsWidened stderr.now start result }
+    ensures within { result ≤ length stderr.now }
+{
+    let front = &stderr[..text_end(stderr, start)];
+    let Some(at) = front.rfind_byte(b'\n') else {
+        return start;
+    };
+    if (&front[at..]).starts_with_str(b"\nError:") {
+        at + 1
+    } else {
+        start
+    }
+}
+
+/// Where the line ends begin that stand before `start`.
+fn text_end(stderr: &[u8], start: usize) -> usize
+    requires { start ≤ length stderr.now }
+    ensures within { result ≤ start }
+    ensures breaks { (i : ℕ) → result ≤ i → i < start → IsBreak (slice_index stderr.now i) }
+    ensures text { 0 < result → ¬ IsBreak (slice_index stderr.now (result - 1)) }
+{
+    (&stderr[..start])
+        .trim_end_with(|c| c == '\n' || c == '\r')
+        .len()
+}
+
+/// The bytes from `start` on without the white space at the end.
+fn trimmed(stderr: &[u8], start: usize) -> ByteSubslice<'_>
+    requires { start ≤ length stderr.now }
+    ensures start { result.start ≡ start }
+    ensures trimmed { IsTrimmedSlice stderr.now (slice_of result) }
+{
+    ByteSubslice {
+        slice: (&stderr[start..]).trim_end(),
+        start,
+    }
+}

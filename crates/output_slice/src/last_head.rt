@@ -1,0 +1,118 @@
+//! The search for the last taken head, from the back.
+ghost use Rattle.std.specs.Prelude.{◌≡◌, ◌≤◌, ◌<◌, ◌+◌, ◌↔◌, ℕ, List, length, take, MatchOption, IsSome, Option, Some, None};
+ghost use Rattle.output_slice.specs.declared.panic_head.HeadSpan.{HeadSpan};
+ghost use Rattle.output_slice.specs.Head.{IsLineStart, IsHead};
+ghost use Rattle.output_slice.specs.Taken.{IsLastTaken, IsTaken, last_of};
+ghost use Rattle.output_slice.specs.Cut.{IsCut};
+ghost use Rattle.output_slice.specs.Search.{IsLastOpening, MayCross};
+
+use crate::byte_source::CountedBytes;
+use crate::lines::line_end;
+use crate::panic_head::quotes::{OPENING_SIZE, WORD_SIZE, opens};
+use crate::panic_head::{HeadSpan, last_panic_head};
+use bstr::ByteSlice;
+
+/// The last line start at which a head may stand.
+fn last_opening(bytes: &[u8]) -> Option<usize>
+    ensures { MatchOption result ((s : ℕ) → (e : ℕ) → ¬ IsHead bytes.now s e) (λ s. IsLastOpening bytes.now s) }
+{
+    if let Some(feed) = bytes.rfind(b"\nthread '") {
+        return Some(feed + 1);
+    }
+    if bytes.starts_with_str(b"thread '") {
+        return Some(0);
+    }
+    None
+}
+
+/// A place by which every head ends, where the last opening is at `at`.
+fn heads_end(bytes: &[u8], at: usize) -> usize
+    requires { IsLastOpening bytes.now at }
+    ensures low { at < result }
+    ensures high { result ≤ length bytes.now }
+    ensures ends { (s : ℕ) → (e : ℕ) → IsHead bytes.now s e → e ≤ result }
+{
+    let name = at + OPENING_SIZE;
+    match (&bytes[name..]).find_byte(b'\'') {
+        Some(gap) => line_end(bytes, name + gap),
+        None => line_end(bytes, name),
+    }
+}
+
+/// Where a head may begin that crosses the line start `at`. None where `at` is a cut.
+fn crossing(bytes: &[u8], at: usize) -> Option<usize>
+    requires within { at ≤ length bytes.now }
+    requires line_start { IsLineStart bytes.now at }
+    ensures { MatchOption result (IsCut bytes.now at) (λ s. MayCross bytes.now s at) }
+{
+    let Some(quote) = (&bytes[..at]).rfind_byte(b'\'') else {
+        return None;
+    };
+    let mut source = CountedBytes::new(bytes);
+    if opens(&mut source, 0, quote) {
+        Some(quote - WORD_SIZE)
+    } else {
+        None
+    }
+}
+
+/// The last line start at or before `at` that no head may cross, by what stands before it.
+fn cut_before(bytes: &[u8], at: usize) -> usize
+    requires within { at ≤ length bytes.now }
+    requires line_start { IsLineStart bytes.now at }
+    ensures cut { IsCut bytes.now result }
+    ensures within { result ≤ at }
+    ensures last { (c : ℕ) → result < c → c ≤ at → (s : ℕ) × MayCross bytes.now s c }
+{
+    let mut cut = at;
+    while let Some(start) = crossing(bytes, cut) {
+        cut = start;
+    }
+    cut
+}
+
+/// The last taken head, if one begins at the cut or after it.
+fn last_from(bytes: &[u8], cut: usize) -> Option<HeadSpan>
+    requires { IsCut bytes.now cut }
+    ensures { MatchOption result ((found : Option HeadSpan) → IsLastTaken (take cut bytes.now) found → IsLastTaken bytes.now found) (λ h. IsLastTaken bytes.now (Some h)) }
+{
+    let mut source = CountedBytes::new(&bytes[cut..]);
+    let Some(head) = last_panic_head(&mut source) else {
+        return None;
+    };
+    Some(HeadSpan {
+        start: cut + head.start,
+        stop: cut + head.stop,
+    })
+}
+
+/// The last taken head of `bytes`, and none where there is no head: what [`last_panic_head`] finds,
+/// looked for from the back, so that a panic near the end of long output costs no search of what
+/// stands before it.
+///
+/// The search goes window by window. A window begins at a line start that no head crosses, and ends
+/// where the window behind it begins. The taken heads of the whole are those of the windows, one
+/// window after the other, so the first window from the back that has a head has the last one.
+pub fn last_head(bytes: &[u8]) -> Option<HeadSpan>
+    ensures last { IsLastTaken bytes.now result }
+    ensures only { (taken : List HeadSpan) → IsTaken bytes.now taken → result ≡ last_of taken }
+    ensures found { IsSome result ↔ ((s : ℕ) × (e : ℕ) × IsHead bytes.now s e) }
+{
+    last_in_windows(bytes)
+}
+
+/// The last taken head, from the last window on.
+fn last_in_windows(bytes: &[u8]) -> Option<HeadSpan>
+    ensures { IsLastTaken bytes.now result }
+{
+    let mut rest = bytes;
+    while let Some(at) = last_opening(rest) {
+        let front = &rest[..heads_end(rest, at)];
+        let cut = cut_before(front, at);
+        if let Some(head) = last_from(front, cut) {
+            return Some(head);
+        }
+        rest = &front[..cut];
+    }
+    None
+}

@@ -1,0 +1,29 @@
+//! Laws of the definitions that contracts cite, for the proofs of callers. Each is a function that
+//! does nothing, and its contract is the law.
+ghost use Rattle.output_slice.specs.Laws.{HeadsHaveOneEnd, TakenHeadsExist, TakenHeadsDivide, LinesExist, LossyTextIsExact};
+
+/// At one start there is at most one head.
+pub fn heads_have_one_end()
+    ensures { HeadsHaveOneEnd }
+{}
+
+/// All bytes have a list of taken heads, and only one.
+pub fn taken_heads_exist()
+    ensures { TakenHeadsExist }
+{}
+
+/// At a line start that no head crosses, the taken heads divide into those before it and those
+/// behind it.
+pub fn taken_heads_divide()
+    ensures { TakenHeadsDivide }
+{}
+
+/// All bytes divide into lines, and in one way only.
+pub fn lines_exist()
+    ensures { LinesExist }
+{}
+
+/// Text that is UTF-8 is displayed as its exact bytes.
+pub fn lossy_text_is_exact()
+    ensures { LossyTextIsExact }
+{}

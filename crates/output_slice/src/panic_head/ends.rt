@@ -1,0 +1,92 @@
+//! Where texts, tails and heads end.
+ghost use Rattle.std.specs.Prelude.{◌≡◌, ◌≤◌, ◌+◌, ◌-◌, ◌*◌, ◌<◌, ◌^◌, ℕ, length, slice_index, IfSome, MatchOption};
+ghost use Rattle.bstr.specs.Find.{OccursAt};
+ghost use Rattle.output_slice.specs.Head.{IsLineStart};
+ghost use Rattle.output_slice.specs.Steps.{IsNextQuote, AgreesFor, IsTailEnd, ReadsUpTo, NoQuoteBetween, IsHeadEnd, IsHeadStop, HeadReads};
+
+use crate::byte_source::ByteSource;
+use crate::panic_head::characters::{digits_end, is_utf8_between};
+use crate::panic_head::quotes::opens;
+
+/// Where `text` ends, if it stands at `at`.
+fn end_of_text<S: ByteSource>(source: &mut S, at: usize, text: &[u8]) -> Option<usize>
+    requires room { S.count source.old + length (S.bytes source.old) < 2 ^ 128 + at }
+    requires within { at ≤ length (S.bytes source.old) }
+    ensures value { MatchOption result (¬ (OccursAt (S.bytes source.old) text.now at)) (λ e. OccursAt (S.bytes source.old) text.now at × (e ≡ at + length text.now)) }
+    ensures reads { (k : ℕ) × AgreesFor (S.bytes source.old) text.now at k × (S.count source.new ≤ S.count source.old + k + 1) }
+    ensures same { S.bytes source.new ≡ S.bytes source.old }
+{
+    let end = source.len();
+    if end - at < text.len() {
+        return None;
+    }
+    for i in 0..text.len() {
+        if source.byte(at + i) != text[i] {
+            return None;
+        }
+    }
+    Some(at + text.len())
+}
+
+/// Where the tail ends that stands at `at`.
+fn tail_end<S: ByteSource>(source: &mut S, at: usize) -> Option<usize>
+    requires within { at ≤ length (S.bytes source.old) }
+    requires room { S.count source.old + 2 * length (S.bytes source.old) + 6 < 2 ^ 128 + 2 * at }
+    ensures value { IsTailEnd (S.bytes source.old) at result }
+    ensures reads { ReadsUpTo (S.bytes source.old) at (S.count source.old) (S.count source.new) result }
+    ensures same { S.bytes source.new ≡ S.bytes source.old }
+{
+    let Some(number) = end_of_text(source, at, b" (") else {
+        return end_of_text(source, at, b" panicked at ");
+    };
+    let close = digits_end(source, number);
+    if close == number {
+        return None;
+    }
+    end_of_text(source, close, b") panicked at ")
+}
+
+/// Where the head ends whose name stands between the quotes at `quote` and `close`.
+fn head_end<S: ByteSource>(source: &mut S, quote: usize, close: usize) -> Option<usize>
+    requires low { quote < close }
+    requires high { close < length (S.bytes source.old) }
+    requires fits { close + 1 < 2 ^ 64 }
+    requires quiet { NoQuoteBetween (S.bytes source.old) (quote + 1) close }
+    requires room { S.count source.old + 2 * length (S.bytes source.old) + 6 < 2 ^ 128 + 2 * quote }
+    ensures value { IsHeadEnd (S.bytes source.old) quote close result }
+    ensures reads { ReadsUpTo (S.bytes source.old) (close + 1) (S.count source.old + (close - quote)) (S.count source.new) result }
+    ensures same { S.bytes source.new ≡ S.bytes source.old }
+{
+    if quote + 1 == close || !is_utf8_between(source, quote + 1, close) {
+        return None;
+    }
+    tail_end(source, close + 1)
+}
+
+/// Where the head ends that `quote` opens, at `place` or after it. The next quote is at `close`.
+pub(crate) fn head_stop<S: ByteSource>(
+    source: &mut S,
+    place: usize,
+    quote: usize,
+    close: Option<usize>,
+) -> Option<usize>
+    requires low { place ≤ quote }
+    requires high { quote < length (S.bytes source.old) }
+    requires is_quote { slice_index (S.bytes source.old) quote ≡ 39 }
+    requires next { IsNextQuote (S.bytes source.old) (quote + 1) close }
+    requires fits { IfSome close (λ c. c + 1 < 2 ^ 64) }
+    requires room { S.count source.old + 2 * length (S.bytes source.old) < 2 ^ 128 + 2 * place }
+    ensures value { IsHeadStop (S.bytes source.old) place quote result }
+    ensures opened { S.count source.old < S.count source.new → place + 7 ≤ quote }
+    ensures line { S.count source.old + 8 < S.count source.new → IsLineStart (S.bytes source.old) (quote - 7) }
+    ensures reads { HeadReads (S.bytes source.old) place (S.count source.old) (S.count source.new) close result }
+    ensures same { S.bytes source.new ≡ S.bytes source.old }
+{
+    let Some(close) = close else {
+        return None;
+    };
+    if !opens(source, place, quote) {
+        return None;
+    }
+    head_end(source, quote, close)
+}

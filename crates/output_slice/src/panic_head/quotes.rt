@@ -1,0 +1,53 @@
+//! Quotes, and what stands before them.
+ghost use Rattle.std.specs.Prelude.{◌≡◌, ◌≤◌, ◌↔◌, ◌+◌, ◌-◌, ◌<◌, ◌^◌, codes, length, IsTrue, IfSome, MatchOption};
+ghost use Rattle.bstr.specs.Find.{OccursAt};
+ghost use Rattle.output_slice.specs.Head.{IsLineStart};
+ghost use Rattle.output_slice.specs.Steps.{IsNextQuote};
+
+use crate::byte_source::ByteSource;
+
+/// How many bytes the word `thread ` has, which stands before the opening quote of a head.
+pub(crate) const WORD_SIZE: usize = 7;
+
+/// How many bytes the word has with the quote.
+pub(crate) const OPENING_SIZE: usize = WORD_SIZE + 1;
+
+/// The next quote at or after `from`.
+pub(crate) fn next_quote<S: ByteSource>(source: &mut S, from: usize) -> Option<usize>
+    requires within { from ≤ length (S.bytes source.old) }
+    requires room { S.count source.old + length (S.bytes source.old) < 2 ^ 128 + from }
+    ensures found { IsNextQuote (S.bytes source.old) from result }
+    ensures fits { IfSome result (λ q. q + 1 < 2 ^ 64) }
+    ensures reads { MatchOption result (S.count source.new + from ≤ S.count source.old + length (S.bytes source.old)) (λ q. S.count source.new + from ≤ S.count source.old + (q + 1)) }
+    ensures same { S.bytes source.new ≡ S.bytes source.old }
+{
+    let end = source.len();
+    for at in from..end {
+        if source.byte(at) == b'\'' {
+            return Some(at);
+        }
+    }
+    None
+}
+
+/// Whether `thread ` stands before `quote` at a line start that is not before `place`.
+pub(crate) fn opens<S: ByteSource>(source: &mut S, place: usize, quote: usize) -> bool
+    requires within { quote < length (S.bytes source.old) }
+    requires room { place + 7 ≤ quote → S.count source.old + 8 < 2 ^ 128 }
+    ensures value { IsTrue result ↔ ((place + 7 ≤ quote) × IsLineStart (S.bytes source.old) (quote - 7) × OccursAt (S.bytes source.old) (codes "thread ") (quote - 7)) }
+    ensures few { S.count source.new ≤ S.count source.old + 8 }
+    ensures none { quote < place + 7 → S.count source.new ≡ S.count source.old }
+    ensures same { S.bytes source.new ≡ S.bytes source.old }
+{
+    if quote < WORD_SIZE || quote - WORD_SIZE < place {
+        return false;
+    }
+    let start = quote - WORD_SIZE;
+    let word = b"thread ";
+    for i in (0..WORD_SIZE).rev() {
+        if source.byte(start + i) != word[i] {
+            return false;
+        }
+    }
+    start == 0 || source.byte(start - 1) == b'\n'
+}

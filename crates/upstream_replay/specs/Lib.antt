@@ -1,0 +1,9 @@
+pub mod Count
+pub mod Extracts
+pub mod Kind
+pub mod Levels
+pub mod Tally
+pub mod Units
+pub mod Verdict
+pub mod Visibilities
+pub mod Words
