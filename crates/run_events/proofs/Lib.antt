@@ -4,5 +4,9 @@ pub mod Counts
 pub mod Hexadecimal
 pub mod LastAttempt
 pub mod Parts
+pub mod SubRunIds
+pub mod SubRunOrder
+pub mod SubRuns
 pub mod SuccessLaws
 pub mod Verdicts
+pub mod VisibilityLaws

@@ -9,14 +9,17 @@ pub mod Description
 pub mod ErrorChain
 pub mod Level
 pub mod ListedErrors
+pub mod Outcome
 pub mod Ranks
 pub mod Results
 pub mod RunLaws
 pub mod ScriptCounters
+pub mod Stress
 pub mod Summary
 pub mod TestCounters
 pub mod TestView
 pub mod Texts
+pub mod Visibility
 pub use Rattle.output_slice.specs.Extraction
 pub use Rattle.output_slice.specs.Shown
 pub use Rattle.output_slice.specs.Slices

@@ -3,15 +3,19 @@
 ghost use Rattle.std.specs.Prelude.{◌≡◌, ◌≢◌, ◌↔◌, ◌≤◌, [], IsTrue};
 ghost use Rattle.std.specs.Ordering.{nat_cmp};
 ghost use Rattle.run_events.specs.Counters.{counted, nothing_known};
-ghost use Rattle.run_events.specs.Ranks.{IsNoLaterAttempt, final_level_rank, level_rank, reason_rank};
+ghost use Rattle.run_events.specs.Outcome.{outcome_rank};
+ghost use Rattle.run_events.specs.Ranks.{IsNoLaterAttempt, IsNoLaterSubRun, final_level_rank, level_rank, reason_rank, step_rank};
 
 use crate::attempts::RetryData;
 use crate::config::FlakyResult;
 use crate::levels::{FinalStatusLevel, StatusLevel};
+use crate::outcome::{RunFailureStep, RunOutcome};
 use crate::results::CancelReason;
 use crate::run_mode::NextestRunMode;
 use crate::stats::RunStats;
+use crate::stress::StressIndex;
 use std::cmp::Ordering;
+use std::hash::{Hash, Hasher};
 
 /// Status levels are ordered as they are declared, `None` the least and `All` the greatest.
 pub fn status_level_order(a: StatusLevel, b: StatusLevel) -> Ordering
@@ -94,4 +98,59 @@ pub fn run_stats_default() -> RunStats
     ensures { result ≡ counted [] [] nothing_known }
 {
     RunStats::default()
+}
+
+/// Steps of a run are ordered as they are declared, `Test` the least.
+pub fn failure_step_order(a: RunFailureStep, b: RunFailureStep) -> Ordering
+    ensures order { result ≡ nat_cmp (step_rank a) (step_rank b) }
+    ensures equality { (result ≡ Ordering.Equal) ↔ (a ≡ b) }
+{
+    a.cmp(&b)
+}
+
+/// `<=` of steps is that order.
+pub fn failure_step_at_most(a: RunFailureStep, b: RunFailureStep) -> bool
+    ensures { IsTrue result ↔ (step_rank a ≤ step_rank b) }
+{
+    a <= b
+}
+
+/// Different outcomes have different ranks, so one outcome alone is the highest of some.
+pub fn outcomes_are_equal(a: RunOutcome, b: RunOutcome) -> bool
+    ensures rank { IsTrue result ↔ (outcome_rank a ≡ outcome_rank b) }
+    ensures equality { IsTrue result ↔ (a ≡ b) }
+{
+    a == b
+}
+
+/// Sub-runs are ordered by their number, then by how many there are, where an unknown number is
+/// the least.
+pub fn stress_index_order(a: StressIndex, b: StressIndex) -> Ordering
+    ensures at_most { (result ≢ Ordering.Greater) ↔ IsNoLaterSubRun a b }
+    ensures equality { (result ≡ Ordering.Equal) ↔ (a ≡ b) }
+{
+    a.cmp(&b)
+}
+
+/// `<=` of sub-runs is that order.
+pub fn stress_index_at_most(a: StressIndex, b: StressIndex) -> bool
+    ensures { IsTrue result ↔ IsNoLaterSubRun a b }
+{
+    a <= b
+}
+
+/// Equal sub-runs hash alike: two hashers in one state are in one state again after them.
+pub fn stress_index_hashes<H: Hasher>(
+    a: StressIndex,
+    b: StressIndex,
+    first: &mut H,
+    second: &mut H,
+) -> bool
+    ensures equality { IsTrue result ↔ (a ≡ b) }
+    ensures alike { IsTrue result → first.old ≡ second.old → first.new ≡ second.new }
+{
+    let are_equal = a == b;
+    a.hash(first);
+    b.hash(second);
+    are_equal
 }

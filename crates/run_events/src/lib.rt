@@ -14,5 +14,6 @@ pub mod outcome;
 pub mod results;
 pub mod run_mode;
 pub mod stats;
+pub mod stress;
 #[cfg(test)]
 mod tests;

@@ -1,6 +1,15 @@
 //! What a run amounts to.
 
+ghost use Rattle.std.specs.Prelude.{◌≡◌};
+ghost use Rattle.run_events.specs.Outcome.{step_of};
+
 use crate::results::CancelReason;
+
+mod finished;
+mod run_outcome;
+
+pub use crate::outcome::finished::{RunFinishedStats, StressFinalRunStats, StressRunStats};
+pub use crate::outcome::run_outcome::RunOutcome;
 
 /// What the counters of a finished run amount to, and so what its exit status is made of.
 #[derive(Clone, Copy, Debug, PartialEq, Eq)]
@@ -42,4 +51,27 @@ pub enum RunStatsFailureKind {
         /// How many of them did not finish, not below 0.
         not_run: usize,
     },
+}
+
+impl RunStatsFailureKind {
+    /// The step alone, without its numbers.
+    pub fn step(&self) -> RunFailureStep
+        ensures { result ≡ step_of self.now }
+    {
+        match self {
+            RunStatsFailureKind::SetupScript => RunFailureStep::SetupScript,
+            RunStatsFailureKind::Test { .. } => RunFailureStep::Test,
+        }
+    }
+}
+
+/// The step of a run at which it failed or was cancelled, without numbers. Where sub-runs failed at
+/// different steps, the greater step counts.
+#[derive(Clone, Copy, Debug, PartialEq, Eq, PartialOrd, Ord)]
+pub enum RunFailureStep {
+    /// At the tests.
+    Test,
+
+    /// At a setup script.
+    SetupScript,
 }

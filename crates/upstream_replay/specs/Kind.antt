@@ -1,7 +1,7 @@
 -- The kinds of frozen answers.
 use Rattle.std.specs.Prelude.{ℕ, List, codes}
 use Rattle.upstream_replay.specs.declared.kind.Kind.{Kind}
-use Rattle.upstream_replay.specs.declared.kind.Kind.TheVariants.{Counter, Level, Count, Extract, Heads}
+use Rattle.upstream_replay.specs.declared.kind.Kind.TheVariants.{Counter, Level, Count, Extract, Heads, Visibility}
 
 -- the word that the lines of a kind begin with
 abbrev pub word_of : Kind → List ℕ
@@ -10,3 +10,4 @@ word_of Level = codes "level"
 word_of Count = codes "count"
 word_of Extract = codes "extract"
 word_of Heads = codes "heads"
+word_of Visibility = codes "visibility"

@@ -5,4 +5,5 @@ pub mod Levels
 pub mod Tally
 pub mod Units
 pub mod Verdict
+pub mod Visibilities
 pub mod Words

@@ -2,7 +2,7 @@
 use Rattle.std.specs.Prelude.{ℕ, Bool, true, false, ◌&&◌, List, length, filter}
 use Rattle.upstream_replay.specs.Verdict.{is_agreement}
 use Rattle.upstream_replay.specs.declared.kind.Kind.{Kind}
-use Rattle.upstream_replay.specs.declared.kind.Kind.TheVariants.{Counter, Level, Count, Extract, Heads}
+use Rattle.upstream_replay.specs.declared.kind.Kind.TheVariants.{Counter, Level, Count, Extract, Heads, Visibility}
 use Rattle.upstream_replay.specs.declared.verdict.Verdict.{Verdict}
 use Rattle.upstream_replay.specs.declared.verdict.Verdict.TheVariants.{Agrees, Disagrees, Malformed}
 
@@ -13,6 +13,7 @@ same_kind Level Level = true
 same_kind Count Count = true
 same_kind Extract Extract = true
 same_kind Heads Heads = true
+same_kind Visibility Visibility = true
 same_kind _ _ = false
 
 -- whether a line is a case of a kind

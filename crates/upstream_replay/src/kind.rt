@@ -20,16 +20,20 @@ pub(crate) enum Kind {
 
     /// The last taken head of output.
     Heads,
+
+    /// What is shown of a finished test.
+    Visibility,
 }
 
 impl Kind {
     /// All kinds, in the order in which they are reported.
-    pub(crate) const ALL: [Kind; 5] = [
+    pub(crate) const ALL: [Kind; 6] = [
         Kind::Counter,
         Kind::Level,
         Kind::Count,
         Kind::Extract,
         Kind::Heads,
+        Kind::Visibility,
     ];
 
     /// The word that the lines of this kind begin with.
@@ -42,6 +46,7 @@ impl Kind {
             Kind::Count => "count",
             Kind::Extract => "extract",
             Kind::Heads => "heads",
+            Kind::Visibility => "visibility",
         }
     }
 
@@ -55,6 +60,7 @@ impl Kind {
             "count" => Some(Kind::Count),
             "extract" => Some(Kind::Extract),
             "heads" => Some(Kind::Heads),
+            "visibility" => Some(Kind::Visibility),
             _ => None,
         }
     }

@@ -24,6 +24,7 @@ mod replay;
 mod tally;
 mod unit;
 mod verdict;
+mod visibility;
 mod words;
 
 /// Judges each line of standard input, and prints those that do not agree.

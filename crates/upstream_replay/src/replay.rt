@@ -2,7 +2,7 @@
 
 use crate::kind::Kind;
 use crate::verdict::Verdict;
-use crate::{count, counter, extract, heads, level};
+use crate::{count, counter, extract, heads, level, visibility};
 use std::alloc::{AllocError, Global};
 
 /// What comes of a line of the list: the word of its kind, a space, and the case.
@@ -19,6 +19,7 @@ pub(crate) fn judged(alloc: Global, line: &str) -> Result<Verdict, AllocError> {
         Kind::Extract => extract::agrees(alloc, case)?,
         Kind::Heads => heads::agrees(alloc, case)?,
         Kind::Level => level::agrees(alloc, case)?,
+        Kind::Visibility => visibility::agrees(alloc, case)?,
     };
     Ok(match agrees {
         Some(true) => Verdict::Agrees(kind),

@@ -1,0 +1,58 @@
+-- The highest outcome of sub-runs, one sub-run after the other.
+use Rattle.std.proofs.Common.{◌≡◌, ◌≤◌, ◌⊎◌, ℕ, ◌+◌, ◌<◌, List, [], ◌∷◌, ◌++◌, length, get_or, map, max, take, Contains, refl, sym, ap, ◌∙◌, subst, inl, inr, arith}
+use Rattle.std.proofs.lemmas.List.{map-append, take_more}
+use Rattle.std.proofs.lemmas.List.Elements.{All-push, All-weaker, Contains-append_left, Contains-push}
+use Rattle.run_events.specs.Outcome.{IsHighest, combined, outcome_of, outcome_rank}
+use Rattle.run_events.specs.declared.outcome.FinalRunStats.{FinalRunStats}
+use Rattle.run_events.specs.declared.outcome.FinalRunStats.TheVariants.{Success}
+use Rattle.run_events.specs.declared.outcome.RunFailureStep.TheVariants as step
+use Rattle.run_events.specs.declared.outcome.run_outcome.RunOutcome.{RunOutcome}
+use Rattle.run_events.specs.declared.outcome.run_outcome.RunOutcome.TheVariants as outcome
+
+combined-least : (o : RunOutcome) → combined outcome.NoTestsRun o ≡ o
+combined-least outcome.NoTestsRun = refl
+combined-least outcome.Success = refl
+combined-least (outcome.Cancelled step.Test) = refl
+combined-least (outcome.Cancelled step.SetupScript) = refl
+combined-least (outcome.Failed step.Test) = refl
+combined-least (outcome.Failed step.SetupScript) = refl
+
+-- the only outcome is the highest
+highest-one : (o : RunOutcome) → IsHighest (o ∷ []) o
+highest-one o = inr (Contains-push [] o, All-push (λ other. outcome_rank other ≤ outcome_rank o) [] o (Prim.search arith) (omega arith))
+
+-- one more outcome
+highest-more : (outcomes : List RunOutcome) (o next r : RunOutcome) → r ≡ combined o next
+    → outcome_rank r ≡ max (outcome_rank o) (outcome_rank next) → (r ≡ o) ⊎ (r ≡ next)
+    → IsHighest outcomes o → IsHighest (outcomes ++ next ∷ []) r
+highest-more outcomes o next r exact rank one (inl (none, least)) =
+    let same : next ≡ r = sym (exact ∙ ap (λ x. combined x next) least ∙ combined-least next) in
+    let P : List RunOutcome → Type 0 = λ os. IsHighest (os ++ next ∷ []) r in
+    let Q : RunOutcome → Type 0 = λ x. IsHighest (next ∷ []) x in
+    subst P (sym none) (subst Q same (highest-one next))
+highest-more outcomes o next r exact rank one (inr (among, greatest)) =
+    let At : RunOutcome → Type 0 = λ x. Contains (outcomes ++ next ∷ []) x in
+    let is_among : Contains (outcomes ++ next ∷ []) r =
+    elim one [
+      | inl same ↦ subst At (sym same) (Contains-append_left outcomes (next ∷ []) o among)
+      | inr same ↦ subst At (sym same) (Contains-push outcomes next)
+    ] in
+    let below : (o' : RunOutcome) → outcome_rank o' ≤ outcome_rank o → outcome_rank o' ≤ outcome_rank r = λ o' low. omega arith in
+    let last : outcome_rank next ≤ outcome_rank r = omega arith in
+    inr (
+      is_among,
+      All-push (λ o'. outcome_rank o' ≤ outcome_rank r) outcomes next
+          (All-weaker (λ o'. outcome_rank o' ≤ outcome_rank o) (λ o'. outcome_rank o' ≤ outcome_rank r) below outcomes greatest) last,
+    )
+
+-- one more sub-run
+pub highest-sub_run : (sub_runs : List FinalRunStats) (i : ℕ) (o next r : RunOutcome) → i < length sub_runs
+    → next ≡ outcome_of (get_or sub_runs i Success) → r ≡ combined o next
+    → outcome_rank r ≡ max (outcome_rank o) (outcome_rank next) → (r ≡ o) ⊎ (r ≡ next)
+    → IsHighest (map outcome_of (take i sub_runs)) o → IsHighest (map outcome_of (take (i + 1) sub_runs)) r
+highest-sub_run sub_runs i o next r within is_next exact rank one so_far =
+    let more : map outcome_of (take (i + 1) sub_runs) ≡ map outcome_of (take i sub_runs) ++ next ∷ [] =
+    ap (map outcome_of) (take_more sub_runs i Success within) ∙ map-append outcome_of (take i sub_runs) (get_or sub_runs i Success ∷ [])
+    ∙ ap (λ x. map outcome_of (take i sub_runs) ++ x ∷ []) (sym is_next) in
+    let P : List RunOutcome → Type 0 = λ os. IsHighest os r in
+    subst P (sym more) (highest-more (map outcome_of (take i sub_runs)) o next r exact rank one so_far)
