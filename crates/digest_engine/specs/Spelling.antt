@@ -9,7 +9,7 @@ use Rattle.run_events.specs.declared.results.CancelReason.{CancelReason}
 use Rattle.run_events.specs.declared.results.CancelReason.TheVariants as reason
 use Rattle.run_events.specs.declared.results.ExecutionResultDescription.{ExecutionResultDescription}
 use Rattle.run_events.specs.declared.results.ExecutionResultDescription.TheVariants as result
-use Rattle.run_events.specs.declared.results.FailureDescription.TheVariants as failure
+use Rattle.run_events.specs.declared.results.failure.FailureDescription.TheVariants as failure
 use Rattle.run_events.specs.declared.stats.RunStart.{RunStart}
 use Rattle.digest_engine.specs.Number.{SpellsNumber}
 
