@@ -9,6 +9,8 @@ mod lines;
 pub mod memory_device;
 mod report;
 pub mod std_device;
+#[cfg(test)]
+mod tests;
 mod transfer;
 mod units;
 mod words;

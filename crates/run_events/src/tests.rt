@@ -1,4 +1,15 @@
 //! What no clause says: rows worked by hand, printed text, and that each public call succeeds once.
 
+mod attempts;
+mod builders;
+mod chain;
 mod chain_values;
+mod child;
+mod conditions;
+mod config;
+mod counters;
+mod laws;
+mod levels;
+mod results;
+mod summary;
 mod texts;

@@ -1,0 +1,9 @@
+//! What no clause says: rows worked by hand, and what readers and writers of std are asked.
+
+mod command;
+mod devices;
+mod faults;
+mod given;
+mod line_limits;
+mod reports;
+mod std_devices;

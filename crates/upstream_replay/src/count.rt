@@ -1,0 +1,83 @@
+//! What `run-digest count` gives for an input.
+//!
+//! A case is `STATUS INPUT STDOUT STDERR`: the exit status, and bytes in hex, `-` for none.
+
+ghost use Rattle.std.specs.Prelude.{◌≡◌, true, IfOk};
+ghost use Rattle.digest_engine.specs.Reading.{texts_of};
+ghost use Rattle.upstream_replay.specs.Count.{IsOutputFor};
+
+use digest_engine::count::count;
+use digest_engine::memory_device::{MemorySink, MemorySource};
+use hex::FromHexError;
+use std::alloc::{AllocError, Global};
+
+/// What a program gives: its exit status, and what it writes to standard output and error.
+#[derive(Debug, PartialEq, Eq, Drop)]
+struct Output {
+    status: u8,
+    stdout: Vec<u8>,
+    stderr: Vec<u8>,
+}
+
+/// What the program gives for an input, by the engine over memory.
+fn output_for(alloc: Global, input: &[u8]) -> Result<Output, AllocError>
+    ensures { IfOk result (IsOutputFor (texts_of input.now)) }
+{
+    let mut buffer = [0u8; 1024];
+    let mut source = MemorySource::new(input, None);
+    let mut sink = MemorySink::new(&mut buffer, None);
+    let answer = count(alloc, &mut source, &mut sink);
+    let stdout = sink.written().to_vec(alloc)?;
+    let (status, stderr) = match answer {
+        Ok(true) => (0, Vec::new(alloc)),
+        Ok(false) => (1, Vec::new(alloc)),
+        Err(fault) => (fault.status(), format!(in alloc; "{fault}\n")?.into_bytes()),
+    };
+    Ok(Output {
+        status,
+        stdout,
+        stderr,
+    })
+}
+
+/// The bytes that a word spells; `None` for a word that spells none.
+fn bytes_in(alloc: Global, word: &str) -> Result<Option<Vec<u8>>, AllocError> {
+    if word == "-" {
+        return Ok(Some(Vec::new(alloc)));
+    }
+    match hex::decode(alloc, word) {
+        Ok(bytes) => Ok(Some(bytes)),
+        Err(FromHexError::OutOfMemory) => Err(AllocError),
+        Err(_) => Ok(None),
+    }
+}
+
+/// The input and what the program gives for it, by the words of a case.
+fn case_in(alloc: Global, words: &[&str]) -> Result<Option<(Vec<u8>, Output)>, AllocError> {
+    let [status, input, stdout, stderr] = words else {
+        return Ok(None);
+    };
+    let (Ok(status), Some(input), Some(stdout), Some(stderr)) = (
+        status.parse(),
+        bytes_in(alloc, input)?,
+        bytes_in(alloc, stdout)?,
+        bytes_in(alloc, stderr)?,
+    ) else {
+        return Ok(None);
+    };
+    let output = Output {
+        status,
+        stdout,
+        stderr,
+    };
+    Ok(Some((input, output)))
+}
+
+/// Whether the port agrees on a case; `None` for a text that is no case.
+pub(crate) fn agrees(alloc: Global, case: &str) -> Result<Option<bool>, AllocError> {
+    let words: Vec<&str> = case.split(' ').collect(alloc)?;
+    match case_in(alloc, words.as_slice())? {
+        Some((input, output)) => Ok(Some(output_for(alloc, input.as_slice())? == output)),
+        None => Ok(None),
+    }
+}

@@ -1,0 +1,102 @@
+//! The counters that one finished unit raises.
+//!
+//! A case is `script RESULT: COUNTERS` or `test RESULT ATTEMPTS SETTING SLOW: COUNTERS`, where
+//! COUNTERS are `NAME: NUMBER`, divided by a comma and a space; a counter that is not named is 0.
+
+ghost use Rattle.std.specs.Prelude.{◌≡◌, ◌↔◌, IsTrue};
+ghost use Rattle.upstream_replay.specs.Units.{counters_of, view_of_unit};
+
+use crate::unit::{Unit, script_of, test_in};
+use crate::words::named_result;
+use run_events::stats::{RunStart, RunStats};
+use std::alloc::{AllocError, Global};
+
+/// The counters that a unit raises from zero, by the update.
+fn updated(unit: &Unit) -> RunStats
+    ensures { result ≡ counters_of (view_of_unit unit.now) }
+{
+    let mut stats = RunStats::default();
+    match unit {
+        Unit::Script(script) => stats.on_setup_script_finished(script),
+        Unit::Test(test) => stats.on_test_finished(test),
+    }
+    stats
+}
+
+/// The counters of a run with a unit alone.
+fn counted(unit: &Unit) -> RunStats
+    ensures { result ≡ counters_of (view_of_unit unit.now) }
+{
+    let start = RunStart {
+        initial_run_count: 0,
+        setup_scripts_initial_count: 0,
+        skipped: 0,
+        cancel_reason: None,
+    };
+    RunStats::of_run(&[unit.lent()], start)
+}
+
+/// Whether a unit raises these counters, by the update and in a run with it alone.
+fn raises(unit: &Unit, counters: &RunStats) -> bool
+    ensures { IsTrue result ↔ (counters_of (view_of_unit unit.now) ≡ counters.now) }
+{
+    updated(unit) == *counters && counted(unit) == *counters
+}
+
+/// The unit that words name.
+fn unit_in(alloc: Global, text: &str) -> Result<Option<Unit>, AllocError> {
+    let words: Vec<&str> = text.split(' ').collect(alloc)?;
+    match words.as_slice() {
+        ["script", result] => Ok(named_result(result).map(|outcome| Unit::Script(script_of(
+            outcome,
+        )))),
+        ["test", rest @ ..] => Ok(test_in(alloc, rest)?.map(Unit::Test)),
+        _ => Ok(None),
+    }
+}
+
+/// The counters, with a value for the one that a name stands for.
+fn with_counter(mut stats: RunStats, name: &str, value: usize) -> Option<RunStats> {
+    let counter = match name {
+        "setup_scripts_finished_count" => &mut stats.setup_scripts_finished_count,
+        "setup_scripts_passed" => &mut stats.setup_scripts_passed,
+        "setup_scripts_failed" => &mut stats.setup_scripts_failed,
+        "setup_scripts_exec_failed" => &mut stats.setup_scripts_exec_failed,
+        "setup_scripts_timed_out" => &mut stats.setup_scripts_timed_out,
+        "finished_count" => &mut stats.finished_count,
+        "passed" => &mut stats.passed,
+        "passed_slow" => &mut stats.passed_slow,
+        "passed_timed_out" => &mut stats.passed_timed_out,
+        "flaky" => &mut stats.flaky,
+        "failed" => &mut stats.failed,
+        "failed_slow" => &mut stats.failed_slow,
+        "failed_timed_out" => &mut stats.failed_timed_out,
+        "leaky" => &mut stats.leaky,
+        "leaky_failed" => &mut stats.leaky_failed,
+        "exec_failed" => &mut stats.exec_failed,
+        _ => return None,
+    };
+    *counter = value;
+    Some(stats)
+}
+
+/// The counters that a text names.
+fn counters_in(text: &str) -> Option<RunStats> {
+    let mut stats = RunStats::default();
+    for part in text.split(", ") {
+        let (name, value) = part.split_once(": ")?;
+        stats = with_counter(stats, name, value.parse().ok()?)?;
+    }
+    Some(stats)
+}
+
+/// Whether the port agrees on a case; `None` for a text that is no case.
+pub(crate) fn agrees(alloc: Global, case: &str) -> Result<Option<bool>, AllocError> {
+    let Some((unit, counters)) = case.split_once(": ") else {
+        return Ok(None);
+    };
+    let (Some(unit), Some(counters)) = (unit_in(alloc, unit)?, counters_in(counters)) else {
+        return Ok(None);
+    };
+    Ok(Some(raises(&unit, &counters)))
+}
