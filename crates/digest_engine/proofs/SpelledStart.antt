@@ -157,3 +157,9 @@ start_inverse line (run ∷ tests ∷ scripts ∷ why ∷ []) start is_line e =
 -- what is read is spelled so
 pub start_spelled : (line : List ℕ) (start : RunStart) → start_of_words (words_of line) ≡ Some start → SpellsStart line start
 start_spelled line start e = start_inverse line (words_of line) start (join_with_byte-slice_split 32 line) e
+
+-- a line spells at most one start
+pub one_start : (line : List ℕ) (a b : RunStart) → SpellsStart line a → SpellsStart line b → a ≡ b
+one_start line a b first second =
+    let same : Some a ≡ Some b = sym (start_read line a first) ∙ start_read line b second in
+    cc

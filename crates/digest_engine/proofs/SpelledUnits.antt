@@ -134,3 +134,9 @@ unit_inverse line (kind ∷ words) u is_line e =
 -- what is read is spelled so
 pub unit_spelled : (line : List ℕ) (unit : UnitView) → unit_of_words (words_of line) ≡ Some unit → SpellsUnit line unit
 unit_spelled line unit e = unit_inverse line (words_of line) unit (join_with_byte-slice_split 32 line) e
+
+-- a line spells at most one unit
+pub one_unit : (line : List ℕ) (a b : UnitView) → SpellsUnit line a → SpellsUnit line b → a ≡ b
+one_unit line a b first second =
+    let same : Some a ≡ Some b = sym (unit_read line a first) ∙ unit_read line b second in
+    cc

@@ -1,14 +1,18 @@
 //! Counting a run: from the lines that tell of its units to the report of its counters.
 
 ghost use Rattle.std.specs.Prelude.{◌≡◌, ◌↔◌, ℕ, List, true, false, map, IfOk, IfSome, OnOk, IsErrOf, string_bytes};
-ghost use Rattle.run_events.specs.Counters.{unit_view};
+ghost use Rattle.bstr.specs.Text.{lines_of};
+ghost use Rattle.run_events.specs.Counters.{UnitView, unit_view};
+ghost use Rattle.run_events.specs.Lines.{AreLines};
 ghost use Rattle.run_events.specs.Summary.{FailuresFit};
+ghost use Rattle.run_events.specs.declared.stats.RunStart.{RunStart};
 ghost use Rattle.digest_engine.specs.Answer.{Answers, KeepsSink, ReadsToEnd};
 ghost use Rattle.digest_engine.specs.CountSteps.{AnswersRun, GivesDigest};
 ghost use Rattle.digest_engine.specs.Reader.{run_of};
 ghost use Rattle.digest_engine.specs.Reading.{IsReading, Run, texts_of};
 ghost use Rattle.digest_engine.specs.Report.{run_stats};
 ghost use Rattle.digest_engine.specs.RunInput.{run_said};
+ghost use Rattle.digest_engine.specs.Spelling.{SpellsStart, SpellsUnit};
 ghost use Rattle.digest_engine.specs.Statuses.{owned_view};
 ghost use Rattle.digest_engine.specs.declared.fault.Fault.TheVariants as faults;
 
@@ -96,6 +100,13 @@ pub fn count<R: Source, W: Sink>(alloc: Global, source: &mut R, sink: &mut W) ->
     ensures kept { KeepsSink result (W.written sink.old) (W.written sink.new) }
     ensures flushed { OnOk result (W.flushed sink.new ≡ true) }
     ensures answer { IfSome (R.left source.old) (λ input. Answers result (W.written sink.old) (W.written sink.new) (texts_of input)) }
+
+    // The lines of an input are the parts that join to it, each with one line feed, at its end.
+    ensures lines { (bytes : List ℕ) → AreLines bytes (lines_of bytes) }
+
+    // A line says at most one thing, and so lines say at most one run.
+    ensures one_start { (line : List ℕ) → (a : RunStart) → (b : RunStart) → SpellsStart line a → SpellsStart line b → a ≡ b }
+    ensures one_unit { (line : List ℕ) → (a : UnitView) → (b : UnitView) → SpellsUnit line a → SpellsUnit line b → a ≡ b }
     ensures one_reading { (lines : List (List ℕ)) → (a : Run) → (b : Run) → IsReading lines a → IsReading lines b → a ≡ b }
 {
     count_run(alloc, source, sink)

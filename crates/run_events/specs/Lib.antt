@@ -21,6 +21,7 @@ pub mod TestView
 pub mod Texts
 pub mod Visibility
 pub use Rattle.output_slice.specs.Extraction
+pub use Rattle.output_slice.specs.Lines
 pub use Rattle.output_slice.specs.Shown
 pub use Rattle.output_slice.specs.Slices
 pub use Rattle.output_slice.specs.Taken

@@ -17,7 +17,8 @@ pub enum FlakyResult {
     Fail,
 }
 
-/// How a test counts that exited successfully but left a handle open in a process of its own.
+/// How a test counts that exited successfully while a process that it started still held one of its
+/// handles open.
 #[derive(Clone, Copy, Debug, PartialEq, Eq)]
 pub enum LeakTimeoutResult {
     /// The leak is noted and the test passes.

@@ -15,15 +15,15 @@ mod update;
 /// flaky tests; a setup script counts by its result.
 #[derive(Clone, Copy, Debug, Default, PartialEq, Eq)]
 pub struct RunStats {
-    /// The tests that were to run when the run began. After a cancellation it is above
-    /// `finished_count`.
+    /// The tests that were to run when the run began. Where the run ended before its time it is
+    /// above `finished_count`.
     pub initial_run_count: usize,
 
     /// The tests that finished.
     pub finished_count: usize,
 
-    /// The setup scripts that were to run when the run began. After a cancellation it is above
-    /// `setup_scripts_finished_count`.
+    /// The setup scripts that were to run when the run began. Where the run ended before its time
+    /// it may be above `setup_scripts_finished_count`.
     pub setup_scripts_initial_count: usize,
 
     /// The setup scripts that finished.

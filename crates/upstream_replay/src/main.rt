@@ -22,6 +22,8 @@ mod kind;
 mod level;
 mod replay;
 mod tally;
+#[cfg(test)]
+mod tests;
 mod unit;
 mod verdict;
 mod visibility;

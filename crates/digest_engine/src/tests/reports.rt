@@ -6,7 +6,13 @@ use std::test::Fail;
 /// An input, the exit status, standard output and standard error.
 type Row = (&'static str, u8, &'static str, &'static str);
 
-const ROWS: [Row; 9] = [
+const ROWS: [Row; 10] = [
+    (
+        "run 0 1 -\nscript fail\n",
+        1,
+        "tests 0 passed 0 failed 0 flaky 0\nscripts 1 failed 1\nsummary failed setup-script\n",
+        "",
+    ),
     (
         "run 2 0 -\ntest fail,pass\ntest fail slow\n",
         1,

@@ -121,7 +121,9 @@ fn a_failed_read_is_not_tried_again(rt: HostRuntime) {
         let mut log = Log::new(rt.alloc(), 200, None);
         let answer = counted(rt.alloc(), &mut pieces, &mut log);
         if pieces.calls <= at {
+            // All pieces, and one read that finds the end.
             assert_eq!(rt; answer, Ok(false));
+            assert_eq!(rt; pieces.calls, 7);
         } else {
             assert_eq!(rt; answer, Err(Fault::Read), "call {at}");
             assert_eq!(rt; pieces.calls, at.saturating_add(1));
