@@ -1,13 +1,13 @@
 -- What the reader gives of all lines, against what they say and which is the first bad one.
-use Rattle.std.proofs.Common.{◌≡◌, ◌≢◌, ℕ, zero, suc, ◌+◌, ◌-◌, ◌<◌, ◌≤◌, List, [], ◌∷◌, length, map, true, false, refl, ap, sym, ◌∙◌, subst, arith, lt-ltb, le-ltb, inl, inr}
-use Rattle.std.specs.Prelude.{◌⊎◌, Option, None, Some, Ok, Err, nat_lt, slice_get, if◌then◌else◌}
+use Rattle.std.proofs.Common.{◌≡◌, ℕ, zero, suc, ◌+◌, ◌-◌, ◌<◌, ◌≤◌, List, [], ◌∷◌, length, refl, ap, sym, ◌∙◌, subst, arith, lt-ltb, le-ltb, inl, inr}
+use Rattle.std.specs.Prelude.{◌⊎◌, Option, None, Some, Ok, Err, slice_get}
 use Rattle.std.specs.declared.result.Result.{Result}
 use Rattle.std.proofs.lemmas.Bool.{cases_lt}
 use Rattle.run_events.specs.Counters.{UnitView}
 use Rattle.run_events.specs.declared.stats.RunStart.{RunStart}
 use Rattle.digest_engine.specs.Answer.{NoBadLine}
-use Rattle.digest_engine.specs.Reader.{and_units, run_of, start_line, start_of_words, unit_line, unit_of_words, units_from, with_start, words_of}
-use Rattle.digest_engine.specs.Reading.{HasReading, IsBadLine, IsFirstBadLine, IsReading, Run, SpellUnits}
+use Rattle.digest_engine.specs.Reader.{and_units, run_of, start_of_words, unit_of_words, units_from, with_start, words_of}
+use Rattle.digest_engine.specs.Reading.{IsBadLine, IsFirstBadLine, IsReading, Run, SpellUnits}
 use Rattle.digest_engine.specs.Spelling.{SpellsStart, SpellsUnit}
 use Rattle.digest_engine.proofs.SpelledStart.{start_read, start_spelled}
 use Rattle.digest_engine.proofs.SpelledUnits.{unit_read, unit_spelled}

@@ -1,6 +1,6 @@
 -- The reader of line 1 against its spelling.
-use Rattle.std.proofs.Common.{◌≡◌, ℕ, ◌+◌, ◌<◌, List, [], ◌∷◌, ◌++◌, false, length, map, refl, ap, sym, ◌∙◌, subst, append_assoc, arith, cond, inl, inr}
-use Rattle.std.specs.Prelude.{◌==◌, ◌⊎◌, All, Option, None, Some, option_and_then, codes}
+use Rattle.std.proofs.Common.{◌≡◌, ℕ, ◌+◌, List, [], ◌∷◌, ◌++◌, false, map, refl, ap, sym, ◌∙◌, subst, append_assoc, arith, cond, inl, inr}
+use Rattle.std.specs.Prelude.{◌==◌, ◌⊎◌, Option, None, Some, option_and_then, codes}
 use Rattle.std.specs.List.{slice_split, join_with_byte}
 use Rattle.std.specs.Str.{bytes_eq}
 use Rattle.std.proofs.lemmas.Bool.Decides.{eqb_tells}

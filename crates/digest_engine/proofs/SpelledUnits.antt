@@ -12,8 +12,8 @@ use Rattle.run_events.specs.TestView.{TestView}
 use Rattle.run_events.specs.declared.config.FlakyResult.{FlakyResult}
 use Rattle.run_events.specs.declared.config.FlakyResult.TheVariants as setting
 use Rattle.run_events.specs.declared.results.ExecutionResultDescription.{ExecutionResultDescription}
-use Rattle.digest_engine.specs.Reader.{result_of, results_of, flags_of, script_of_words, test_of_words, unit_of_words, view_from, words_of}
-use Rattle.digest_engine.specs.Spelling.{ResultWord, Pass, Leak, LeakFail, Fail, ExecFail, Timeout, TimeoutPass, word_of, result_named, flag_words, ScriptLine, TestLine, SpellsUnit, UnitLine, IsUnitLine, spelling, unit_said}
+use Rattle.digest_engine.specs.Reader.{results_of, flags_of, script_of_words, test_of_words, unit_of_words, view_from, words_of}
+use Rattle.digest_engine.specs.Spelling.{ResultWord, Pass, Leak, LeakFail, Fail, ExecFail, Timeout, TimeoutPass, word_of, result_named, flag_words, ScriptLine, TestLine, SpellsUnit}
 use Rattle.digest_engine.proofs.Attempts.{last_pushed}
 use Rattle.digest_engine.proofs.ResultWords.{chosen, flags_inverse, list_inverse, list_joins, result_inverse, result_word, results_spelled}
 

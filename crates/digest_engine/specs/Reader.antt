@@ -1,6 +1,6 @@
 -- The reader of `count`, as functions on lists: what its private steps answer. What the input says is defined apart from
 -- it, in Spelling and Reading.
-use Rattle.std.specs.Prelude.{◌≡◌, ◌+◌, ◌-◌, ◌*◌, ℕ, Bool, true, false, ◌&&◌, ◌==◌, nat_lt, nat_le, List, [], ◌∷◌, ◌++◌, length, fold, map, Option, Some, None, Ok, Err, option_and_then, unwrap_or, slice_get, if◌then◌else◌, codes, pos}
+use Rattle.std.specs.Prelude.{◌≡◌, ◌+◌, ◌-◌, ◌*◌, ℕ, Bool, true, false, ◌&&◌, ◌==◌, nat_lt, nat_le, List, [], ◌∷◌, length, fold, Option, Some, None, Ok, Err, option_and_then, unwrap_or, slice_get, if◌then◌else◌, codes, pos}
 use Rattle.std.specs.Char.{is_ascii_digit}
 use Rattle.std.specs.List.{list_all, slice_split}
 use Rattle.std.specs.Str.{bytes_eq}

@@ -1,5 +1,5 @@
 -- What `run-digest count` gives, by its definitions.
-use Rattle.std.specs.Prelude.{◌≡◌, ◌++◌, ℕ, Bool, true, false, List, [], ◌∷◌, Some, Ok, Err, codes}
+use Rattle.std.specs.Prelude.{◌≡◌, ◌++◌, ℕ, Bool, true, false, List, [], Some, Ok, Err, codes}
 use Rattle.std.specs.declared.result.Result.{Result}
 use Rattle.digest_engine.specs.Answer.{Answers, KeepsSink}
 use Rattle.digest_engine.specs.Fault.{fault_text, status_of}

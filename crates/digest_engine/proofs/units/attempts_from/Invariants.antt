@@ -1,5 +1,4 @@
-use Rattle.std.proofs.Common.{◌≡◌, map, drop, length, IfSome, slice_get, ◌-◌, ◌&&◌}
-use Rattle.std.specs.Prelude.{◌==◌}
+use Rattle.std.proofs.Common.{◌≡◌, map, drop, length}
 use Rattle.digest_engine.specs.Reader.{all_results}
 use Rattle.digest_engine.specs.Statuses.{AreAttempts}
 use Rattle.digest_engine.proofs.Attempts.{with_front}
