@@ -1,4 +1,4 @@
--- What `count` answers, and what it leaves in its devices.
+-- What engines leave in their devices, and what `count` answers.
 use Rattle.std.specs.Prelude.{◌≡◌, ℕ, ◌++◌, Bool, List, Option, Ok, Err}
 use Rattle.std.specs.Io.KnownBytes.{Appends, IsAtEnd, Keeps}
 use Rattle.std.specs.declared.result.Result.{Result}

@@ -1,5 +1,5 @@
 -- Laws of the definitions.
-use Rattle.std.specs.Prelude.{◌≡◌, ℕ, ◌++◌, List, take, drop, map}
+use Rattle.std.specs.Prelude.{◌≡◌, ℕ, ◌++◌, List, Option, take, drop, map}
 use Rattle.std.specs.Str.{IsUtf8, encode_utf8_all}
 use Rattle.bstr.specs.Utf8.{lossy_chars}
 use Rattle.output_slice.specs.declared.panic_head.HeadSpan.{HeadSpan}
@@ -7,6 +7,7 @@ use Rattle.output_slice.specs.Head.{IsHead}
 use Rattle.output_slice.specs.Taken.{IsTaken}
 use Rattle.output_slice.specs.Cut.{IsCut, shifted}
 use Rattle.output_slice.specs.Lines.{AreLines}
+use Rattle.output_slice.specs.Extraction.{Extract, IsExtract}
 
 -- At one start there is at most one head.
 abbrev pub HeadsHaveOneEnd : Type 0
@@ -24,6 +25,10 @@ TakenHeadsDivide = (b : List ℕ) (c : ℕ) (before behind : List HeadSpan) → 
 -- All bytes divide into lines, and in one way only.
 abbrev pub LinesExist : Type 0
 LinesExist = (b : List ℕ) → (lines : List (List ℕ)) × AreLines b lines × ((other : List (List ℕ)) → AreLines b other → other ≡ lines)
+
+-- Two streams have at most one extraction.
+abbrev pub OneExtraction : Type 0
+OneExtraction = (out err : Option (List ℕ)) (a b : Option Extract) → IsExtract out err a → IsExtract out err b → a ≡ b
 
 -- The lossy text of bytes that are UTF-8 is those bytes.
 abbrev pub LossyTextIsExact : Type 0

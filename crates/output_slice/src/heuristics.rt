@@ -36,20 +36,30 @@ fn first_slice<'a>(
 ) -> Option<TestOutputErrorSlice<'a>>
     ensures { IsExtract (option_copied stdout.entry) (option_copied stderr.entry) (option_map extract_of result) }
 {
-    if let Some(stderr) = stderr {
-        if let Some(stderr_subslice) = heuristic_panic_message(stderr) {
-            return Some(TestOutputErrorSlice::PanicMessage { stderr_subslice });
-        }
-        if let Some(stderr_subslice) = heuristic_error_str(stderr) {
-            return Some(TestOutputErrorSlice::ErrorStr { stderr_subslice });
-        }
+    let Some(bytes) = stderr else {
+        return note_slice(stdout);
+    };
+    match heuristic_panic_message(bytes) {
+        Some(part) => Some(TestOutputErrorSlice::PanicMessage {
+            stderr_subslice: part,
+        }),
+        None => match heuristic_error_str(bytes) {
+            Some(part) => Some(TestOutputErrorSlice::ErrorStr {
+                stderr_subslice: part,
+            }),
+            None => note_slice(stdout),
+        },
     }
-    if let Some(stdout) = stdout {
-        if let Some(stdout_subslice) = heuristic_should_panic(stdout) {
-            return Some(TestOutputErrorSlice::ShouldPanic { stdout_subslice });
-        }
-    }
-    None
+}
+
+/// The note line of standard output, where it was captured.
+fn note_slice(stdout: Option<&[u8]>) -> Option<TestOutputErrorSlice<'_>>
+    ensures { IsExtract (option_copied stdout.entry) None (option_map extract_of result) }
+{
+    let part = heuristic_should_panic(stdout?)?;
+    Some(TestOutputErrorSlice::ShouldPanic {
+        stdout_subslice: part,
+    })
 }
 
 /// The panic slice: from the last taken head of `stderr`, or from the start of the line before it

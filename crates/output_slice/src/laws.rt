@@ -1,6 +1,6 @@
 //! Laws of the definitions that contracts cite, for the proofs of callers. Each is a function that
 //! does nothing, and its contract is the law.
-ghost use Rattle.output_slice.specs.Laws.{HeadsHaveOneEnd, TakenHeadsExist, TakenHeadsDivide, LinesExist, LossyTextIsExact};
+ghost use Rattle.output_slice.specs.Laws.{HeadsHaveOneEnd, TakenHeadsExist, TakenHeadsDivide, LinesExist, OneExtraction, LossyTextIsExact};
 
 /// At one start there is at most one head.
 pub fn heads_have_one_end()
@@ -21,6 +21,11 @@ pub fn taken_heads_divide()
 /// All bytes divide into lines, and in one way only.
 pub fn lines_exist()
     ensures { LinesExist }
+{}
+
+/// Two streams have one extraction only, and it may be that there is none.
+pub fn one_extraction()
+    ensures { OneExtraction }
 {}
 
 /// Text that is UTF-8 is displayed as its exact bytes.

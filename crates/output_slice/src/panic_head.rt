@@ -27,8 +27,8 @@ pub struct HeadSpan {
 /// A head stands at the start of the input or of a line: `thread '`, a name, which is one or more
 /// characters of UTF-8 without a quote (line feeds are allowed), `'`, and then ` panicked at ` or
 /// ` (N) panicked at ` with one or more decimal digits N. So Rust's default panic hook begins a
-/// message, and so nextest-runner recognizes it. Heads are taken leftmost first and disjoint: after
-/// a taken head the search goes on where that head stops.
+/// message, and so nextest-runner recognizes it. The first head is taken, then the first that does
+/// not start before the taken one stops, and so on.
 ///
 /// The search goes from quote to quote, and reads each byte a bounded number of times.
 pub fn last_panic_head<S: ByteSource>(source: &mut S) -> Option<HeadSpan>

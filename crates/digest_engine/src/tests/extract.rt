@@ -5,6 +5,7 @@ use crate::extract::extract;
 use crate::fault::Fault;
 use crate::memory_device::{MemorySink, MemorySource};
 use std::alloc::Global;
+use std::test::Fail;
 
 /// Extracts from an output, with devices that fail where they are told to.
 fn extracted<'a>(
@@ -121,4 +122,15 @@ fn devices_fail_at_each_call(rt: HostRuntime) {
     let (answer, sink) = extracted(rt.alloc(), output, &mut buffer, None, None);
     assert_eq!(rt; answer, Err(Fault::Write));
     assert_eq!(rt; sink.written(), b"error-str ".as_slice());
+}
+
+#[test]
+fn a_slice_of_ten_thousand_bytes_is_written_whole(rt: HostRuntime) -> Result<(), Fail> {
+    let output = format!(in rt.alloc(); "Error: {:0>9993}", 1)?;
+    let text = format!(in rt.alloc(); "error-str 0 10000\n{output}\n")?;
+    let mut buffer = [0; 11_000];
+    let (answer, sink) = extracted(rt.alloc(), output.as_bytes(), &mut buffer, None, None);
+    assert_eq!(rt; answer, Ok(true));
+    assert_eq!(rt; sink.written(), text.as_bytes());
+    Ok(())
 }

@@ -210,6 +210,7 @@ const OF_BOTH: [Case; 3] = [
 #[test]
 fn worked_extraction(rt: HostRuntime) {
     assert!(rt; TestOutputErrorSlice::heuristic_extract(None, None).is_none());
+    assert!(rt; TestOutputErrorSlice::heuristic_extract(Some(b""), Some(b"")).is_none());
     for case in &OF_STDERR {
         let found = TestOutputErrorSlice::heuristic_extract(None, Some(case.bytes));
         assert_eq!(rt; found.map(extent_of), case.found, "{}", case.shows);

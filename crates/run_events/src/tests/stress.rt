@@ -58,6 +58,12 @@ fn an_id_is_the_run_and_the_count(rt: HostRuntime) -> Result<(), Fail> {
             .as_str(),
         text
     );
+    assert_eq!(rt;
+        counted(StressCount::Infinite, u32::MAX)
+            .unique_id(rt.alloc(), run_id)?
+            .as_str(),
+        "00000000-0000-0000-0000-000000000001:@stress-4294967295"
+    );
     Ok(())
 }
 
