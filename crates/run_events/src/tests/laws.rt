@@ -48,10 +48,12 @@ fn steps_outcomes_and_sub_runs_are_compared(rt: HostRuntime) {
     let (less, more) = (RunFailureStep::Test, RunFailureStep::SetupScript);
     assert_eq!(rt; failure_step_order(less, more), Ordering::Less);
     assert!(rt; failure_step_at_most(less, more));
-    assert!(rt; !outcomes_are_equal(
-        RunOutcome::Failed { step: less },
-        RunOutcome::Failed { step: more }
-    ));
+    assert!(rt;
+        !outcomes_are_equal(
+            RunOutcome::Failed { step: less },
+            RunOutcome::Failed { step: more }
+        )
+    );
 
     let first = StressIndex {
         current: 0,
