@@ -9,7 +9,8 @@
 //! has to agree.
 
 ghost use Rattle.std.specs.Prelude.{◌≡◌, ◌≢◌, Option, MatchOption};
-ghost use Rattle.upstream_replay.specs.Visibilities.{display_word, reason_word, tested_word};
+ghost use Rattle.digest_engine.specs.Spelling.{reason_word};
+ghost use Rattle.upstream_replay.specs.Visibilities.{display_word, tested_word};
 
 use run_events::config::TestOutputDisplay;
 use run_events::levels::{
