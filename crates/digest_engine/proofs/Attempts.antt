@@ -8,7 +8,7 @@ use Rattle.std.specs.Option.{option_map_or}
 use Rattle.std.proofs.lemmas.Option.{slice_get-map, slice_get_cases}
 use Rattle.run_events.specs.TestView.{TestView, view_of, attempts_of, setting_of}
 use Rattle.run_events.specs.declared.attempts.ExecuteStatus.{ExecuteStatus}
-use Rattle.run_events.specs.declared.child.ChildOutputDescription.{ChildOutputDescription}
+use Rattle.run_events.specs.declared.child.output.ChildOutputDescription.{ChildOutputDescription}
 use Rattle.run_events.specs.declared.child.LiveSpec.{LiveSpec}
 use Rattle.digest_engine.specs.Statuses.{AreAttempts, IsAttempt}
 use Rattle.run_events.specs.declared.attempts.statuses.ExecutionStatuses.{ExecutionStatuses}

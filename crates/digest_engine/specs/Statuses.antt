@@ -7,8 +7,8 @@ use Rattle.run_events.specs.declared.attempts.ExecuteStatus.{ExecuteStatus}
 use Rattle.run_events.specs.declared.attempts.SetupScriptExecuteStatus.{SetupScriptExecuteStatus}
 use Rattle.run_events.specs.declared.child.ChildExecutionOutputDescription.{ChildExecutionOutputDescription}
 use Rattle.run_events.specs.declared.child.ChildExecutionOutputDescription.TheVariants.{Output}
-use Rattle.run_events.specs.declared.child.ChildOutputDescription.{ChildOutputDescription}
-use Rattle.run_events.specs.declared.child.ChildOutputDescription.TheVariants.{Split}
+use Rattle.run_events.specs.declared.child.output.ChildOutputDescription.{ChildOutputDescription}
+use Rattle.run_events.specs.declared.child.output.ChildOutputDescription.TheVariants.{Split}
 use Rattle.run_events.specs.declared.child.LiveSpec.{LiveSpec}
 use Rattle.run_events.specs.declared.config.Moment.{Moment}
 use Rattle.run_events.specs.declared.results.ExecutionResultDescription.{ExecutionResultDescription}

@@ -1,5 +1,7 @@
 -- How slices are seen: their bytes and starts, without addresses.
-use Rattle.std.specs.Prelude.{Option, None, Some}
+use Rattle.std.specs.Prelude.{ℕ, List, Option, None, Some}
+use Rattle.std.specs.Str.{encode_utf8_all}
+use Rattle.bstr.specs.Utf8.{lossy_chars}
 use Rattle.output_slice.specs.declared.subslice.ByteSubslice.{ByteSubslice}
 use Rattle.output_slice.specs.declared.subslice.TestOutputErrorSlice.{TestOutputErrorSlice}
 use Rattle.output_slice.specs.declared.subslice.TestOutputErrorSlice.TheVariants.{PanicMessage, ErrorStr, ShouldPanic}
@@ -33,3 +35,7 @@ abbrev pub stdout_part : TestOutputErrorSlice → Option ByteSubslice
 stdout_part (PanicMessage x) = None
 stdout_part (ErrorStr x) = None
 stdout_part (ShouldPanic x) = Some x
+
+-- The text by which a slice is shown: its bytes, with U+FFFD for each malformed piece.
+abbrev pub shown_text : TestOutputErrorSlice → List ℕ
+shown_text s = encode_utf8_all (lossy_chars (part_of s).slice.now)

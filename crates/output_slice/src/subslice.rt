@@ -1,8 +1,6 @@
 //! Parts of captured output.
 ghost use Rattle.std.specs.Prelude.{◌≡◌, Some};
-ghost use Rattle.std.specs.Str.{encode_utf8_all};
-ghost use Rattle.bstr.specs.Utf8.{lossy_chars};
-ghost use Rattle.output_slice.specs.Shown.{part_of, stderr_part, stdout_part};
+ghost use Rattle.output_slice.specs.Shown.{part_of, shown_text, stderr_part, stdout_part};
 
 use bstr::ByteSlice;
 use std::fmt;
@@ -84,7 +82,7 @@ impl<'a> TestOutputErrorSlice<'a> {
 /// Writes the part as text: its exact bytes where they are UTF-8, and U+FFFD for each malformed
 /// piece of it.
 impl<'a> fmt::Display for TestOutputErrorSlice<'a> {
-    ghost output = { λ s. Some (encode_utf8_all (lossy_chars (part_of s).slice.now)) };
+    ghost output = { λ s. Some (shown_text s) };
 
     fn fmt<W: fmt::Write>(&self, f: &mut fmt::Formatter<W>) -> fmt::Result {
         self.part().slice.as_bstr().fmt(f)

@@ -1,6 +1,7 @@
 pub mod ChainLemmas
 pub mod Counting
 pub mod Counts
+pub mod EmptyLists
 pub mod Hexadecimal
 pub mod LastAttempt
 pub mod Parts

@@ -2,11 +2,14 @@ pub mod Attempts
 pub mod ChainObject
 pub mod ChainReading
 pub mod ChainValue
+pub mod ChildErrors
+pub mod ChildOutput
 pub mod Config
 pub mod Counters
 pub mod Described
 pub mod Description
 pub mod ErrorChain
+pub mod Execution
 pub mod Level
 pub mod ListedErrors
 pub mod Outcome
@@ -19,6 +22,7 @@ pub mod Summary
 pub mod TestCounters
 pub mod TestView
 pub mod Texts
+pub mod UnitErrors
 pub mod Visibility
 pub use Rattle.output_slice.specs.Extraction
 pub use Rattle.output_slice.specs.Lines

@@ -1,8 +1,12 @@
 -- The texts by which results, reasons and signals are shown.
-use Rattle.std.specs.Prelude.{false, ℕ, ℤ, ◌/◌, ◌%◌, zero, suc, List, [], ◌∷◌, ◌++◌, codes, Option, None, Some, String, string_bytes}
+use Rattle.std.specs.Prelude.{Bool, true, false, ℕ, ℤ, ◌/◌, ◌%◌, zero, suc, List, [], ◌∷◌, ◌++◌, codes, Option, None, Some, String, string_bytes}
 use Rattle.std.specs.Int.{cast_unsigned, w32}
 use Rattle.std.specs.Fmt.{signed_decimal, digit_glyph}
 use Rattle.std.specs.declared.alloc.Global.{Global}
+use Rattle.run_events.specs.declared.child.errors.ChildErrorDescription.{ChildErrorDescription}
+use Rattle.run_events.specs.declared.child.errors.ChildErrorDescription.TheVariants as error
+use Rattle.run_events.specs.declared.child.errors.ChildStartErrorDescription.{ChildStartErrorDescription}
+use Rattle.run_events.specs.declared.child.errors.ChildStartErrorDescription.TheVariants as start
 use Rattle.run_events.specs.declared.events.terminate.UnitTerminateReason.{UnitTerminateReason}
 use Rattle.run_events.specs.declared.events.terminate.UnitTerminateReason.TheVariants as why
 use Rattle.run_events.specs.declared.events.terminate.UnitTerminateSignal.{UnitTerminateSignal}
@@ -44,6 +48,26 @@ abort_text abort.WindowsJobObject = codes "terminated via job object"
 abbrev pub failure_text : FailureDescription → List ℕ
 failure_text (failure.ExitCode code) = codes "exited with code " ++ signed_decimal code
 failure_text (failure.Abort a) = abort_text a
+
+-- an abort as an error of a unit
+abbrev pub leak_text : Bool → List ℕ
+leak_text true = codes " (leaked handles)"
+leak_text false = []
+
+abbrev pub unit_abort_text : AbortDescription → Bool → List ℕ
+unit_abort_text a leaked = codes "process " ++ abort_text a ++ leak_text leaked
+
+-- errors of a child process, without what caused them
+abbrev pub start_error_text : ChildStartErrorDescription → List ℕ
+start_error_text (start.TempPath cause) = codes "error creating temporary path for setup script"
+start_error_text (start.Spawn cause) = codes "error spawning child process"
+
+abbrev pub child_error_text : ChildErrorDescription → List ℕ
+child_error_text (error.ReadStdout cause) = codes "error reading standard output"
+child_error_text (error.ReadStderr cause) = codes "error reading standard error"
+child_error_text (error.ReadCombined cause) = codes "error reading combined stream"
+child_error_text (error.Wait cause) = codes "error waiting for child process to exit"
+child_error_text (error.SetupScriptOutput cause) = codes "error reading setup script output"
 
 -- what is shown while a unit's process is waited for
 abbrev pub waiting_text : UnitKind → List ℕ

@@ -17,3 +17,4 @@ pub mod stats;
 pub mod stress;
 #[cfg(test)]
 mod tests;
+pub mod unit_error;

@@ -1,9 +1,14 @@
-//! Finished units of which only what decides their counters matters.
+//! Finished units of which only what decides their counters matters, and captured output and errors
+//! to put into others.
 
 use crate::attempts::{ExecuteStatus, ExecutionStatuses, RetryData, SetupScriptExecuteStatus};
-use crate::child::{ChildExecutionOutputDescription, ChildOutputDescription, LiveSpec};
+use crate::chain::SerializableError;
+use crate::child::{
+    ChildExecutionOutputDescription, ChildOutputDescription, ChildSingleOutput, LiveSpec,
+};
 use crate::config::{FlakyResult, LeakTimeoutResult, Moment, SlowTimeoutResult};
 use crate::results::{AbortStatus, ExecutionResult, ExecutionResultDescription, FailureStatus};
+use bytes::Bytes;
 use jiff::Timestamp;
 use jiff::tz::Offset;
 use std::alloc::Global;
@@ -109,4 +114,16 @@ pub(crate) fn finished_script(outcome: ExecutionResult) -> SetupScriptExecuteSta
         env_map: None,
         error_summary: None,
     }
+}
+
+/// Output of which this was captured.
+pub(crate) fn captured(alloc: Global, bytes: &[u8]) -> Result<ChildSingleOutput, Fail> {
+    Ok(ChildSingleOutput::from(Bytes::copy_from_slice(alloc, bytes)?))
+}
+
+/// An error without a cause.
+pub(crate) fn error(alloc: Global, message: &str) -> Result<SerializableError, Fail> {
+    let message = String::from_str(alloc, message)?;
+    let causes = Vec::new(alloc);
+    Ok(SerializableError::from_message_and_causes(alloc, message, causes)?)
 }

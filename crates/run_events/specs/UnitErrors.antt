@@ -1,0 +1,123 @@
+-- The errors of a unit: what went wrong with a test or a setup script, in order.
+use Rattle.std.specs.Prelude.{◌≡◌, ℕ, Bool, true, false, List, [], ◌∷◌, ◌++◌, map, not, IsTrue, Option, None, Some, MatchOption, option_map, option_to_list}
+use Rattle.std.specs.Option.{option_map_or}
+use Rattle.output_slice.specs.Extraction.{Extract, IsExtract}
+use Rattle.output_slice.specs.Shown.{extract_of, shown_text}
+use Rattle.run_events.specs.ChildOutput.{IsLoaded}
+use Rattle.run_events.specs.ListedErrors.{ListedErrors}
+use Rattle.run_events.specs.Results.{succeeds}
+use Rattle.run_events.specs.Texts.{child_error_text, start_error_text, unit_abort_text}
+use Rattle.run_events.specs.declared.child.ChildExecutionOutputDescription.{ChildExecutionOutputDescription}
+use Rattle.run_events.specs.declared.child.ChildExecutionOutputDescription.TheVariants as left
+use Rattle.run_events.specs.declared.child.LiveSpec.{LiveSpec}
+use Rattle.run_events.specs.declared.child.errors.ChildErrorDescription.{ChildErrorDescription}
+use Rattle.run_events.specs.declared.child.errors.ChildStartErrorDescription.{ChildStartErrorDescription}
+use Rattle.run_events.specs.declared.child.output.ChildOutputDescription.{ChildOutputDescription}
+use Rattle.run_events.specs.declared.child.output.ChildOutputDescription.TheVariants.{Combined, NotLoaded, Split}
+use Rattle.run_events.specs.declared.results.ExecutionResultDescription.{ExecutionResultDescription}
+use Rattle.run_events.specs.declared.results.ExecutionResultDescription.TheVariants.{Fail}
+use Rattle.run_events.specs.declared.results.UnitKind.{UnitKind}
+use Rattle.run_events.specs.declared.results.UnitKind.TheVariants as kind
+use Rattle.run_events.specs.declared.results.failure.AbortDescription.{AbortDescription}
+use Rattle.run_events.specs.declared.results.failure.FailureDescription.TheVariants.{Abort}
+use Rattle.run_events.specs.declared.unit_error.UnitErrorDescription.{UnitErrorDescription}
+use Rattle.run_events.specs.declared.unit_error.errors.UnitError.{UnitError}
+use Rattle.run_events.specs.declared.unit_error.errors.UnitError.TheVariants as unit
+
+-- an error of a unit, wherever it is borrowed from
+pub data ErrorOfUnit : Type 0 where
+  start_error : ChildStartErrorDescription → ErrorOfUnit
+  output_error : ChildErrorDescription → ErrorOfUnit
+  abort_error : AbortDescription → Bool → ErrorOfUnit
+  slice_error : Extract → ErrorOfUnit
+
+-- The errors of what a child process left.
+
+-- the errors that keep a unit from being run: that of its start, or those in reading its output, in order
+abbrev pub exec_fail_of : ChildExecutionOutputDescription LiveSpec ChildOutputDescription → List ErrorOfUnit
+exec_fail_of (left.StartError e) = start_error e ∷ []
+exec_fail_of (left.Output end output errors) = option_map_or (λ l. map output_error l.items) errors []
+
+-- the abort of a failure, with whether it left a handle open
+abbrev pub aborts_in : ExecutionResultDescription → List ErrorOfUnit
+aborts_in (Fail (Abort a) leaked) = abort_error a leaked ∷ []
+aborts_in _ = []
+
+-- the abort that ended the process, if one did
+abbrev pub aborts_of : ChildExecutionOutputDescription LiveSpec ChildOutputDescription → List ErrorOfUnit
+aborts_of (left.Output (Some r) output errors) = aborts_in r
+aborts_of _ = []
+
+-- the errors of the process itself: its abort, then the slice that was found
+abbrev pub child_process_of : ChildExecutionOutputDescription LiveSpec ChildOutputDescription → Option Extract → List ErrorOfUnit
+child_process_of output found = aborts_of output ++ option_to_list (option_map slice_error found)
+
+-- all errors, in order
+abbrev pub errors_of : ChildExecutionOutputDescription LiveSpec ChildOutputDescription → Option Extract → List ErrorOfUnit
+errors_of output found = exec_fail_of output ++ child_process_of output found
+
+-- The slice of a unit.
+
+-- the unit is a test that has ended without success
+abbrev pub is_failed_test : UnitKind → Option ExecutionResultDescription → Bool
+is_failed_test kind.Test (Some r) = not (succeeds r)
+is_failed_test _ _ = false
+
+-- What is found is the extraction of the output, of which both streams in one are each of the two.
+abbrev pub IsExtractOf : ChildOutputDescription → Option Extract → Type 0
+IsExtractOf (Split stdout stderr) found = IsExtract stdout stderr found
+IsExtractOf (Combined o) found = IsExtract (Some o) (Some o) found
+IsExtractOf NotLoaded found = ⊥
+
+-- What is found in the output where it is searched, and none where it is not.
+abbrev pub IsSearched : Bool → ChildOutputDescription → Option Extract → Type 0
+IsSearched true output found = IsExtractOf output found
+IsSearched false output found = found ≡ None
+
+-- What is found is the slice of a failed test's output, and none of any other unit's.
+abbrev pub IsSliceOf : UnitKind → ChildExecutionOutputDescription LiveSpec ChildOutputDescription → Option Extract → Type 0
+IsSliceOf k (left.Output end output errors) found = IsSearched (is_failed_test k end) output found
+IsSliceOf k (left.StartError e) found = found ≡ None
+
+-- The output of a failed test is loaded.
+abbrev pub CanDescribe : UnitKind → ChildExecutionOutputDescription LiveSpec ChildOutputDescription → Type 0
+CanDescribe k (left.Output end output errors) = IsTrue (is_failed_test k end) → IsLoaded output
+CanDescribe k (left.StartError e) = Unit {0}
+
+-- The parts of a description.
+
+abbrev pub kind_of : UnitErrorDescription → UnitKind
+kind_of d = d.kind
+
+abbrev pub slice_of : UnitErrorDescription → Option Extract
+slice_of d = option_map extract_of d.output_slice
+
+abbrev pub exec_fail_errors : UnitErrorDescription → List ErrorOfUnit
+exec_fail_errors d =
+    option_to_list (option_map (λ e. start_error e.now) d.start_error) ++ option_map_or (λ l. map output_error l.now.items) d.output_errors []
+
+abbrev pub child_process_errors : UnitErrorDescription → List ErrorOfUnit
+child_process_errors d =
+    option_to_list (option_map (λ a. abort_error a.description.now a.leaked) d.abort) ++ option_to_list (option_map slice_error (slice_of d))
+
+abbrev pub all_errors : UnitErrorDescription → List ErrorOfUnit
+all_errors d = exec_fail_errors d ++ child_process_errors d
+
+-- Lists of errors.
+
+abbrev pub error_seen : UnitError → ErrorOfUnit
+error_seen (unit.Start e) = start_error e.now
+error_seen (unit.Output e) = output_error e.now
+error_seen (unit.Abort a) = abort_error a.description.now a.leaked
+error_seen (unit.Slice s) = slice_error (extract_of s)
+
+-- a list of these errors under this description, and none where there is no error
+abbrev pub IsListOf : List ℕ → List ErrorOfUnit → Option (ListedErrors UnitError) → Type 0
+IsListOf description errors list = MatchOption list (errors ≡ []) (λ l. (l.description ≡ description) × (map error_seen l.items ≡ errors))
+
+-- the text of an error: that of what it holds
+abbrev pub unit_error_text : UnitError → List ℕ
+unit_error_text (unit.Start e) = start_error_text e.now
+unit_error_text (unit.Output e) = child_error_text e.now
+unit_error_text (unit.Abort a) = unit_abort_text a.description.now a.leaked
+unit_error_text (unit.Slice s) = shown_text s
