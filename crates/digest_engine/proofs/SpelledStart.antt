@@ -24,6 +24,7 @@ reason_read None = refl
 reason_read (Some reason.SetupScriptFailure) = refl
 reason_read (Some reason.TestFailure) = refl
 reason_read (Some reason.ReportError) = refl
+reason_read (Some reason.OutputLimit) = refl
 reason_read (Some reason.TestFailureImmediate) = refl
 reason_read (Some reason.GlobalTimeout) = refl
 reason_read (Some reason.Signal) = refl
@@ -36,6 +37,7 @@ reason_whole None = refl
 reason_whole (Some reason.SetupScriptFailure) = refl
 reason_whole (Some reason.TestFailure) = refl
 reason_whole (Some reason.ReportError) = refl
+reason_whole (Some reason.OutputLimit) = refl
 reason_whole (Some reason.TestFailureImmediate) = refl
 reason_whole (Some reason.GlobalTimeout) = refl
 reason_whole (Some reason.Signal) = refl
@@ -68,19 +70,23 @@ reason_inverse word found e =
                       elim (word_or_rest word (Some reason.ReportError) _ found e) [
                         | inl is ↦ is
                         | inr e ↦
-                            elim (word_or_rest word (Some reason.TestFailureImmediate) _ found e) [
+                            elim (word_or_rest word (Some reason.OutputLimit) _ found e) [
                               | inl is ↦ is
                               | inr e ↦
-                                  elim (word_or_rest word (Some reason.GlobalTimeout) _ found e) [
+                                  elim (word_or_rest word (Some reason.TestFailureImmediate) _ found e) [
                                     | inl is ↦ is
                                     | inr e ↦
-                                        elim (word_or_rest word (Some reason.Signal) _ found e) [
+                                        elim (word_or_rest word (Some reason.GlobalTimeout) _ found e) [
                                           | inl is ↦ is
                                           | inr e ↦
-                                              elim (word_or_rest word (Some reason.Interrupt) _ found e) [
+                                              elim (word_or_rest word (Some reason.Signal) _ found e) [
                                                 | inl is ↦ is
                                                 | inr e ↦
-                                                    elim (word_or_rest word (Some reason.SecondSignal) _ found e) [ inl is ↦ is | inr e ↦ absurd cc ]
+                                                    elim (word_or_rest word (Some reason.Interrupt) _ found e) [
+                                                      | inl is ↦ is
+                                                      | inr e ↦
+                                                          elim (word_or_rest word (Some reason.SecondSignal) _ found e) [ inl is ↦ is | inr e ↦ absurd cc ]
+                                                    ]
                                               ]
                                         ]
                                   ]

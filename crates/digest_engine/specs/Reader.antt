@@ -45,6 +45,7 @@ reason_of word =
     else if bytes_eq word (codes "setup-script-failure") then Some (Some reason.SetupScriptFailure)
     else if bytes_eq word (codes "test-failure") then Some (Some reason.TestFailure)
     else if bytes_eq word (codes "report-error") then Some (Some reason.ReportError)
+    else if bytes_eq word (codes "output-limit") then Some (Some reason.OutputLimit)
     else if bytes_eq word (codes "test-failure-immediate") then Some (Some reason.TestFailureImmediate)
     else if bytes_eq word (codes "global-timeout") then Some (Some reason.GlobalTimeout)
     else if bytes_eq word (codes "signal") then Some (Some reason.Signal)

@@ -19,6 +19,7 @@ fn word_of(reason: Option<CancelReason>) -> &'static str
         Some(CancelReason::SetupScriptFailure) => "setup-script-failure",
         Some(CancelReason::TestFailure) => "test-failure",
         Some(CancelReason::ReportError) => "report-error",
+        Some(CancelReason::OutputLimit) => "output-limit",
         Some(CancelReason::TestFailureImmediate) => "test-failure-immediate",
         Some(CancelReason::GlobalTimeout) => "global-timeout",
         Some(CancelReason::Signal) => "signal",

@@ -66,6 +66,8 @@ fn named_reason(word: &[u8]) -> Option<Option<CancelReason>>
         Some(Some(CancelReason::TestFailure))
     } else if word == b"report-error".as_slice() {
         Some(Some(CancelReason::ReportError))
+    } else if word == b"output-limit".as_slice() {
+        Some(Some(CancelReason::OutputLimit))
     } else if word == b"test-failure-immediate".as_slice() {
         Some(Some(CancelReason::TestFailureImmediate))
     } else if word == b"global-timeout".as_slice() {

@@ -38,11 +38,12 @@ abbrev pub reason_rank : CancelReason → ℕ
 reason_rank reason.SetupScriptFailure = 0
 reason_rank reason.TestFailure = 1
 reason_rank reason.ReportError = 2
-reason_rank reason.TestFailureImmediate = 3
-reason_rank reason.GlobalTimeout = 4
-reason_rank reason.Signal = 5
-reason_rank reason.Interrupt = 6
-reason_rank reason.SecondSignal = 7
+reason_rank reason.OutputLimit = 3
+reason_rank reason.TestFailureImmediate = 4
+reason_rank reason.GlobalTimeout = 5
+reason_rank reason.Signal = 6
+reason_rank reason.Interrupt = 7
+reason_rank reason.SecondSignal = 8
 
 abbrev pub step_rank : RunFailureStep → ℕ
 step_rank step.Test = 0

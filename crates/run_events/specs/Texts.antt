@@ -83,6 +83,7 @@ abbrev pub cancel_text : CancelReason → List ℕ
 cancel_text reason.SetupScriptFailure = codes "setup script failure"
 cancel_text reason.TestFailure = codes "test failure"
 cancel_text reason.ReportError = codes "reporting error"
+cancel_text reason.OutputLimit = codes "output limit"
 cancel_text reason.TestFailureImmediate = codes "test failure"
 cancel_text reason.GlobalTimeout = codes "global timeout"
 cancel_text reason.Signal = codes "signal"

@@ -309,6 +309,9 @@ pub enum CancelReason {
     /// A reporter could not write.
     ReportError,
 
+    /// The run wrote more output than it may.
+    OutputLimit,
+
     /// A test failed, and the run is to stop at once and end the tests that still run.
     TestFailureImmediate,
 
@@ -335,6 +338,7 @@ impl CancelReason {
             CancelReason::SetupScriptFailure => "setup script failure",
             CancelReason::TestFailure => "test failure",
             CancelReason::ReportError => "reporting error",
+            CancelReason::OutputLimit => "output limit",
             CancelReason::TestFailureImmediate => "test failure",
             CancelReason::GlobalTimeout => "global timeout",
             CancelReason::Signal => "signal",

@@ -95,6 +95,7 @@ fn named_reason(word: &str) -> Option<Option<CancelReason>>
         "setup-script-failure" => Some(Some(CancelReason::SetupScriptFailure)),
         "test-failure" => Some(Some(CancelReason::TestFailure)),
         "report-error" => Some(Some(CancelReason::ReportError)),
+        "output-limit" => Some(Some(CancelReason::OutputLimit)),
         "test-failure-immediate" => Some(Some(CancelReason::TestFailureImmediate)),
         "global-timeout" => Some(Some(CancelReason::GlobalTimeout)),
         "signal" => Some(Some(CancelReason::Signal)),

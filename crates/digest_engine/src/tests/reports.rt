@@ -6,7 +6,7 @@ use std::test::Fail;
 /// An input, the exit status, standard output and standard error.
 type Row = (&'static str, u8, &'static str, &'static str);
 
-const ROWS: [Row; 10] = [
+const ROWS: [Row; 12] = [
     (
         "run 0 1 -\nscript fail\n",
         1,
@@ -33,6 +33,18 @@ const ROWS: [Row; 10] = [
     ),
     (
         "run 1 0 -\ntest pass\n",
+        0,
+        "tests 1 passed 1 failed 0 flaky 0\nscripts 0 failed 0\nsummary success\n",
+        "",
+    ),
+    (
+        "run 1 0 output-limit\ntest fail\n",
+        1,
+        "tests 1 passed 0 failed 1 flaky 0\nscripts 0 failed 0\nsummary cancelled output-limit test 1 0\n",
+        "",
+    ),
+    (
+        "run 1 0 output-limit\ntest pass\n",
         0,
         "tests 1 passed 1 failed 0 flaky 0\nscripts 0 failed 0\nsummary success\n",
         "",
@@ -75,8 +87,9 @@ const FAILING: [&str; 4] = [
     "test-failure-immediate",
 ];
 
-const CANCELLING: [&str; 5] = [
+const CANCELLING: [&str; 6] = [
     "report-error",
+    "output-limit",
     "global-timeout",
     "signal",
     "interrupt",

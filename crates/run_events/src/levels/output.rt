@@ -95,6 +95,7 @@ impl StatusLevels {
                 CancelReason::SetupScriptFailure
                 | CancelReason::TestFailure
                 | CancelReason::ReportError
+                | CancelReason::OutputLimit
                 | CancelReason::TestFailureImmediate
                 | CancelReason::GlobalTimeout,
             ) => OutputOnTestFinished {

@@ -123,6 +123,7 @@ impl RunStats {
             ) => FinalRunStats::Failed { kind },
             Some(
                 CancelReason::ReportError
+                | CancelReason::OutputLimit
                 | CancelReason::GlobalTimeout
                 | CancelReason::Signal
                 | CancelReason::Interrupt

@@ -83,6 +83,7 @@ fn a_failure_counts_by_its_reason(rt: HostRuntime) {
     }
     for reason in [
         Some(CancelReason::ReportError),
+        Some(CancelReason::OutputLimit),
         Some(CancelReason::GlobalTimeout),
         Some(CancelReason::Signal),
         Some(CancelReason::Interrupt),

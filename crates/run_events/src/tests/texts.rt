@@ -172,6 +172,7 @@ fn cancel_reasons(rt: HostRuntime) {
         (CancelReason::SetupScriptFailure, "setup script failure"),
         (CancelReason::TestFailure, "test failure"),
         (CancelReason::ReportError, "reporting error"),
+        (CancelReason::OutputLimit, "output limit"),
         (CancelReason::TestFailureImmediate, "test failure"),
         (CancelReason::GlobalTimeout, "global timeout"),
         (CancelReason::Signal, "signal"),

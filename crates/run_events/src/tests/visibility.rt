@@ -10,11 +10,12 @@ use crate::results::{
 use std::process::Abort;
 
 /// No reason, and all reasons, the least first.
-const REASONS: [Option<CancelReason>; 9] = [
+const REASONS: [Option<CancelReason>; 10] = [
     None,
     Some(CancelReason::SetupScriptFailure),
     Some(CancelReason::TestFailure),
     Some(CancelReason::ReportError),
+    Some(CancelReason::OutputLimit),
     Some(CancelReason::TestFailureImmediate),
     Some(CancelReason::GlobalTimeout),
     Some(CancelReason::Signal),
@@ -106,6 +107,14 @@ fn a_terminated_test_is_hidden_as_the_run_stops(rt: HostRuntime) {
             true,
             OutputStoreFinal::Yes {
                 display_output: false,
+            },
+        ),
+        (
+            CancelReason::OutputLimit,
+            &terminated,
+            true,
+            OutputStoreFinal::Yes {
+                display_output: true,
             },
         ),
         (
