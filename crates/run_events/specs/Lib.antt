@@ -19,6 +19,7 @@ pub mod Summary
 pub mod TestCounters
 pub mod TestView
 pub mod Texts
+pub mod UnitState
 pub mod Visibility
 pub use Rattle.output_slice.specs.Extraction
 pub use Rattle.output_slice.specs.Lines
