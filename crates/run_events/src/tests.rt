@@ -8,6 +8,7 @@ mod child;
 mod conditions;
 mod config;
 mod counters;
+mod events;
 mod laws;
 mod levels;
 mod outcome;
