@@ -299,8 +299,8 @@ pub enum TestEventKind<'a> {
         missing: usize,
     },
 
-    /// The user pressed Enter, and is to see a new line, or how far the run is: the counters and the
-    /// running tests of that moment. Read by displayers.
+    /// The user pressed Enter, and is to see a new line, or how far the run is: by the counters and
+    /// the running tests of that moment. Read by displayers.
     InputEnter {
         /// The counters of the run.
         current_stats: RunStats,

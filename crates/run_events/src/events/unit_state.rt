@@ -78,8 +78,8 @@ pub enum UnitState {
 }
 
 impl UnitState {
-    /// Whether the output that comes with the state is that of the state's own attempt, and so worth
-    /// showing: in every state but the wait between two attempts.
+    /// Whether the output that comes with the state is that of the state's own attempt, and so
+    /// worth showing: in every state but the wait between two attempts.
     pub fn has_valid_output(&self) -> bool
         ensures { result ≡ state_has_output self.now }
     {

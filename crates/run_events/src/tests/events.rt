@@ -83,14 +83,19 @@ fn moment(second: i64) -> Result<Moment, Fail> {
     })
 }
 
+/// An event as reporters are handed it.
+fn boxed(alloc: Global, event: TestEvent<'_>) -> Result<ReporterEvent<'_>, AllocError> {
+    Ok(ReporterEvent::Test(Box::new(alloc, event)?))
+}
+
 /// What happened, as a reporter is told of it one minute into a run.
-fn told<'a>(alloc: Global, kind: TestEventKind<'a>) -> Result<ReporterEvent<'a>, Fail> {
+fn told(alloc: Global, kind: TestEventKind<'_>) -> Result<ReporterEvent<'_>, Fail> {
     let event = TestEvent {
         timestamp: moment(1_000)?,
         elapsed: Duration::from_secs(60),
         kind,
     };
-    Ok(ReporterEvent::Test(Box::new(alloc, event).map_err(|_| AllocError)?))
+    Ok(boxed(alloc, event)?)
 }
 
 /// What happened, if anything did.

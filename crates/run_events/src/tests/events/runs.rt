@@ -1,13 +1,28 @@
 //! A run and its sub-runs begin and end.
 
-use super::{SO_FAR, THIRD, instance, is_instance, kind_of, moment, owned, told};
-use crate::config::{OwnedTestInstanceId, StressCondition, TestList};
+use super::{SO_FAR, THIRD, is_instance, kind_of, moment, owned, told};
+use crate::config::{OwnedTestInstanceId, StressCondition, TestInstanceId, TestList};
 use crate::events::{TestEventKind, TestsNotSeen};
 use crate::outcome::{FinalRunStats, RunFinishedStats, StressRunStats};
 use crate::stress::StressProgress;
 use std::test::Fail;
 use std::time::Duration;
 use uuid::Uuid;
+
+/// Two tests, of which one is to run.
+static TESTS: TestList<'static> = TestList {
+    instances: &[
+        TestInstanceId {
+            binary_id: "app::bin/app",
+            test_name: "adds",
+        },
+        TestInstanceId {
+            binary_id: "app::bin/app",
+            test_name: "divides",
+        },
+    ],
+    run_count: 1,
+};
 
 /// A run that is repeated for an hour, of which so many sub-runs are done.
 fn an_hour(completed: u32) -> StressProgress {
@@ -21,13 +36,8 @@ fn an_hour(completed: u32) -> StressProgress {
 #[test]
 fn a_run_begins(rt: HostRuntime) -> Result<(), Fail> {
     let alloc = rt.alloc();
-    let instances = [instance("adds"), instance("divides")];
-    let tests = TestList {
-        instances: &instances,
-        run_count: 1,
-    };
     let kind = TestEventKind::RunStarted {
-        test_list: &tests,
+        test_list: &TESTS,
         run_id: Uuid::from_u128(7),
         profile_name: String::from_str(alloc, "ci")?,
         cli_args: owned(alloc, &["run", "--workspace"])?,
@@ -52,10 +62,13 @@ fn a_run_begins(rt: HostRuntime) -> Result<(), Fail> {
     assert_eq!(rt; *run_id, Uuid::from_u128(7));
     assert_eq!(rt; profile_name.as_str(), "ci");
     assert_eq!(rt; *cli_args, owned(alloc, &["run", "--workspace"])?);
-    let Some(StressCondition::Duration(duration)) = stress_condition else {
+    let Some(condition) = stress_condition else {
+        return Err(Fail::new("no condition"));
+    };
+    let StressCondition::Duration(duration) = *condition else {
         return Err(Fail::new("another condition"));
     };
-    assert_eq!(rt; *duration, Duration::from_secs(3_600));
+    assert_eq!(rt; duration, Duration::from_secs(3_600));
     Ok(())
 }
 
