@@ -23,6 +23,7 @@ pub mod TestCounters
 pub mod TestView
 pub mod Texts
 pub mod UnitErrors
+pub mod UnitState
 pub mod Visibility
 pub use Rattle.output_slice.specs.Extraction
 pub use Rattle.output_slice.specs.Lines

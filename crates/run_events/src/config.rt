@@ -6,6 +6,13 @@ ghost use Rattle.run_events.specs.Config.{is_final_display, is_immediate_display
 use jiff::Timestamp;
 use jiff::tz::Offset;
 
+mod carried;
+
+pub use crate::config::carried::{
+    JunitFlakyFailStatus, MismatchReason, OwnedTestInstanceId, ReportSkipPolicy, ScriptId,
+    StressCondition, TestGroup, TestInstanceId, TestList,
+};
+
 /// How a flaky test counts: one whose last attempt succeeded after at least one attempt before it.
 #[derive(Clone, Copy, Debug, Default, PartialEq, Eq)]
 pub enum FlakyResult {

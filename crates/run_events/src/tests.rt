@@ -9,6 +9,7 @@ mod conditions;
 mod config;
 mod counters;
 mod descriptions;
+mod events;
 mod laws;
 mod levels;
 mod outcome;

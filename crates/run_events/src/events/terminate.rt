@@ -31,6 +31,13 @@ impl fmt::Display for UnitTerminateReason {
     }
 }
 
+/// The way in which the runner ends a unit.
+#[derive(Clone, Copy, Debug)]
+pub enum UnitTerminateMethod {
+    /// By a signal.
+    Signal(UnitTerminateSignal),
+}
+
 /// The signal by which the runner ends a unit.
 #[derive(Clone, Copy, Debug, PartialEq, Eq)]
 pub enum UnitTerminateSignal {
