@@ -3,7 +3,7 @@ use Rattle.std.specs.Prelude.{◌≡◌, ℕ, ◌++◌, Bool, List, length, code
 use Rattle.std.specs.Fmt.{decimal}
 use Rattle.std.specs.Io.KnownBytes.{Appends}
 use Rattle.std.specs.declared.result.Result.{Result}
-use Rattle.run_events.specs.Extraction.{Extract, IsExtract, error_slice, note_line, panic_slice}
+use Rattle.run_events.specs.Extraction.{Extract, IsCappedExtract, error_slice, note_line, panic_slice}
 use Rattle.run_events.specs.Slices.{Slice}
 use Rattle.digest_engine.specs.Answer.{AppendsStart}
 use Rattle.digest_engine.specs.declared.fault.Fault.{Fault}
@@ -24,13 +24,17 @@ extract_text (Some (panic_slice x)) = slice_text (codes "panic-message") x
 extract_text (Some (error_slice x)) = slice_text (codes "error-str") x
 extract_text (Some (note_line x)) = slice_text (codes "should-panic") x
 
--- What is answered to this input, taken as combined output. With Ok the text of its extraction was written, and the
--- answer is whether there is one. After a failed write a beginning of that text was written.
+-- What is extracted of an input, which is taken as combined output: at most 4,096 bytes.
+abbrev pub IsExtracted : List ℕ → Option Extract → Type 0
+IsExtracted input found = IsCappedExtract 4096 (Some input) (Some input) found
+
+-- What is answered to this input. With Ok the text of what is extracted was written, and the answer is whether there is
+-- anything. After a failed write a beginning of that text was written.
 abbrev pub AnswersExtract : Result Bool Fault → Option (List ℕ) → Option (List ℕ) → List ℕ → Type 0
 AnswersExtract (Ok success) old new input =
-    (found : Option Extract) × IsExtract (Some input) (Some input) found × Appends old new (extract_text found) × (success ≡ is_some found)
+    (found : Option Extract) × IsExtracted input found × Appends old new (extract_text found) × (success ≡ is_some found)
 AnswersExtract (Err faults.Write) old new input =
-    (found : Option Extract) × IsExtract (Some input) (Some input) found × AppendsStart old new (extract_text found)
+    (found : Option Extract) × IsExtracted input found × AppendsStart old new (extract_text found)
 AnswersExtract (Err faults.Read) old new input = Unit {0}
 AnswersExtract (Err faults.OutOfMemory) old new input = Unit {0}
 AnswersExtract (Err faults.BadWord) old new input = ⊥

@@ -3,14 +3,15 @@
 ghost use Rattle.std.specs.Prelude.{◌≡◌, ◌↔◌, ◌⊎◌, true, false, IfErr, IfOk, IfSome, OnOk, IsErrOf, codes, length, option_map, string_bytes};
 ghost use Rattle.run_events.specs.Shown.{extract_of};
 ghost use Rattle.digest_engine.specs.Answer.{KeepsSink, ReadsToEnd};
-ghost use Rattle.digest_engine.specs.ExtractAnswer.{AnswersExtract, extract_text, heading};
+ghost use Rattle.digest_engine.specs.ExtractAnswer.{AnswersExtract, IsExtracted, extract_text, heading};
 ghost use Rattle.digest_engine.specs.declared.fault.Fault.TheVariants as faults;
 
 use crate::device::{Sink, Source};
 use crate::fault::Fault;
 use crate::transfer::{read_all, write_all};
-use run_events::output_slice::subslice::{ByteSubslice, TestOutputErrorSlice};
+use run_events::output_slice::subslice::TestOutputErrorSlice;
 use std::alloc::{AllocError, Global};
+use std::num::NonZero;
 
 /// The first line for a slice.
 #[tactic(auto, unfolding(crate::specs::ExtractAnswer::heading))]
@@ -18,6 +19,14 @@ fn heading_of(alloc: Global, kind: &str, start: usize, len: usize) -> Result<Str
     ensures { IfOk result (λ s. string_bytes s ≡ heading kind.now start len) }
 {
     format!(in alloc; "{kind} {start} {len}\n")
+}
+
+/// The part of combined output that says why a test failed, at most 4,096 bytes of it.
+fn extracted(output: &[u8]) -> Option<TestOutputErrorSlice<'_>>
+    ensures { IsExtracted output.now (option_map extract_of result) }
+{
+    let limit = NonZero::<usize>::MIN.saturating_add(4_095);
+    TestOutputErrorSlice::heuristic_extract_capped(Some(output), Some(output), limit)
 }
 
 /// The text for what was extracted.
@@ -43,7 +52,7 @@ fn text_of(alloc: Global, found: Option<TestOutputErrorSlice<'_>>) -> Result<Vec
 }
 
 /// Reads all of the source, takes it as a test's combined output, and writes the part of it that
-/// says why the test failed. Answers whether there is one.
+/// says why the test failed, at most 4,096 bytes of it. Answers whether there is one.
 ///
 /// It writes `panic-message START LEN`, `error-str START LEN` or `should-panic START LEN`, START and
 /// LEN in bytes and START from 0, a line feed, the slice and a line feed; or `none` and a line feed.
@@ -72,7 +81,7 @@ pub fn extract<R: Source, W: Sink>(
 {
     let bytes = read_all(alloc, source)?;
     let output = bytes.as_slice();
-    let found = TestOutputErrorSlice::heuristic_extract(Some(output), Some(output));
+    let found = extracted(output);
     let text = text_of(alloc, found)?;
     write_all(sink, text.as_slice())?;
     Ok(found.is_some())

@@ -1,5 +1,5 @@
 -- Extraction: which of the three slices says why a test failed.
-use Rattle.std.specs.Prelude.{◌≡◌, ℕ, List, Option, None, Some, MatchOption}
+use Rattle.std.specs.Prelude.{◌≡◌, ℕ, List, Option, None, Some, MatchOption, option_map, take}
 use Rattle.output_slice.specs.Slices.{Slice, IsPart, IsPanicSlice, IsErrorSlice, IsNoteLine}
 
 -- A slice with its kind.
@@ -28,3 +28,17 @@ abbrev pub LiesIn : Option (List ℕ) → Option (List ℕ) → Extract → Type
 LiesIn out err (panic_slice x) = IsPartOf err x
 LiesIn out err (error_slice x) = IsPartOf err x
 LiesIn out err (note_line x) = IsPartOf out x
+
+-- The first bytes of a slice, at most so many. It is not trimmed again, and may end inside a character.
+abbrev pub capped_slice : ℕ → Slice → Slice
+capped_slice limit x = record { start = x.start; bytes = take limit x.bytes }
+
+-- The same of an extraction, of its kind.
+abbrev pub capped : ℕ → Extract → Extract
+capped limit (panic_slice x) = panic_slice (capped_slice limit x)
+capped limit (error_slice x) = error_slice (capped_slice limit x)
+capped limit (note_line x) = note_line (capped_slice limit x)
+
+-- What is found is the extraction, capped.
+abbrev pub IsCappedExtract : ℕ → Option (List ℕ) → Option (List ℕ) → Option Extract → Type 0
+IsCappedExtract limit out err found = (whole : Option Extract) × IsExtract out err whole × (found ≡ option_map (capped limit) whole)

@@ -3,13 +3,15 @@ ghost use Rattle.std.specs.Prelude.{◌≡◌, ◌+◌, ◌≤◌, ◌<◌, ℕ,
 ghost use Rattle.std.specs.Option.{option_copied};
 ghost use Rattle.bstr.specs.Text.{without_terminator};
 ghost use Rattle.output_slice.specs.Slices.{Slice, IsErrorSlice, IsNoteLine, IsPart, IsPanicSlice, IsTrimmedSlice, IsWidened, IsBreak};
-ghost use Rattle.output_slice.specs.Extraction.{Extract, IsExtract, LiesIn};
-ghost use Rattle.output_slice.specs.Shown.{slice_of, extract_of};
+ghost use Rattle.output_slice.specs.Extraction.{Extract, IsCappedExtract, IsExtract, LiesIn};
+ghost use Rattle.output_slice.specs.Shown.{slice_of, extract_of, part_of};
+ghost use Rattle.std.specs.Int.NonZero.{non_zero_usize_get};
 
 use crate::last_head::last_head;
 use crate::lines::{line_end, line_start};
 use crate::subslice::{ByteSubslice, TestOutputErrorSlice};
 use bstr::ByteSlice;
+use std::num::NonZero;
 
 impl<'a> TestOutputErrorSlice<'a> {
     /// The part of a test's output that says why it failed: the panic slice of standard error, else
@@ -26,6 +28,24 @@ impl<'a> TestOutputErrorSlice<'a> {
         ensures part { IfSome result (λ x. LiesIn (option_copied stdout.entry) (option_copied stderr.entry) (extract_of x)) }
     {
         first_slice(stdout, stderr)
+    }
+
+    /// The same, with at most `limit` bytes of the part. What is left is not trimmed again, and may
+    /// end inside a character; its start and its kind stay.
+    pub fn heuristic_extract_capped(
+        stdout: Option<&'a [u8]>,
+        stderr: Option<&'a [u8]>,
+        limit: NonZero<usize>,
+    ) -> Option<Self>
+        ensures value { IsCappedExtract (non_zero_usize_get limit) (option_copied stdout.entry) (option_copied stderr.entry) (option_map extract_of result) }
+
+        // Whatever is the capped extraction equals the result.
+        ensures only { (found : Option Extract) → IsCappedExtract (non_zero_usize_get limit) (option_copied stdout.entry) (option_copied stderr.entry) found → found ≡ option_map extract_of result }
+        ensures part { IfSome result (λ x. LiesIn (option_copied stdout.entry) (option_copied stderr.entry) (extract_of x)) }
+        ensures few { IfSome result (λ x. length (part_of x).slice.now ≤ non_zero_usize_get limit) }
+    {
+        let whole = Self::heuristic_extract(stdout, stderr)?;
+        Some(whole.capped(limit))
     }
 }
 

@@ -1,9 +1,12 @@
 //! Parts of captured output.
 ghost use Rattle.std.specs.Prelude.{◌≡◌, Some};
-ghost use Rattle.output_slice.specs.Shown.{part_of, shown_text, stderr_part, stdout_part};
+ghost use Rattle.std.specs.Int.NonZero.{non_zero_usize_get};
+ghost use Rattle.output_slice.specs.Extraction.{capped, capped_slice};
+ghost use Rattle.output_slice.specs.Shown.{extract_of, part_of, shown_text, slice_of, stderr_part, stdout_part};
 
 use bstr::ByteSlice;
 use std::fmt;
+use std::num::NonZero;
 
 /// A part of some bytes, its parent.
 #[derive(Clone, Copy)]
@@ -13,6 +16,19 @@ pub struct ByteSubslice<'a> {
 
     /// Where the part begins in its parent, in bytes from 0.
     pub start: usize,
+}
+
+impl<'a> ByteSubslice<'a> {
+    /// The first bytes of the part, at most `limit`.
+    fn capped(self, limit: NonZero<usize>) -> ByteSubslice<'a>
+        ensures { slice_of result ≡ capped_slice (non_zero_usize_get limit) (slice_of self.entry) }
+    {
+        let length = self.slice.len().min(limit.get());
+        ByteSubslice {
+            slice: &self.slice[..length],
+            start: self.start,
+        }
+    }
 }
 
 /// The part of a test's output that says why the test failed.
@@ -65,6 +81,23 @@ impl<'a> TestOutputErrorSlice<'a> {
         ensures { result ≡ Some (part_of self.now) }
     {
         Some(self.part())
+    }
+
+    /// The same kind with the first bytes of its part, at most `limit`.
+    pub(crate) fn capped(self, limit: NonZero<usize>) -> TestOutputErrorSlice<'a>
+        ensures { extract_of result ≡ capped (non_zero_usize_get limit) (extract_of self.entry) }
+    {
+        match self {
+            Self::PanicMessage { stderr_subslice } => Self::PanicMessage {
+                stderr_subslice: stderr_subslice.capped(limit),
+            },
+            Self::ErrorStr { stderr_subslice } => Self::ErrorStr {
+                stderr_subslice: stderr_subslice.capped(limit),
+            },
+            Self::ShouldPanic { stdout_subslice } => Self::ShouldPanic {
+                stdout_subslice: stdout_subslice.capped(limit),
+            },
+        }
     }
 
     fn part(&self) -> ByteSubslice<'a>

@@ -124,13 +124,21 @@ fn devices_fail_at_each_call(rt: HostRuntime) {
     assert_eq!(rt; sink.written(), b"error-str ".as_slice());
 }
 
+/// `Error: ` and so many times `x`.
+fn long_error(alloc: Global, count: usize) -> Result<String, Fail> {
+    Ok(format!(in alloc; "Error: {:x>count$}", "x")?)
+}
+
 #[test]
-fn a_slice_of_ten_thousand_bytes_is_written_whole(rt: HostRuntime) -> Result<(), Fail> {
-    let output = format!(in rt.alloc(); "Error: {:0>9993}", 1)?;
-    let text = format!(in rt.alloc(); "error-str 0 10000\n{output}\n")?;
-    let mut buffer = [0; 11_000];
-    let (answer, sink) = extracted(rt.alloc(), output.as_bytes(), &mut buffer, None, None);
-    assert_eq!(rt; answer, Ok(true));
-    assert_eq!(rt; sink.written(), text.as_bytes());
+fn at_most_4096_bytes_of_a_slice_are_written(rt: HostRuntime) -> Result<(), Fail> {
+    let whole = long_error(rt.alloc(), 4_089)?;
+    let text = format!(in rt.alloc(); "error-str 0 4096\n{whole}\n")?;
+    for count in [4_089, 4_090, 5_000, 10_000] {
+        let output = long_error(rt.alloc(), count)?;
+        let mut buffer = [0; 11_000];
+        let (answer, sink) = extracted(rt.alloc(), output.as_bytes(), &mut buffer, None, None);
+        assert_eq!(rt; answer, Ok(true));
+        assert_eq!(rt; sink.written(), text.as_bytes(), "{count}");
+    }
     Ok(())
 }
