@@ -1,8 +1,7 @@
-//! Tests of what no clause says: worked inputs, all small inputs against slow functions, long inputs.
+//! Tests of what no clause says: worked inputs and long ones. The searches are compared with slow
+//! functions in the crate `slow_search`.
 
 mod capped;
+mod counted_reads;
 mod extraction;
-mod heads;
 mod long_inputs;
-mod slow;
-mod small_inputs;

@@ -24,7 +24,7 @@ fn extracted<'a>(
 /// An output, and the text that is written for it.
 type Row = (&'static [u8], &'static [u8]);
 
-const FOUND: [Row; 9] = [
+const FOUND: [Row; 10] = [
     (
         b"foobar\nError: \"this is an error\"\n",
         b"error-str 7 25\nError: \"this is an error\"\n",
@@ -60,6 +60,11 @@ const FOUND: [Row; 9] = [
     (
         b"Error: a\xc2\x85\xe3\x80\x80\n",
         b"error-str 0 8\nError: a\n",
+    ),
+    // A zero width space is no white space.
+    (
+        b"Error: a\xe2\x80\x8b",
+        b"error-str 0 11\nError: a\xe2\x80\x8b\n",
     ),
     // A character cut short is no white space.
     (b"Error: a \xe2\x80", b"error-str 0 11\nError: a \xe2\x80\n"),
@@ -100,16 +105,57 @@ fn the_text_where_nothing_is_found(rt: HostRuntime) {
     }
 }
 
+/// An output, and from how many bytes on something is found in a beginning of it: those of its
+/// first head.
+const CUT: [(&[u8], usize); 4] = [
+    (b"thread 'a\nthread ' panicked at x' panicked at y\n", 31),
+    (
+        b"thread 'a\nthread ' panicked at x\nthread ' panicked at y' panicked at z",
+        31,
+    ),
+    (b"thread 'a' (\xf0\x9d\x9f\x8e) panicked at x", 30),
+    (b"thread 'a' (\xc2\xb2) panicked at x", usize::MAX),
+];
+
 #[test]
-fn devices_fail_at_each_call(rt: HostRuntime) {
-    let (output, text) = FOUND[0];
-    // The read of the bytes, then the one that finds the end.
-    for at in 0..2 {
-        let mut buffer = [0; 200];
-        let (answer, sink) = extracted(rt.alloc(), output, &mut buffer, Some(at), None);
-        assert_eq!(rt; answer, Err(Fault::Read));
-        assert!(rt; sink.written().is_empty());
+fn every_beginning_has_an_answer(rt: HostRuntime) {
+    for (output, head) in CUT {
+        for length in 0..output.len() + 1 {
+            let mut buffer = [0; 200];
+            let beginning = &output[..length];
+            let (answer, sink) = extracted(rt.alloc(), beginning, &mut buffer, None, None);
+            assert_eq!(rt; answer, Ok(length >= head), "{beginning:?}");
+            assert!(rt;
+                sink.written().starts_with(b"panic-message ") == (length >= head),
+                "{beginning:?}"
+            );
+        }
     }
+}
+
+#[test]
+fn each_read_that_fails_is_answered(rt: HostRuntime) -> Result<(), Fail> {
+    let output = format!(in rt.alloc(); "Error: {:0>9993}", 1)?;
+    // Three reads of the bytes, then the one that finds the end.
+    for at in 0..5 {
+        let mut buffer = [0; 11_000];
+        let (answer, sink) = extracted(rt.alloc(), output.as_bytes(), &mut buffer, Some(at), None);
+        if at < 4 {
+            assert_eq!(rt; answer, Err(Fault::Read), "read {at}");
+            assert!(rt;
+                sink.written().is_empty() && !sink.has_failed(),
+                "read {at}"
+            );
+        } else {
+            assert_eq!(rt; answer, Ok(true));
+        }
+    }
+    Ok(())
+}
+
+#[test]
+fn each_write_that_fails_is_answered(rt: HostRuntime) {
+    let (output, text) = FOUND[0];
     // The write, which takes the whole text, then the flush.
     for (at, written) in [(0, b"".as_slice()), (1, text)] {
         let mut buffer = [0; 200];
@@ -118,10 +164,23 @@ fn devices_fail_at_each_call(rt: HostRuntime) {
         assert!(rt; sink.has_failed());
         assert_eq!(rt; sink.written(), written);
     }
-    let mut buffer = [0; 10];
-    let (answer, sink) = extracted(rt.alloc(), output, &mut buffer, None, None);
-    assert_eq!(rt; answer, Err(Fault::Write));
-    assert_eq!(rt; sink.written(), b"error-str ".as_slice());
+    let mut buffer = [0; 200];
+    let (answer, sink) = extracted(rt.alloc(), output, &mut buffer, None, Some(2));
+    assert_eq!(rt; answer, Ok(true));
+    assert_eq!(rt; sink.written(), text);
+}
+
+#[test]
+fn a_sink_that_is_too_small_takes_what_it_can(rt: HostRuntime) {
+    let (output, text) = FOUND[0];
+    for room in 0..text.len() {
+        let mut buffer = [0; 200];
+        let small = &mut buffer[..room.min(200)];
+        let (answer, sink) = extracted(rt.alloc(), output, small, None, None);
+        assert_eq!(rt; answer, Err(Fault::Write), "{room} bytes");
+        assert_eq!(rt; sink.written().len(), room);
+        assert!(rt; text.starts_with(sink.written()), "{room} bytes");
+    }
 }
 
 /// `Error: ` and so many times `x`.

@@ -146,6 +146,17 @@ fn a_run_has_at_most_ten_thousand_lines(rt: HostRuntime) -> Result<(), Fail> {
 }
 
 #[test]
+fn nothing_is_written_of_a_run_with_too_many_lines(rt: HostRuntime) -> Result<(), Fail> {
+    let mut input = String::from_str(rt.alloc(), "run 0 0 -\n")?;
+    for _ in 0..10_000 {
+        input.push_str("test pass\n")?;
+    }
+    let gives = given(rt.alloc(), input.as_bytes())?;
+    assert!(rt; gives.is(2, "", "line 10001: bad line\n"));
+    Ok(())
+}
+
+#[test]
 fn a_megabyte_of_lines_is_counted(rt: HostRuntime) -> Result<(), Fail> {
     let mut input = String::from_str(rt.alloc(), "run 2000 0 -\n")?;
     for _ in 0..2_000 {

@@ -2,6 +2,7 @@
 
 use crate::count::count;
 use crate::device::{DeviceFailed, Sink, Source};
+use crate::extract::extract;
 use crate::fault::Fault;
 use crate::std_device::{StdSink, StdSource};
 use std::alloc::Global;
@@ -13,10 +14,15 @@ const RUN: &[u8] = b"run 2 0 -\ntest fail,pass\ntest fail slow\n";
 const REPORT: &[u8] =
     b"tests 2 passed 1 failed 1 flaky 1\nscripts 0 failed 0\nsummary failed test 2 0\n";
 
-/// Gives at most seven bytes a call, fails at one call, and then goes on.
+const OUTPUT: &[u8] = b"foobar\nthread 'main' panicked at 'foo', src/lib.rs:1\n\n";
+
+const EXTRACT: &[u8] = b"panic-message 7 45\nthread 'main' panicked at 'foo', src/lib.rs:1\n";
+
+/// Gives at most so many bytes a call, fails at one call, and then goes on.
 #[derive(Drop)]
 struct Pieces {
     bytes: &'static [u8],
+    most: usize,
     fails_at: Option<usize>,
     calls: usize,
 }
@@ -28,7 +34,7 @@ impl Read for Pieces {
         if self.fails_at == Some(call) {
             return Err(io::ErrorKind::Interrupted.into());
         }
-        let n = self.bytes.len().min(buf.len()).min(7);
+        let n = self.bytes.len().min(buf.len()).min(self.most);
         buf[..n].copy_from_slice(&self.bytes[..n]);
         self.bytes = &self.bytes[n..];
         Ok(n)
@@ -91,10 +97,22 @@ fn counted(alloc: Global, reader: &mut Pieces, writer: &mut Log) -> Result<bool,
     count(alloc, &mut source, &mut sink)
 }
 
+/// A reader of the run by seven bytes.
 fn reader(fails_at: Option<usize>) -> Pieces {
     Pieces {
         bytes: RUN,
+        most: 7,
         fails_at,
+        calls: 0,
+    }
+}
+
+/// A reader of bytes by so many.
+fn reader_by(bytes: &'static [u8], most: usize) -> Pieces {
+    Pieces {
+        bytes,
+        most,
+        fails_at: None,
         calls: 0,
     }
 }
@@ -129,6 +147,27 @@ fn a_failed_read_is_not_tried_again(rt: HostRuntime) {
             assert_eq!(rt; pieces.calls, at.saturating_add(1));
             assert!(rt; log.calls.is_empty());
         }
+    }
+}
+
+#[test]
+fn pieces_of_every_size_give_the_same_text(rt: HostRuntime) {
+    for most in 1..RUN.len() + 2 {
+        let mut log = Log::new(rt.alloc(), 200, None);
+        let answer = counted(rt.alloc(), &mut reader_by(RUN, most), &mut log);
+        assert_eq!(rt; answer, Ok(false), "{most} bytes");
+        assert_eq!(rt; log.taken.as_slice(), REPORT, "{most} bytes");
+    }
+    for most in 1..OUTPUT.len() + 2 {
+        let mut reader = reader_by(OUTPUT, most);
+        let mut log = Log::new(rt.alloc(), 200, None);
+        let mut source = StdSource::new(&mut reader);
+        let mut sink = StdSink::new(&mut log);
+        let answer = extract(rt.alloc(), &mut source, &mut sink);
+        drop(source);
+        drop(sink);
+        assert_eq!(rt; answer, Ok(true), "{most} bytes");
+        assert_eq!(rt; log.taken.as_slice(), EXTRACT, "{most} bytes");
     }
 }
 

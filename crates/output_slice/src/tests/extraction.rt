@@ -33,7 +33,7 @@ struct Case {
     found: Option<Extent>,
 }
 
-const OF_STDERR: [Case; 26] = [
+const OF_STDERR: [Case; 37] = [
     Case {
         shows: "no bytes",
         bytes: b"",
@@ -163,6 +163,61 @@ const OF_STDERR: [Case; 26] = [
         shows: "a panic, an error line before it and text behind it",
         bytes: b"\nrun: one\nError: Bad { line: 3 }\nthread 'reads_back' panicked at 'not equal\n  left: `2`,\n right: `3`', /lib/harness.rs:12:5\nnote: a backtrace can be had\nlast words\n\n\n   ",
         found: Some((Kind::PanicMessage, 10, 153)),
+    },
+    Case {
+        shows: "a name over two lines",
+        bytes: b"thread 'a\nb' panicked at x",
+        found: Some((Kind::PanicMessage, 0, 26)),
+    },
+    Case {
+        shows: "a carriage return, which ends no line",
+        bytes: b"x\rthread 'a' panicked at y",
+        found: None,
+    },
+    Case {
+        shows: "a digit past ASCII of four bytes",
+        bytes: b"thread 'a' (\xf0\x9d\x9f\x8e) panicked at x",
+        found: Some((Kind::PanicMessage, 0, 31)),
+    },
+    Case {
+        shows: "a superscript, which is no decimal digit",
+        bytes: b"thread 'a' (\xc2\xb2) panicked at x",
+        found: None,
+    },
+    Case {
+        shows: "a name with a character cut short",
+        bytes: b"thread 'a\xe2\x82' panicked at x",
+        found: None,
+    },
+    Case {
+        shows: "a name that is a surrogate",
+        bytes: b"thread '\xed\xa0\x80' panicked at x",
+        found: None,
+    },
+    Case {
+        shows: "a name of too long a form",
+        bytes: b"thread '\xc0\x80' panicked at x",
+        found: None,
+    },
+    Case {
+        shows: "an error line that is malformed, taken with the panic",
+        bytes: b"a\nError:\xff\nthread 'm' panicked at y",
+        found: Some((Kind::PanicMessage, 2, 32)),
+    },
+    Case {
+        shows: "an error's white space of two and of three bytes trimmed",
+        bytes: b"Error: a\xc2\x85\xe3\x80\x80\n",
+        found: Some((Kind::ErrorStr, 0, 8)),
+    },
+    Case {
+        shows: "a zero width space, which is no white space",
+        bytes: b"Error: a\xe2\x80\x8b",
+        found: Some((Kind::ErrorStr, 0, 11)),
+    },
+    Case {
+        shows: "a character cut short, which is no white space",
+        bytes: b"Error: a \xe2\x80",
+        found: Some((Kind::ErrorStr, 0, 11)),
     },
 ];
 

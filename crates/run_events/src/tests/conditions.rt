@@ -1,8 +1,12 @@
 //! Counters at their end, and the tests of what the updates and sums ask for.
 
-use super::builders::{EXIT_ONE, PASS, TIMEOUT_PASS, finished_script, finished_test};
+use super::builders::{
+    EXEC_FAIL, EXIT_ONE, LEAK_FAIL, LEAK_PASS, PASS, TIMEOUT_FAIL, TIMEOUT_PASS, finished_script,
+    finished_test,
+};
 use crate::config::FlakyResult;
 use crate::outcome::{FinalRunStats, RunStatsFailureKind};
+use crate::results::ExecutionResult;
 use crate::stats::RunStats;
 use std::test::Fail;
 
@@ -66,4 +70,167 @@ fn a_script_is_counted_where_what_it_raises_has_room(rt: HostRuntime) {
         ..full
     };
     assert_eq!(rt; stats, wanted);
+}
+
+/// The counters of tests, each at a number while all others are at zero: finished, passed, passed
+/// slow, passed timed out, flaky, failed, failed slow, failed timed out, leaky, leaky failed,
+/// execution failed.
+fn each_test_counter(at: usize) -> [RunStats; 11] {
+    let zero = RunStats::default();
+    [
+        RunStats {
+            finished_count: at,
+            ..zero
+        },
+        RunStats { passed: at, ..zero },
+        RunStats {
+            passed_slow: at,
+            ..zero
+        },
+        RunStats {
+            passed_timed_out: at,
+            ..zero
+        },
+        RunStats { flaky: at, ..zero },
+        RunStats { failed: at, ..zero },
+        RunStats {
+            failed_slow: at,
+            ..zero
+        },
+        RunStats {
+            failed_timed_out: at,
+            ..zero
+        },
+        RunStats { leaky: at, ..zero },
+        RunStats {
+            leaky_failed: at,
+            ..zero
+        },
+        RunStats {
+            exec_failed: at,
+            ..zero
+        },
+    ]
+}
+
+/// The counters of setup scripts, in the same way: finished, passed, failed, execution failed,
+/// timed out.
+fn each_script_counter(at: usize) -> [RunStats; 5] {
+    let zero = RunStats::default();
+    [
+        RunStats {
+            setup_scripts_finished_count: at,
+            ..zero
+        },
+        RunStats {
+            setup_scripts_passed: at,
+            ..zero
+        },
+        RunStats {
+            setup_scripts_failed: at,
+            ..zero
+        },
+        RunStats {
+            setup_scripts_exec_failed: at,
+            ..zero
+        },
+        RunStats {
+            setup_scripts_timed_out: at,
+            ..zero
+        },
+    ]
+}
+
+/// A test by its earlier attempts, its last one, whether that was slow, and its setting; then `+`
+/// for each counter that it raises and `.` for each other, in the order of the counters.
+type TestRow = (
+    &'static [ExecutionResult],
+    ExecutionResult,
+    bool,
+    FlakyResult,
+    &'static [u8; 11],
+);
+
+const TESTS: [TestRow; 11] = [
+    (&[], PASS, false, FlakyResult::Pass, b"++........."),
+    (&[], PASS, true, FlakyResult::Pass, b"+++........"),
+    (&[], TIMEOUT_PASS, false, FlakyResult::Pass, b"++.+......."),
+    (&[], TIMEOUT_PASS, true, FlakyResult::Pass, b"++.+......."),
+    (&[EXIT_ONE], PASS, false, FlakyResult::Pass, b"++..+......"),
+    (&[EXIT_ONE], PASS, false, FlakyResult::Fail, b"+....+....."),
+    (&[], EXIT_ONE, true, FlakyResult::Pass, b"+....++...."),
+    (&[], TIMEOUT_FAIL, true, FlakyResult::Pass, b"+......+..."),
+    (&[], LEAK_PASS, true, FlakyResult::Pass, b"+++.....+.."),
+    (&[], LEAK_FAIL, false, FlakyResult::Pass, b"+....+...+."),
+    (&[], EXEC_FAIL, false, FlakyResult::Pass, b"+.........+"),
+];
+
+const SCRIPTS: [(ExecutionResult, &[u8; 5]); 7] = [
+    (PASS, b"++..."),
+    (LEAK_PASS, b"++..."),
+    (LEAK_FAIL, b"+.+.."),
+    (EXIT_ONE, b"+.+.."),
+    (EXEC_FAIL, b"+..+."),
+    (TIMEOUT_FAIL, b"+...+"),
+    (TIMEOUT_PASS, b"+...+"),
+];
+
+#[test]
+fn each_counter_of_tests_at_its_end(rt: HostRuntime) -> Result<(), Fail> {
+    for (earlier, last, is_slow, setting, raised) in TESTS {
+        let test = finished_test(rt.alloc(), earlier, last, is_slow, setting)?;
+        for (stats, mark) in each_test_counter(usize::MAX).iter().zip(raised) {
+            assert_eq!(rt;
+                stats.can_count_test(&test),
+                *mark == b'.',
+                "{last:?} {stats:?}"
+            );
+        }
+        for stats in each_test_counter(usize::MAX - 1) {
+            assert!(rt; stats.can_count_test(&test), "{last:?} {stats:?}");
+        }
+    }
+    Ok(())
+}
+
+#[test]
+fn each_counter_of_scripts_at_its_end(rt: HostRuntime) {
+    for (outcome, raised) in SCRIPTS {
+        let script = finished_script(outcome);
+        for (stats, mark) in each_script_counter(usize::MAX).iter().zip(raised) {
+            assert_eq!(rt;
+                stats.can_count_script(&script),
+                *mark == b'.',
+                "{outcome:?} {stats:?}"
+            );
+        }
+        for stats in each_script_counter(usize::MAX - 1) {
+            assert!(rt; stats.can_count_script(&script), "{outcome:?} {stats:?}");
+        }
+    }
+}
+
+#[test]
+fn counters_of_failures_are_looked_at_one_by_one(rt: HostRuntime) {
+    let tests = RunStats {
+        failed: usize::MAX,
+        exec_failed: usize::MAX,
+        failed_timed_out: usize::MAX,
+        ..RunStats::default()
+    };
+    let all = RunStats {
+        setup_scripts_failed: usize::MAX,
+        setup_scripts_exec_failed: usize::MAX,
+        setup_scripts_timed_out: usize::MAX,
+        ..tests
+    };
+    let of_tests = RunStatsFailureKind::Test {
+        initial_run_count: 0,
+        not_run: 0,
+    };
+    for (stats, kind) in [(tests, of_tests), (all, RunStatsFailureKind::SetupScript)] {
+        assert!(rt; stats.has_failures());
+        assert!(rt; !stats.failed_counts_fit());
+        assert_eq!(rt; stats.summarize_final(), FinalRunStats::Failed { kind });
+    }
 }

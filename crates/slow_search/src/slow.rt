@@ -1,8 +1,10 @@
-//! Slow functions that follow the rules to the letter, for bytes without characters past ASCII.
+//! Slow functions that follow the rules to the letter.
 ghost use Rattle.std.specs.Prelude.{◌≤◌, ◌<◌, length, IfSome};
 
-use crate::panic_head::HeadSpan;
+use output_slice::panic_head::HeadSpan;
 use std::alloc::AllocError;
+use std::str;
+use unicode::properties::GeneralCategory;
 
 /// Where `text` ends, if it stands at `at`.
 fn end_of(bytes: &[u8], at: usize, text: &[u8]) -> Option<usize>
@@ -19,6 +21,22 @@ fn end_of(bytes: &[u8], at: usize, text: &[u8]) -> Option<usize>
     Some(at + text.len())
 }
 
+/// Whether bytes are one or more digits: `0` to `9`, or characters past ASCII of the category Nd.
+fn is_number(bytes: &[u8]) -> bool {
+    match str::from_utf8(bytes) {
+        Err(_) => false,
+        Ok(text) => !text.is_empty() && text.chars().all(is_digit),
+    }
+}
+
+fn is_digit(c: char) -> bool {
+    if c.is_ascii() {
+        c.is_ascii_digit()
+    } else {
+        GeneralCategory::for_char(c) == GeneralCategory::DecimalNumber
+    }
+}
+
 /// Where the tail ends that stands at `at`.
 fn tail_end(bytes: &[u8], at: usize) -> Option<usize> {
     if let Some(stop) = end_of(bytes, at, b" panicked at ") {
@@ -28,14 +46,19 @@ fn tail_end(bytes: &[u8], at: usize) -> Option<usize> {
         return None;
     };
     for close in from..bytes.len() {
-        if !bytes[close].is_ascii_digit() {
-            if close == from {
+        if bytes[close] == b')' {
+            if !is_number(&bytes[from..close]) {
                 return None;
             }
             return end_of(bytes, close, b") panicked at ");
         }
     }
     None
+}
+
+/// Whether bytes are a name: text that is not empty.
+fn is_name(bytes: &[u8]) -> bool {
+    !bytes.is_empty() && str::from_utf8(bytes).is_ok()
 }
 
 /// Where the head ends that begins at `start`.
@@ -50,20 +73,17 @@ fn head_end(bytes: &[u8], start: usize) -> Option<usize>
     };
     for quote in from..bytes.len() {
         if bytes[quote] == b'\'' {
-            if quote == from {
+            if !is_name(&bytes[from..quote]) {
                 return None;
             }
             return tail_end(bytes, quote + 1);
-        }
-        if bytes[quote] >= 0x80 {
-            return None;
         }
     }
     None
 }
 
 /// All heads, by start.
-pub fn list_heads(bytes: &[u8], heads: &mut Vec<HeadSpan>) -> Result<(), AllocError> {
+pub(crate) fn list_heads(bytes: &[u8], heads: &mut Vec<HeadSpan>) -> Result<(), AllocError> {
     heads.clear();
     for start in 0..bytes.len() {
         if let Some(stop) = head_end(bytes, start) {
@@ -74,7 +94,7 @@ pub fn list_heads(bytes: &[u8], heads: &mut Vec<HeadSpan>) -> Result<(), AllocEr
 }
 
 /// Those of the heads, listed by start, at whose start each of them that starts before has ended.
-pub fn list_taken(heads: &[HeadSpan], taken: &mut Vec<HeadSpan>) -> Result<(), AllocError> {
+pub(crate) fn list_taken(heads: &[HeadSpan], taken: &mut Vec<HeadSpan>) -> Result<(), AllocError> {
     taken.clear();
     for head in heads {
         if taken.iter().all(|other| other.start >= head.start || other.stop <= head.start) {
@@ -85,7 +105,7 @@ pub fn list_taken(heads: &[HeadSpan], taken: &mut Vec<HeadSpan>) -> Result<(), A
 }
 
 /// The start of the slice of the head that `front` stands before: each division of it is tried.
-pub fn widened(front: &[u8]) -> usize {
+pub(crate) fn widened(front: &[u8]) -> usize {
     for at in 0..front.len() {
         if let Some(from) = end_of(front, at, b"\nError:") {
             for stop in from..front.len() + 1 {

@@ -1,8 +1,8 @@
 //! Heads of worked inputs.
 
-use crate::byte_source::{ByteSource, CountedBytes};
-use crate::panic_head::{HeadSpan, last_panic_head};
-use crate::tests::slow::{list_heads, list_taken};
+use crate::slow::{list_heads, list_taken};
+use output_slice::byte_source::CountedBytes;
+use output_slice::panic_head::{HeadSpan, last_panic_head};
 use std::alloc::AllocError;
 
 struct Case {
@@ -87,14 +87,4 @@ fn worked_heads(rt: HostRuntime) -> Result<(), AllocError> {
         assert_eq!(rt; found, taken.last().copied(), "last of {}", case.shows);
     }
     Ok(())
-}
-
-#[test]
-fn counted_reads(rt: HostRuntime) {
-    let mut source = CountedBytes::new(b"a'");
-    assert_eq!(rt; source.len(), 2);
-    assert_eq!(rt; source.reads(), 0);
-    assert_eq!(rt; source.byte(1), b'\'');
-    assert_eq!(rt; source.byte(1), b'\'');
-    assert_eq!(rt; source.reads(), 2);
 }

@@ -3,11 +3,9 @@
 //! The numbers of inputs of each kind are those that a search by the pattern of upstream with a
 //! regular expression engine gives, so that no kind can go missing unseen.
 
-use crate::byte_source::{ByteSource, CountedBytes};
-use crate::heuristics::heuristic_panic_message;
-use crate::last_head::last_head;
-use crate::panic_head::{HeadSpan, last_panic_head};
-use crate::tests::slow::{list_heads, list_taken, widened};
+use crate::slow::widened;
+use crate::trial::Trial;
+use output_slice::heuristics::heuristic_panic_message;
 use std::alloc::{AllocError, Global};
 
 /// How many inputs of each kind were met.
@@ -35,23 +33,7 @@ const NONE_MET: Met = Met {
     widened: 0,
 };
 
-/// Room for one input and its heads, used again for the next.
-#[derive(Drop)]
-struct Trial {
-    bytes: Vec<u8>,
-    heads: Vec<HeadSpan>,
-    taken: Vec<HeadSpan>,
-}
-
 impl Trial {
-    fn new(alloc: Global) -> Self {
-        Trial {
-            bytes: Vec::new(alloc),
-            heads: Vec::new(alloc),
-            taken: Vec::new(alloc),
-        }
-    }
-
     /// Joins `length` pieces, which are the digits of `number` to the base of their number.
     fn join(&mut self, pieces: &[&[u8]], length: usize, number: usize) -> Result<(), AllocError> {
         self.bytes.clear();
@@ -62,18 +44,7 @@ impl Trial {
             }
             left = left.checked_div(pieces.len()).unwrap_or(0);
         }
-        list_heads(self.bytes.as_slice(), &mut self.heads)?;
-        list_taken(self.heads.as_slice(), &mut self.taken)
-    }
-
-    /// Whether all searches find the last taken head, and the counted one with few reads.
-    fn agrees(&self) -> bool {
-        let last = self.taken.last().copied();
-        let mut source = CountedBytes::new(self.bytes.as_slice());
-        let found = last_panic_head(&mut source);
-        found == last
-            && last_head(self.bytes.as_slice()) == last
-            && source.reads() <= 4 * self.bytes.len() as u128 + 8
+        self.list()
     }
 
     /// Where the slice of the last taken head begins.

@@ -1,0 +1,28 @@
+//! The id of a sub-run.
+
+use crate::outcome::Outcome;
+use run_events::stress::{StressCount, StressProgress};
+use std::alloc::Global;
+use std::time::Duration;
+use uuid::Uuid;
+
+const PROGRESS: StressProgress = StressProgress::Count {
+    total: StressCount::Infinite,
+    elapsed: Duration::ZERO,
+    completed: 7,
+};
+
+pub(crate) fn unique_id(alloc: Global) -> Outcome {
+    let progress = PROGRESS;
+    let answer = progress.unique_id(alloc, Uuid::from_u128(1));
+    if progress != PROGRESS {
+        return Outcome::Wrong("the progress is changed");
+    }
+    match answer {
+        Ok(id) => Outcome::of_answer(
+            id.as_str() == "00000000-0000-0000-0000-000000000001:@stress-7",
+            "another id",
+        ),
+        Err(_) => Outcome::WasRefused,
+    }
+}
