@@ -4,7 +4,7 @@ ghost use Rattle.std.specs.Prelude.{◌≡◌, ◌≢◌, MatchOption};
 ghost use Rattle.refusals.specs.Call.{word_of};
 
 use crate::outcome::Outcome;
-use crate::{chain, engines, stress};
+use crate::{chain, child, engines, stress, unit_errors};
 use std::alloc::{AllocError, Global};
 
 /// A call that is made, with arguments of its own.
@@ -22,6 +22,21 @@ pub(crate) enum Call {
     /// Values that are no error are read, which takes no memory.
     FromOtherValues,
 
+    /// What a child process left is described.
+    FromOutput,
+
+    /// All errors of a unit are listed.
+    AllErrors,
+
+    /// Those that kept it from being run are listed.
+    ExecFailErrors,
+
+    /// Those of its process are listed.
+    ChildProcessErrors,
+
+    /// The errors of a unit that has none are listed, which takes no memory.
+    NoErrors,
+
     /// The id of a sub-run is made.
     UniqueId,
 
@@ -34,11 +49,16 @@ pub(crate) enum Call {
 
 impl Call {
     /// All calls.
-    pub(crate) const ALL: [Call; 7] = [
+    pub(crate) const ALL: [Call; 12] = [
         Call::FromMessageAndCauses,
         Call::ToValue,
         Call::FromValue,
         Call::FromOtherValues,
+        Call::FromOutput,
+        Call::AllErrors,
+        Call::ExecFailErrors,
+        Call::ChildProcessErrors,
+        Call::NoErrors,
         Call::UniqueId,
         Call::Extract,
         Call::Count,
@@ -53,6 +73,11 @@ impl Call {
             Call::ToValue => "to-value",
             Call::FromValue => "from-value",
             Call::FromOtherValues => "from-other-values",
+            Call::FromOutput => "from-output",
+            Call::AllErrors => "all-errors",
+            Call::ExecFailErrors => "exec-fail-errors",
+            Call::ChildProcessErrors => "child-process-errors",
+            Call::NoErrors => "no-errors",
             Call::UniqueId => "unique-id",
             Call::Extract => "extract",
             Call::Count => "count",
@@ -68,6 +93,11 @@ impl Call {
             "to-value" => Some(Call::ToValue),
             "from-value" => Some(Call::FromValue),
             "from-other-values" => Some(Call::FromOtherValues),
+            "from-output" => Some(Call::FromOutput),
+            "all-errors" => Some(Call::AllErrors),
+            "exec-fail-errors" => Some(Call::ExecFailErrors),
+            "child-process-errors" => Some(Call::ChildProcessErrors),
+            "no-errors" => Some(Call::NoErrors),
             "unique-id" => Some(Call::UniqueId),
             "extract" => Some(Call::Extract),
             "count" => Some(Call::Count),
@@ -82,6 +112,11 @@ impl Call {
             Call::ToValue => chain::to_value(alloc),
             Call::FromValue => chain::from_value(alloc),
             Call::FromOtherValues => chain::from_other_values(alloc),
+            Call::FromOutput => child::from_output(alloc),
+            Call::AllErrors => unit_errors::all_errors(alloc),
+            Call::ExecFailErrors => unit_errors::exec_fail_errors(alloc),
+            Call::ChildProcessErrors => unit_errors::child_process_errors(alloc),
+            Call::NoErrors => unit_errors::no_errors(alloc),
             Call::UniqueId => Ok(stress::unique_id(alloc)),
             Call::Extract => engines::extract(alloc),
             Call::Count => Ok(engines::count(alloc)),

@@ -18,11 +18,11 @@ const RUN: &[u8] = b"run 3 1 -\nscript pass\ntest fail,pass\ntest fail slow\ntes
 const REPORT: &[u8] =
     b"tests 3 passed 2 failed 1 flaky 1\nscripts 1 failed 0\nsummary failed test 3 0\n";
 
-/// A text with 9,000 bytes behind it, so that it is read in three pieces, and an end.
-fn long(alloc: Global, text: &[u8], end: &[u8]) -> Result<Vec<u8>, AllocError> {
+/// A text with so many bytes behind it, and an end.
+fn long(alloc: Global, text: &[u8], count: usize, end: &[u8]) -> Result<Vec<u8>, AllocError> {
     let mut bytes = Vec::with_capacity(alloc, 10_000)?;
     bytes.extend_from_slice(text)?;
-    for _ in 0..9_000 {
+    for _ in 0..count {
         bytes.push(b'x')?;
     }
     bytes.extend_from_slice(end)?;
@@ -53,14 +53,13 @@ fn outcome_of(
     }
 }
 
+/// Output of 9,000 bytes and more, which is read in three pieces. The head has 23 bytes of the 4,096
+/// that are written.
 pub(crate) fn extract(alloc: Global) -> Result<Outcome, AllocError> {
-    let output = long(alloc, b"a\nthread 'b' panicked at ", b"\n")?;
-    let same = long(alloc, b"a\nthread 'b' panicked at ", b"\n")?;
-    let text = long(
-        alloc,
-        b"panic-message 2 9023\nthread 'b' panicked at ",
-        b"\n",
-    )?;
+    let output = long(alloc, b"a\nthread 'b' panicked at ", 9_000, b"\n")?;
+    let same = long(alloc, b"a\nthread 'b' panicked at ", 9_000, b"\n")?;
+    let heading = b"panic-message 2 4096\nthread 'b' panicked at ".as_slice();
+    let text = long(alloc, heading, 4_073, b"\n")?;
     let mut buffer = [0; 10_000];
     let mut source = MemorySource::new(output.as_slice(), None);
     let mut sink = MemorySink::new(&mut buffer, None);

@@ -22,10 +22,12 @@ use std::{env, io};
 
 mod call;
 mod chain;
+mod child;
 mod engines;
 mod growths;
 mod outcome;
 mod stress;
+mod unit_errors;
 
 /// The words after the program's name.
 fn words<R: Env + AllocGlobal>(rt: &R) -> Result<Vec<String>, AllocError> {

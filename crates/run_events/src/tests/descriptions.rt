@@ -53,12 +53,8 @@ fn stdout_then_wait(alloc: Global) -> Result<Option<ErrorList<ChildError>>, Fail
 fn a_name_goes_into_the_signal_that_ended_a_process(rt: HostRuntime) -> Result<(), Fail> {
     let errors = stdout_then_wait(rt.alloc())?;
     let output = split(rt.alloc(), Some(SIGNAL_FIFTEEN), errors)?;
-    let ChildExecutionOutputDescription::Output { result: end, .. } = described(
-        rt.alloc(),
-        output,
-        Some("TERM"),
-    )?
-    else {
+    let described = described(rt.alloc(), output, Some("TERM"))?;
+    let ChildExecutionOutputDescription::Output { result: end, .. } = &described else {
         return Err(Fail::from("not started"));
     };
     let name = String::from_str(rt.alloc(), "TERM")?;
@@ -71,7 +67,7 @@ fn a_name_goes_into_the_signal_that_ended_a_process(rt: HostRuntime) -> Result<(
         },
         leaked: true,
     };
-    assert_eq!(rt; end, Some(wanted));
+    assert_eq!(rt; *end, Some(wanted));
     Ok(())
 }
 
@@ -79,10 +75,11 @@ fn a_name_goes_into_the_signal_that_ended_a_process(rt: HostRuntime) -> Result<(
 fn errors_are_described_in_order(rt: HostRuntime) -> Result<(), Fail> {
     let errors = stdout_then_wait(rt.alloc())?;
     let output = split(rt.alloc(), Some(SIGNAL_FIFTEEN), errors)?;
+    let described = described(rt.alloc(), output, Some("TERM"))?;
     let ChildExecutionOutputDescription::Output {
         errors: Some(errors),
         ..
-    } = described(rt.alloc(), output, Some("TERM"))?
+    } = &described
     else {
         return Err(Fail::from("no errors"));
     };
@@ -103,6 +100,7 @@ fn errors_are_described_in_order(rt: HostRuntime) -> Result<(), Fail> {
 #[test]
 fn output_is_moved_into_its_description(rt: HostRuntime) -> Result<(), Fail> {
     let output = split(rt.alloc(), None, None)?;
+    let split = described(rt.alloc(), output, None)?;
     let ChildExecutionOutputDescription::Output {
         result: None,
         output: ChildOutputDescription::Split {
@@ -110,7 +108,7 @@ fn output_is_moved_into_its_description(rt: HostRuntime) -> Result<(), Fail> {
             stderr: Some(stderr),
         },
         errors: None,
-    } = described(rt.alloc(), output, None)?
+    } = &split
     else {
         return Err(Fail::from("another case"));
     };
@@ -123,10 +121,11 @@ fn output_is_moved_into_its_description(rt: HostRuntime) -> Result<(), Fail> {
         },
         errors: None,
     };
+    let combined = described(rt.alloc(), combined, Some("TERM"))?;
     let ChildExecutionOutputDescription::Output {
         output: ChildOutputDescription::Combined { output },
         ..
-    } = described(rt.alloc(), combined, Some("TERM"))?
+    } = &combined
     else {
         return Err(Fail::from("another case"));
     };
@@ -138,17 +137,13 @@ fn output_is_moved_into_its_description(rt: HostRuntime) -> Result<(), Fail> {
 fn a_start_error_is_described(rt: HostRuntime) -> Result<(), Fail> {
     let spawn = ChildStartError::Spawn(error(rt.alloc(), "s")?);
     let output = ChildExecutionOutput::StartError(spawn);
-    let ChildExecutionOutputDescription::StartError(described) = described(
-        rt.alloc(),
-        output,
-        Some("TERM"),
-    )?
-    else {
+    let described = described(rt.alloc(), output, Some("TERM"))?;
+    let ChildExecutionOutputDescription::StartError(described) = &described else {
         return Err(Fail::from("started"));
     };
     let wanted = ChildStartErrorDescription::Spawn {
         source: error(rt.alloc(), "s")?,
     };
-    assert_eq!(rt; described, wanted);
+    assert_eq!(rt; *described, wanted);
     Ok(())
 }
