@@ -29,7 +29,7 @@ LiesIn out err (panic_slice x) = IsPartOf err x
 LiesIn out err (error_slice x) = IsPartOf err x
 LiesIn out err (note_line x) = IsPartOf out x
 
--- The first bytes of a slice, at most so many. It is not trimmed again, and may end inside a character.
+-- The first bytes of a slice, at most so many: the cut may fall inside a character, and white space before it stays.
 abbrev pub capped_slice : ℕ → Slice → Slice
 capped_slice limit x = record { start = x.start; bytes = take limit x.bytes }
 

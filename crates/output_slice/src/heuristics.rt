@@ -30,8 +30,8 @@ impl<'a> TestOutputErrorSlice<'a> {
         first_slice(stdout, stderr)
     }
 
-    /// The same, with at most `limit` bytes of the part. What is left is not trimmed again, and may
-    /// end inside a character; its start and its kind stay.
+    /// What [`Self::heuristic_extract`] finds, with at most `limit` bytes of it, the first ones. The
+    /// cut may fall inside a character, and white space before it stays; so do start and kind.
     pub fn heuristic_extract_capped(
         stdout: Option<&'a [u8]>,
         stderr: Option<&'a [u8]>,

@@ -89,8 +89,8 @@ CanDescribe k (left.StartError e) = Unit {0}
 abbrev pub kind_of : UnitErrorDescription → UnitKind
 kind_of d = d.kind
 
-abbrev pub slice_of : UnitErrorDescription → Option Extract
-slice_of d = option_map extract_of d.output_slice
+abbrev pub described_slice : UnitErrorDescription → Option Extract
+described_slice d = option_map extract_of d.output_slice
 
 abbrev pub exec_fail_errors : UnitErrorDescription → List ErrorOfUnit
 exec_fail_errors d =
@@ -98,7 +98,7 @@ exec_fail_errors d =
 
 abbrev pub child_process_errors : UnitErrorDescription → List ErrorOfUnit
 child_process_errors d =
-    option_to_list (option_map (λ a. abort_error a.description.now a.leaked) d.abort) ++ option_to_list (option_map slice_error (slice_of d))
+    option_to_list (option_map (λ a. abort_error a.description.now a.leaked) d.abort) ++ option_to_list (option_map slice_error (described_slice d))
 
 abbrev pub all_errors : UnitErrorDescription → List ErrorOfUnit
 all_errors d = exec_fail_errors d ++ child_process_errors d

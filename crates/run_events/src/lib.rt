@@ -1,4 +1,5 @@
-//! What a test runner tells its reporters: results, attempts, counters and summaries of a run.
+//! What a test runner tells its reporters: events, and in them results, what child processes left,
+//! the errors of units, attempts, levels, counters, summaries and outcomes of a run.
 #![tactic(auto)]
 
 pub use output_slice;

@@ -5,7 +5,7 @@ ghost use Rattle.std.specs.Option.{option_copied};
 ghost use Rattle.output_slice.specs.Extraction.{Extract};
 ghost use Rattle.output_slice.specs.Shown.{extract_of};
 ghost use Rattle.run_events.specs.Texts.{executing_text};
-ghost use Rattle.run_events.specs.UnitErrors.{CanDescribe, IsExtractOf, IsListOf, IsSliceOf, abort_error, aborts_in, all_errors, child_process_errors, child_process_of, error_seen, errors_of, exec_fail_errors, exec_fail_of, is_failed_test, kind_of, output_error, slice_of};
+ghost use Rattle.run_events.specs.UnitErrors.{CanDescribe, IsExtractOf, IsListOf, IsSliceOf, abort_error, aborts_in, all_errors, child_process_errors, child_process_of, error_seen, errors_of, exec_fail_errors, exec_fail_of, is_failed_test, kind_of, output_error, described_slice};
 ghost use Rattle.run_events.specs.ChildOutput.{IsLoaded};
 
 use crate::child::{
@@ -59,13 +59,13 @@ impl<'a> UnitErrorDescription<'a> {
     ) -> UnitErrorDescription<'a>
         requires { CanDescribe kind output.now }
         ensures kind { kind_of result ≡ kind }
-        ensures errors { all_errors result ≡ errors_of output.now (slice_of result) }
+        ensures errors { all_errors result ≡ errors_of output.now (described_slice result) }
         ensures exec_fail { exec_fail_errors result ≡ exec_fail_of output.now }
-        ensures child_process { child_process_errors result ≡ child_process_of output.now (slice_of result) }
-        ensures slice { IsSliceOf kind output.now (slice_of result) }
+        ensures child_process { child_process_errors result ≡ child_process_of output.now (described_slice result) }
+        ensures slice { IsSliceOf kind output.now (described_slice result) }
 
         // Whatever is the slice equals the description's, so `None` says that there is none.
-        ensures only { (found : Option Extract) → IsSliceOf kind output.now found → found ≡ slice_of result }
+        ensures only { (found : Option Extract) → IsSliceOf kind output.now found → found ≡ described_slice result }
     {
         match output {
             ChildExecutionOutputDescription::StartError(error) => UnitErrorDescription {
@@ -95,7 +95,7 @@ impl<'a> UnitErrorDescription<'a> {
 
     /// The part of a failed test's output that says why it failed.
     pub fn output_slice(&self) -> Option<TestOutputErrorSlice<'a>>
-        ensures { option_map extract_of result ≡ slice_of self.now }
+        ensures { option_map extract_of result ≡ described_slice self.now }
     {
         self.output_slice
     }

@@ -96,8 +96,8 @@ pub enum TestEventKind<'a> {
         will_terminate: bool,
     },
 
-    /// A setup script finished. The dispatcher has counted it by then; where it did not succeed, a
-    /// `RunBeginCancel` follows. Read by displayers, by JUnit writers, which report it as a case of
+    /// A setup script finished. The dispatcher has counted it by then; where it did not succeed, and
+    /// the run is not cancelled yet, a `RunBeginCancel` follows. Read by displayers, by JUnit writers, which report it as a case of
     /// its own, and by recorders.
     SetupScriptFinished {
         /// Which sub-run it belongs to, where the run is repeated.
@@ -220,7 +220,7 @@ pub enum TestEventKind<'a> {
     },
 
     /// A test finished: its last attempt ended. The counters hold the test by then, and it is no
-    /// longer among the running ones; where the run is to stop at a failure and this is one, a
+    /// longer among the running ones; where the run is to stop at a failure and this is the first, a
     /// `RunBeginCancel` follows. Read by displayers, JUnit writers and recorders.
     TestFinished {
         /// Which sub-run it belongs to, where the run is repeated.

@@ -117,8 +117,3 @@ fn an_event_says_when_it_was_made(rt: HostRuntime) -> Result<(), Fail> {
     assert_eq!(rt; event.elapsed, Duration::from_secs(60));
     Ok(())
 }
-
-#[test]
-fn a_tick_says_nothing_of_the_run(rt: HostRuntime) {
-    assert!(rt; kind_of(&ReporterEvent::Tick).is_none());
-}

@@ -58,11 +58,22 @@ fn described(
 
 #[test]
 fn a_test_that_passed_has_no_errors(rt: HostRuntime) -> Result<(), Fail> {
-    let stderr = with_stderr(rt.alloc(), b"Error: simulated error for testing\n")?;
-    let output = left(ended(PASS), stderr);
-    let errors = described(UnitKind::Test, &output)?;
-    assert!(rt; errors.output_slice().is_none());
-    assert!(rt; errors.all_error_list(rt.alloc())?.is_none());
+    let both = ChildOutputDescription::Combined {
+        output: captured(rt.alloc(), b"out\nError: of no error\n")?,
+    };
+    for output in [
+        with_stderr(rt.alloc(), b"Error: simulated error for testing\n")?,
+        with_stderr(
+            rt.alloc(),
+            b"thread 'x' panicked at src/lib.rs:1:\nas it should\n",
+        )?,
+        both,
+    ] {
+        let output = left(ended(PASS), output);
+        let errors = described(UnitKind::Test, &output)?;
+        assert!(rt; errors.output_slice().is_none());
+        assert!(rt; errors.all_error_list(rt.alloc())?.is_none());
+    }
     Ok(())
 }
 
