@@ -1,10 +1,13 @@
 pub mod Answering
 pub mod Attempts
+pub mod Continued
+pub mod EntryLines
 pub mod Extracting
 pub mod KnownBytes
 pub mod Numbers
 pub mod Readings
+pub mod Reports
 pub mod ResultWords
+pub mod SpelledEntries
 pub mod SpelledStart
 pub mod SpelledUnits
-pub mod UnitLines

@@ -1,10 +1,10 @@
--- The reader of line 1 against its spelling.
-use Rattle.std.proofs.Common.{◌≡◌, ℕ, ◌+◌, List, [], ◌∷◌, ◌++◌, false, map, refl, ap, sym, ◌∙◌, subst, append_assoc, arith, cond, inl, inr}
+-- The reader of the start of a run against its spelling.
+use Rattle.std.proofs.Common.{◌≡◌, ℕ, ◌+◌, List, [], ◌∷◌, ◌++◌, true, false, map, refl, ap, sym, ◌∙◌, subst, append_assoc, arith, cond, inl, inr}
 use Rattle.std.specs.Prelude.{◌==◌, ◌⊎◌, Option, None, Some, option_and_then, codes}
 use Rattle.std.specs.List.{slice_split, join_with_byte}
 use Rattle.std.specs.Str.{bytes_eq}
 use Rattle.std.proofs.lemmas.Bool.Decides.{eqb_tells}
-use Rattle.std.proofs.lemmas.List.{append-nil}
+use Rattle.std.proofs.lemmas.List.{append-nil, append_cancel_left}
 use Rattle.std.proofs.lemmas.List.Splits.{join_with_byte-slice_split}
 use Rattle.std.proofs.lemmas.Option.{option_and_then_some}
 use Rattle.std.proofs.lemmas.Slice.Eq.{bytes_eq-Decides}
@@ -109,50 +109,69 @@ number_joins text n s =
     let P : List ℕ → Type 0 = λ xs. JoinsFirst (λ b. b == 32) xs in
     subst P (sym s.written) (digits_join s.digits)
 
--- the text of line 1, nested the other way
-nested : (tests scripts why : List ℕ) → codes "run " ++ tests ++ codes " " ++ scripts ++ codes " " ++ why ≡ codes "run " ++ (tests ++ 32 ∷ (scripts ++ 32 ∷ why))
-nested tests scripts why = simp append_assoc
+-- a keyword: it has no space
+abbrev IsKeyword : List ℕ → Type 0
+IsKeyword keyword = JoinsFirst (λ b. b == 32) keyword × (bytes_eq keyword keyword ≡ true)
 
--- the words of line 1
-start_words : (line : List ℕ) (start : RunStart) (s : SpellsStart line start) → words_of line ≡ codes "run" ∷ s.tests ∷ s.scripts ∷ reason_word start.cancel_reason ∷ []
-start_words line start s =
+pub is_run : IsKeyword (codes "run")
+is_run = (λ ys part parts e. rw e refl, refl)
+
+pub is_sub_run : IsKeyword (codes "sub-run")
+is_sub_run = (λ ys part parts e. rw e refl, refl)
+
+is_empty : IsKeyword []
+is_empty = (λ ys part parts e. e, refl)
+
+-- what stands behind a keyword
+abbrev behind : List ℕ → List ℕ → List ℕ → List ℕ
+behind tests scripts why = 32 ∷ (tests ++ 32 ∷ (scripts ++ 32 ∷ why))
+
+-- the text of a start, nested the other way
+nested : (keyword tests scripts why : List ℕ) → keyword ++ codes " " ++ tests ++ codes " " ++ scripts ++ codes " " ++ why ≡ keyword ++ behind tests scripts why
+nested keyword tests scripts why = simp append_assoc
+
+-- the words of a start
+pub start_words : (keyword line : List ℕ) (start : RunStart) (s : SpellsStart keyword line start) → IsKeyword keyword → words_of line ≡ keyword ∷ s.tests ∷ s.scripts ∷ reason_word start.cancel_reason ∷ []
+start_words keyword line start s is_keyword =
     let why : List ℕ = reason_word start.cancel_reason in
     let last : slice_split (λ b. b == 32) (32 ∷ why) ≡ [] ∷ why ∷ [] = rw (reason_whole start.cancel_reason) refl in
     let scripts : slice_split (λ b. b == 32) (s.scripts ++ 32 ∷ why) ≡ s.scripts ∷ why ∷ [] =
     number_joins s.scripts _ s.scripts_number (32 ∷ why) [] (why ∷ []) last ∙ ap (λ x. x ∷ why ∷ []) (append-nil s.scripts) in
     let tests : slice_split (λ b. b == 32) (s.tests ++ 32 ∷ (s.scripts ++ 32 ∷ why)) ≡ s.tests ∷ s.scripts ∷ why ∷ [] =
     number_joins s.tests _ s.tests_number (32 ∷ (s.scripts ++ 32 ∷ why)) [] (s.scripts ∷ why ∷ []) (rw scripts refl) ∙ ap (λ x. x ∷ s.scripts ∷ why ∷ []) (append-nil s.tests) in
-    ap words_of (s.written ∙ nested s.tests s.scripts why) ∙ rw tests refl
+    let all : slice_split (λ b. b == 32) (keyword ++ behind s.tests s.scripts why) ≡ keyword ∷ s.tests ∷ s.scripts ∷ why ∷ [] =
+    is_keyword.0 (behind s.tests s.scripts why) [] (s.tests ∷ s.scripts ∷ why ∷ []) (rw tests refl) ∙ ap (λ x. x ∷ s.tests ∷ s.scripts ∷ why ∷ []) (append-nil keyword) in
+    ap words_of (s.written ∙ nested keyword s.tests s.scripts why) ∙ all
 
 -- what is spelled is read
-pub start_read : (line : List ℕ) (start : RunStart) → SpellsStart line start → start_of_words (words_of line) ≡ Some start
+pub start_read : (keyword line : List ℕ) (start : RunStart) → IsKeyword keyword → SpellsStart keyword line start → start_of_words keyword (words_of line) ≡ Some start
 unfolding start_of_words
-start_read line start s =
-    ap start_of_words (start_words line start s)
-    ∙ rw (number_read s.tests start.initial_run_count s.tests_number, number_read s.scripts start.setup_scripts_initial_count s.scripts_number, reason_read start.cancel_reason)
+start_read keyword line start is_keyword s =
+    ap (start_of_words keyword) (start_words keyword line start s is_keyword)
+    ∙ rw (is_keyword.1, number_read s.tests start.initial_run_count s.tests_number, number_read s.scripts start.setup_scripts_initial_count s.scripts_number, reason_read start.cancel_reason)
     (ap (λ n. Some (record { initial_run_count = start.initial_run_count; setup_scripts_initial_count = start.setup_scripts_initial_count; skipped = n; cancel_reason = start.cancel_reason })) (sym s.none_skipped))
 
-start_inverse : (line : List ℕ) (words : List (List ℕ)) (start : RunStart) → join_with_byte 32 words ≡ line → start_of_words words ≡ Some start → SpellsStart line start
+start_inverse : (keyword line : List ℕ) (words : List (List ℕ)) (start : RunStart) → join_with_byte 32 words ≡ line → start_of_words keyword words ≡ Some start → SpellsStart keyword line start
 unfolding start_of_words
-start_inverse line [] start is_line e = absurd cc
-start_inverse line (a ∷ []) start is_line e = absurd cc
-start_inverse line (a ∷ b ∷ []) start is_line e = absurd cc
-start_inverse line (a ∷ b ∷ c ∷ []) start is_line e = absurd cc
-start_inverse line (a ∷ b ∷ c ∷ d ∷ f ∷ words) start is_line e = absurd cc
-start_inverse line (run ∷ tests ∷ scripts ∷ why ∷ []) start is_line e =
+start_inverse keyword line [] start is_line e = absurd cc
+start_inverse keyword line (a ∷ []) start is_line e = absurd cc
+start_inverse keyword line (a ∷ b ∷ []) start is_line e = absurd cc
+start_inverse keyword line (a ∷ b ∷ c ∷ []) start is_line e = absurd cc
+start_inverse keyword line (a ∷ b ∷ c ∷ d ∷ f ∷ words) start is_line e = absurd cc
+start_inverse keyword line (first ∷ tests ∷ scripts ∷ why ∷ []) start is_line e =
     let begun : ℕ → ℕ → Option CancelReason → RunStart = λ t s r. record { initial_run_count = t; setup_scripts_initial_count = s; skipped = 0; cancel_reason = r } in
-    elim (chosen (bytes_eq run (codes "run")) (option_and_then (λ t. option_and_then (λ s. option_and_then (λ r. Some (begun t s r)) (reason_of why)) (number_of scripts)) (number_of tests)) None (Some start) e) [
+    elim (chosen (bytes_eq first keyword) (option_and_then (λ t. option_and_then (λ s. option_and_then (λ r. Some (begun t s r)) (reason_of why)) (number_of scripts)) (number_of tests)) None (Some start) e) [
       | inl held ↦
-          let is_run : run ≡ codes "run" = (bytes_eq-Decides run (codes "run")).0 held.0 in
+          let is_first : first ≡ keyword = (bytes_eq-Decides first keyword).0 held.0 in
           option_and_then_some (λ t. option_and_then (λ s. option_and_then (λ r. Some (begun t s r)) (reason_of why)) (number_of scripts)) (number_of tests) start held.1 (λ t is_t more.
           option_and_then_some (λ s. option_and_then (λ r. Some (begun t s r)) (reason_of why)) (number_of scripts) start more (λ s is_s last.
           option_and_then_some (λ r. Some (begun t s r)) (reason_of why) start last (λ r is_r is_start.
           let is : begun t s r ≡ start = cc in
-          let P : RunStart → Type 0 = SpellsStart line in
+          let P : RunStart → Type 0 = SpellsStart keyword line in
           subst P is (record {
             tests = tests;
             scripts = scripts;
-            written = sym is_line ∙ ap (λ x. x ++ 32 ∷ (tests ++ 32 ∷ (scripts ++ 32 ∷ why))) is_run ∙ ap (λ x. codes "run" ++ 32 ∷ (tests ++ 32 ∷ (scripts ++ 32 ∷ x))) (reason_inverse why r is_r) ∙ sym (nested tests scripts (reason_word r));
+            written = sym is_line ∙ ap (λ x. x ++ behind tests scripts why) is_first ∙ ap (λ x. keyword ++ behind tests scripts x) (reason_inverse why r is_r) ∙ sym (nested keyword tests scripts (reason_word r));
             tests_number = number_spelled tests t is_t;
             scripts_number = number_spelled scripts s is_s;
             none_skipped = refl;
@@ -161,11 +180,32 @@ start_inverse line (run ∷ tests ∷ scripts ∷ why ∷ []) start is_line e =
     ]
 
 -- what is read is spelled so
-pub start_spelled : (line : List ℕ) (start : RunStart) → start_of_words (words_of line) ≡ Some start → SpellsStart line start
-start_spelled line start e = start_inverse line (words_of line) start (join_with_byte-slice_split 32 line) e
+pub start_spelled : (keyword line : List ℕ) (start : RunStart) → start_of_words keyword (words_of line) ≡ Some start → SpellsStart keyword line start
+start_spelled keyword line start e = start_inverse keyword line (words_of line) start (join_with_byte-slice_split 32 line) e
 
--- a line spells at most one start
-pub one_start : (line : List ℕ) (a b : RunStart) → SpellsStart line a → SpellsStart line b → a ≡ b
-one_start line a b first second =
-    let same : Some a ≡ Some b = sym (start_read line a first) ∙ start_read line b second in
+-- what stands behind the keyword of a start
+abbrev rest_of : (keyword line : List ℕ) (start : RunStart) → SpellsStart keyword line start → List ℕ
+rest_of keyword line start s = behind s.tests s.scripts (reason_word start.cancel_reason)
+
+-- it is a start by no keyword at all
+bare : (keyword line : List ℕ) (start : RunStart) (s : SpellsStart keyword line start) → SpellsStart [] (rest_of keyword line start s) start
+bare keyword line start s = record {
+  tests = s.tests;
+  scripts = s.scripts;
+  written = sym (nested [] s.tests s.scripts (reason_word start.cancel_reason));
+  tests_number = s.tests_number;
+  scripts_number = s.scripts_number;
+  none_skipped = s.none_skipped;
+}
+
+-- a line spells at most one start by a keyword
+pub one_start : (keyword line : List ℕ) (a b : RunStart) → SpellsStart keyword line a → SpellsStart keyword line b → a ≡ b
+one_start keyword line a b first second =
+    let whole : keyword ++ rest_of keyword line a first ≡ keyword ++ rest_of keyword line b second =
+    sym (first.written ∙ nested keyword first.tests first.scripts (reason_word a.cancel_reason)) ∙ (second.written ∙ nested keyword second.tests second.scripts (reason_word b.cancel_reason)) in
+    let rest : rest_of keyword line a first ≡ rest_of keyword line b second = append_cancel_left keyword (rest_of keyword line a first) (rest_of keyword line b second) whole in
+    let same : Some a ≡ Some b =
+    sym (start_read [] (rest_of keyword line a first) a is_empty (bare keyword line a first))
+    ∙ ap (λ l. start_of_words [] (words_of l)) rest
+    ∙ start_read [] (rest_of keyword line b second) b is_empty (bare keyword line b second) in
     cc

@@ -1,10 +1,11 @@
 -- What engines leave in their devices, and what `count` answers.
-use Rattle.std.specs.Prelude.{◌≡◌, ℕ, ◌++◌, Bool, List, Option, Ok, Err}
+use Rattle.std.specs.Prelude.{◌≡◌, ℕ, ◌++◌, Bool, List, map, Option, Ok, Err}
 use Rattle.std.specs.Io.KnownBytes.{Appends, IsAtEnd, Keeps}
 use Rattle.std.specs.declared.result.Result.{Result}
-use Rattle.run_events.specs.Summary.{summary_of}
+use Rattle.run_events.specs.Outcome.{IsHighest}
+use Rattle.run_events.specs.declared.outcome.run_outcome.RunOutcome.{RunOutcome}
 use Rattle.digest_engine.specs.Reading.{IsBadLine, IsFirstBadLine, IsReading, Run}
-use Rattle.digest_engine.specs.Report.{is_success, report_of, run_stats}
+use Rattle.digest_engine.specs.Report.{is_success, reports_of, run_outcome}
 use Rattle.digest_engine.specs.declared.fault.Fault.{Fault}
 use Rattle.digest_engine.specs.declared.fault.Fault.TheVariants as faults
 
@@ -16,14 +17,21 @@ AppendsStart old new text = (start rest : List ℕ) × (text ≡ start ++ rest) 
 abbrev pub NoBadLine : List (List ℕ) → Type 0
 NoBadLine lines = (number : ℕ) → ¬ IsBadLine lines number
 
--- What is answered to these lines. With Ok no line is bad, the report of the run that they say was written, and the
--- answer is whether its summary is Success. After a failed write no line is bad, and a beginning of that report was
--- written. A bad line is the first one.
+-- the runs that these lines say, and their outcome, the highest of theirs
+pub record Tells (lines : List (List ℕ)) (runs : List Run) (outcome : RunOutcome) : Type 0 where
+  pub reading : IsReading lines runs
+  pub highest : IsHighest (map run_outcome runs) outcome
+
+-- What is answered to these lines. With Ok no line is bad, the reports of the runs that they say were written, with the
+-- line of their outcome where there are more runs than one, and the answer is whether that outcome is Success. After a
+-- failed write no line is bad, and a beginning of that text was written. A bad line is the first one.
 abbrev pub Answers : Result Bool Fault → Option (List ℕ) → Option (List ℕ) → List (List ℕ) → Type 0
 Answers (Ok success) old new lines =
-    NoBadLine lines × ((run : Run) × IsReading lines run × Appends old new (report_of (run_stats run)) × (success ≡ is_success (summary_of (run_stats run))))
+    NoBadLine lines
+    × ((runs : List Run) × (outcome : RunOutcome) × Tells lines runs outcome × Appends old new (reports_of runs outcome) × (success ≡ is_success outcome))
 Answers (Err faults.Write) old new lines =
-    NoBadLine lines × ((run : Run) × IsReading lines run × AppendsStart old new (report_of (run_stats run)))
+    NoBadLine lines
+    × ((runs : List Run) × (outcome : RunOutcome) × Tells lines runs outcome × AppendsStart old new (reports_of runs outcome))
 Answers (Err (faults.BadLine number)) old new lines = IsFirstBadLine lines number
 Answers (Err faults.Read) old new lines = Unit {0}
 Answers (Err faults.OutOfMemory) old new lines = Unit {0}

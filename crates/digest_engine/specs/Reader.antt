@@ -1,6 +1,6 @@
 -- The reader of `count`, as functions on lists: what its private steps answer. What the input says is defined apart from
 -- it, in Spelling and Reading.
-use Rattle.std.specs.Prelude.{◌≡◌, ◌+◌, ◌-◌, ◌*◌, ℕ, Bool, true, false, ◌&&◌, ◌==◌, nat_lt, nat_le, List, [], ◌∷◌, length, fold, Option, Some, None, Ok, Err, option_and_then, unwrap_or, slice_get, if◌then◌else◌, codes, pos}
+use Rattle.std.specs.Prelude.{◌≡◌, ◌+◌, ◌-◌, ◌*◌, ℕ, Bool, true, false, ◌&&◌, ◌==◌, nat_lt, nat_le, List, [], ◌∷◌, ◌++◌, length, fold, Option, Some, None, Ok, Err, option_and_then, unwrap_or, slice_get, if◌then◌else◌, codes, pos}
 use Rattle.std.specs.Char.{is_ascii_digit}
 use Rattle.std.specs.List.{list_all, slice_split}
 use Rattle.std.specs.Str.{bytes_eq}
@@ -67,14 +67,14 @@ number_of word =
 abbrev pub words_of : List ℕ → List (List ℕ)
 words_of line = slice_split (λ b. b == 32) line
 
--- the first line
-unfoldable pub start_of_words : List (List ℕ) → Option RunStart
-start_of_words (run ∷ tests ∷ scripts ∷ why ∷ []) =
-    if bytes_eq run (codes "run")
+-- the start of a run, by its keyword
+unfoldable pub start_of_words : List ℕ → List (List ℕ) → Option RunStart
+start_of_words keyword (first ∷ tests ∷ scripts ∷ why ∷ []) =
+    if bytes_eq first keyword
     then (number_of tests >>= λ t. number_of scripts >>= λ s. reason_of why >>= λ r.
     Some (record { initial_run_count = t; setup_scripts_initial_count = s; skipped = 0; cancel_reason = r }))
     else None
-start_of_words _ = None
+start_of_words keyword _ = None
 
 -- the results of a test, divided by commas
 unfoldable pub all_results : List (List ℕ) → Option (List ExecutionResultDescription)
@@ -117,7 +117,7 @@ test_of_words [] = None
 test_of_words (results ∷ flags) =
     flags_of flags >>= λ f. results_of results >>= λ rs. Some (view_from rs f)
 
--- a line after the first, by its words
+-- a finished unit, by its words
 unfoldable pub unit_of_words : List (List ℕ) → Option UnitView
 unit_of_words [] = None
 unit_of_words (kind ∷ words) =
@@ -125,37 +125,57 @@ unit_of_words (kind ∷ words) =
     else if bytes_eq kind (codes "test") then (test_of_words words >>= λ t. Some (TestUnit t))
     else None
 
--- a unit and those after it, or the number of a bad line after it
-abbrev pub and_units : UnitView → Result (List UnitView) ℕ → Result (List UnitView) ℕ
-and_units unit (Ok units) = Ok (unit ∷ units)
-and_units unit (Err number) = Err number
+-- what a line after line 1 says: a finished unit, or the start of a sub-run
+pub data EntryView : Type 0 where
+  UnitEntry : UnitView → EntryView
+  SubRunEntry : RunStart → EntryView
 
--- the line of this number, and those after it: without a unit it is bad
-abbrev pub unit_line : Option UnitView → ℕ → Result (List UnitView) ℕ → Result (List UnitView) ℕ
-unit_line None number rest = Err number
-unit_line (Some unit) number rest = and_units unit rest
+-- the start of a sub-run, or else a unit
+abbrev pub entry_from : Option RunStart → Option UnitView → Option EntryView
+entry_from (Some start) unit = Some (SubRunEntry start)
+entry_from None (Some unit) = Some (UnitEntry unit)
+entry_from None None = None
 
--- what the lines after the first say, the first of them with this number; or the number of the first bad one
-unfoldable pub units_from : ℕ → List (List ℕ) → Result (List UnitView) ℕ
-units_from number [] = Ok []
-units_from number (line ∷ lines) =
+-- a line after line 1, by its words
+unfoldable pub entry_of_words : List (List ℕ) → Option EntryView
+entry_of_words words = entry_from (start_of_words (codes "sub-run") words) (unit_of_words words)
+
+-- a run of which only the start is known
+abbrev pub begun : RunStart → Run
+begun start = record { start = start; units = [] }
+
+-- a run with one more unit
+abbrev pub with_unit : Run → UnitView → Run
+with_unit run unit = record { start = run.start; units = run.units ++ unit ∷ [] }
+
+-- a run and those after it, or the number of a bad line after it
+abbrev pub and_runs : Run → Result (List Run) ℕ → Result (List Run) ℕ
+and_runs run (Ok runs) = Ok (run ∷ runs)
+and_runs run (Err number) = Err number
+
+-- the line of this number, and those after it, by the run that they go on with: without an entry it is bad
+abbrev pub entry_line : Option EntryView → ℕ → Run → (Run → Result (List Run) ℕ) → Result (List Run) ℕ
+entry_line None number run rest = Err number
+entry_line (Some (UnitEntry unit)) number run rest = rest (with_unit run unit)
+entry_line (Some (SubRunEntry start)) number run rest = and_runs run (rest (begun start))
+
+-- the runs that the lines say, the first of them with this number, where this run was begun last; or the number of the
+-- first bad line
+unfoldable pub runs_from : ℕ → Run → List (List ℕ) → Result (List Run) ℕ
+runs_from number run [] = Ok (run ∷ [])
+runs_from number run (line ∷ lines) =
     if nat_lt 10000 number then Err number
-    else unit_line (unit_of_words (words_of line)) number (units_from (number + 1) lines)
-
--- a start, and the units after it
-abbrev pub with_start : RunStart → Result (List UnitView) ℕ → Result Run ℕ
-with_start start (Ok units) = Ok (record { start = start; units = units })
-with_start start (Err number) = Err number
+    else entry_line (entry_of_words (words_of line)) number run (λ next. runs_from (number + 1) next lines)
 
 -- line 1 and those after it: without a start it is bad
-abbrev pub start_line : Option RunStart → Result (List UnitView) ℕ → Result Run ℕ
+abbrev pub start_line : Option RunStart → (Run → Result (List Run) ℕ) → Result (List Run) ℕ
 start_line None rest = Err 1
-start_line (Some start) rest = with_start start rest
+start_line (Some start) rest = rest (begun start)
 
 -- what the lines say, or the number of the first bad one
-unfoldable pub run_of : List (List ℕ) → Result Run ℕ
-run_of [] = Err 1
-run_of (line ∷ lines) = start_line (start_of_words (words_of line)) (units_from 2 lines)
+unfoldable pub runs_of : List (List ℕ) → Result (List Run) ℕ
+runs_of [] = Err 1
+runs_of (line ∷ lines) = start_line (start_of_words (codes "run") (words_of line)) (λ run. runs_from 2 run lines)
 
 -- what was answered, seen by a view, is what the reader gives, unless memory was refused
 abbrev pub Gives : {X Y : Type 0} → (X → Y) → Result X Fault → Result Y ℕ → Type 0

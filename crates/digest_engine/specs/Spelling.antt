@@ -26,11 +26,11 @@ reason_word (Some reason.Signal) = codes "signal"
 reason_word (Some reason.Interrupt) = codes "interrupt"
 reason_word (Some reason.SecondSignal) = codes "second-signal"
 
--- line is `run TESTS SCRIPTS REASON`, which is the start of a run without skipped tests
-pub record SpellsStart (line : List ℕ) (start : RunStart) : Type 0 where
+-- line is `KEYWORD TESTS SCRIPTS REASON`, which is the start of a run without skipped tests
+pub record SpellsStart (keyword line : List ℕ) (start : RunStart) : Type 0 where
   pub tests : List ℕ
   pub scripts : List ℕ
-  pub written : line ≡ codes "run " ++ tests ++ codes " " ++ scripts ++ codes " " ++ reason_word start.cancel_reason
+  pub written : line ≡ keyword ++ codes " " ++ tests ++ codes " " ++ scripts ++ codes " " ++ reason_word start.cancel_reason
   pub tests_number : SpellsNumber tests start.initial_run_count
   pub scripts_number : SpellsNumber scripts start.setup_scripts_initial_count
   pub none_skipped : start.skipped ≡ 0

@@ -1,63 +1,44 @@
-//! Counting a run: from the lines that tell of its units to the report of its counters.
+//! Counting runs: from the lines that tell of their units to the reports of their counters.
 
-ghost use Rattle.std.specs.Prelude.{◌≡◌, ◌↔◌, ℕ, List, true, false, map, IfOk, IfSome, OnOk, IsErrOf, string_bytes};
+ghost use Rattle.std.specs.Prelude.{◌≡◌, ◌↔◌, ℕ, List, true, false, IfSome, OnOk, IsErrOf, codes, string_bytes};
 ghost use Rattle.bstr.specs.Text.{lines_of};
-ghost use Rattle.run_events.specs.Counters.{UnitView, unit_view};
+ghost use Rattle.run_events.specs.Counters.{UnitView};
 ghost use Rattle.run_events.specs.Lines.{AreLines};
-ghost use Rattle.run_events.specs.Summary.{FailuresFit};
 ghost use Rattle.run_events.specs.declared.stats.RunStart.{RunStart};
 ghost use Rattle.digest_engine.specs.Answer.{Answers, KeepsSink, ReadsToEnd};
-ghost use Rattle.digest_engine.specs.CountSteps.{AnswersRun, GivesDigest};
-ghost use Rattle.digest_engine.specs.Reader.{run_of};
+ghost use Rattle.digest_engine.specs.CountSteps.{AnswersRuns, GivesDigest};
+ghost use Rattle.digest_engine.specs.Reader.{runs_of};
 ghost use Rattle.digest_engine.specs.Reading.{IsReading, Run, texts_of};
-ghost use Rattle.digest_engine.specs.Report.{run_stats};
-ghost use Rattle.digest_engine.specs.RunInput.{run_said};
 ghost use Rattle.digest_engine.specs.Spelling.{SpellsStart, SpellsUnit};
-ghost use Rattle.digest_engine.specs.Statuses.{owned_view};
 ghost use Rattle.digest_engine.specs.declared.fault.Fault.TheVariants as faults;
 
 use crate::device::{Sink, Source};
 use crate::fault::Fault;
-use crate::lines::{RunInput, input_in};
-use crate::report::report;
+use crate::lent::{finished_runs, lent_runs};
+use crate::lines::runs_in;
+use crate::report::reports;
 use crate::transfer::{read_all, write_all};
-use crate::units::OwnedUnit;
-use run_events::outcome::FinalRunStats;
-use run_events::stats::{FinishedUnit, RunStats};
-use std::alloc::{AllocError, Global};
+use run_events::outcome::RunOutcome;
+use std::alloc::Global;
 
-/// The units, lent.
-fn lent(alloc: Global, units: &[OwnedUnit]) -> Result<Vec<FinishedUnit<'_>>, AllocError>
-    ensures { IfOk result (λ v. map unit_view v.items ≡ map owned_view units.now) }
-{
-    let mut lent = Vec::new(alloc);
-    for unit in units {
-        lent.push(unit.lent())?;
-    }
-    Ok(lent)
-}
-
-/// The statistics of the run that an input says.
-fn stats_of(alloc: Global, input: &RunInput) -> Result<RunStats, AllocError>
-    ensures stats { IfOk result (λ s. s ≡ run_stats (run_said input.now)) }
-    ensures fit { IfOk result FailuresFit }
-{
-    let units = lent(alloc, input.units.as_slice())?;
-    Ok(RunStats::of_run(units.as_slice(), input.start))
-}
-
-/// The report for an input, and whether the run succeeded.
+/// The text for an input, and whether the outcome of its runs is `Success`.
 fn digest(alloc: Global, bytes: &[u8]) -> Result<(String, bool), Fault>
-    ensures { GivesDigest (λ p. (string_bytes p.0, p.1)) result (run_of (texts_of bytes.now)) }
+    ensures { GivesDigest (λ p. (string_bytes p.0, p.1)) result (runs_of (texts_of bytes.now)) }
 {
-    let input = input_in(alloc, bytes)?;
-    let stats = stats_of(alloc, &input)?;
-    let text = report(alloc, &stats)?;
-    Ok((text, stats.summarize_final() == FinalRunStats::Success))
+    let inputs = runs_in(alloc, bytes)?;
+    let lent = lent_runs(alloc, inputs.as_slice())?;
+    let runs = finished_runs(alloc, lent.as_slice())?;
+    let outcome = RunOutcome::of_runs(runs.as_slice());
+    let text = reports(alloc, runs.as_slice(), outcome)?;
+    Ok((text, outcome == RunOutcome::Success))
 }
 
 /// [`count`], by what the reader gives.
-fn count_run<R: Source, W: Sink>(alloc: Global, source: &mut R, sink: &mut W) -> Result<bool, Fault>
+fn count_runs<R: Source, W: Sink>(
+    alloc: Global,
+    source: &mut R,
+    sink: &mut W,
+) -> Result<bool, Fault>
     requires source_works { R.failed source.old ≡ false }
     requires sink_works { W.failed sink.old ≡ false }
     ensures read { IsErrOf result faults.Read ↔ (R.failed source.new ≡ true) }
@@ -65,7 +46,7 @@ fn count_run<R: Source, W: Sink>(alloc: Global, source: &mut R, sink: &mut W) ->
     ensures end { ReadsToEnd result (R.left source.new) }
     ensures kept { KeepsSink result (W.written sink.old) (W.written sink.new) }
     ensures flushed { OnOk result (W.flushed sink.new ≡ true) }
-    ensures answer { IfSome (R.left source.old) (λ input. AnswersRun result (W.written sink.old) (W.written sink.new) (run_of (texts_of input))) }
+    ensures answer { IfSome (R.left source.old) (λ input. AnswersRuns result (W.written sink.old) (W.written sink.new) (runs_of (texts_of input))) }
 {
     let bytes = read_all(alloc, source)?;
     let (text, success) = digest(alloc, bytes.as_slice())?;
@@ -73,12 +54,16 @@ fn count_run<R: Source, W: Sink>(alloc: Global, source: &mut R, sink: &mut W) ->
     Ok(success)
 }
 
-/// Reads all of the source, which says a run line by line, and writes the report of the run: three
-/// lines with the numbers of its tests, those of its setup scripts, and its summary. Answers
-/// whether the summary is `Success`.
+/// Reads all of the source, which says a run, or the sub-runs of a repeated run, line by line, and
+/// writes for each of them in order a report: three lines with the numbers of its tests, those of
+/// its setup scripts, and its summary. Where there are more than one, a line with their outcome
+/// follows. Answers whether the outcome is `Success`; of a single run it is so exactly where the
+/// summary is.
 ///
 /// Line 1 is `run TESTS SCRIPTS REASON`: how many tests and scripts were to run, each at most
-/// 1,000,000, and why the run was cancelled, `-` for no reason. Each other line is a finished unit:
+/// 1,000,000, and why the run was cancelled, `-` for no reason. A later line
+/// `sub-run TESTS SCRIPTS REASON` begins another sub-run. Each other line is a finished unit of the
+/// run that was begun last:
 /// `script R`, or `test R,R,..` with the results of 1 to 100 attempts, then perhaps ` slow` for a
 /// slow last attempt, then perhaps ` flaky-fail` for the setting that fails flaky tests. Lines end
 /// with `\n` or `\r\n`, the last with or without; there are at most 10,000.
@@ -104,10 +89,11 @@ pub fn count<R: Source, W: Sink>(alloc: Global, source: &mut R, sink: &mut W) ->
     // The lines of an input are the parts that join to it, each with one line feed, at its end.
     ensures lines { (bytes : List ℕ) → AreLines bytes (lines_of bytes) }
 
-    // A line says at most one thing, and so lines say at most one run.
-    ensures one_start { (line : List ℕ) → (a : RunStart) → (b : RunStart) → SpellsStart line a → SpellsStart line b → a ≡ b }
+    // A line says at most one thing, and so lines say at most one list of runs.
+    ensures one_start { (keyword : List ℕ) → (line : List ℕ) → (a : RunStart) → (b : RunStart) → SpellsStart keyword line a → SpellsStart keyword line b → a ≡ b }
     ensures one_unit { (line : List ℕ) → (a : UnitView) → (b : UnitView) → SpellsUnit line a → SpellsUnit line b → a ≡ b }
-    ensures one_reading { (lines : List (List ℕ)) → (a : Run) → (b : Run) → IsReading lines a → IsReading lines b → a ≡ b }
+    ensures one_entry { (line : List ℕ) → (unit : UnitView) → (start : RunStart) → SpellsUnit line unit → ¬ SpellsStart (codes "sub-run") line start }
+    ensures one_reading { (lines : List (List ℕ)) → (a : List Run) → (b : List Run) → IsReading lines a → IsReading lines b → a ≡ b }
 {
-    count_run(alloc, source, sink)
+    count_runs(alloc, source, sink)
 }

@@ -4,8 +4,10 @@
 pub mod command;
 pub mod count;
 pub mod device;
+mod entry;
 pub mod extract;
 pub mod fault;
+mod lent;
 mod lines;
 pub mod memory_device;
 mod report;

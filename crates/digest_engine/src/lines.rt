@@ -1,17 +1,18 @@
-//! What the lines of the input say of a run.
+//! What the lines of the input say of runs.
 
 ghost use Rattle.std.specs.Prelude.{◌≡◌, map, IfOk};
-ghost use Rattle.digest_engine.specs.Reader.{Gives, run_of, units_from};
+ghost use Rattle.digest_engine.specs.Reader.{Gives, begun, runs_from, runs_of};
 ghost use Rattle.digest_engine.specs.Reading.{texts_of};
 ghost use Rattle.digest_engine.specs.RunInput.{run_said};
-ghost use Rattle.digest_engine.specs.Statuses.{owned_view};
 
+use crate::entry::{Entry, entry_in};
 use crate::fault::Fault;
-use crate::units::{OwnedUnit, unit_in};
+use crate::units::OwnedUnit;
 use crate::words::{start_from, words_in};
 use bstr::ByteSlice;
 use run_events::stats::RunStart;
 use std::alloc::{AllocError, Global};
+use std::mem;
 
 /// What the input says of a run.
 #[derive(Drop)]
@@ -23,22 +24,43 @@ pub(crate) struct RunInput {
     pub(crate) units: Vec<OwnedUnit>,
 }
 
-/// The units that the lines after line 1 say. A run has at most 10,000 lines.
-#[tactic(auto, unfolding(crate::specs::Reader::units_from))]
-fn units_in(alloc: Global, lines: &[&[u8]]) -> Result<Vec<OwnedUnit>, Fault>
-    ensures { Gives (λ v. map owned_view v.items) result (units_from 2 (map (λ l. l.now) lines.now)) }
+impl RunInput {
+    /// A run of which only the start is known.
+    fn begun(alloc: Global, start: RunStart) -> RunInput
+        ensures { run_said result ≡ begun start }
+    {
+        RunInput {
+            start,
+            units: Vec::new(alloc),
+        }
+    }
+}
+
+/// The runs that the lines after line 1 say, where line 1 begins with this start. There are at most
+/// 10,000 lines.
+#[tactic(auto, unfolding(crate::specs::Reader::runs_from))]
+fn runs_after(alloc: Global, start: RunStart, lines: &[&[u8]]) -> Result<Vec<RunInput>, Fault>
+    ensures { Gives (λ v. map run_said v.items) result (runs_from 2 (begun start) (map (λ l. l.now) lines.now)) }
 {
-    let mut units = Vec::new(alloc);
+    let mut runs = Vec::new(alloc);
+    let mut run = RunInput::begun(alloc, start);
     for (i, line) in lines.iter().enumerate() {
         if i >= 9_999 {
             return Err(Fault::BadLine { number: 10_001 });
         }
-        match unit_in(alloc, line)? {
-            Some(unit) => units.push(unit)?,
-            None => return Err(Fault::BadLine { number: i + 2 }),
+        let Some(entry) = entry_in(alloc, line)? else {
+            return Err(Fault::BadLine { number: i + 2 });
+        };
+        match entry {
+            Entry::Unit(unit) => run.units.push(unit)?,
+            Entry::SubRun(start) => {
+                let before = mem::replace(&mut run, RunInput::begun(alloc, start));
+                runs.push(before)?;
+            }
         }
     }
-    Ok(units)
+    runs.push(run)?;
+    Ok(runs)
 }
 
 /// The lines, without their ends.
@@ -49,25 +71,24 @@ fn lines_in(alloc: Global, bytes: &[u8]) -> Result<Vec<&[u8]>, AllocError>
 }
 
 /// What lines say.
-#[tactic(auto, unfolding(crate::specs::Reader::run_of))]
-fn input_from(alloc: Global, lines: &[&[u8]]) -> Result<RunInput, Fault>
-    ensures { Gives run_said result (run_of (map (λ l. l.now) lines.now)) }
+#[tactic(auto, unfolding(crate::specs::Reader::runs_of))]
+fn runs_from_lines(alloc: Global, lines: &[&[u8]]) -> Result<Vec<RunInput>, Fault>
+    ensures { Gives (λ v. map run_said v.items) result (runs_of (map (λ l. l.now) lines.now)) }
 {
     let Some((first, rest)) = lines.split_first() else {
         return Err(Fault::BadLine { number: 1 });
     };
     let words = words_in(alloc, first)?;
-    let Some(start) = start_from(words.as_slice()) else {
+    let Some(start) = start_from(b"run", words.as_slice()) else {
         return Err(Fault::BadLine { number: 1 });
     };
-    let units = units_in(alloc, rest)?;
-    Ok(RunInput { start, units })
+    runs_after(alloc, start, rest)
 }
 
-/// What the input says of a run, or the first bad line.
-pub(crate) fn input_in(alloc: Global, bytes: &[u8]) -> Result<RunInput, Fault>
-    ensures { Gives run_said result (run_of (texts_of bytes.now)) }
+/// What the input says of runs, at least one, or the first bad line.
+pub(crate) fn runs_in(alloc: Global, bytes: &[u8]) -> Result<Vec<RunInput>, Fault>
+    ensures { Gives (λ v. map run_said v.items) result (runs_of (texts_of bytes.now)) }
 {
     let lines = lines_in(alloc, bytes)?;
-    input_from(alloc, lines.as_slice())
+    runs_from_lines(alloc, lines.as_slice())
 }

@@ -1,13 +1,14 @@
-//! The text that tells of a run.
+//! The text that tells of runs.
 
-ghost use Rattle.std.specs.Prelude.{◌≡◌, IfOk, string_bytes};
+ghost use Rattle.std.specs.Prelude.{◌≡◌, map, IfOk, string_bytes};
 ghost use Rattle.run_events.specs.Summary.{FailuresFit};
-ghost use Rattle.digest_engine.specs.Report.{report_of, scripts_line, step_words, summary_words, tests_line};
+ghost use Rattle.digest_engine.specs.Report.{outcome_line, outcome_words, report_of, reports_of, run_reports, scripts_line, step_words, summary_words, tests_line};
+ghost use Rattle.digest_engine.specs.RunInput.{finished_said};
 ghost use Rattle.digest_engine.specs.Spelling.{reason_word};
 
-use run_events::outcome::{FinalRunStats, RunStatsFailureKind};
+use run_events::outcome::{FinalRunStats, RunFailureStep, RunOutcome, RunStatsFailureKind};
 use run_events::results::CancelReason;
-use run_events::stats::RunStats;
+use run_events::stats::{FinishedRun, RunStats};
 use std::alloc::{AllocError, Global};
 
 /// The word of a reason, as line 1 spells it.
@@ -86,7 +87,7 @@ fn scripts_text(alloc: Global, finished: usize, failed: usize) -> Result<String,
 
 /// The three lines for statistics. Both sums of failures must fit `usize`.
 #[tactic(auto, unfolding(crate::specs::Report::report_of))]
-pub(crate) fn report(alloc: Global, stats: &RunStats) -> Result<String, AllocError>
+fn report(alloc: Global, stats: &RunStats) -> Result<String, AllocError>
     requires { FailuresFit stats.now }
     ensures { IfOk result (λ s. string_bytes s ≡ report_of stats.now) }
 {
@@ -102,4 +103,66 @@ pub(crate) fn report(alloc: Global, stats: &RunStats) -> Result<String, AllocErr
     let scripts = scripts_text(alloc, stats.setup_scripts_finished_count, failed)?;
     let summary = summary_text(alloc, stats.summarize_final())?;
     format!(in alloc; "{tests}{scripts}summary {summary}\n")
+}
+
+/// The reports of runs, in order.
+fn run_reports_text(alloc: Global, runs: &[FinishedRun<'_>]) -> Result<String, AllocError>
+    ensures { IfOk result (λ s. string_bytes s ≡ run_reports (map finished_said runs.now)) }
+{
+    let mut text = String::new(alloc);
+    for run in runs {
+        let stats = RunStats::of_run(run.units, run.start);
+        let report = report(alloc, &stats)?;
+        text.push_str(report.as_str())?;
+    }
+    Ok(text)
+}
+
+/// An outcome in words.
+#[tactic(auto, unfolding(crate::specs::Report::outcome_words))]
+fn outcome_text(outcome: RunOutcome) -> &'static str
+    ensures { result.now ≡ outcome_words outcome }
+{
+    match outcome {
+        RunOutcome::Success => "success",
+        RunOutcome::NoTestsRun => "no-tests-run",
+        RunOutcome::Cancelled {
+            step: RunFailureStep::SetupScript,
+        } => "cancelled setup-script",
+        RunOutcome::Cancelled {
+            step: RunFailureStep::Test,
+        } => "cancelled test",
+        RunOutcome::Failed {
+            step: RunFailureStep::SetupScript,
+        } => "failed setup-script",
+        RunOutcome::Failed {
+            step: RunFailureStep::Test,
+        } => "failed test",
+    }
+}
+
+/// The line of an outcome.
+#[tactic(auto, unfolding(crate::specs::Report::outcome_line))]
+fn outcome_line_text(alloc: Global, outcome: RunOutcome) -> Result<String, AllocError>
+    ensures { IfOk result (λ s. string_bytes s ≡ outcome_line outcome) }
+{
+    let words = outcome_text(outcome);
+    format!(in alloc; "outcome {words}\n")
+}
+
+/// The text for runs and their outcome: their reports, and the line of the outcome unless there is
+/// one run alone.
+pub(crate) fn reports(
+    alloc: Global,
+    runs: &[FinishedRun<'_>],
+    outcome: RunOutcome,
+) -> Result<String, AllocError>
+    ensures { IfOk result (λ s. string_bytes s ≡ reports_of (map finished_said runs.now) outcome) }
+{
+    let mut text = run_reports_text(alloc, runs)?;
+    if runs.len() != 1 {
+        let line = outcome_line_text(alloc, outcome)?;
+        text.push_str(line.as_str())?;
+    }
+    Ok(text)
 }

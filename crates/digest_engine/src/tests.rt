@@ -8,3 +8,4 @@ mod given;
 mod line_limits;
 mod reports;
 mod std_devices;
+mod sub_runs;

@@ -5,10 +5,10 @@ ghost use Rattle.std.specs.List.{slice_split};
 ghost use Rattle.run_events.specs.Counters.{unit_view};
 ghost use Rattle.run_events.specs.Described.{described_result};
 ghost use Rattle.run_events.specs.TestView.{view_of};
-ghost use Rattle.digest_engine.specs.Reader.{all_results, script_of_words, test_of_words, unit_of_words, words_of};
+ghost use Rattle.digest_engine.specs.Reader.{all_results, script_of_words, test_of_words, unit_of_words};
 ghost use Rattle.digest_engine.specs.Statuses.{AreAttempts, IsAttempt, IsEpoch, IsScript, nothing_captured, owned_view};
 
-use crate::words::{flags_from, named_result, words_in};
+use crate::words::{flags_from, named_result};
 use jiff::Timestamp;
 use jiff::tz::Offset;
 use run_events::attempts::{ExecuteStatus, ExecutionStatuses, RetryData, SetupScriptExecuteStatus};
@@ -167,7 +167,7 @@ fn test_from(
 
 /// The unit that words name.
 #[tactic(auto, unfolding(crate::specs::Reader::unit_of_words))]
-fn unit_from(alloc: Global, words: &[&[u8]]) -> Result<Option<OwnedUnit>, AllocError>
+pub(crate) fn unit_from(alloc: Global, words: &[&[u8]]) -> Result<Option<OwnedUnit>, AllocError>
     ensures { IfOk result (λ found. option_map owned_view found ≡ unit_of_words (map (λ w. w.now) words.now)) }
 {
     let Some((kind, words)) = words.split_first() else {
@@ -186,12 +186,4 @@ fn unit_from(alloc: Global, words: &[&[u8]]) -> Result<Option<OwnedUnit>, AllocE
     } else {
         Ok(None)
     }
-}
-
-/// The unit that a line after line 1 says.
-pub(crate) fn unit_in(alloc: Global, line: &[u8]) -> Result<Option<OwnedUnit>, AllocError>
-    ensures { IfOk result (λ found. option_map owned_view found ≡ unit_of_words (words_of line.now)) }
-{
-    let words = words_in(alloc, line)?;
-    unit_from(alloc, words.as_slice())
 }

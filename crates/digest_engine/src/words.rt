@@ -117,15 +117,15 @@ fn named_number(word: &[u8]) -> Option<usize>
     Some(value)
 }
 
-/// The start of a run that the words of line 1 name.
+/// The start of a run that words name, the first of them its keyword.
 #[tactic(auto, unfolding(crate::specs::Reader::start_of_words))]
-pub(crate) fn start_from(words: &[&[u8]]) -> Option<RunStart>
-    ensures { result ≡ start_of_words (map (λ w. w.now) words.now) }
+pub(crate) fn start_from(keyword: &[u8], words: &[&[u8]]) -> Option<RunStart>
+    ensures { result ≡ start_of_words keyword.now (map (λ w. w.now) words.now) }
 {
-    let [run, tests, scripts, reason] = words else {
+    let [first, tests, scripts, reason] = words else {
         return None;
     };
-    if *run != b"run".as_slice() {
+    if *first != keyword {
         return None;
     }
     Some(RunStart {

@@ -1,7 +1,7 @@
 -- The calls that are made.
 use Rattle.std.specs.Prelude.{ℕ, List, codes}
 use Rattle.refusals.specs.declared.call.Call.{Call}
-use Rattle.refusals.specs.declared.call.Call.TheVariants.{FromMessageAndCauses, ToValue, FromValue, FromOtherValues, FromOutput, AllErrors, ExecFailErrors, ChildProcessErrors, NoErrors, UniqueId, Extract, Count}
+use Rattle.refusals.specs.declared.call.Call.TheVariants.{FromMessageAndCauses, ToValue, FromValue, FromOtherValues, FromOutput, AllErrors, ExecFailErrors, ChildProcessErrors, NoErrors, UniqueId, Extract, Count, CountSubRuns}
 
 -- the word of a call
 abbrev pub word_of : Call → List ℕ
@@ -17,3 +17,4 @@ word_of NoErrors = codes "no-errors"
 word_of UniqueId = codes "unique-id"
 word_of Extract = codes "extract"
 word_of Count = codes "count"
+word_of CountSubRuns = codes "count-sub-runs"

@@ -45,11 +45,14 @@ pub(crate) enum Call {
 
     /// A run is counted.
     Count,
+
+    /// Sub-runs of a repeated run are counted.
+    CountSubRuns,
 }
 
 impl Call {
     /// All calls.
-    pub(crate) const ALL: [Call; 12] = [
+    pub(crate) const ALL: [Call; 13] = [
         Call::FromMessageAndCauses,
         Call::ToValue,
         Call::FromValue,
@@ -62,6 +65,7 @@ impl Call {
         Call::UniqueId,
         Call::Extract,
         Call::Count,
+        Call::CountSubRuns,
     ];
 
     /// The word of the call.
@@ -81,6 +85,7 @@ impl Call {
             Call::UniqueId => "unique-id",
             Call::Extract => "extract",
             Call::Count => "count",
+            Call::CountSubRuns => "count-sub-runs",
         }
     }
 
@@ -101,6 +106,7 @@ impl Call {
             "unique-id" => Some(Call::UniqueId),
             "extract" => Some(Call::Extract),
             "count" => Some(Call::Count),
+            "count-sub-runs" => Some(Call::CountSubRuns),
             _ => None,
         }
     }
@@ -120,6 +126,7 @@ impl Call {
             Call::UniqueId => Ok(stress::unique_id(alloc)),
             Call::Extract => engines::extract(alloc),
             Call::Count => Ok(engines::count(alloc)),
+            Call::CountSubRuns => Ok(engines::count_sub_runs(alloc)),
         };
         match outcome {
             Ok(outcome) => outcome,

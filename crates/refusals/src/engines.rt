@@ -18,6 +18,15 @@ const RUN: &[u8] = b"run 3 1 -\nscript pass\ntest fail,pass\ntest fail slow\ntes
 const REPORT: &[u8] =
     b"tests 3 passed 2 failed 1 flaky 1\nscripts 1 failed 0\nsummary failed test 3 0\n";
 
+/// Three sub-runs of a repeated run.
+const SUB_RUNS: &[u8] =
+    b"run 1 0 -\ntest pass\nsub-run 1 0 -\ntest fail\nsub-run 2 0 interrupt\ntest pass\n";
+
+const REPORTS: &[u8] = b"tests 1 passed 1 failed 0 flaky 0\nscripts 0 failed 0\nsummary success\n\
+tests 1 passed 0 failed 1 flaky 0\nscripts 0 failed 0\nsummary failed test 1 0\n\
+tests 1 passed 1 failed 0 flaky 0\nscripts 0 failed 0\nsummary cancelled interrupt test 2 1\n\
+outcome failed test\n";
+
 /// A text with so many bytes behind it, and an end.
 fn long(alloc: Global, text: &[u8], count: usize, end: &[u8]) -> Result<Vec<u8>, AllocError> {
     let mut bytes = Vec::with_capacity(alloc, 10_000)?;
@@ -70,10 +79,20 @@ pub(crate) fn extract(alloc: Global) -> Result<Outcome, AllocError> {
     Ok(outcome_of(answer, true, &source, &sink, text.as_slice()))
 }
 
-pub(crate) fn count(alloc: Global) -> Outcome {
-    let mut buffer = [0; 200];
-    let mut source = MemorySource::new(RUN, None);
+/// What came of counting this input, for which this text is to be written and the answer is that
+/// no success was counted.
+fn counted(alloc: Global, input: &[u8], text: &[u8]) -> Outcome {
+    let mut buffer = [0; 400];
+    let mut source = MemorySource::new(input, None);
     let mut sink = MemorySink::new(&mut buffer, None);
     let answer = count::count(alloc, &mut source, &mut sink);
-    outcome_of(answer, false, &source, &sink, REPORT)
+    outcome_of(answer, false, &source, &sink, text)
+}
+
+pub(crate) fn count(alloc: Global) -> Outcome {
+    counted(alloc, RUN, REPORT)
+}
+
+pub(crate) fn count_sub_runs(alloc: Global) -> Outcome {
+    counted(alloc, SUB_RUNS, REPORTS)
 }

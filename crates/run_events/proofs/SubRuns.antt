@@ -2,9 +2,7 @@
 use Rattle.std.proofs.Common.{◌≡◌, ◌≤◌, ◌⊎◌, ℕ, ◌+◌, ◌<◌, List, [], ◌∷◌, ◌++◌, length, get_or, map, max, take, Contains, refl, sym, ap, ◌∙◌, subst, inl, inr, arith}
 use Rattle.std.proofs.lemmas.List.{map-append, take_more}
 use Rattle.std.proofs.lemmas.List.Elements.{All-push, All-weaker, Contains-append_left, Contains-push}
-use Rattle.run_events.specs.Outcome.{IsHighest, combined, outcome_of, outcome_rank}
-use Rattle.run_events.specs.declared.outcome.FinalRunStats.{FinalRunStats}
-use Rattle.run_events.specs.declared.outcome.FinalRunStats.TheVariants.{Success}
+use Rattle.run_events.specs.Outcome.{IsHighest, combined, outcome_rank}
 use Rattle.run_events.specs.declared.outcome.RunFailureStep.TheVariants as step
 use Rattle.run_events.specs.declared.outcome.run_outcome.RunOutcome.{RunOutcome}
 use Rattle.run_events.specs.declared.outcome.run_outcome.RunOutcome.TheVariants as outcome
@@ -45,14 +43,14 @@ highest-more outcomes o next r exact rank one (inr (among, greatest)) =
           (All-weaker (λ o'. outcome_rank o' ≤ outcome_rank o) (λ o'. outcome_rank o' ≤ outcome_rank r) below outcomes greatest) last,
     )
 
--- one more sub-run
-pub highest-sub_run : (sub_runs : List FinalRunStats) (i : ℕ) (o next r : RunOutcome) → i < length sub_runs
-    → next ≡ outcome_of (get_or sub_runs i Success) → r ≡ combined o next
+-- one more sub-run, whose outcome is a function of it
+pub highest-sub_run : {A : Type 0} (f : A → RunOutcome) (sub_runs : List A) (i : ℕ) (d : A) (o next r : RunOutcome) → i < length sub_runs
+    → next ≡ f (get_or sub_runs i d) → r ≡ combined o next
     → outcome_rank r ≡ max (outcome_rank o) (outcome_rank next) → (r ≡ o) ⊎ (r ≡ next)
-    → IsHighest (map outcome_of (take i sub_runs)) o → IsHighest (map outcome_of (take (i + 1) sub_runs)) r
-highest-sub_run sub_runs i o next r within is_next exact rank one so_far =
-    let more : map outcome_of (take (i + 1) sub_runs) ≡ map outcome_of (take i sub_runs) ++ next ∷ [] =
-    ap (map outcome_of) (take_more sub_runs i Success within) ∙ map-append outcome_of (take i sub_runs) (get_or sub_runs i Success ∷ [])
-    ∙ ap (λ x. map outcome_of (take i sub_runs) ++ x ∷ []) (sym is_next) in
+    → IsHighest (map f (take i sub_runs)) o → IsHighest (map f (take (i + 1) sub_runs)) r
+highest-sub_run f sub_runs i d o next r within is_next exact rank one so_far =
+    let more : map f (take (i + 1) sub_runs) ≡ map f (take i sub_runs) ++ next ∷ [] =
+    ap (map f) (take_more sub_runs i d within) ∙ map-append f (take i sub_runs) (get_or sub_runs i d ∷ [])
+    ∙ ap (λ x. map f (take i sub_runs) ++ x ∷ []) (sym is_next) in
     let P : List RunOutcome → Type 0 = λ os. IsHighest os r in
-    subst P (sym more) (highest-more (map outcome_of (take i sub_runs)) o next r exact rank one so_far)
+    subst P (sym more) (highest-more (map f (take i sub_runs)) o next r exact rank one so_far)

@@ -1,5 +1,6 @@
 -- The outcome of a run and of sub-runs, and what is left of a run that is over.
-use Rattle.std.specs.Prelude.{◌≡◌, ◌≤◌, ◌⊎◌, ℕ, if◌then◌else◌, nat_le, nat_lt, List, [], All, Contains}
+use Rattle.std.specs.Prelude.{◌≡◌, ◌≤◌, ◌⊎◌, ℕ, if◌then◌else◌, nat_le, nat_lt, List, [], map, All, Contains}
+use Rattle.run_events.specs.Counters.{stats_of, unit_view}
 use Rattle.run_events.specs.Summary.{summary_of}
 use Rattle.run_events.specs.declared.outcome.FinalRunStats.{FinalRunStats}
 use Rattle.run_events.specs.declared.outcome.FinalRunStats.TheVariants as summary
@@ -14,6 +15,7 @@ use Rattle.run_events.specs.declared.outcome.finished.StressFinalRunStats.TheVar
 use Rattle.run_events.specs.declared.outcome.finished.StressRunStats.{StressRunStats}
 use Rattle.run_events.specs.declared.outcome.run_outcome.RunOutcome.{RunOutcome}
 use Rattle.run_events.specs.declared.outcome.run_outcome.RunOutcome.TheVariants as outcome
+use Rattle.run_events.specs.declared.stats.FinishedRun.{FinishedRun}
 
 abbrev pub step_of : RunStatsFailureKind → RunFailureStep
 step_of kind.SetupScript = step.SetupScript
@@ -25,6 +27,10 @@ outcome_of summary.Success = outcome.Success
 outcome_of summary.NoTestsRun = outcome.NoTestsRun
 outcome_of (summary.Cancelled reason kind) = outcome.Cancelled (step_of kind)
 outcome_of (summary.Failed kind) = outcome.Failed (step_of kind)
+
+-- the summary of a run, by its units and its start
+abbrev pub run_summary : FinishedRun → FinalRunStats
+run_summary run = summary_of (stats_of (map unit_view run.units.now) run.start)
 
 -- the order of outcomes
 abbrev pub outcome_rank : RunOutcome → ℕ

@@ -104,3 +104,13 @@ pub enum FinishedUnit<'a> {
     /// A test, with all its attempts.
     Test(&'a ExecutionStatuses<LiveSpec>),
 }
+
+/// A run that is over, lent: its finished units and its start. Of a repeated run it is one sub-run.
+#[derive(Clone, Copy)]
+pub struct FinishedRun<'a> {
+    /// The finished units, in any order.
+    pub units: &'a [FinishedUnit<'a>],
+
+    /// What is known of the run apart from them.
+    pub start: RunStart,
+}

@@ -38,7 +38,7 @@ fn inputs_that_say_the_same_give_the_same(rt: HostRuntime) -> Result<(), Fail> {
 }
 
 /// An input, and the number of its first bad line.
-const BAD: [(&[u8], usize); 36] = [
+const BAD: [(&[u8], usize); 35] = [
     (b"run 00000001 0 -", 1),
     (b"run 1000001 0 -", 1),
     (b"run 0 9999999 -", 1),
@@ -72,7 +72,6 @@ const BAD: [(&[u8], usize); 36] = [
     (b"run 1 0 -\nscript pass slow", 2),
     (b"run 1 0 -\nscript pass,pass", 2),
     (b"run 1 0 -\nrun 1 0 -", 2),
-    (b"run 1 0 -\nsub-run 1 0 -", 2),
     (b"run 1 0 -\ntest pass\ntest x\ntest pass\ntest y", 3),
     (b"run 1 0 -\ntest pass\ntest pass\n\n", 4),
 ];

@@ -1,9 +1,10 @@
 //! The outcome of a run, or of all sub-runs of a repeated run.
 
 ghost use Rattle.std.specs.Prelude.{◌≡◌, ◌⊎◌, map, max};
-ghost use Rattle.run_events.specs.Outcome.{IsHighest, combined, outcome_of, outcome_rank};
+ghost use Rattle.run_events.specs.Outcome.{IsHighest, combined, outcome_of, outcome_rank, run_summary};
 
 use crate::outcome::{FinalRunStats, RunFailureStep};
+use crate::stats::{FinishedRun, RunStats};
 
 /// The outcome of a run: its summary without reason and numbers. Of a repeated run it is the
 /// highest outcome of all sub-runs, where `NoTestsRun` is below `Success`, that is below
@@ -69,6 +70,20 @@ impl RunOutcome {
         let mut highest = RunOutcome::NoTestsRun;
         for summary in sub_runs {
             highest = highest.combine(RunOutcome::from_final_stats(*summary));
+        }
+        highest
+    }
+
+    /// The outcome of a repeated run, from the finished units and the start of each of its
+    /// sub-runs: the highest of their outcomes, or `NoTestsRun` where there is none. The units of
+    /// one sub-run count for that one alone.
+    pub fn of_runs(runs: &[FinishedRun<'_>]) -> Self
+        ensures { IsHighest (map (λ run. outcome_of (run_summary run)) runs.now) result }
+    {
+        let mut highest = RunOutcome::NoTestsRun;
+        for run in runs {
+            let stats = RunStats::of_run(run.units, run.start);
+            highest = highest.combine(RunOutcome::from_final_stats(stats.summarize_final()));
         }
         highest
     }

@@ -1,4 +1,4 @@
-use Rattle.std.proofs.Common.{◌≡◌, true, false, true≢false, sym}
+use Rattle.std.proofs.Common.{true≢false, sym}
 use Rattle.run_events.specs.UnitErrors.{exec_fail_errors, child_process_errors}
 use Rattle.run_events.proofs.EmptyLists.{left_is_empty, right_is_empty}
 use Rattle.run_events.proofs.unit_error.UnitErrorDescription.all_error_list.Goals as goal

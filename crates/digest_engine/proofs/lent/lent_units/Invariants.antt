@@ -1,7 +1,7 @@
 use Rattle.std.proofs.Common.{◌≡◌, map, take}
 use Rattle.run_events.specs.Counters.{unit_view}
 use Rattle.digest_engine.specs.Statuses.{owned_view}
-use Rattle.digest_engine.proofs.count.lent.Given as goal
+use Rattle.digest_engine.proofs.lent.lent_units.Given as goal
 
 -- the units so far are lent
 abbrev pub invariant-loop-unit : goal.invariant-loop-unit
