@@ -61,12 +61,11 @@ fn count_runs<R: Source, W: Sink>(
 /// summary is.
 ///
 /// Line 1 is `run TESTS SCRIPTS REASON`: how many tests and scripts were to run, each at most
-/// 1,000,000, and why the run was cancelled, `-` for no reason. A later line
+/// 1,000,000, and why the run was cancelled, `-` for no reason. After it a line
 /// `sub-run TESTS SCRIPTS REASON` begins another sub-run. Each other line is a finished unit of the
-/// run that was begun last:
-/// `script R`, or `test R,R,..` with the results of 1 to 100 attempts, then perhaps ` slow` for a
-/// slow last attempt, then perhaps ` flaky-fail` for the setting that fails flaky tests. Lines end
-/// with `\n` or `\r\n`, the last with or without; there are at most 10,000.
+/// run that was begun last: `script R`, or `test R,R,..` with the results of 1 to 100 attempts, then
+/// perhaps ` slow` for a slow last attempt, then perhaps ` flaky-fail` for the setting that fails
+/// flaky tests. Lines end with `\n` or `\r\n`, the last with or without; there are at most 10,000.
 ///
 /// Neither device may have failed before. Everything is read first, then the whole text is made,
 /// then it is written, then the sink is flushed.
@@ -75,7 +74,7 @@ fn count_runs<R: Source, W: Sink>(
 /// - [`Fault::BadLine`] with the number of the first line that says nothing which its place allows.
 /// - [`Fault::OutOfMemory`] where memory is refused.
 ///
-/// Nothing is written where it fails, save by [`Fault::Write`], when a beginning of the report is.
+/// Nothing is written where it fails, save by [`Fault::Write`], when a beginning of the text is.
 pub fn count<R: Source, W: Sink>(alloc: Global, source: &mut R, sink: &mut W) -> Result<bool, Fault>
     requires source_works { R.failed source.old ≡ false }
     requires sink_works { W.failed sink.old ≡ false }

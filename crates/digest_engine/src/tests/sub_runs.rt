@@ -1,7 +1,9 @@
 //! Inputs with sub-runs.
 
 use super::given::{answer, given};
+use crate::count::count;
 use crate::fault::Fault;
+use crate::memory_device::{MemorySink, MemorySource};
 use std::test::Fail;
 
 /// An input, the exit status, standard output and standard error.
@@ -123,4 +125,33 @@ fn lines_that_begin_sub_runs_are_counted_too(rt: HostRuntime) -> Result<(), Fail
         Err(Fault::BadLine { number: 10_001 })
     );
     Ok(())
+}
+
+#[test]
+fn devices_fail_at_each_call(rt: HostRuntime) {
+    let (input, _, stdout, _) = ROWS[0];
+    // The read of the bytes, then the one that finds the end.
+    for at in 0..2 {
+        let mut buffer = [0; 300];
+        let mut source = MemorySource::new(input.as_bytes(), Some(at));
+        let mut sink = MemorySink::new(&mut buffer, None);
+        let answer = count(rt.alloc(), &mut source, &mut sink);
+        assert_eq!(rt; answer, Err(Fault::Read));
+        assert!(rt; sink.written().is_empty());
+    }
+    // The write, which takes the text of all sub-runs, then the flush.
+    for (at, written) in [(0, b"".as_slice()), (1, stdout.as_bytes())] {
+        let mut buffer = [0; 300];
+        let mut source = MemorySource::new(input.as_bytes(), None);
+        let mut sink = MemorySink::new(&mut buffer, Some(at));
+        let answer = count(rt.alloc(), &mut source, &mut sink);
+        assert_eq!(rt; answer, Err(Fault::Write));
+        assert_eq!(rt; sink.written(), written);
+    }
+    let mut buffer = [0; 10];
+    let mut source = MemorySource::new(input.as_bytes(), None);
+    let mut sink = MemorySink::new(&mut buffer, None);
+    let answer = count(rt.alloc(), &mut source, &mut sink);
+    assert_eq!(rt; answer, Err(Fault::Write));
+    assert_eq!(rt; sink.written(), b"tests 1 pa".as_slice());
 }
