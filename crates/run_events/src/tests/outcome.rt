@@ -1,15 +1,12 @@
 //! Outcomes of runs, of sub-runs and of repeated runs.
 
-use crate::config::FlakyResult;
 use crate::outcome::{
     FinalRunStats, RunFailureStep, RunFinishedStats, RunOutcome, RunStatsFailureKind,
     StressFinalRunStats, StressRunStats,
 };
 use crate::results::CancelReason;
-use crate::stats::{FinishedRun, FinishedUnit, RunStart, RunStats};
+use crate::stats::RunStats;
 use crate::stress::StressIndex;
-use crate::tests::builders::{EXIT_ONE, PASS, finished_test};
-use std::test::Fail;
 
 /// The step of the tests, with numbers.
 const AT_TESTS: RunStatsFailureKind = RunStatsFailureKind::Test {
@@ -87,54 +84,6 @@ fn sub_runs_have_their_highest_outcome(rt: HostRuntime) {
         RunOutcome::of_sub_runs(&[FinalRunStats::NoTestsRun, FinalRunStats::Success]),
         RunOutcome::Success
     );
-}
-
-/// A run of so many tests, with this reason.
-fn run_of<'a>(
-    units: &'a [FinishedUnit<'a>],
-    initial_run_count: usize,
-    cancel_reason: Option<CancelReason>,
-) -> FinishedRun<'a> {
-    FinishedRun {
-        units,
-        start: RunStart {
-            initial_run_count,
-            setup_scripts_initial_count: 0,
-            skipped: 0,
-            cancel_reason,
-        },
-    }
-}
-
-#[test]
-fn runs_have_the_highest_outcome_of_each_alone(rt: HostRuntime) -> Result<(), Fail> {
-    let passed = finished_test(rt.alloc(), &[], PASS, false, FlakyResult::Pass)?;
-    let failed = finished_test(rt.alloc(), &[], EXIT_ONE, false, FlakyResult::Pass)?;
-    let passes = [FinishedUnit::Test(&passed)];
-    let fails = [FinishedUnit::Test(&failed)];
-    let successful = run_of(&passes, 1, None);
-    let failing = run_of(&fails, 1, None);
-    let interrupted = run_of(&passes, 2, Some(CancelReason::Interrupt));
-    let without_tests = run_of(&[], 0, None);
-
-    assert_eq!(rt; RunOutcome::of_runs(&[]), RunOutcome::NoTestsRun);
-    assert_eq!(rt;
-        RunOutcome::of_runs(&[interrupted]),
-        RunOutcome::Cancelled {
-            step: RunFailureStep::Test
-        }
-    );
-    assert_eq!(rt;
-        RunOutcome::of_runs(&[successful, failing, interrupted]),
-        RunOutcome::Failed {
-            step: RunFailureStep::Test
-        }
-    );
-    assert_eq!(rt;
-        RunOutcome::of_runs(&[without_tests, successful]),
-        RunOutcome::Success
-    );
-    Ok(())
 }
 
 #[test]
