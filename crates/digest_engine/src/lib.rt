@@ -12,8 +12,6 @@ mod lines;
 pub mod memory_device;
 mod report;
 pub mod std_device;
-#[cfg(test)]
-mod tests;
 mod transfer;
 mod units;
 mod words;

@@ -16,6 +16,4 @@ pub mod results;
 pub mod run_mode;
 pub mod stats;
 pub mod stress;
-#[cfg(test)]
-mod tests;
 pub mod unit_error;

@@ -1,0 +1,51 @@
+//! What the program gives for an input, by the engine over memory.
+
+use digest_engine::count::count;
+use digest_engine::fault::Fault;
+use digest_engine::memory_device::{MemorySink, MemorySource};
+use std::alloc::Global;
+use std::test::Fail;
+
+/// What the program gives: its exit status, and what stands on standard output and error.
+#[derive(Drop)]
+pub(crate) struct Output {
+    pub(crate) status: u8,
+    pub(crate) stdout: Vec<u8>,
+    pub(crate) stderr: String,
+}
+
+impl Output {
+    /// Whether the program gives this.
+    pub(crate) fn is(&self, status: u8, stdout: &str, stderr: &str) -> bool {
+        self.status == status
+            && self.stdout.as_slice() == stdout.as_bytes()
+            && self.stderr.as_str() == stderr
+    }
+}
+
+/// What the program gives for an input.
+pub(crate) fn given(alloc: Global, input: &[u8]) -> Result<Output, Fail> {
+    let mut buffer = [0; 1024];
+    let mut source = MemorySource::new(input, None);
+    let mut sink = MemorySink::new(&mut buffer, None);
+    let answer = count(alloc, &mut source, &mut sink);
+    let stdout = sink.written().to_vec(alloc)?;
+    let (status, stderr) = match answer {
+        Ok(true) => (0, String::new(alloc)),
+        Ok(false) => (1, String::new(alloc)),
+        Err(fault) => (fault.status(), format!(in alloc; "{fault}\n")?),
+    };
+    Ok(Output {
+        status,
+        stdout,
+        stderr,
+    })
+}
+
+/// The engine's answer to an input.
+pub(crate) fn answer(alloc: Global, input: &[u8]) -> Result<bool, Fault> {
+    let mut buffer = [0; 1024];
+    let mut source = MemorySource::new(input, None);
+    let mut sink = MemorySink::new(&mut buffer, None);
+    count(alloc, &mut source, &mut sink)
+}

@@ -1,0 +1,131 @@
+//! Finished units of which only what decides their counters matters, and captured output and errors
+//! to put into others.
+
+use bytes::Bytes;
+use jiff::Timestamp;
+use jiff::tz::Offset;
+use run_events::attempts::{ExecuteStatus, ExecutionStatuses, RetryData, SetupScriptExecuteStatus};
+use run_events::chain::SerializableError;
+use run_events::child::{
+    ChildExecutionOutputDescription, ChildOutputDescription, ChildSingleOutput, LiveSpec,
+};
+use run_events::config::{FlakyResult, LeakTimeoutResult, Moment, SlowTimeoutResult};
+use run_events::results::{
+    AbortStatus, ExecutionResult, ExecutionResultDescription, FailureStatus,
+};
+use std::alloc::Global;
+use std::test::Fail;
+use std::time::Duration;
+
+pub(crate) const PASS: ExecutionResult = ExecutionResult::Pass;
+
+pub(crate) const LEAK_PASS: ExecutionResult = ExecutionResult::Leak {
+    result: LeakTimeoutResult::Pass,
+};
+
+pub(crate) const LEAK_FAIL: ExecutionResult = ExecutionResult::Leak {
+    result: LeakTimeoutResult::Fail,
+};
+
+pub(crate) const EXIT_ONE: ExecutionResult = ExecutionResult::Fail {
+    failure_status: FailureStatus::ExitCode(1),
+    leaked: false,
+};
+
+pub(crate) const SIGNAL_FIFTEEN: ExecutionResult = ExecutionResult::Fail {
+    failure_status: FailureStatus::Abort(AbortStatus::UnixSignal(15)),
+    leaked: true,
+};
+
+pub(crate) const EXEC_FAIL: ExecutionResult = ExecutionResult::ExecFail;
+
+pub(crate) const TIMEOUT_PASS: ExecutionResult = ExecutionResult::Timeout {
+    result: SlowTimeoutResult::Pass,
+};
+
+pub(crate) const TIMEOUT_FAIL: ExecutionResult = ExecutionResult::Timeout {
+    result: SlowTimeoutResult::Fail,
+};
+
+fn epoch() -> Moment {
+    Moment {
+        timestamp: Timestamp::UNIX_EPOCH,
+        offset: Offset::UTC,
+    }
+}
+
+fn nothing_captured(outcome: ExecutionResult) -> ChildExecutionOutputDescription<LiveSpec> {
+    ChildExecutionOutputDescription::Output {
+        result: Some(ExecutionResultDescription::from_status(outcome, None)),
+        output: ChildOutputDescription::Split {
+            stdout: None,
+            stderr: None,
+        },
+        errors: None,
+    }
+}
+
+/// An attempt of this number that ended so.
+pub(crate) fn attempt(
+    outcome: ExecutionResult,
+    number: u32,
+    is_slow: bool,
+) -> ExecuteStatus<LiveSpec> {
+    ExecuteStatus {
+        retry_data: RetryData {
+            attempt: number,
+            total_attempts: 3,
+        },
+        output: nothing_captured(outcome),
+        result: ExecutionResultDescription::from_status(outcome, None),
+        start_time: epoch(),
+        time_taken: Duration::ZERO,
+        is_slow,
+        delay_before_start: Duration::ZERO,
+        error_summary: None,
+        output_error_slice: None,
+    }
+}
+
+/// A test whose attempts ended so, the last of them slow or not.
+pub(crate) fn finished_test(
+    alloc: Global,
+    earlier: &[ExecutionResult],
+    last: ExecutionResult,
+    is_slow: bool,
+    setting: FlakyResult,
+) -> Result<ExecutionStatuses<LiveSpec>, Fail> {
+    let mut statuses = Vec::new(alloc);
+    let mut number: u32 = 1;
+    for outcome in earlier {
+        statuses.push(attempt(*outcome, number, false))?;
+        number = number.saturating_add(1);
+    }
+    statuses.push(attempt(last, number, is_slow))?;
+    Ok(ExecutionStatuses::try_from_parts(statuses, setting)?)
+}
+
+/// A setup script that ended so.
+pub(crate) fn finished_script(outcome: ExecutionResult) -> SetupScriptExecuteStatus<LiveSpec> {
+    SetupScriptExecuteStatus {
+        output: nothing_captured(outcome),
+        result: ExecutionResultDescription::from_status(outcome, None),
+        start_time: epoch(),
+        time_taken: Duration::ZERO,
+        is_slow: false,
+        env_map: None,
+        error_summary: None,
+    }
+}
+
+/// Output of which this was captured.
+pub(crate) fn captured(alloc: Global, bytes: &[u8]) -> Result<ChildSingleOutput, Fail> {
+    Ok(ChildSingleOutput::from(Bytes::copy_from_slice(alloc, bytes)?))
+}
+
+/// An error without a cause.
+pub(crate) fn error(alloc: Global, message: &str) -> Result<SerializableError, Fail> {
+    let message = String::from_str(alloc, message)?;
+    let causes = Vec::new(alloc);
+    Ok(SerializableError::from_message_and_causes(alloc, message, causes)?)
+}

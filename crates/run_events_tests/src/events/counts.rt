@@ -1,0 +1,122 @@
+//! Events of finished units lend them to the counters.
+
+use super::{SO_FAR, instance, owned, script_id, told};
+use crate::builders::{EXIT_ONE, LEAK_FAIL, PASS, TIMEOUT_PASS, finished_script, finished_test};
+use run_events::attempts::ExecutionStatuses;
+use run_events::child::LiveSpec;
+use run_events::config::{FlakyResult, JunitFlakyFailStatus, TestOutputDisplay};
+use run_events::events::{ReporterEvent, TestEventKind};
+use run_events::outcome::{FinalRunStats, RunStatsFailureKind};
+use run_events::results::CancelReason;
+use run_events::stats::{FinishedUnit, RunStart, RunStats};
+use std::alloc::Global;
+use std::test::Fail;
+
+/// The event of a test that finished so.
+fn test_finished(
+    alloc: Global,
+    test_name: &str,
+    run_statuses: ExecutionStatuses<LiveSpec>,
+) -> Result<ReporterEvent<'_>, Fail> {
+    let kind = TestEventKind::TestFinished {
+        stress_index: None,
+        test_instance: instance(test_name),
+        success_output: TestOutputDisplay::Never,
+        failure_output: TestOutputDisplay::Immediate,
+        junit_store_success_output: false,
+        junit_store_failure_output: true,
+        junit_flaky_fail_status: JunitFlakyFailStatus { name: "failure" },
+        run_statuses,
+        current_stats: SO_FAR,
+        running: 0,
+    };
+    told(alloc, kind)
+}
+
+/// The event of the one setup script, which ran out of its time.
+fn script_finished(alloc: Global) -> Result<ReporterEvent<'static>, Fail> {
+    let kind = TestEventKind::SetupScriptFinished {
+        stress_index: None,
+        index: 0,
+        total: 1,
+        script_id: script_id(alloc)?,
+        program: String::from_str(alloc, "sh")?,
+        args: owned(alloc, &[])?,
+        junit_store_success_output: false,
+        junit_store_failure_output: true,
+        no_capture: false,
+        run_status: finished_script(TIMEOUT_PASS),
+    };
+    told(alloc, kind)
+}
+
+/// The unit whose end an event tells, lent.
+fn finished_unit<'e>(event: &'e ReporterEvent<'_>) -> Option<FinishedUnit<'e>> {
+    let ReporterEvent::Test(event) = event else {
+        return None;
+    };
+    match &event.kind {
+        TestEventKind::SetupScriptFinished { run_status, .. } => {
+            Some(FinishedUnit::Script(run_status))
+        }
+        TestEventKind::TestFinished { run_statuses, .. } => Some(FinishedUnit::Test(run_statuses)),
+        _ => None,
+    }
+}
+
+/// What a reporter is told of a run: a script that timed out, a flaky test, a slow one that leaked,
+/// a slow one that was to time out.
+fn events_of_run(alloc: Global) -> Result<Vec<ReporterEvent<'static>>, Fail> {
+    let flaky = finished_test(alloc, &[EXIT_ONE], PASS, false, FlakyResult::Pass)?;
+    let leaked = finished_test(alloc, &[], LEAK_FAIL, true, FlakyResult::Pass)?;
+    let timed_out = finished_test(alloc, &[], TIMEOUT_PASS, true, FlakyResult::Pass)?;
+    let mut events = Vec::new(alloc);
+    events.push(script_finished(alloc)?)?;
+    events.push(test_finished(alloc, "flakes", flaky)?)?;
+    events.push(ReporterEvent::Tick)?;
+    events.push(test_finished(alloc, "leaks", leaked)?)?;
+    events.push(told(alloc, TestEventKind::InfoFinished { missing: 1 })?)?;
+    events.push(test_finished(alloc, "times_out", timed_out)?)?;
+    Ok(events)
+}
+
+#[test]
+fn events_lend_their_units_to_the_counters(rt: HostRuntime) -> Result<(), Fail> {
+    let events = events_of_run(rt.alloc())?;
+    let mut units = Vec::new(rt.alloc());
+    for event in &events {
+        if let Some(unit) = finished_unit(event) {
+            units.push(unit)?;
+        }
+    }
+    let start = RunStart {
+        initial_run_count: 4,
+        setup_scripts_initial_count: 1,
+        skipped: 2,
+        cancel_reason: Some(CancelReason::GlobalTimeout),
+    };
+    let stats = RunStats::of_run(&units, start);
+    let wanted = RunStats {
+        initial_run_count: 4,
+        finished_count: 3,
+        setup_scripts_initial_count: 1,
+        setup_scripts_finished_count: 1,
+        setup_scripts_timed_out: 1,
+        passed: 2,
+        passed_timed_out: 1,
+        flaky: 1,
+        failed: 1,
+        failed_slow: 1,
+        leaky_failed: 1,
+        skipped: 2,
+        cancel_reason: Some(CancelReason::GlobalTimeout),
+        ..RunStats::default()
+    };
+    assert_eq!(rt; stats, wanted);
+    let summary = FinalRunStats::Cancelled {
+        reason: Some(CancelReason::GlobalTimeout),
+        kind: RunStatsFailureKind::SetupScript,
+    };
+    assert_eq!(rt; stats.summarize_final(), summary);
+    Ok(())
+}

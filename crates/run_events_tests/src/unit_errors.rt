@@ -1,0 +1,261 @@
+//! The errors of a unit.
+
+use crate::builders::{EXEC_FAIL, EXIT_ONE, PASS, SIGNAL_FIFTEEN, captured, error};
+use run_events::child::{
+    ChildErrorDescription, ChildExecutionOutputDescription, ChildOutputDescription,
+    ChildStartErrorDescription, ErrorList, LiveSpec,
+};
+use run_events::results::{ExecutionResult, ExecutionResultDescription, UnitKind};
+use run_events::unit_error::{UnitError, UnitErrorDescription};
+use std::alloc::Global;
+use std::test::Fail;
+
+fn left(
+    end: Option<ExecutionResultDescription>,
+    output: ChildOutputDescription,
+) -> ChildExecutionOutputDescription<LiveSpec> {
+    ChildExecutionOutputDescription::Output {
+        result: end,
+        output,
+        errors: None,
+    }
+}
+
+fn ended(end: ExecutionResult) -> Option<ExecutionResultDescription> {
+    Some(ExecutionResultDescription::from_status(end, None))
+}
+
+fn with_stderr(alloc: Global, stderr: &[u8]) -> Result<ChildOutputDescription, Fail> {
+    Ok(ChildOutputDescription::Split {
+        stdout: None,
+        stderr: Some(captured(alloc, stderr)?),
+    })
+}
+
+fn in_one(alloc: Global, bytes: &[u8]) -> Result<ChildOutputDescription, Fail> {
+    Ok(ChildOutputDescription::Combined {
+        output: captured(alloc, bytes)?,
+    })
+}
+
+/// The kind of an error, by a letter.
+fn letter(error: &UnitError<'_>) -> u8 {
+    match error {
+        UnitError::Start(_) => b's',
+        UnitError::Output(_) => b'o',
+        UnitError::Abort(_) => b'a',
+        UnitError::Slice(_) => b't',
+    }
+}
+
+/// Whether a list of the errors of a test holds errors of these kinds, in this order.
+fn holds(list: &Option<ErrorList<UnitError<'_>>>, letters: &[u8]) -> bool {
+    list.as_ref().is_some_and(|list| {
+        list.description() == "executing test"
+            && list.len() == letters.len()
+            && list
+                .iter()
+                .zip(letters)
+                .all(|(error, kind)| letter(error) == *kind)
+    })
+}
+
+/// The texts of the errors in a list, one in a line, below its description; nothing of no list.
+fn text_of(alloc: Global, list: Option<ErrorList<UnitError<'_>>>) -> Result<String, Fail> {
+    let mut text = String::new(alloc);
+    if let Some(list) = list {
+        text.push_str(list.description())?;
+        for error in list.iter() {
+            let line = format!(in alloc; "\n{error}")?;
+            text.push_str(line.as_str())?;
+        }
+    }
+    Ok(text)
+}
+
+fn described(
+    kind: UnitKind,
+    output: &ChildExecutionOutputDescription<LiveSpec>,
+) -> Result<UnitErrorDescription<'_>, Fail> {
+    if UnitErrorDescription::can_describe(kind, output) {
+        Ok(UnitErrorDescription::new(kind, output))
+    } else {
+        Err(Fail::from("its output is not loaded"))
+    }
+}
+
+/// Whether a test that left this output, and ended so, has neither a slice nor any error.
+fn has_no_errors(
+    alloc: Global,
+    end: Option<ExecutionResultDescription>,
+    output: ChildOutputDescription,
+) -> Result<bool, Fail> {
+    let output = left(end, output);
+    let errors = described(UnitKind::Test, &output)?;
+    let list = errors.all_error_list(alloc)?;
+    Ok(errors.output_slice().is_none() && list.is_none())
+}
+
+fn aborted(alloc: Global) -> Result<ChildExecutionOutputDescription<LiveSpec>, Fail> {
+    let mut errors = Vec::new(alloc);
+    errors.push(ChildErrorDescription::ReadStdout {
+        source: error(alloc, "r")?,
+    })?;
+    let name = String::from_str(alloc, "TERM")?;
+    Ok(ChildExecutionOutputDescription::Output {
+        result: Some(ExecutionResultDescription::from_status(SIGNAL_FIFTEEN, Some(name))),
+        output: with_stderr(alloc, b"Error: e")?,
+        errors: ErrorList::new("reading", errors),
+    })
+}
+
+fn not_started(alloc: Global) -> Result<ChildExecutionOutputDescription<LiveSpec>, Fail> {
+    let spawn = ChildStartErrorDescription::Spawn {
+        source: error(alloc, "not found")?,
+    };
+    Ok(ChildExecutionOutputDescription::StartError(spawn))
+}
+
+#[test]
+fn a_test_that_passed_has_no_errors(rt: HostRuntime) -> Result<(), Fail> {
+    let output = with_stderr(rt.alloc(), b"Error: simulated error for testing\n")?;
+    assert!(rt; has_no_errors(rt.alloc(), ended(PASS), output)?);
+    Ok(())
+}
+
+#[test]
+fn a_test_that_passed_may_have_panicked(rt: HostRuntime) -> Result<(), Fail> {
+    let output = with_stderr(
+        rt.alloc(),
+        b"thread 'x' panicked at src/lib.rs:1:\nas it should\n",
+    )?;
+    assert!(rt; has_no_errors(rt.alloc(), ended(PASS), output)?);
+    Ok(())
+}
+
+#[test]
+fn output_in_one_of_a_test_that_passed_has_no_errors(rt: HostRuntime) -> Result<(), Fail> {
+    let output = in_one(rt.alloc(), b"out\nError: of no error\n")?;
+    assert!(rt; has_no_errors(rt.alloc(), ended(PASS), output)?);
+    Ok(())
+}
+
+#[test]
+fn a_test_that_still_runs_has_no_errors(rt: HostRuntime) -> Result<(), Fail> {
+    let output = with_stderr(rt.alloc(), b"Error: e")?;
+    assert!(rt; has_no_errors(rt.alloc(), None, output)?);
+    Ok(())
+}
+
+#[test]
+fn a_test_has_all_errors_in_order(rt: HostRuntime) -> Result<(), Fail> {
+    let output = aborted(rt.alloc())?;
+    let errors = described(UnitKind::Test, &output)?;
+    assert!(rt; holds(&errors.all_error_list(rt.alloc())?, b"oat"));
+    Ok(())
+}
+
+#[test]
+fn errors_of_execution_leave_the_abort_and_the_slice(rt: HostRuntime) -> Result<(), Fail> {
+    let output = aborted(rt.alloc())?;
+    let errors = described(UnitKind::Test, &output)?;
+    assert!(rt; holds(&errors.exec_fail_error_list(rt.alloc())?, b"o"));
+    Ok(())
+}
+
+#[test]
+fn errors_of_the_process_leave_those_of_reading(rt: HostRuntime) -> Result<(), Fail> {
+    let output = aborted(rt.alloc())?;
+    let errors = described(UnitKind::Test, &output)?;
+    assert!(rt; holds(&errors.child_process_error_list(rt.alloc())?, b"at"));
+    Ok(())
+}
+
+#[test]
+fn a_test_that_did_not_start_has_one_error(rt: HostRuntime) -> Result<(), Fail> {
+    let output = not_started(rt.alloc())?;
+    let errors = described(UnitKind::Test, &output)?;
+    assert!(rt; holds(&errors.all_error_list(rt.alloc())?, b"s"));
+    assert!(rt; holds(&errors.exec_fail_error_list(rt.alloc())?, b"s"));
+    assert!(rt; errors.child_process_error_list(rt.alloc())?.is_none());
+    Ok(())
+}
+
+#[test]
+fn a_script_has_no_slice(rt: HostRuntime) -> Result<(), Fail> {
+    let output = aborted(rt.alloc())?;
+    let errors = described(UnitKind::Script, &output)?;
+    let all = errors.all_error_list(rt.alloc())?;
+    assert_eq!(rt;
+        text_of(rt.alloc(), all)?.as_str(),
+        "executing script\nerror reading standard output\nprocess aborted with signal 15 (SIGTERM) \
+         (leaked handles)"
+    );
+    let output = left(ended(EXIT_ONE), with_stderr(rt.alloc(), b"Error: e")?);
+    let errors = described(UnitKind::Script, &output)?;
+    assert!(rt; errors.output_slice().is_none());
+    assert!(rt; errors.all_error_list(rt.alloc())?.is_none());
+    Ok(())
+}
+
+#[test]
+fn the_output_of_a_failed_test_must_be_loaded(rt: HostRuntime) -> Result<(), Fail> {
+    for (kind, end, can_describe) in [
+        (UnitKind::Test, Some(PASS), true),
+        (UnitKind::Test, Some(EXEC_FAIL), false),
+        (UnitKind::Test, None, true),
+        (UnitKind::Script, Some(EXEC_FAIL), true),
+    ] {
+        let end = end.map(|end| ExecutionResultDescription::from_status(end, None));
+        let output = left(end, ChildOutputDescription::NotLoaded);
+        assert_eq!(rt;
+            UnitErrorDescription::can_describe(kind, &output),
+            can_describe,
+            "{kind:?}"
+        );
+    }
+    Ok(())
+}
+
+#[test]
+fn output_that_is_not_loaded_has_no_errors(rt: HostRuntime) -> Result<(), Fail> {
+    assert!(rt; has_no_errors(rt.alloc(), ended(PASS), ChildOutputDescription::NotLoaded)?);
+    Ok(())
+}
+
+#[test]
+fn a_note_in_one_output_is_found_as_in_stdout(rt: HostRuntime) -> Result<(), Fail> {
+    let output = in_one(rt.alloc(), b"note: test did not panic as expected")?;
+    let output = left(ended(EXIT_ONE), output);
+    let errors = described(UnitKind::Test, &output)?;
+    let slice = errors.output_slice().ok_or("no slice")?;
+    assert!(rt; slice.stdout_subslice().is_some());
+    let part = slice.combined_subslice().ok_or("no part")?;
+    assert_eq!(rt; part.start, 0);
+    assert_eq!(rt; part.slice.len(), 36);
+    Ok(())
+}
+
+#[test]
+fn an_error_in_one_output_is_found_as_in_stderr(rt: HostRuntime) -> Result<(), Fail> {
+    let output = in_one(rt.alloc(), b"a\nError: e\n")?;
+    let output = left(ended(EXIT_ONE), output);
+    let errors = described(UnitKind::Test, &output)?;
+    let slice = errors.output_slice().ok_or("no slice")?;
+    assert!(rt; slice.stdout_subslice().is_none());
+    let part = slice.combined_subslice().ok_or("no part")?;
+    assert_eq!(rt; part.start, 2);
+    assert_eq!(rt; part.slice.len(), 8);
+    Ok(())
+}
+
+#[test]
+fn each_stream_is_searched_for_its_own(rt: HostRuntime) -> Result<(), Fail> {
+    let swapped = ChildOutputDescription::Split {
+        stdout: Some(captured(rt.alloc(), b"Error: e")?),
+        stderr: Some(captured(rt.alloc(), b"note: test did not panic as expected")?),
+    };
+    let output = left(ended(EXIT_ONE), swapped);
+    assert!(rt; described(UnitKind::Test, &output)?.output_slice().is_none());
+    Ok(())
+}
