@@ -1,0 +1,91 @@
+//! What is said of a row.
+ghost use Rattle.std.specs.Prelude.{◌≡◌, ◌*◌, ◌/◌, ◌≤◌, ◌↔◌, IsTrue, max};
+ghost use Rattle.bench.specs.Wanted.{HasWantedGrowth, HasWantedRatio};
+
+use crate::timing::Times;
+use std::fmt;
+
+/// Calls of less time, in nanoseconds, are too short for their growth to be judged.
+const FLOOR: u64 = 1_000_000;
+
+/// The highest growth that is wanted from half the size to the whole, in thousandths.
+const MOST_GROWTH: u64 = 2_200;
+
+/// How many thousandths of another a time is; of no time it is taken as of a nanosecond.
+fn in_thousandths(time: u64, other: u64) -> u128
+    ensures { result ≡ 1_000 * time / max other 1 }
+{
+    1_000 * u128::from(time) / u128::from(other.max(1))
+}
+
+/// Whether a time is at most so many thousandths of another.
+fn is_at_most(time: u64, thousandths: u64, other: u64) -> bool
+    ensures { IsTrue result ↔ (1_000 * time ≤ thousandths * other) }
+{
+    1_000 * u128::from(time) <= u128::from(thousandths) * u128::from(other)
+}
+
+/// A number of thousandths, as a decimal fraction.
+#[derive(Clone, Copy, Debug, PartialEq, Eq)]
+struct Fraction(u128);
+
+impl fmt::Display for Fraction {
+    fn fmt<W: fmt::Write>(&self, f: &mut fmt::Formatter<W>) -> fmt::Result {
+        let whole = self.0 / 1_000;
+        let rest = self.0 % 1_000;
+        write!(f, "{whole}.{rest:03}")
+    }
+}
+
+/// The times of a row, and the ratio that is wanted of it.
+#[derive(Clone, Copy, Debug, PartialEq, Eq)]
+pub(crate) struct Measured {
+    pub(crate) whole: Times,
+    pub(crate) half: Times,
+
+    /// In thousandths; with `None` growth alone is judged.
+    pub(crate) at_most: Option<u64>,
+}
+
+impl Measured {
+    /// Whether the ratio is as it is wanted.
+    fn has_wanted_ratio(&self) -> bool
+        ensures { IsTrue result ↔ HasWantedRatio self.now }
+    {
+        match self.at_most {
+            Some(most) => is_at_most(self.whole.call, most, self.whole.pass),
+            None => true,
+        }
+    }
+
+    /// Whether the growth is as it is wanted, or cannot be judged.
+    fn has_wanted_growth(&self) -> bool
+        ensures { IsTrue result ↔ HasWantedGrowth self.now }
+    {
+        self.whole.call < FLOOR || is_at_most(self.whole.call, MOST_GROWTH, self.half.call)
+    }
+
+    /// Whether all is as it is wanted.
+    pub(crate) fn is_within(&self) -> bool
+        ensures { IsTrue result ↔ (HasWantedRatio self.now × HasWantedGrowth self.now) }
+    {
+        self.has_wanted_ratio() && self.has_wanted_growth()
+    }
+}
+
+/// Ratio, growth, and whether both are as they are wanted.
+impl fmt::Display for Measured {
+    fn fmt<W: fmt::Write>(&self, f: &mut fmt::Formatter<W>) -> fmt::Result {
+        let ratio = Fraction(in_thousandths(self.whole.call, self.whole.pass));
+        let growth = Fraction(in_thousandths(self.whole.call, self.half.call));
+        write!(f, "{ratio} {growth}")?;
+        match self.at_most {
+            Some(most) if !self.has_wanted_ratio() => {
+                let most = Fraction(u128::from(most));
+                write!(f, " ratio above {most}")
+            }
+            _ if !self.has_wanted_growth() => f.write_str(" growth above 2.200"),
+            _ => f.write_str(" within"),
+        }
+    }
+}
