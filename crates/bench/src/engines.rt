@@ -64,19 +64,18 @@ impl Digest {
         })
     }
 
-    /// The counting of a run that so many times four lines say.
-    pub(crate) fn of_lines(alloc: Global, fours: usize) -> Result<Self, AllocError> {
-        let lines = b"script pass\ntest pass\ntest fail,pass\ntest fail slow\n";
-        let tests = fours.wrapping_mul(3);
-        let passed = fours.wrapping_mul(2);
+    /// The counting of a run that so many pairs of lines say.
+    pub(crate) fn of_lines(alloc: Global, pairs: usize) -> Result<Self, AllocError> {
+        let lines = b"test pass\ntest fail,fail slow\n";
+        let tests = pairs.wrapping_mul(2);
         let text = format!(in alloc;
-            "tests {tests} passed {passed} failed {fours} flaky {fours}\n\
-            scripts {fours} failed 0\nsummary failed test 0 0\n"
+            "tests {tests} passed {pairs} failed {pairs} flaky 0\n\
+            scripts 0 failed 0\nsummary failed test 0 0\n"
         )?;
         Ok(Digest {
             alloc,
             engine: Engine::Count,
-            input: joined(alloc, b"run 0 0 -\n", lines, fours, b"")?,
+            input: joined(alloc, b"run 0 0 -\n", lines, pairs, b"")?,
             answer: false,
             text: text.into_bytes(),
         })

@@ -10,18 +10,16 @@ use std::alloc::{AllocError, Global};
 /// The extraction from an output that is one of the two streams.
 #[derive(Drop)]
 pub(crate) struct Extraction {
-    pub(crate) bytes: Vec<u8>,
-
-    /// Whether the output is standard output, and not standard error.
-    pub(crate) is_stdout: bool,
+    bytes: Vec<u8>,
+    is_stdout: bool,
 
     /// Where the panic begins and ends that is to be found.
-    pub(crate) panic: Option<(usize, usize)>,
+    panic: Option<(usize, usize)>,
 }
 
 impl Extraction {
-    /// The extraction from an output of this size.
-    pub(crate) fn of_output(
+    /// The extraction from an output of this size, which is standard output or else standard error.
+    pub(crate) fn new(
         alloc: Global,
         output: &Output,
         size: Size,

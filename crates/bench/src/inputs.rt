@@ -29,8 +29,8 @@ pub(crate) struct Output {
 
     pub(crate) piece: &'static [u8],
 
-    /// How many pieces there are in the output of 64 megabytes.
-    pub(crate) pieces: u32,
+    /// How many pieces there are, where the size is 64 megabytes.
+    pub(crate) count: u32,
 
     pub(crate) end: &'static [u8],
 
@@ -45,7 +45,7 @@ impl Output {
             alloc,
             self.front,
             self.piece,
-            size.share(self.pieces),
+            size.share(self.count),
             self.end,
         )
     }

@@ -9,7 +9,7 @@
 //! `bench small` makes the same calls on small inputs, and prints `NAME ok` for each row.
 //!
 //! Each call must give the right answer: where one does not, `NAME wrong answer` is printed, and the
-//! exit status is 1. What the ratios are does not change the status.
+//! exit status is 1, as it is where memory is refused. No ratio changes the status.
 #![tactic(auto)]
 
 use crate::engines::Digest;
@@ -18,7 +18,8 @@ use crate::report::Measured;
 use crate::rows::{Kind, Row};
 use crate::size::Size;
 use crate::timing::{Times, least_times};
-use crate::units::{Counting, SubRuns, lent, summaries, units};
+use crate::units::{Counting, SubRuns, tests};
+use anyhow::Result;
 use std::process::ExitCode;
 use std::rt::{Clock, Env};
 use std::{env, io};
@@ -33,85 +34,93 @@ mod size;
 mod timing;
 mod units;
 
-/// How many times four lines an input of `count` has, with its first line at most 10,000 lines.
-fn fours_of_lines(size: Size) -> usize {
-    size.share(2_499).min(2_499)
-}
-
-/// The least times of a row at a size, if all answers are right.
-fn times<R: AllocGlobal + Clock>(rt: &R, kind: &Kind, size: Size) -> io::Result<Option<Times>> {
+/// The times of what is measured, at a size and at half of it.
+fn times<R: AllocGlobal + Clock>(rt: &R, kind: &Kind, size: Size) -> Result<Times> {
     let alloc = rt.alloc();
     match kind {
         Kind::Stderr(output) => {
-            let mut work = Extraction::of_output(alloc, output, size, false)?;
-            least_times(rt, &mut work)
+            let mut whole = Extraction::new(alloc, output, size, false)?;
+            let mut half = Extraction::new(alloc, output, size.half(), false)?;
+            least_times(rt, &mut whole, &mut half)
         }
         Kind::Stdout(output) => {
-            let mut work = Extraction::of_output(alloc, output, size, true)?;
-            least_times(rt, &mut work)
+            let mut whole = Extraction::new(alloc, output, size, true)?;
+            let mut half = Extraction::new(alloc, output, size.half(), true)?;
+            least_times(rt, &mut whole, &mut half)
         }
         Kind::Extract(output) => {
-            let mut work = Digest::of_output(alloc, output, size)?;
-            least_times(rt, &mut work)
+            let mut whole = Digest::of_output(alloc, output, size)?;
+            let mut half = Digest::of_output(alloc, output, size.half())?;
+            least_times(rt, &mut whole, &mut half)
         }
         Kind::Count => {
-            let mut work = Digest::of_lines(alloc, fours_of_lines(size))?;
-            least_times(rt, &mut work)
+            let pairs = size.share(4_999).min(4_999);
+            let mut whole = Digest::of_lines(alloc, pairs)?;
+            let mut half = Digest::of_lines(alloc, pairs / 2)?;
+            least_times(rt, &mut whole, &mut half)
         }
         Kind::Units => {
-            let fours = size.share(250_000);
-            let units = units(alloc, fours)?;
-            let units = lent(alloc, units.as_slice())?;
-            let units = units.as_slice();
-            least_times(rt, &mut Counting { units, fours })
+            let all = tests(alloc, size.share(500_000))?;
+            let fewer = tests(alloc, size.half().share(500_000))?;
+            let mut whole = Counting::new(alloc, all.as_slice())?;
+            let mut half = Counting::new(alloc, fewer.as_slice())?;
+            least_times(rt, &mut whole, &mut half)
         }
         Kind::SubRuns => {
-            let fours = size.share(250_000);
-            let summaries = summaries(alloc, fours)?;
-            least_times(rt, &mut SubRuns { summaries, fours })
+            let mut whole = SubRuns::new(alloc, size.share(500_000))?;
+            let mut half = SubRuns::new(alloc, size.half().share(500_000))?;
+            least_times(rt, &mut whole, &mut half)
         }
     }
 }
 
-/// The times of a row at a size and at half of it, if all answers are right.
-fn measured<R: AllocGlobal + Clock>(rt: &R, row: &Row, size: Size) -> io::Result<Option<Measured>> {
-    let Some(whole) = times(rt, &row.kind, size)? else {
-        return Ok(None);
-    };
-    let Some(half) = times(rt, &row.kind, size.half())? else {
-        return Ok(None);
-    };
-    Ok(Some(Measured {
-        whole,
-        half,
-        at_most: row.at_most,
-    }))
+/// How many rows were measured, and with what.
+#[derive(Clone, Copy, Debug, Default)]
+struct Tally {
+    rows: usize,
+    within: usize,
+    wrong: usize,
 }
 
-/// Measures each row, and prints what comes of it, or only that its answers are right. Answers
-/// whether those of all rows are.
-fn bench<R: AllocGlobal + Clock + Print>(rt: &R, size: Size) -> io::Result<bool> {
-    let rows = rows::all(rt.alloc())?;
-    let mut are_right = true;
-    let mut within = 0usize;
-    for row in &rows {
-        let name = row.name;
-        match measured(rt, row, size)? {
-            None => {
-                are_right = false;
-                println!(rt; "{name} wrong answer")?;
+/// Measures rows, and prints what comes of each, or only that its answers are right.
+fn measure<R: AllocGlobal + Clock + Print>(
+    rt: &R,
+    rows: &[Row],
+    size: Size,
+    tally: &mut Tally,
+) -> io::Result<()> {
+    for (name, at_most, kind) in rows {
+        tally.rows = tally.rows.wrapping_add(1);
+        match times(rt, kind, size) {
+            Err(error) => {
+                tally.wrong = tally.wrong.wrapping_add(1);
+                println!(rt; "{name} {error}")?;
             }
-            Some(_) if size == Size::SMALL => println!(rt; "{name} ok")?,
-            Some(measured) => {
-                within = within.wrapping_add(usize::from(measured.is_within()));
+            Ok(_) if size == Size::SMALL => println!(rt; "{name} ok")?,
+            Ok(times) => {
+                let measured = Measured {
+                    times,
+                    at_most: *at_most,
+                };
+                tally.within = tally.within.wrapping_add(usize::from(measured.is_within()));
                 println!(rt; "{name} {measured}")?;
             }
         }
     }
+    Ok(())
+}
+
+/// Measures all rows, and says how many are as they are wanted. Answers whether all answers are
+/// right.
+fn measure_all<R: AllocGlobal + Clock + Print>(rt: &R, size: Size) -> io::Result<bool> {
+    let mut tally = Tally::default();
+    measure(rt, &rows::ordinary(), size, &mut tally)?;
+    measure(rt, &rows::adverse(), size, &mut tally)?;
+    measure(rt, &rows::counting(), size, &mut tally)?;
     if size != Size::SMALL {
-        println!(rt; "{within} of {} rows within", rows.len())?;
+        println!(rt; "{} of {} rows within", tally.within, tally.rows)?;
     }
-    Ok(are_right)
+    Ok(tally.wrong == 0)
 }
 
 /// The size that a word names: `small`, or a number of megabytes.
@@ -140,7 +149,7 @@ fn main(rt: HostRuntime) -> io::Result<ExitCode> {
         eprintln!(rt; "usage: bench MEGABYTES|small")?;
         return Ok(ExitCode::from(2));
     };
-    if bench(&rt, size)? {
+    if measure_all(&rt, size)? {
         Ok(ExitCode::SUCCESS)
     } else {
         Ok(ExitCode::FAILURE)

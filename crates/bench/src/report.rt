@@ -5,7 +5,7 @@ ghost use Rattle.bench.specs.Wanted.{HasWantedGrowth, HasWantedRatio};
 use crate::timing::Times;
 use std::fmt;
 
-/// Calls of less time, in nanoseconds, are too short for their growth to be judged.
+/// The growth of a call of less time, in nanoseconds, is not judged.
 const FLOOR: u64 = 1_000_000;
 
 /// The highest growth that is wanted from half the size to the whole, in thousandths.
@@ -40,8 +40,7 @@ impl fmt::Display for Fraction {
 /// The times of a row, and the ratio that is wanted of it.
 #[derive(Clone, Copy, Debug, PartialEq, Eq)]
 pub(crate) struct Measured {
-    pub(crate) whole: Times,
-    pub(crate) half: Times,
+    pub(crate) times: Times,
 
     /// In thousandths; with `None` growth alone is judged.
     pub(crate) at_most: Option<u64>,
@@ -53,21 +52,21 @@ impl Measured {
         ensures { IsTrue result ↔ HasWantedRatio self.now }
     {
         match self.at_most {
-            Some(most) => is_at_most(self.whole.call, most, self.whole.pass),
+            Some(most) => is_at_most(self.times.call, most, self.times.pass),
             None => true,
         }
     }
 
     /// Whether the growth is as it is wanted, or cannot be judged.
     fn has_wanted_growth(&self) -> bool
-        ensures { IsTrue result ↔ HasWantedGrowth self.now }
+        ensures { IsTrue result ↔ HasWantedGrowth self.now.times }
     {
-        self.whole.call < FLOOR || is_at_most(self.whole.call, MOST_GROWTH, self.half.call)
+        self.times.call < FLOOR || is_at_most(self.times.call, MOST_GROWTH, self.times.half)
     }
 
-    /// Whether all is as it is wanted.
+    /// Whether both are as they are wanted.
     pub(crate) fn is_within(&self) -> bool
-        ensures { IsTrue result ↔ (HasWantedRatio self.now × HasWantedGrowth self.now) }
+        ensures { IsTrue result ↔ (HasWantedRatio self.now × HasWantedGrowth self.now.times) }
     {
         self.has_wanted_ratio() && self.has_wanted_growth()
     }
@@ -76,15 +75,18 @@ impl Measured {
 /// Ratio, growth, and whether both are as they are wanted.
 impl fmt::Display for Measured {
     fn fmt<W: fmt::Write>(&self, f: &mut fmt::Formatter<W>) -> fmt::Result {
-        let ratio = Fraction(in_thousandths(self.whole.call, self.whole.pass));
-        let growth = Fraction(in_thousandths(self.whole.call, self.half.call));
+        let ratio = Fraction(in_thousandths(self.times.call, self.times.pass));
+        let growth = Fraction(in_thousandths(self.times.call, self.times.half));
         write!(f, "{ratio} {growth}")?;
         match self.at_most {
             Some(most) if !self.has_wanted_ratio() => {
                 let most = Fraction(u128::from(most));
                 write!(f, " ratio above {most}")
             }
-            _ if !self.has_wanted_growth() => f.write_str(" growth above 2.200"),
+            _ if !self.has_wanted_growth() => {
+                let most = Fraction(u128::from(MOST_GROWTH));
+                write!(f, " growth above {most}")
+            }
             _ => f.write_str(" within"),
         }
     }

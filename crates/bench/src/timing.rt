@@ -1,9 +1,9 @@
 //! Times, as the least of several.
 ghost use Rattle.std.specs.Prelude.{◌≤◌, ◌<◌, length, All, Contains};
 
-use std::io;
+use anyhow::{Result, ensure};
 use std::rt::Clock;
-use std::time::{Duration, Instant};
+use std::time::Instant;
 
 /// How often each step is timed.
 const ROUNDS: usize = 15;
@@ -27,10 +27,12 @@ pub(crate) trait Work {
     fn run(&mut self, step: Step) -> bool;
 }
 
-/// The least times of a call and of one pass over its input, in nanoseconds.
+/// The least times of a call, of the same at half the size, and of one pass over its input, in
+/// nanoseconds.
 #[derive(Clone, Copy, Debug, PartialEq, Eq)]
 pub(crate) struct Times {
     pub(crate) call: u64,
+    pub(crate) half: u64,
     pub(crate) pass: u64,
 }
 
@@ -46,47 +48,36 @@ fn least(times: &[u64]) -> u64
     }
 }
 
-/// A time in nanoseconds, or the largest number where it is longer.
-fn nanoseconds(time: Duration) -> u64 {
-    u64::try_from(time.as_nanos()).unwrap_or(u64::MAX)
-}
-
-/// The time of a step in nanoseconds, if what comes of it is right.
-fn time_of<R: Clock, W: Work>(rt: &R, work: &mut W, step: Step) -> io::Result<Option<u64>> {
+/// The time of a step in nanoseconds. What comes of it has to be right.
+fn time_of<R: Clock, W: Work>(rt: &R, work: &mut W, step: Step) -> Result<u64> {
     let start = Instant::now(rt)?;
     let is_right = work.run(step);
     let time = start.elapsed(rt)?;
-    Ok(if is_right {
-        Some(nanoseconds(time))
-    } else {
-        None
-    })
+    ensure!(is_right, "wrong answer");
+    Ok(u64::try_from(time.as_nanos()).unwrap_or(u64::MAX))
 }
 
-/// The least times of the work, each of as many times as there are rounds, if all that comes of it
-/// is right.
+/// The least times of a call on a whole and on half of it. All that comes of it has to be right.
 ///
 /// The steps take turns, so that a load of the machine is one of all steps.
-pub(crate) fn least_times<R: Clock, W: Work>(rt: &R, work: &mut W) -> io::Result<Option<Times>> {
-    let mut calls = [0; ROUNDS];
-    let mut besides = [0; ROUNDS];
+pub(crate) fn least_times<R: Clock, W: Work, H: Work>(
+    rt: &R,
+    whole: &mut W,
+    half: &mut H,
+) -> Result<Times> {
+    let mut calls = [[0; ROUNDS]; 2];
+    let mut besides = [[0; ROUNDS]; 2];
     let mut passes = [0; ROUNDS];
     for i in 0..ROUNDS {
-        let Some(call) = time_of(rt, work, Step::Call)? else {
-            return Ok(None);
-        };
-        let Some(beside) = time_of(rt, work, Step::Beside)? else {
-            return Ok(None);
-        };
-        let Some(pass) = time_of(rt, work, Step::Pass)? else {
-            return Ok(None);
-        };
-        calls[i] = call;
-        besides[i] = beside;
-        passes[i] = pass;
+        besides[0][i] = time_of(rt, whole, Step::Beside)?;
+        calls[0][i] = time_of(rt, whole, Step::Call)?;
+        passes[i] = time_of(rt, whole, Step::Pass)?;
+        besides[1][i] = time_of(rt, half, Step::Beside)?;
+        calls[1][i] = time_of(rt, half, Step::Call)?;
     }
-    Ok(Some(Times {
-        call: least(&calls).saturating_sub(least(&besides)),
+    Ok(Times {
+        call: least(&calls[0]).saturating_sub(least(&besides[0])),
+        half: least(&calls[1]).saturating_sub(least(&besides[1])),
         pass: least(&passes),
-    }))
+    })
 }

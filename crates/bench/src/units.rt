@@ -1,9 +1,9 @@
-//! Finished units and summaries, and how they are counted.
+//! Finished tests and summaries of sub-runs, and how they are counted. Every second one failed.
 
 use crate::timing::{Step, Work};
 use jiff::Timestamp;
 use jiff::tz::Offset;
-use run_events::attempts::{ExecuteStatus, ExecutionStatuses, RetryData, SetupScriptExecuteStatus};
+use run_events::attempts::{ExecuteStatus, ExecutionStatuses, RetryData};
 use run_events::child::{ChildExecutionOutputDescription, ChildOutputDescription, LiveSpec};
 use run_events::config::{FlakyResult, Moment};
 use run_events::outcome::{FinalRunStats, RunFailureStep, RunOutcome, RunStatsFailureKind};
@@ -12,7 +12,6 @@ use run_events::stats::{FinishedUnit, RunStart, RunStats};
 use std::alloc::{AllocError, Global};
 use std::time::Duration;
 
-/// A failure with exit code 1.
 const FAIL: ExecutionResult = ExecutionResult::Fail {
     failure_status: FailureStatus::ExitCode(1),
     leaked: false,
@@ -26,187 +25,126 @@ const START: RunStart = RunStart {
     cancel_reason: None,
 };
 
-/// The four summaries that sub-runs have in turn.
-const SUMMARIES: [FinalRunStats; 4] = [
+const SUMMARIES: [FinalRunStats; 2] = [
     FinalRunStats::Success,
     FinalRunStats::Failed {
-        kind: RunStatsFailureKind::Test {
-            initial_run_count: 9,
-            not_run: 2,
-        },
-    },
-    FinalRunStats::NoTestsRun,
-    FinalRunStats::Cancelled {
-        reason: None,
         kind: RunStatsFailureKind::SetupScript,
     },
 ];
 
-/// Four finished units: a script that passed, a test that passed, a flaky one, a slow one that
-/// failed.
-#[derive(Drop)]
-pub(crate) struct FourUnits {
-    script: SetupScriptExecuteStatus<LiveSpec>,
-    passed: ExecutionStatuses<LiveSpec>,
-    flaky: ExecutionStatuses<LiveSpec>,
-    failed: ExecutionStatuses<LiveSpec>,
-}
-
-fn epoch() -> Moment {
-    Moment {
-        timestamp: Timestamp::UNIX_EPOCH,
-        offset: Offset::UTC,
-    }
-}
-
-/// What is known of a process of which nothing was captured.
-fn output_of(end: ExecutionResult) -> ChildExecutionOutputDescription<LiveSpec> {
-    ChildExecutionOutputDescription::Output {
-        result: Some(ExecutionResultDescription::from_status(end, None)),
-        output: ChildOutputDescription::Split {
-            stdout: None,
-            stderr: None,
-        },
-        errors: None,
-    }
-}
-
-/// A script that ended so.
-fn script(end: ExecutionResult) -> SetupScriptExecuteStatus<LiveSpec> {
-    SetupScriptExecuteStatus {
-        output: output_of(end),
-        result: ExecutionResultDescription::from_status(end, None),
-        start_time: epoch(),
-        time_taken: Duration::ZERO,
-        is_slow: false,
-        env_map: None,
-        error_summary: None,
-    }
-}
-
-/// A test whose attempts ended so, the last one last.
-fn test(
-    alloc: Global,
-    before: &[ExecutionResult],
-    last: ExecutionResult,
-) -> Result<ExecutionStatuses<LiveSpec>, AllocError> {
-    let mut statuses = Vec::new(alloc);
-    for end in before {
-        statuses.push(attempt(*end))?;
-    }
-    statuses.push(attempt(last))?;
-    Ok(ExecutionStatuses::new(statuses, FlakyResult::Pass))
-}
-
-/// An attempt that ended so, and was slow where it failed.
-fn attempt(end: ExecutionResult) -> ExecuteStatus<LiveSpec> {
-    ExecuteStatus {
+/// A test of one attempt that ended so.
+fn test(alloc: Global, end: ExecutionResult) -> Result<ExecutionStatuses<LiveSpec>, AllocError> {
+    let mut statuses = Vec::with_capacity(alloc, 1)?;
+    statuses.push(ExecuteStatus {
         retry_data: RetryData {
             attempt: 1,
-            total_attempts: 2,
+            total_attempts: 1,
         },
-        output: output_of(end),
+        output: ChildExecutionOutputDescription::Output {
+            result: None,
+            output: ChildOutputDescription::NotLoaded,
+            errors: None,
+        },
         result: ExecutionResultDescription::from_status(end, None),
-        start_time: epoch(),
+        start_time: Moment {
+            timestamp: Timestamp::UNIX_EPOCH,
+            offset: Offset::UTC,
+        },
         time_taken: Duration::ZERO,
-        is_slow: !end.is_success(),
+        is_slow: false,
         delay_before_start: Duration::ZERO,
         error_summary: None,
         output_error_slice: None,
-    }
+    })?;
+    Ok(ExecutionStatuses::new(statuses, FlakyResult::Pass))
 }
 
-/// So many times four finished units.
-pub(crate) fn units(alloc: Global, fours: usize) -> Result<Vec<FourUnits>, AllocError> {
-    let mut units = Vec::new(alloc);
-    for _ in 0..fours {
-        units.push(FourUnits {
-            script: script(ExecutionResult::Pass),
-            passed: test(alloc, &[], ExecutionResult::Pass)?,
-            flaky: test(alloc, &[FAIL], ExecutionResult::Pass)?,
-            failed: test(alloc, &[], FAIL)?,
-        })?;
-    }
-    Ok(units)
-}
-
-/// The units, lent.
-pub(crate) fn lent(
+/// So many pairs of a test that passed and one that failed.
+pub(crate) fn tests(
     alloc: Global,
-    units: &[FourUnits],
-) -> Result<Vec<FinishedUnit<'_>>, AllocError> {
-    let mut lent = Vec::new(alloc);
-    for four in units {
-        lent.push(FinishedUnit::Script(&four.script))?;
-        lent.push(FinishedUnit::Test(&four.passed))?;
-        lent.push(FinishedUnit::Test(&four.flaky))?;
-        lent.push(FinishedUnit::Test(&four.failed))?;
+    pairs: usize,
+) -> Result<Vec<ExecutionStatuses<LiveSpec>>, AllocError> {
+    let mut tests = Vec::new(alloc);
+    for _ in 0..pairs {
+        tests.push(test(alloc, ExecutionResult::Pass)?)?;
+        tests.push(test(alloc, FAIL)?)?;
     }
-    Ok(lent)
+    Ok(tests)
 }
 
-/// So many times the four summaries.
-pub(crate) fn summaries(alloc: Global, fours: usize) -> Result<Vec<FinalRunStats>, AllocError> {
-    let mut summaries = Vec::new(alloc);
-    for _ in 0..fours {
-        summaries.extend_from_slice(&SUMMARIES)?;
-    }
-    Ok(summaries)
-}
-
-/// The counting of so many times four units.
-#[derive(Clone, Copy)]
+/// The counting of pairs of tests.
+#[derive(Drop)]
 pub(crate) struct Counting<'a> {
-    pub(crate) units: &'a [FinishedUnit<'a>],
-    pub(crate) fours: usize,
+    units: Vec<FinishedUnit<'a>>,
 }
 
-impl Counting<'_> {
-    /// Whether the counters are right.
-    fn counts(&self) -> bool {
-        let tests = self.fours.wrapping_mul(3);
-        RunStats::of_run(self.units, START)
-            == RunStats {
-                finished_count: tests,
-                setup_scripts_finished_count: self.fours,
-                setup_scripts_passed: self.fours,
-                passed: self.fours.wrapping_mul(2),
-                flaky: self.fours,
-                failed: self.fours,
-                failed_slow: self.fours,
-                ..RunStats::default()
-            }
+impl<'a> Counting<'a> {
+    /// The counting of these tests, lent.
+    pub(crate) fn new(
+        alloc: Global,
+        tests: &'a [ExecutionStatuses<LiveSpec>],
+    ) -> Result<Self, AllocError> {
+        let mut units = Vec::new(alloc);
+        for test in tests {
+            units.push(FinishedUnit::Test(test))?;
+        }
+        Ok(Counting { units })
     }
 
-    /// One pass that reads the last result of each unit, three of four a success.
-    fn reads_results(&self) -> bool {
-        let succeeded = self
-            .units
+    /// How many last results are no success.
+    fn failed(&self) -> usize {
+        self.units
             .iter()
             .filter(|unit| match unit {
-                FinishedUnit::Script(script) => script.result.is_success(),
-                FinishedUnit::Test(test) => test.last_status().result.is_success(),
+                FinishedUnit::Script(script) => !script.result.is_success(),
+                FinishedUnit::Test(test) => !test.last_status().result.is_success(),
             })
-            .count();
-        succeeded == self.fours.wrapping_mul(3)
+            .count()
     }
 }
 
 impl Work for Counting<'_> {
     fn run(&mut self, step: Step) -> bool {
+        let count = self.units.len();
         match step {
-            Step::Call => self.counts(),
+            Step::Call => {
+                RunStats::of_run(self.units.as_slice(), START)
+                    == RunStats {
+                        finished_count: count,
+                        passed: count / 2,
+                        failed: count / 2,
+                        ..RunStats::default()
+                    }
+            }
             Step::Beside => true,
-            Step::Pass => self.reads_results(),
+            Step::Pass => self.failed() == count / 2,
         }
     }
 }
 
-/// The outcome of sub-runs, by so many times the four summaries.
+/// The outcome of sub-runs.
 #[derive(Drop)]
 pub(crate) struct SubRuns {
-    pub(crate) summaries: Vec<FinalRunStats>,
-    pub(crate) fours: usize,
+    summaries: Vec<FinalRunStats>,
+}
+
+impl SubRuns {
+    /// The outcome of so many pairs of a success and a failure.
+    pub(crate) fn new(alloc: Global, pairs: usize) -> Result<Self, AllocError> {
+        let mut summaries = Vec::new(alloc);
+        for _ in 0..pairs {
+            summaries.extend_from_slice(&SUMMARIES)?;
+        }
+        Ok(SubRuns { summaries })
+    }
+
+    /// How many summaries are failures.
+    fn failed(&self) -> usize {
+        self.summaries
+            .iter()
+            .filter(|summary| matches!(summary, FinalRunStats::Failed { .. }))
+            .count()
+    }
 }
 
 impl Work for SubRuns {
@@ -215,18 +153,11 @@ impl Work for SubRuns {
             Step::Call => {
                 RunOutcome::of_sub_runs(self.summaries.as_slice())
                     == RunOutcome::Failed {
-                        step: RunFailureStep::Test,
+                        step: RunFailureStep::SetupScript,
                     }
             }
             Step::Beside => true,
-            Step::Pass => {
-                let failed = self
-                    .summaries
-                    .iter()
-                    .filter(|summary| matches!(summary, FinalRunStats::Failed { .. }))
-                    .count();
-                failed == self.fours
-            }
+            Step::Pass => self.failed() == self.summaries.len() / 2,
         }
     }
 }
