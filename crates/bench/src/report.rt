@@ -1,6 +1,6 @@
 //! What is said of a row.
 ghost use Rattle.std.specs.Prelude.{◌≡◌, ◌*◌, ◌/◌, ◌≤◌, ◌↔◌, IsTrue, max};
-ghost use Rattle.bench.specs.Wanted.{HasWantedGrowth, HasWantedRatio};
+ghost use Rattle.bench.specs.Wanted.{HasWantedGrowth, HasWantedRatio, own_time};
 
 use crate::timing::Times;
 use std::fmt;
@@ -47,12 +47,19 @@ pub(crate) struct Measured {
 }
 
 impl Measured {
+    /// The time of the call, without what stands beside it.
+    fn own_time(&self) -> u64
+        ensures { result ≡ own_time self.now.times }
+    {
+        self.times.call.saturating_sub(self.times.beside)
+    }
+
     /// Whether the ratio is as it is wanted.
     fn has_wanted_ratio(&self) -> bool
         ensures { IsTrue result ↔ HasWantedRatio self.now }
     {
         match self.at_most {
-            Some(most) => is_at_most(self.times.call, most, self.times.pass),
+            Some(most) => is_at_most(self.own_time(), most, self.times.pass),
             None => true,
         }
     }
@@ -61,7 +68,7 @@ impl Measured {
     fn has_wanted_growth(&self) -> bool
         ensures { IsTrue result ↔ HasWantedGrowth self.now.times }
     {
-        self.times.call < FLOOR || is_at_most(self.times.call, MOST_GROWTH, self.times.half)
+        self.times.call < FLOOR || is_at_most(self.times.call, MOST_GROWTH, self.times.half_call)
     }
 
     /// Whether both are as they are wanted.
@@ -75,8 +82,8 @@ impl Measured {
 /// Ratio, growth, and whether both are as they are wanted.
 impl fmt::Display for Measured {
     fn fmt<W: fmt::Write>(&self, f: &mut fmt::Formatter<W>) -> fmt::Result {
-        let ratio = Fraction(in_thousandths(self.times.call, self.times.pass));
-        let growth = Fraction(in_thousandths(self.times.call, self.times.half));
+        let ratio = Fraction(in_thousandths(self.own_time(), self.times.pass));
+        let growth = Fraction(in_thousandths(self.times.call, self.times.half_call));
         write!(f, "{ratio} {growth}")?;
         match self.at_most {
             Some(most) if !self.has_wanted_ratio() => {

@@ -14,7 +14,7 @@ pub(crate) enum Step {
     /// The call.
     Call,
 
-    /// What the call also does, and what is not its own: its time is taken off that of the call.
+    /// What the call also does, and what is not its own. The ratio is without its time.
     Beside,
 
     /// One pass over the input of the call.
@@ -27,13 +27,13 @@ pub(crate) trait Work {
     fn run(&mut self, step: Step) -> bool;
 }
 
-/// The least times of a call, of the same at half the size, and of one pass over its input, in
-/// nanoseconds.
+/// The least times of the steps on a whole, and of the call on half of it, in nanoseconds.
 #[derive(Clone, Copy, Debug, PartialEq, Eq)]
 pub(crate) struct Times {
     pub(crate) call: u64,
-    pub(crate) half: u64,
+    pub(crate) beside: u64,
     pub(crate) pass: u64,
+    pub(crate) half_call: u64,
 }
 
 /// The least of several times.
@@ -57,27 +57,29 @@ fn time_of<R: Clock, W: Work>(rt: &R, work: &mut W, step: Step) -> Result<u64> {
     Ok(u64::try_from(time.as_nanos()).unwrap_or(u64::MAX))
 }
 
-/// The least times of a call on a whole and on half of it. All that comes of it has to be right.
+/// The least times of work, and of its call at half the size. All that comes of it has to be right.
 ///
-/// The steps take turns, so that a load of the machine is one of all steps.
+/// The steps take turns, so that a load of the machine is one of all steps, and none finds its
+/// input in a cache because it alone was read there last.
 pub(crate) fn least_times<R: Clock, W: Work, H: Work>(
     rt: &R,
-    whole: &mut W,
+    work: &mut W,
     half: &mut H,
 ) -> Result<Times> {
-    let mut calls = [[0; ROUNDS]; 2];
-    let mut besides = [[0; ROUNDS]; 2];
+    let mut calls = [0; ROUNDS];
+    let mut besides = [0; ROUNDS];
     let mut passes = [0; ROUNDS];
+    let mut half_calls = [0; ROUNDS];
     for i in 0..ROUNDS {
-        besides[0][i] = time_of(rt, whole, Step::Beside)?;
-        calls[0][i] = time_of(rt, whole, Step::Call)?;
-        passes[i] = time_of(rt, whole, Step::Pass)?;
-        besides[1][i] = time_of(rt, half, Step::Beside)?;
-        calls[1][i] = time_of(rt, half, Step::Call)?;
+        calls[i] = time_of(rt, work, Step::Call)?;
+        besides[i] = time_of(rt, work, Step::Beside)?;
+        half_calls[i] = time_of(rt, half, Step::Call)?;
+        passes[i] = time_of(rt, work, Step::Pass)?;
     }
     Ok(Times {
-        call: least(&calls[0]).saturating_sub(least(&besides[0])),
-        half: least(&calls[1]).saturating_sub(least(&besides[1])),
+        call: least(&calls),
+        beside: least(&besides),
         pass: least(&passes),
+        half_call: least(&half_calls),
     })
 }
