@@ -3,8 +3,8 @@
 //! `bench MEGABYTES` prints for each row `NAME RATIO GROWTH VERDICT`, and last how many rows are as
 //! it is wanted. RATIO is the time of a call as a multiple of the time of one pass over its input:
 //! a search for a byte that is not there, or for units and summaries one read of each. GROWTH is the
-//! time of the call as a multiple of its time at half the size. A time is the least of several. The
-//! reading of its input is no part of the time of an engine.
+//! time of the call as a multiple of its time at half the size; it is judged where the call takes a
+//! millisecond or more. A time is the least of 15. RATIO leaves out that an engine reads its input.
 //!
 //! `bench small` makes the same calls on small inputs, and prints `NAME ok` for each row.
 //!
