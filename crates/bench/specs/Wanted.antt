@@ -1,0 +1,16 @@
+-- What is wanted of a row.
+use Rattle.std.specs.Prelude.{ℕ, ◌*◌, ◌-◌, ◌<◌, ◌≤◌, ◌⊎◌, MatchOption, ⊤}
+use Rattle.bench.specs.declared.report.Measured.{Measured}
+use Rattle.bench.specs.declared.timing.Times.{Times}
+
+-- the time of the call without what stands beside it
+abbrev pub own_time : Times → ℕ
+own_time t = t.call - t.beside
+
+-- that time is at most the wanted number of thousandths of a pass, where one is wanted
+abbrev pub HasWantedRatio : Measured → Type 0
+HasWantedRatio m = MatchOption m.at_most ⊤ (λ most. 1_000 * own_time m.times ≤ most * m.times.pass)
+
+-- the time of the call is below a millisecond, or at most 2.2 times that at half the size
+abbrev pub HasWantedGrowth : Times → Type 0
+HasWantedGrowth t = (t.call < 1_000_000) ⊎ (1_000 * t.call ≤ 2_200 * t.half_call)

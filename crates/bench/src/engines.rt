@@ -1,0 +1,122 @@
+//! The engines of `run-digest`, over memory devices.
+
+use crate::extraction::reads_all;
+use crate::inputs::{Output, joined};
+use crate::size::Size;
+use crate::timing::{Step, Work};
+use digest_engine::count::count;
+use digest_engine::device::Source;
+use digest_engine::extract::extract;
+use digest_engine::memory_device::{MemorySink, MemorySource};
+use std::alloc::{AllocError, Global};
+
+/// How many bytes a sink has room for.
+const ROOM: usize = 5_000;
+
+/// Which engine.
+#[derive(Clone, Copy, Debug, PartialEq, Eq)]
+pub(crate) enum Engine {
+    Extract,
+    Count,
+}
+
+/// An engine with its input.
+#[derive(Drop)]
+pub(crate) struct Digest {
+    alloc: Global,
+    engine: Engine,
+    input: Vec<u8>,
+
+    /// What it has to answer.
+    answer: bool,
+
+    /// What it has to write.
+    text: Vec<u8>,
+}
+
+impl Digest {
+    /// The extraction from an output of this size.
+    pub(crate) fn of_output(
+        alloc: Global,
+        output: &Output,
+        size: Size,
+    ) -> Result<Self, AllocError> {
+        let input = output.bytes(alloc, size)?;
+        let panic = output.panic_in(input.as_slice());
+        let mut text = Vec::new(alloc);
+        match panic {
+            None => text.extend_from_slice(b"none\n")?,
+            Some((start, stop)) => {
+                let slice = input.get(start..stop).unwrap_or(&[]);
+                let len = slice.len();
+                let heading = format!(in alloc; "panic-message {start} {len}\n")?;
+                text.extend_from_slice(heading.as_bytes())?;
+                text.extend_from_slice(slice)?;
+                text.push(b'\n')?;
+            }
+        }
+        Ok(Digest {
+            alloc,
+            engine: Engine::Extract,
+            input,
+            answer: panic.is_some(),
+            text,
+        })
+    }
+
+    /// The counting of a run that so many pairs of lines say.
+    pub(crate) fn of_lines(alloc: Global, pairs: usize) -> Result<Self, AllocError> {
+        let lines = b"test pass\ntest fail,fail slow\n";
+        let tests = pairs.wrapping_mul(2);
+        let text = format!(in alloc;
+            "tests {tests} passed {pairs} failed {pairs} flaky 0\n\
+            scripts 0 failed 0\nsummary failed test 0 0\n"
+        )?;
+        Ok(Digest {
+            alloc,
+            engine: Engine::Count,
+            input: joined(alloc, b"run 0 0 -\n", lines, pairs, b"")?,
+            answer: false,
+            text: text.into_bytes(),
+        })
+    }
+
+    /// Whether the engine answers and writes what it has to.
+    fn digests(&self) -> bool {
+        let mut buffer = [0; ROOM];
+        let mut source = MemorySource::new(self.input.as_slice(), None);
+        let mut sink = MemorySink::new(&mut buffer, None);
+        let answer = match self.engine {
+            Engine::Extract => extract(self.alloc, &mut source, &mut sink),
+            Engine::Count => count(self.alloc, &mut source, &mut sink),
+        };
+        answer == Ok(self.answer) && sink.written() == self.text.as_slice()
+    }
+
+    /// Whether the input can be read into memory, as an engine does before all else.
+    fn is_read(&self) -> bool {
+        let mut bytes = Vec::new(self.alloc);
+        let mut chunk = [0; 4096];
+        let mut source = MemorySource::new(self.input.as_slice(), None);
+        for _ in 0..self.input.len() {
+            let read = match source.read(&mut chunk) {
+                Ok(0) | Err(_) => break,
+                Ok(read) => read,
+            };
+            if bytes.extend_from_slice(&chunk[..read]).is_err() {
+                return false;
+            }
+        }
+        bytes.len() == self.input.len()
+    }
+}
+
+impl Work for Digest {
+    fn run(&mut self, step: Step) -> bool {
+        match step {
+            Step::Call => self.digests(),
+            Step::Beside => self.is_read(),
+            Step::Pass => reads_all(self.input.as_slice()),
+        }
+    }
+}

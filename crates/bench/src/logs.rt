@@ -1,0 +1,17 @@
+//! Ordinary log output.
+
+/// A block of a log, of 640 bytes.
+pub(crate) const LOG: &[u8] = b"\
+[00:00:01.204 INFO  server::pool] accepted connection 17 from 10.0.0.4:55312 after\n\
+[00:00:01.207 DEBUG server::session] the peer said 'hello', version 3, in 1.4 ms\n\
+[00:00:01.209 TRACE wire::frame] read 4096 bytes: kind Data, stream 5, end false\n\
+[00:00:01.215 WARN  cache::evict] can't keep entry 'users/17': 64 of 64 in use\n\
+[00:00:01.218 INFO  worker] thread 'pool-3' is now waiting for work\n\
+Compiling parser v0.4.2 (/home/user/project/crates/parser) anew\n\
+test session::tests::closes_after_timeout ... ok\n\
+[00:00:01.231 ERROR wire::frame] error: stream 5 was reset by its peer\n\
+[00:00:01.232 DEBUG server::pool] 3 idle, 1 busy, 0 are waiting\n";
+
+/// A line of a log, of 64 bytes, without a quote.
+pub(crate) const QUOTELESS_LOG: &[u8] =
+    b"[00:00:01.209 TRACE wire::frame] read 4096 bytes, stream 5, End\n";

@@ -1,0 +1,157 @@
+//! Measures the speed of the library, on inputs that it makes itself.
+//!
+//! `bench MEGABYTES` prints for each row `NAME RATIO GROWTH VERDICT`, and last how many rows are as
+//! it is wanted. RATIO is the time of a call as a multiple of the time of one pass over its input:
+//! a search for a byte that is not there, or for units and summaries one read of each. GROWTH is the
+//! time of the call as a multiple of its time at half the size; it is judged where the call takes a
+//! millisecond or more. A time is the least of 15. RATIO leaves out that an engine reads its input.
+//!
+//! `bench small` makes the same calls on small inputs, and prints `NAME ok` for each row.
+//!
+//! Each call must give the right answer: where one does not, `NAME wrong answer` is printed, and the
+//! exit status is 1, as it is where memory is refused. No ratio changes the status.
+#![tactic(auto)]
+
+use crate::engines::Digest;
+use crate::extraction::Extraction;
+use crate::report::Measured;
+use crate::rows::{Kind, Row};
+use crate::size::Size;
+use crate::timing::{Times, least_times};
+use crate::units::{Counting, SubRuns, tests};
+use anyhow::Result;
+use std::process::ExitCode;
+use std::rt::{Clock, Env};
+use std::{env, io};
+
+mod engines;
+mod extraction;
+mod inputs;
+mod logs;
+mod report;
+mod rows;
+mod size;
+mod timing;
+mod units;
+
+/// The times of what is measured, at a size and at half of it.
+fn times<R: AllocGlobal + Clock>(rt: &R, kind: &Kind, size: Size) -> Result<Times> {
+    let alloc = rt.alloc();
+    match kind {
+        Kind::Stderr(output) => {
+            let mut whole = Extraction::new(alloc, output, size, false)?;
+            let mut half = Extraction::new(alloc, output, size.half(), false)?;
+            least_times(rt, &mut whole, &mut half)
+        }
+        Kind::Stdout(output) => {
+            let mut whole = Extraction::new(alloc, output, size, true)?;
+            let mut half = Extraction::new(alloc, output, size.half(), true)?;
+            least_times(rt, &mut whole, &mut half)
+        }
+        Kind::Extract(output) => {
+            let mut whole = Digest::of_output(alloc, output, size)?;
+            let mut half = Digest::of_output(alloc, output, size.half())?;
+            least_times(rt, &mut whole, &mut half)
+        }
+        Kind::Count => {
+            let pairs = size.share(4_999).min(4_999);
+            let mut whole = Digest::of_lines(alloc, pairs)?;
+            let mut half = Digest::of_lines(alloc, pairs / 2)?;
+            least_times(rt, &mut whole, &mut half)
+        }
+        Kind::Units => {
+            let all = tests(alloc, size.share(500_000))?;
+            let fewer = tests(alloc, size.half().share(500_000))?;
+            let mut whole = Counting::new(alloc, all.as_slice())?;
+            let mut half = Counting::new(alloc, fewer.as_slice())?;
+            least_times(rt, &mut whole, &mut half)
+        }
+        Kind::SubRuns => {
+            let mut whole = SubRuns::new(alloc, size.share(500_000))?;
+            let mut half = SubRuns::new(alloc, size.half().share(500_000))?;
+            least_times(rt, &mut whole, &mut half)
+        }
+    }
+}
+
+/// How many rows were measured, and with what.
+#[derive(Clone, Copy, Debug, Default)]
+struct Tally {
+    rows: usize,
+    within: usize,
+    wrong: usize,
+}
+
+/// Measures rows, and prints what comes of each, or only that its answers are right.
+fn measure<R: AllocGlobal + Clock + Print>(
+    rt: &R,
+    rows: &[Row],
+    size: Size,
+    tally: &mut Tally,
+) -> io::Result<()> {
+    for (name, at_most, kind) in rows {
+        tally.rows = tally.rows.wrapping_add(1);
+        match times(rt, kind, size) {
+            Err(error) => {
+                tally.wrong = tally.wrong.wrapping_add(1);
+                println!(rt; "{name} {error}")?;
+            }
+            Ok(_) if size == Size::SMALL => println!(rt; "{name} ok")?,
+            Ok(times) => {
+                let measured = Measured {
+                    times,
+                    at_most: *at_most,
+                };
+                tally.within = tally.within.wrapping_add(usize::from(measured.is_within()));
+                println!(rt; "{name} {measured}")?;
+            }
+        }
+    }
+    Ok(())
+}
+
+/// Measures all rows, and says how many are as they are wanted. Answers whether all answers are
+/// right.
+fn measure_all<R: AllocGlobal + Clock + Print>(rt: &R, size: Size) -> io::Result<bool> {
+    let mut tally = Tally::default();
+    measure(rt, &rows::ordinary(), size, &mut tally)?;
+    measure(rt, &rows::adverse(), size, &mut tally)?;
+    measure(rt, &rows::counting(), size, &mut tally)?;
+    if size != Size::SMALL {
+        println!(rt; "{} of {} rows within", tally.within, tally.rows)?;
+    }
+    Ok(tally.wrong == 0)
+}
+
+/// The size that a word names: `small`, or a number of megabytes.
+fn named_size(word: &str) -> Option<Size> {
+    if word == "small" {
+        return Some(Size::SMALL);
+    }
+    Size::from_megabytes(word.parse().ok()?)
+}
+
+/// The size that the words after the program's name ask for.
+fn asked_size<R: Env + AllocGlobal>(rt: &R) -> io::Result<Option<Size>> {
+    let mut args = env::args(rt)?;
+    let _program = args.next();
+    let Some(word) = args.next() else {
+        return Ok(None);
+    };
+    if args.next().is_some() {
+        return Ok(None);
+    }
+    Ok(named_size(word.as_str()))
+}
+
+fn main(rt: HostRuntime) -> io::Result<ExitCode> {
+    let Some(size) = asked_size(&rt)? else {
+        eprintln!(rt; "usage: bench MEGABYTES|small")?;
+        return Ok(ExitCode::from(2));
+    };
+    if measure_all(&rt, size)? {
+        Ok(ExitCode::SUCCESS)
+    } else {
+        Ok(ExitCode::FAILURE)
+    }
+}

@@ -1,0 +1,114 @@
+//! The rows: what is measured, and which ratio is wanted of it.
+
+use crate::inputs::{Output, Place};
+use crate::logs::{LOG, QUOTELESS_LOG};
+
+/// What is measured.
+#[derive(Clone, Copy)]
+pub(crate) enum Kind {
+    /// The extraction from an output that is standard error.
+    Stderr(Output),
+
+    /// The extraction from an output that is standard output.
+    Stdout(Output),
+
+    /// The engine `extract` on an output.
+    Extract(Output),
+
+    /// The engine `count` on lines.
+    Count,
+
+    /// The counters of finished units.
+    Units,
+
+    /// The outcome of sub-runs.
+    SubRuns,
+}
+
+/// A row: its name, the highest ratio that is wanted, in thousandths, or `None` where growth alone
+/// is judged, and what is measured.
+pub(crate) type Row = (&'static str, Option<u64>, Kind);
+
+const PANIC: &[u8] = b"thread 'pool::tests::grows' panicked at src/pool.rs:41:9:\nno room left\n";
+
+/// Pieces with nothing before them and behind them, and no panic.
+fn pieces(piece: &'static [u8], count: u32) -> Output {
+    Output {
+        front: b"",
+        piece,
+        count,
+        end: b"",
+        panic_at: Place::Nowhere,
+    }
+}
+
+/// The rows of ordinary output, of 64 megabytes where that is the size.
+pub(crate) fn ordinary() -> [Row; 6] {
+    let log = pieces(LOG, 100_000);
+    let opening = Output {
+        front: b"thread 'a\n",
+        ..pieces(QUOTELESS_LOG, 1_000_000)
+    };
+    let front = Output {
+        front: PANIC,
+        panic_at: Place::Front,
+        ..log
+    };
+    let end = Output {
+        end: PANIC,
+        panic_at: Place::End,
+        ..log
+    };
+    [
+        ("panic-near-end", Some(10), Kind::Stderr(end)),
+        ("panic-at-front", Some(2_000), Kind::Stderr(front)),
+        ("nothing-found", Some(4_000), Kind::Stderr(log)),
+        ("false-opening", Some(5_000), Kind::Stderr(opening)),
+        ("engine-panic", Some(3_000), Kind::Extract(end)),
+        ("engine-nothing", Some(3_000), Kind::Extract(log)),
+    ]
+}
+
+/// The rows of output that is made to take long.
+pub(crate) fn adverse() -> [Row; 8] {
+    let heads = Output {
+        panic_at: Place::LastPiece,
+        ..pieces(b"thread 'main' panicked at src/lib.rs:1:1:\n", 1_000_000)
+    };
+    let openings = pieces(b"thread 'a\n", 1_000_000);
+    let started = pieces(b"thread 'x' started\n", 1_000_000);
+    let spaced = pieces(b"thread 'a\none line\ntwo lines\nthree lines\n", 300_000);
+    let notes = pieces(b"note: test did not panic as expecte_\n", 1_000_000);
+    let white = Output {
+        front: b"thread 'a' panicked at b",
+        panic_at: Place::Front,
+        ..pieces(b"   \t    \n   \t   ", 4_000_000)
+    };
+    [
+        ("heads", Some(10), Kind::Stderr(heads)),
+        ("openings", Some(30_000), Kind::Stderr(openings)),
+        ("openings-started", Some(30_000), Kind::Stderr(started)),
+        ("openings-spaced", Some(30_000), Kind::Stderr(spaced)),
+        (
+            "quotes",
+            Some(4_000),
+            Kind::Stderr(pieces(b"'", 16_000_000)),
+        ),
+        (
+            "newlines",
+            Some(4_000),
+            Kind::Stderr(pieces(b"\n", 16_000_000)),
+        ),
+        ("near-notes", Some(10_000), Kind::Stdout(notes)),
+        ("white-space", None, Kind::Stderr(white)),
+    ]
+}
+
+/// The rows of counting.
+pub(crate) fn counting() -> [Row; 3] {
+    [
+        ("units", None, Kind::Units),
+        ("sub-runs", None, Kind::SubRuns),
+        ("engine-count", None, Kind::Count),
+    ]
+}

@@ -1,0 +1,163 @@
+//! Finished tests and summaries of sub-runs, and how they are counted. Every second one failed.
+
+use crate::timing::{Step, Work};
+use jiff::Timestamp;
+use jiff::tz::Offset;
+use run_events::attempts::{ExecuteStatus, ExecutionStatuses, RetryData};
+use run_events::child::{ChildExecutionOutputDescription, ChildOutputDescription, LiveSpec};
+use run_events::config::{FlakyResult, Moment};
+use run_events::outcome::{FinalRunStats, RunFailureStep, RunOutcome, RunStatsFailureKind};
+use run_events::results::{ExecutionResult, ExecutionResultDescription, FailureStatus};
+use run_events::stats::{FinishedUnit, RunStart, RunStats};
+use std::alloc::{AllocError, Global};
+use std::time::Duration;
+
+const FAIL: ExecutionResult = ExecutionResult::Fail {
+    failure_status: FailureStatus::ExitCode(1),
+    leaked: false,
+};
+
+/// A run of which nothing is known but its units.
+const START: RunStart = RunStart {
+    initial_run_count: 0,
+    setup_scripts_initial_count: 0,
+    skipped: 0,
+    cancel_reason: None,
+};
+
+const SUMMARIES: [FinalRunStats; 2] = [
+    FinalRunStats::Success,
+    FinalRunStats::Failed {
+        kind: RunStatsFailureKind::SetupScript,
+    },
+];
+
+/// A test of one attempt that ended so.
+fn test(alloc: Global, end: ExecutionResult) -> Result<ExecutionStatuses<LiveSpec>, AllocError> {
+    let mut statuses = Vec::with_capacity(alloc, 1)?;
+    statuses.push(ExecuteStatus {
+        retry_data: RetryData {
+            attempt: 1,
+            total_attempts: 1,
+        },
+        output: ChildExecutionOutputDescription::Output {
+            result: None,
+            output: ChildOutputDescription::NotLoaded,
+            errors: None,
+        },
+        result: ExecutionResultDescription::from_status(end, None),
+        start_time: Moment {
+            timestamp: Timestamp::UNIX_EPOCH,
+            offset: Offset::UTC,
+        },
+        time_taken: Duration::ZERO,
+        is_slow: false,
+        delay_before_start: Duration::ZERO,
+        error_summary: None,
+        output_error_slice: None,
+    })?;
+    Ok(ExecutionStatuses::new(statuses, FlakyResult::Pass))
+}
+
+/// So many pairs of a test that passed and one that failed.
+pub(crate) fn tests(
+    alloc: Global,
+    pairs: usize,
+) -> Result<Vec<ExecutionStatuses<LiveSpec>>, AllocError> {
+    let mut tests = Vec::new(alloc);
+    for _ in 0..pairs {
+        tests.push(test(alloc, ExecutionResult::Pass)?)?;
+        tests.push(test(alloc, FAIL)?)?;
+    }
+    Ok(tests)
+}
+
+/// The counting of pairs of tests.
+#[derive(Drop)]
+pub(crate) struct Counting<'a> {
+    units: Vec<FinishedUnit<'a>>,
+}
+
+impl<'a> Counting<'a> {
+    /// The counting of these tests, lent.
+    pub(crate) fn new(
+        alloc: Global,
+        tests: &'a [ExecutionStatuses<LiveSpec>],
+    ) -> Result<Self, AllocError> {
+        let mut units = Vec::new(alloc);
+        for test in tests {
+            units.push(FinishedUnit::Test(test))?;
+        }
+        Ok(Counting { units })
+    }
+
+    /// How many last results are no success.
+    fn failed(&self) -> usize {
+        self.units
+            .iter()
+            .filter(|unit| match unit {
+                FinishedUnit::Script(script) => !script.result.is_success(),
+                FinishedUnit::Test(test) => !test.last_status().result.is_success(),
+            })
+            .count()
+    }
+}
+
+impl Work for Counting<'_> {
+    fn run(&mut self, step: Step) -> bool {
+        let count = self.units.len();
+        match step {
+            Step::Call => {
+                RunStats::of_run(self.units.as_slice(), START)
+                    == RunStats {
+                        finished_count: count,
+                        passed: count / 2,
+                        failed: count / 2,
+                        ..RunStats::default()
+                    }
+            }
+            Step::Beside => true,
+            Step::Pass => self.failed() == count / 2,
+        }
+    }
+}
+
+/// The outcome of sub-runs.
+#[derive(Drop)]
+pub(crate) struct SubRuns {
+    summaries: Vec<FinalRunStats>,
+}
+
+impl SubRuns {
+    /// The outcome of so many pairs of a success and a failure.
+    pub(crate) fn new(alloc: Global, pairs: usize) -> Result<Self, AllocError> {
+        let mut summaries = Vec::new(alloc);
+        for _ in 0..pairs {
+            summaries.extend_from_slice(&SUMMARIES)?;
+        }
+        Ok(SubRuns { summaries })
+    }
+
+    /// How many summaries are failures.
+    fn failed(&self) -> usize {
+        self.summaries
+            .iter()
+            .filter(|summary| matches!(summary, FinalRunStats::Failed { .. }))
+            .count()
+    }
+}
+
+impl Work for SubRuns {
+    fn run(&mut self, step: Step) -> bool {
+        match step {
+            Step::Call => {
+                RunOutcome::of_sub_runs(self.summaries.as_slice())
+                    == RunOutcome::Failed {
+                        step: RunFailureStep::SetupScript,
+                    }
+            }
+            Step::Beside => true,
+            Step::Pass => self.failed() == self.summaries.len() / 2,
+        }
+    }
+}
