@@ -1,0 +1,3 @@
+pub mod DisplayerLemmas
+pub mod RecorderLemmas
+pub mod RunnerLemmas

@@ -1,0 +1,34 @@
+-- What a displayer prints.
+use Rattle.std.specs.Prelude.{◌<◌, ◌&&◌, ℕ, if◌then◌else◌, nat_lt, List, ◌++◌, length, codes, Option, IfSome}
+use Rattle.std.specs.Fmt.{decimal}
+use Rattle.run_events.specs.Counters.{UnitView, count_of, tests_of}
+use Rattle.run_events.specs.Level.{has_level_fail, has_level_retry}
+use Rattle.run_events.specs.Ranks.{level_rank}
+use Rattle.run_events.specs.Results.{result_word, succeeds}
+use Rattle.run_events.specs.RunLaws.{has_no_failure}
+use Rattle.run_events.specs.TestView.{TestView}
+use Rattle.run_events.specs.declared.levels.StatusLevel.{StatusLevel}
+
+-- a test's level is above the one that is set, so the test is not asked for
+abbrev pub IsAbove : Option StatusLevel → StatusLevel → Type 0
+IsAbove level own = IfSome level (λ l. level_rank own < level_rank l)
+
+-- how a test ended: flaky, or the word of its last result
+abbrev pub test_word : TestView → List ℕ
+test_word t = if nat_lt 1 t.attempts && succeeds t.result then codes "flaky" else result_word t.result
+
+-- the line of a finished test of this name
+abbrev pub status_line : TestView → List ℕ → List ℕ
+status_line t name = test_word t ++ (codes " " ++ (name ++ codes "\n"))
+
+-- the line that sums up a run, by its numbers
+unfoldable pub numbers_line : ℕ → ℕ → ℕ → ℕ → ℕ → List ℕ
+numbers_line finished passed flaky failed skipped =
+    decimal finished ++ (codes " tests run: " ++ (decimal passed ++ (codes " passed (" ++ (decimal flaky
+    ++ (codes " flaky), " ++ (decimal failed ++ (codes " failed, " ++ (decimal skipped ++ codes " skipped\n"))))))))
+
+-- its numbers: the finished tests, those of no level `Fail`, of level `Retry`, of level `Fail`, and the skipped ones
+abbrev pub summary_line : List UnitView → ℕ → List ℕ
+summary_line units skipped =
+    let tests = tests_of units in
+    numbers_line (length tests) (count_of has_no_failure tests) (count_of has_level_retry tests) (count_of has_level_fail tests) skipped
