@@ -33,3 +33,12 @@ unit_of_kind _ = None
 abbrev pub told_unit : ReporterEvent → Option UnitView
 told_unit told.Tick = None
 told_unit (told.Test event) = unit_of_kind event.value.kind
+
+-- the name of the test whose end an event tells
+abbrev pub name_of_kind : TestEventKind → Option (List ℕ)
+name_of_kind (TestFinished index id success failure store_success store_failure flaky statuses stats running) = Some id.test_name.now
+name_of_kind _ = None
+
+abbrev pub told_name : ReporterEvent → Option (List ℕ)
+told_name told.Tick = None
+told_name (told.Test event) = name_of_kind event.value.kind

@@ -1,11 +1,13 @@
 //! A reporter on a terminal: what it prints of a finished test, and of a run.
 
-ghost use Rattle.std.specs.Prelude.{◌≡◌, ◌≢◌, ◌↔◌, ◌≤◌, [], false, map, IfOk, IsTrue, Some, string_bytes, true};
+ghost use Rattle.std.specs.Prelude.{◌≡◌, ◌≢◌, ◌↔◌, ◌≤◌, [], false, map, IfOk, IsTrue, None, Some, string_bytes, true};
+ghost use Rattle.run_events.specs.Config.{is_immediate_display};
 ghost use Rattle.run_events.specs.Counters.{unit_view};
-ghost use Rattle.run_events.specs.Level.{level_of};
+ghost use Rattle.run_events.specs.Level.{final_level_of, level_of};
+ghost use Rattle.run_events.specs.Results.{succeeds};
 ghost use Rattle.run_events.specs.TestView.{view_of};
 ghost use Rattle.run_events.specs.Visibility.{severity};
-ghost use Rattle.uses.specs.Displayer.{IsAbove, numbers_line, status_line, summary_line, test_word};
+ghost use Rattle.uses.specs.Displayer.{IsAbove, IsFinalAbove, display_of, numbers_line, status_line, summary_line, test_word};
 
 use run_events::attempts::ExecutionStatuses;
 use run_events::child::LiveSpec;
@@ -40,16 +42,20 @@ impl Displayer {
         // No line is written exactly where the test's level is above the one that is set.
         ensures line { (result.write_status_line ≡ false) ↔ IsAbove (level_of (view_of test.now)) self.now.levels.status_level }
 
-        // From a signal on, no output is displayed twice.
+        // While nothing cancels the run, the setting for such a test says whether its output is
+        // displayed at once, and it is not listed only if its final level is above the one set.
+        ensures at_once { reason ≡ None → result.show_immediate ≡ is_immediate_display (display_of self.now (succeeds (view_of test.now).result)) }
+        ensures unlisted { reason ≡ None → result.store_final ≡ OutputStoreFinal.No
+            → IsFinalAbove (final_level_of (view_of test.now)) self.now.levels.final_status_level }
+
+        // From a signal on no output is displayed twice, and from an interrupt on none is.
         ensures never_twice { severity (Some CancelReason.Signal) ≤ severity reason
             → IsTrue result.show_immediate → result.store_final ≢ OutputStoreFinal.Yes true }
+        ensures interrupted { severity (Some CancelReason.Interrupt) ≤ severity reason
+            → (result.show_immediate ≡ false) × (result.store_final ≡ OutputStoreFinal.No) }
     {
         let description = test.describe();
-        let display = if description.is_success_for_output() {
-            self.success_output
-        } else {
-            self.failure_output
-        };
+        let display = self.display_for(description.is_success_for_output());
         self.levels.compute_output_on_test_finished(
             display,
             reason,
@@ -57,6 +63,17 @@ impl Displayer {
             description.final_status_level(),
             &description.last_status().result,
         )
+    }
+
+    /// When the output of a test is displayed that succeeded, or failed.
+    fn display_for(&self, succeeded: bool) -> TestOutputDisplay
+        ensures { result ≡ display_of self.now succeeded }
+    {
+        if succeeded {
+            self.success_output
+        } else {
+            self.failure_output
+        }
     }
 
     /// The text that is printed as a test finishes: a line with how it ended and its name, or

@@ -5,9 +5,10 @@
 //! of its own for it. What decides is the step, as with a failure.
 
 ghost use Rattle.std.specs.Prelude.{◌≡◌, ◌↔◌, map};
-ghost use Rattle.run_events.specs.Counters.{unit_view};
+ghost use Rattle.run_events.specs.Counters.{stats_of, unit_view};
 ghost use Rattle.run_events.specs.Outcome.{outcome_of, run_summary};
 ghost use Rattle.run_events.specs.RunLaws.{RunSucceeds};
+ghost use Rattle.run_events.specs.Summary.{summary_of};
 ghost use Rattle.uses.specs.ExitStatus.{EndsBy, RanNoTests, Succeeds, status_of};
 
 use run_events::outcome::{FinalRunStats, RunFailureStep, RunOutcome};
@@ -42,6 +43,7 @@ pub fn of_outcome(outcome: RunOutcome) -> u8
 /// The status of a run with these finished units.
 pub fn of_run(units: &[FinishedUnit<'_>], start: RunStart) -> u8
     ensures success { (result ≡ SUCCESS) ↔ RunSucceeds (map unit_view units.now) start }
+    ensures summary { result ≡ status_of (outcome_of (summary_of (stats_of (map unit_view units.now) start))) }
 {
     let stats = RunStats::of_run(units, start);
     of_outcome(RunOutcome::from_final_stats(stats.summarize_final()))

@@ -7,7 +7,7 @@ ghost use Rattle.run_events.specs.Counters.{TestUnit, stats_of, unit_view};
 ghost use Rattle.run_events.specs.Described.{described_result};
 ghost use Rattle.run_events.specs.TestView.{view_of};
 ghost use Rattle.uses.specs.Junit.{stderr_of};
-ghost use Rattle.uses.specs.Runner.{last_stderr, told_unit, view_of_attempts};
+ghost use Rattle.uses.specs.Runner.{last_stderr, told_name, told_unit, view_of_attempts};
 
 use bytes::Bytes;
 use jiff::Timestamp;
@@ -115,7 +115,8 @@ pub fn test_finished(
     run_statuses: ExecutionStatuses<LiveSpec>,
     current_stats: RunStats,
 ) -> Result<ReporterEvent<'_>, AllocError>
-    ensures { IfOk result (λ event. told_unit event ≡ Some (TestUnit (view_of run_statuses))) }
+    ensures unit { IfOk result (λ event. told_unit event ≡ Some (TestUnit (view_of run_statuses))) }
+    ensures name { IfOk result (λ event. told_name event ≡ Some test_name.entry.now) }
 {
     let kind = TestEventKind::TestFinished {
         stress_index: None,
