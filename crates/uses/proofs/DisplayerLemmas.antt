@@ -9,7 +9,7 @@ use Rattle.run_events.specs.declared.attempts.description.ExecutionDescription.{
 use Rattle.run_events.specs.declared.attempts.description.ExecutionDescription.TheVariants.{Failure, Flaky, Success}
 use Rattle.run_events.specs.declared.attempts.statuses.ExecutionStatuses.{ExecutionStatuses}
 use Rattle.run_events.specs.declared.results.CancelReason.{CancelReason}
-use Rattle.uses.proofs.RunnerLemmas.{last_pushed}
+use Rattle.uses.proofs.Lists.{last_pushed}
 
 or_right : (a b : Bool) → b ≡ true → (a || b) ≡ true
 or_right true b h = refl

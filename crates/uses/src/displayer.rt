@@ -77,7 +77,7 @@ impl Displayer {
     }
 
     /// The text that is printed as a test finishes: a line with how it ended and its name, or
-    /// nothing.
+    /// nothing. Whether the run is cancelled does not matter for it.
     pub fn finished_text(
         &self,
         alloc: Global,

@@ -27,7 +27,7 @@ pub const TEST_RUN_FAILED: u8 = 100;
 pub const SETUP_SCRIPT_FAILED: u8 = 105;
 
 /// The status of an outcome.
-pub fn of_outcome(outcome: RunOutcome) -> u8
+fn of_outcome(outcome: RunOutcome) -> u8
     ensures { result ≡ status_of outcome }
 {
     match outcome {

@@ -54,7 +54,7 @@ pub fn test_case(test: &ExecutionStatuses<LiveSpec>) -> TestCase<'_>
 }
 
 /// The part of output that says why a test failed. Output that is not loaded has none.
-pub fn message_of(
+fn message_of(
     output: &ChildExecutionOutputDescription<LiveSpec>,
 ) -> Option<TestOutputErrorSlice<'_>>
     ensures extraction { IsExtract (stdout_of output.now) (stderr_of output.now) (option_map extract_of result) }

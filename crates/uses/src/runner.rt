@@ -82,7 +82,7 @@ fn epoch() -> Moment {
 }
 
 /// A test that finished with the last of these attempts, after the earlier ones.
-#[tactic(auto, using(crate::proofs::RunnerLemmas::last_pushed))]
+#[tactic(auto, using(crate::proofs::Lists::last_pushed))]
 pub fn finished_test(
     alloc: Global,
     earlier: &[EndedAttempt<'_>],

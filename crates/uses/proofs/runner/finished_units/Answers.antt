@@ -1,6 +1,7 @@
 use Rattle.std.proofs.Common.{◌∙◌}
 use Rattle.uses.specs.Runner.{told_unit}
-use Rattle.uses.proofs.RunnerLemmas.{filter_map_more, lent_more, lent_same}
+use Rattle.uses.proofs.Lists.{filter_map_more}
+use Rattle.uses.proofs.RunnerLemmas.{lent_more, lent_same}
 use Rattle.uses.proofs.runner.finished_units.Goals as goal
 use Rattle.uses.proofs.runner.finished_units.Goals.{in-Some+in_ok-push, in_default}
 
