@@ -4,7 +4,7 @@ use crate::displayer::{Displayer, summary_text};
 use crate::exit_status;
 use crate::junit::{TestCase, test_case};
 use crate::recorder::{load, store, through_text};
-use crate::runner::{EndedAttempt, finished_test, finished_units, stats_of_events, test_finished};
+use crate::runner::{EndedAttempt, finished_test, stats_of_events, test_finished};
 use run_events::attempts::ExecutionStatuses;
 use run_events::chain::SerializableError;
 use run_events::child::LiveSpec;
@@ -73,6 +73,16 @@ pub(crate) fn run(alloc: Global) -> Result<Vec<ReporterEvent<'static>>, AllocErr
     Ok(events)
 }
 
+/// Prints what a runner counts.
+pub(crate) fn count<R: AllocGlobal + Print>(
+    rt: &R,
+    events: &[ReporterEvent<'_>],
+) -> io::Result<()> {
+    let stats = stats_of_events(rt.alloc(), events, START)?;
+    let (finished, passed) = (stats.finished_count, stats.passed);
+    println!(rt; "runner\n  {finished} tests finished, {passed} passed")
+}
+
 /// The test whose end an event tells, with its name.
 fn test_of<'e>(event: &'e ReporterEvent<'_>) -> Option<(&'e str, &'e ExecutionStatuses<LiveSpec>)> {
     let ReporterEvent::Test(event) = event else {
@@ -127,6 +137,7 @@ fn display_test<R: AllocGlobal + Print>(
 pub(crate) fn display<R: AllocGlobal + Print>(
     rt: &R,
     events: &[ReporterEvent<'_>],
+    units: &[FinishedUnit<'_>],
 ) -> io::Result<()> {
     println!(rt; "displayer")?;
     for event in events {
@@ -134,8 +145,7 @@ pub(crate) fn display<R: AllocGlobal + Print>(
             display_test(rt, name, test)?;
         }
     }
-    let units = finished_units(rt.alloc(), events)?;
-    let summary = summary_text(rt.alloc(), units.as_slice(), START)?;
+    let summary = summary_text(rt.alloc(), units, START)?;
     print!(rt; "{summary}")
 }
 
@@ -188,18 +198,10 @@ pub(crate) fn record<R: AllocGlobal + Print>(rt: &R) -> io::Result<()> {
 }
 
 /// Prints the exit status of the run, and of repeated runs.
-pub(crate) fn exit<R: AllocGlobal + Print>(rt: &R, events: &[ReporterEvent<'_>]) -> io::Result<()> {
+pub(crate) fn exit<R: Print>(rt: &R, units: &[FinishedUnit<'_>]) -> io::Result<()> {
     println!(rt; "exit status")?;
-    let stats = stats_of_events(rt.alloc(), events, START)?;
-    println!(rt;
-        "  {} of {} tests passed",
-        stats.passed, stats.finished_count
-    )?;
-    let units = finished_units(rt.alloc(), events)?;
-    println!(rt;
-        "  the run: {}",
-        exit_status::of_run(units.as_slice(), START)
-    )?;
+    let status = exit_status::of_run(units, START);
+    println!(rt; "  the run: {status}")?;
     if let Some(first) = units.first() {
         exit_of_runs(rt, first)?;
     }
@@ -225,14 +227,10 @@ fn exit_of_runs<R: Print>(rt: &R, unit: &FinishedUnit<'_>) -> io::Result<()> {
             ..start
         },
     };
-    println!(rt;
-        "  its first test, twice: {}",
-        exit_status::of_runs(&[whole, whole])
-    )?;
-    println!(rt;
-        "  then stopped at a script: {}",
-        exit_status::of_runs(&[whole, stopped])
-    )
+    let status = exit_status::of_runs(&[whole, whole]);
+    println!(rt; "  its first test, twice: {status}")?;
+    let status = exit_status::of_runs(&[whole, stopped]);
+    println!(rt; "  then stopped at a script: {status}")
 }
 
 /// Prints the exit status of repeated runs with these summaries.

@@ -1,5 +1,5 @@
-//! How the users of the layer call it: a displayer, a JUnit writer, a recorder, the exit status of
-//! a run and a runner, each on a small input.
+//! How the users of the layer call it: a runner, a displayer, a JUnit writer, a recorder and the
+//! exit status of a run, each on a small input.
 #![tactic(auto)]
 
 mod demo;
@@ -12,9 +12,11 @@ mod runner;
 use std::io;
 
 fn main(rt: HostRuntime) -> io::Result<()> {
-    let run = demo::run(rt.alloc())?;
-    demo::display(&rt, run.as_slice())?;
-    demo::write_junit(&rt, run.as_slice())?;
+    let events = demo::run(rt.alloc())?;
+    let units = runner::finished_units(rt.alloc(), events.as_slice())?;
+    demo::count(&rt, events.as_slice())?;
+    demo::display(&rt, events.as_slice(), units.as_slice())?;
+    demo::write_junit(&rt, events.as_slice())?;
     demo::record(&rt)?;
-    demo::exit(&rt, run.as_slice())
+    demo::exit(&rt, units.as_slice())
 }
