@@ -1,0 +1,4 @@
+pub mod DisplayerLemmas
+pub mod Lists
+pub mod RecorderLemmas
+pub mod RunnerLemmas

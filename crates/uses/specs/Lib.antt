@@ -1,0 +1,5 @@
+pub mod Displayer
+pub mod ExitStatus
+pub mod Junit
+pub mod Recorder
+pub mod Runner

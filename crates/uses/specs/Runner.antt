@@ -1,0 +1,44 @@
+-- What a runner makes, and what its events tell.
+use Rattle.std.specs.Prelude.{ℕ, Bool, List, Option, None, Some, option_and_then}
+use Rattle.run_events.specs.Counters.{ScriptUnit, TestUnit, UnitView}
+use Rattle.run_events.specs.Described.{described_result}
+use Rattle.run_events.specs.TestView.{TestView, attempts_of, last_of, view_of}
+use Rattle.run_events.specs.declared.attempts.statuses.ExecutionStatuses.{ExecutionStatuses}
+use Rattle.run_events.specs.declared.child.LiveSpec.{LiveSpec}
+use Rattle.run_events.specs.declared.child.output.ChildOutputDescription.{ChildOutputDescription}
+use Rattle.run_events.specs.declared.config.FlakyResult.{FlakyResult}
+use Rattle.run_events.specs.declared.events.ReporterEvent.{ReporterEvent}
+use Rattle.run_events.specs.declared.events.ReporterEvent.TheVariants as told
+use Rattle.run_events.specs.declared.events.kind.TestEventKind.{TestEventKind}
+use Rattle.run_events.specs.declared.events.kind.TestEventKind.TheVariants.{SetupScriptFinished, TestFinished}
+use Rattle.run_events.specs.declared.results.ExecutionResult.{ExecutionResult}
+use Rattle.uses.specs.Junit.{stderr_of}
+
+-- the view of a test of so many attempts, of which the last ended so
+abbrev pub view_of_attempts : ℕ → ExecutionResult → Bool → FlakyResult → TestView
+view_of_attempts attempts outcome slow setting =
+    record { result = described_result outcome None; attempts = attempts; is_slow = slow; setting = setting }
+
+-- what was captured of standard error of the last attempt
+abbrev pub last_stderr : ExecutionStatuses LiveSpec ChildOutputDescription → Option (List ℕ)
+last_stderr test = option_and_then (λ status. stderr_of status.output) (last_of (attempts_of test))
+
+-- the unit whose end a kind of event tells
+abbrev pub unit_of_kind : TestEventKind → Option UnitView
+unit_of_kind (SetupScriptFinished index n total id program args success failure no_capture status) = Some (ScriptUnit status.result)
+unit_of_kind (TestFinished index id success failure store_success store_failure flaky statuses stats running) = Some (TestUnit (view_of statuses))
+unit_of_kind _ = None
+
+-- the unit whose end an event tells
+abbrev pub told_unit : ReporterEvent → Option UnitView
+told_unit told.Tick = None
+told_unit (told.Test event) = unit_of_kind event.value.kind
+
+-- the name of the test whose end an event tells
+abbrev pub name_of_kind : TestEventKind → Option (List ℕ)
+name_of_kind (TestFinished index id success failure store_success store_failure flaky statuses stats running) = Some id.test_name.now
+name_of_kind _ = None
+
+abbrev pub told_name : ReporterEvent → Option (List ℕ)
+told_name told.Tick = None
+told_name (told.Test event) = name_of_kind event.value.kind

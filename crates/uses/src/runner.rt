@@ -1,0 +1,186 @@
+//! A runner's side: makes the statuses of attempts and the events that tell of finished tests, and
+//! lends what finished to the counters.
+
+ghost use Rattle.std.specs.Prelude.{◌≡◌, ◌+◌, IfOk, None, Some, length, map, option_map};
+ghost use Rattle.std.specs.List.{filter_map};
+ghost use Rattle.run_events.specs.Counters.{TestUnit, stats_of, unit_view};
+ghost use Rattle.run_events.specs.Described.{described_result};
+ghost use Rattle.run_events.specs.TestView.{view_of};
+ghost use Rattle.uses.specs.Junit.{stderr_of};
+ghost use Rattle.uses.specs.Runner.{last_stderr, told_name, told_unit, view_of_attempts};
+
+use bytes::Bytes;
+use jiff::Timestamp;
+use jiff::tz::Offset;
+use run_events::attempts::{ExecuteStatus, ExecutionStatuses, RetryData};
+use run_events::child::{
+    ChildExecutionOutput, ChildExecutionOutputDescription, ChildOutput, ChildSingleOutput,
+    ChildSplitOutput, LiveSpec,
+};
+use run_events::config::{
+    FlakyResult, JunitFlakyFailStatus, Moment, TestInstanceId, TestOutputDisplay,
+};
+use run_events::events::{ReporterEvent, TestEvent, TestEventKind};
+use run_events::results::{ExecutionResult, ExecutionResultDescription};
+use run_events::stats::{FinishedUnit, RunStart, RunStats};
+use std::alloc::{AllocError, Global};
+use std::time::Duration;
+
+/// An attempt to run a test, as the runner saw it end.
+#[derive(Clone, Copy)]
+pub struct EndedAttempt<'a> {
+    /// How it ended.
+    pub outcome: ExecutionResult,
+
+    /// What it wrote to standard error.
+    pub stderr: &'a [u8],
+
+    /// Whether it took longer than the slow timeout.
+    pub is_slow: bool,
+}
+
+/// The status of an attempt.
+fn status_of(
+    alloc: Global,
+    attempt: EndedAttempt<'_>,
+    retry_data: RetryData,
+) -> Result<ExecuteStatus<LiveSpec>, AllocError>
+    ensures result { IfOk result (λ status. status.result ≡ described_result attempt.entry.outcome None) }
+    ensures slow { IfOk result (λ status. status.is_slow ≡ attempt.entry.is_slow) }
+    ensures stderr { IfOk result (λ status. stderr_of status.output ≡ Some attempt.entry.stderr.now) }
+{
+    let left = ChildExecutionOutput::Output {
+        result: Some(attempt.outcome),
+        output: ChildOutput::Split(ChildSplitOutput {
+            stdout: None,
+            stderr: Some(ChildSingleOutput::from(Bytes::copy_from_slice(alloc, attempt.stderr)?)),
+        }),
+        errors: None,
+    };
+    match ChildExecutionOutputDescription::from_output(alloc, left, None) {
+        Ok(output) => Ok(ExecuteStatus {
+            retry_data,
+            output,
+            result: ExecutionResultDescription::from_status(attempt.outcome, None),
+            start_time: epoch(),
+            time_taken: Duration::ZERO,
+            is_slow: attempt.is_slow,
+            delay_before_start: Duration::ZERO,
+            error_summary: None,
+            output_error_slice: None,
+        }),
+        Err(_) => Err(AllocError),
+    }
+}
+
+/// The moment at which everything here happens: no clock is read.
+fn epoch() -> Moment {
+    Moment {
+        timestamp: Timestamp::UNIX_EPOCH,
+        offset: Offset::UTC,
+    }
+}
+
+/// A test that finished with the last of these attempts, after the earlier ones.
+#[tactic(auto, using(crate::proofs::Lists::last_pushed))]
+pub fn finished_test(
+    alloc: Global,
+    earlier: &[EndedAttempt<'_>],
+    last: EndedAttempt<'_>,
+    setting: FlakyResult,
+) -> Result<ExecutionStatuses<LiveSpec>, AllocError>
+    ensures view { IfOk result (λ test. view_of test ≡ view_of_attempts (length earlier.now + 1) last.entry.outcome last.entry.is_slow setting) }
+    ensures stderr { IfOk result (λ test. last_stderr test ≡ Some last.entry.stderr.now) }
+{
+    let total_attempts = u32::try_from(earlier.len())
+        .unwrap_or(u32::MAX)
+        .saturating_add(1);
+    let mut statuses = Vec::new(alloc);
+    let mut retry_data = RetryData {
+        attempt: 1,
+        total_attempts,
+    };
+    for attempt in earlier {
+        statuses.push(status_of(alloc, *attempt, retry_data)?)?;
+        retry_data.attempt = retry_data.attempt.saturating_add(1);
+    }
+    statuses.push(status_of(alloc, last, retry_data)?)?;
+    Ok(ExecutionStatuses::new(statuses, setting))
+}
+
+/// The event that a test of this name finished.
+pub fn test_finished(
+    alloc: Global,
+    test_name: &str,
+    run_statuses: ExecutionStatuses<LiveSpec>,
+    current_stats: RunStats,
+) -> Result<ReporterEvent<'_>, AllocError>
+    ensures unit { IfOk result (λ event. told_unit event ≡ Some (TestUnit (view_of run_statuses))) }
+    ensures name { IfOk result (λ event. told_name event ≡ Some test_name.entry.now) }
+{
+    let kind = TestEventKind::TestFinished {
+        stress_index: None,
+        test_instance: TestInstanceId {
+            binary_id: "demo",
+            test_name,
+        },
+        success_output: TestOutputDisplay::Never,
+        failure_output: TestOutputDisplay::Immediate,
+        junit_store_success_output: false,
+        junit_store_failure_output: true,
+        junit_flaky_fail_status: JunitFlakyFailStatus { name: "failure" },
+        run_statuses,
+        current_stats,
+        running: 0,
+    };
+    let event = TestEvent {
+        timestamp: epoch(),
+        elapsed: Duration::ZERO,
+        kind,
+    };
+    Ok(ReporterEvent::Test(Box::new(alloc, event)?))
+}
+
+/// The unit whose end an event tells, lent.
+fn finished_unit<'e>(event: &'e ReporterEvent<'_>) -> Option<FinishedUnit<'e>>
+    ensures { option_map unit_view result ≡ told_unit event.now }
+{
+    let ReporterEvent::Test(event) = event else {
+        return None;
+    };
+    match &event.kind {
+        TestEventKind::SetupScriptFinished { run_status, .. } => {
+            Some(FinishedUnit::Script(run_status))
+        }
+        TestEventKind::TestFinished { run_statuses, .. } => Some(FinishedUnit::Test(run_statuses)),
+        _ => None,
+    }
+}
+
+/// The units whose ends events tell, lent, in order.
+pub fn finished_units<'e>(
+    alloc: Global,
+    events: &'e [ReporterEvent<'_>],
+) -> Result<Vec<FinishedUnit<'e>>, AllocError>
+    ensures { IfOk result (λ units. map unit_view units.items ≡ filter_map told_unit events.now) }
+{
+    let mut units = Vec::new(alloc);
+    for event in events {
+        if let Some(unit) = finished_unit(event) {
+            units.push(unit)?;
+        }
+    }
+    Ok(units)
+}
+
+/// The counters of a run, from the events of it.
+pub fn stats_of_events(
+    alloc: Global,
+    events: &[ReporterEvent<'_>],
+    start: RunStart,
+) -> Result<RunStats, AllocError>
+    ensures { IfOk result (λ stats. stats ≡ stats_of (filter_map told_unit events.now) start) }
+{
+    let units = finished_units(alloc, events)?;
+    Ok(RunStats::of_run(units.as_slice(), start))
+}
