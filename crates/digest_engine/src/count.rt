@@ -71,7 +71,8 @@ fn count_runs<R: Source, W: Sink>(
 /// then it is written, then the sink is flushed.
 ///
 /// - [`Fault::Read`] exactly where the source fails, [`Fault::Write`] exactly where the sink does.
-/// - [`Fault::BadLine`] with the number of the first line that says nothing which its place allows.
+/// - [`Fault::BadLine`] with the number of the first bad line: one that says nothing which its place
+///   allows, line 10,001, or line 1 where there is none.
 /// - [`Fault::OutOfMemory`] where memory is refused.
 ///
 /// Nothing is written where it fails, save by [`Fault::Write`], when a beginning of the text is.

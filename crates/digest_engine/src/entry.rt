@@ -28,8 +28,5 @@ pub(crate) fn entry_in(alloc: Global, line: &[u8]) -> Result<Option<Entry>, Allo
     if let Some(start) = start_from(b"sub-run", words.as_slice()) {
         return Ok(Some(Entry::SubRun(start)));
     }
-    match unit_from(alloc, words.as_slice())? {
-        Some(unit) => Ok(Some(Entry::Unit(unit))),
-        None => Ok(None),
-    }
+    Ok(unit_from(alloc, words.as_slice())?.map(Entry::Unit))
 }

@@ -174,15 +174,9 @@ pub(crate) fn unit_from(alloc: Global, words: &[&[u8]]) -> Result<Option<OwnedUn
         return Ok(None);
     };
     if *kind == b"script".as_slice() {
-        match script_from(words) {
-            Some(script) => Ok(Some(OwnedUnit::Script(script))),
-            None => Ok(None),
-        }
+        Ok(script_from(words).map(OwnedUnit::Script))
     } else if *kind == b"test".as_slice() {
-        match test_from(alloc, words)? {
-            Some(test) => Ok(Some(OwnedUnit::Test(test))),
-            None => Ok(None),
-        }
+        Ok(test_from(alloc, words)?.map(OwnedUnit::Test))
     } else {
         Ok(None)
     }

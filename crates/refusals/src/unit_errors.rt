@@ -35,6 +35,32 @@ fn failed(alloc: Global) -> Result<ChildExecutionOutputDescription<LiveSpec>, Al
     })
 }
 
+/// Whether this is what [`failed`] makes.
+fn is_failed(output: &ChildExecutionOutputDescription<LiveSpec>) -> bool {
+    match output {
+        ChildExecutionOutputDescription::Output {
+            result: Some(
+                ExecutionResultDescription::Fail {
+                    failure: FailureDescription::Abort {
+                        abort: AbortDescription::WindowsJobObject,
+                    },
+                    leaked: false,
+                },
+            ),
+            output: ChildOutputDescription::Split {
+                stdout: None,
+                stderr: Some(stderr),
+            },
+            errors: Some(errors),
+        } => {
+            stderr.buf().as_slice() == b"Error: e".as_slice()
+                && errors.description() == "reading"
+                && errors.len() == 1
+        }
+        _ => false,
+    }
+}
+
 /// The kind of an error, by a letter.
 fn letter(error: &UnitError<'_>) -> u8 {
     match error {
@@ -68,7 +94,11 @@ pub(crate) fn all_errors(alloc: Global) -> Result<Outcome, AllocError> {
         return Ok(Outcome::Wrong("it cannot be described"));
     }
     let errors = UnitErrorDescription::new(UnitKind::Test, &output);
-    Ok(outcome_of(errors.all_error_list(alloc), b"oat"))
+    let answer = errors.all_error_list(alloc);
+    if !is_failed(&output) {
+        return Ok(Outcome::Wrong("the output is changed"));
+    }
+    Ok(outcome_of(answer, b"oat"))
 }
 
 pub(crate) fn exec_fail_errors(alloc: Global) -> Result<Outcome, AllocError> {
@@ -77,7 +107,11 @@ pub(crate) fn exec_fail_errors(alloc: Global) -> Result<Outcome, AllocError> {
         return Ok(Outcome::Wrong("it cannot be described"));
     }
     let errors = UnitErrorDescription::new(UnitKind::Test, &output);
-    Ok(outcome_of(errors.exec_fail_error_list(alloc), b"o"))
+    let answer = errors.exec_fail_error_list(alloc);
+    if !is_failed(&output) {
+        return Ok(Outcome::Wrong("the output is changed"));
+    }
+    Ok(outcome_of(answer, b"o"))
 }
 
 pub(crate) fn child_process_errors(alloc: Global) -> Result<Outcome, AllocError> {
@@ -86,7 +120,11 @@ pub(crate) fn child_process_errors(alloc: Global) -> Result<Outcome, AllocError>
         return Ok(Outcome::Wrong("it cannot be described"));
     }
     let errors = UnitErrorDescription::new(UnitKind::Test, &output);
-    Ok(outcome_of(errors.child_process_error_list(alloc), b"at"))
+    let answer = errors.child_process_error_list(alloc);
+    if !is_failed(&output) {
+        return Ok(Outcome::Wrong("the output is changed"));
+    }
+    Ok(outcome_of(answer, b"at"))
 }
 
 /// The three lists of a test that passed, which are empty.

@@ -157,23 +157,24 @@ fn each_run_is_counted_for_itself(rt: HostRuntime) -> Result<(), Fail> {
     let failed = finished_test(rt.alloc(), &[], EXIT_ONE, false, FlakyResult::Pass)?;
     let passes = [FinishedUnit::Test(&passed)];
     let fails = [FinishedUnit::Test(&failed)];
+    // The failed run is neither the first nor the last. As one run they would be cancelled.
     let runs = [
         FinishedRun {
             units: &passes,
             start: start_of(1, None),
         },
         FinishedRun {
-            units: &passes,
-            start: start_of(2, Some(CancelReason::Interrupt)),
-        },
-        FinishedRun {
             units: &fails,
             start: start_of(1, None),
+        },
+        FinishedRun {
+            units: &passes,
+            start: start_of(2, Some(CancelReason::Interrupt)),
         },
     ];
     assert_eq!(rt; RunOutcome::of_runs(&runs[..1]), RunOutcome::Success);
     assert_eq!(rt;
-        RunOutcome::of_runs(&runs[..2]),
+        RunOutcome::of_runs(&runs[2..]),
         RunOutcome::Cancelled {
             step: RunFailureStep::Test
         }

@@ -151,7 +151,12 @@ fn a_test_that_still_runs_has_no_errors(rt: HostRuntime) -> Result<(), Fail> {
 fn a_test_has_all_errors_in_order(rt: HostRuntime) -> Result<(), Fail> {
     let output = aborted(rt.alloc())?;
     let errors = described(UnitKind::Test, &output)?;
-    assert!(rt; holds(&errors.all_error_list(rt.alloc())?, b"oat"));
+    let all = errors.all_error_list(rt.alloc())?;
+    assert_eq!(rt;
+        text_of(rt.alloc(), all)?.as_str(),
+        "executing test\nerror reading standard output\nprocess aborted with signal 15 (SIGTERM) \
+         (leaked handles)\nError: e"
+    );
     Ok(())
 }
 
