@@ -119,7 +119,7 @@ fn attempts_from(
     ensures count { IfOk result (λ found. IfSome found (λ v. length v.items ≡ length words.now)) }
 {
     let total = words.len();
-    let mut statuses = Vec::new(alloc);
+    let mut statuses = Vec::with_capacity(alloc, total)?;
     for (i, word) in words.iter().enumerate() {
         let retry_data = RetryData {
             attempt: i as u32 + 1,

@@ -1,10 +1,11 @@
 -- The last attempt of a test decides its view, and its view its levels.
-use Rattle.std.proofs.Common.{◌≡◌, ◌-◌, ◌<◌, List, [], ◌∷◌, ◌++◌, length, get_or, take, drop, drop-cons, refl, ap, sym, ◌∙◌, arith, length-append, lt-ltb}
+use Rattle.std.proofs.Common.{◌≡◌, ◌-◌, ◌<◌, ◌||◌, Bool, true, false, List, [], ◌∷◌, ◌++◌, length, get_or, take, drop, drop-cons, refl, ap, sym, ◌∙◌, arith, length-append, lt-ltb}
 use Rattle.std.specs.Prelude.{Some, slice_get}
 use Rattle.std.proofs.lemmas.List.{take_rest}
 use Rattle.std.proofs.lemmas.Option.{slice_get-get_or}
-use Rattle.run_events.specs.Description.{ComesTo, described_final_level, described_level}
+use Rattle.run_events.specs.Description.{ComesTo, HasFinalLevel, described_final_level, described_level, is_success_description}
 use Rattle.run_events.specs.Level.{final_level_of, level_of}
+use Rattle.run_events.specs.Results.{succeeds}
 use Rattle.run_events.specs.TestView.{attempts_of, last_of, setting_of, view_of}
 use Rattle.run_events.specs.declared.attempts.ExecuteStatus.{ExecuteStatus}
 use Rattle.run_events.specs.declared.attempts.description.ExecutionDescription.{ExecutionDescription}
@@ -55,3 +56,22 @@ final-level-described t (Flaky last prior result) is =
     sym (ap final_level_of (view-last t last.now at) ∙ rw (is.2, lt-ltb 1 (length (attempts_of t)) more, is.3) refl)
 final-level-described t (Failure first last retries) is =
     sym (ap final_level_of (view-last t last.now is.1) ∙ rw is.2 refl)
+
+last-result : {S D : Type 0} (t : ExecutionStatuses S D) (last : ExecuteStatus S D) → last_of (attempts_of t) ≡ Some last → succeeds last.result ≡ succeeds (view_of t).result
+last-result t last is = rw is refl
+
+-- a description is that of a success exactly where the last attempt succeeded
+pub success-described : {S D : Type 0} (t : ExecutionStatuses S D) (d : ExecutionDescription S D) → ComesTo (attempts_of t) (setting_of t) d → is_success_description d ≡ succeeds (view_of t).result
+success-described t (Success only) is = sym is.1 ∙ last-result t only.now (ap last_of is.0)
+success-described t (Flaky last prior result) is = sym is.2 ∙ last-result t last.now (ap last_of is.0 ∙ last-push prior.now last.now)
+success-described t (Failure first last retries) is = sym is.2 ∙ last-result t last.now is.1
+
+or-right : (a b : Bool) → b ≡ true → (a || b) ≡ true
+or-right true b h = refl
+or-right false b h = h
+
+-- what attempts come to has a final level
+pub has-final-level : {S D : Type 0} (t : ExecutionStatuses S D) (d : ExecutionDescription S D) → ComesTo (attempts_of t) (setting_of t) d → HasFinalLevel d
+has-final-level t (Success only) is = or-right _ _ is.1
+has-final-level t (Flaky last prior result) is = tt
+has-final-level t (Failure first last retries) is = tt

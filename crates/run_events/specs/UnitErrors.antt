@@ -1,7 +1,7 @@
 -- The errors of a unit: what went wrong with a test or a setup script, in order.
 use Rattle.std.specs.Prelude.{◌≡◌, ℕ, Bool, true, false, List, [], ◌∷◌, ◌++◌, map, not, IsTrue, Option, None, Some, MatchOption, option_map, option_to_list}
 use Rattle.std.specs.Option.{option_map_or}
-use Rattle.output_slice.specs.Extraction.{Extract, IsExtract}
+use Rattle.output_slice.specs.Extraction.{Extract, IsExtract, LiesIn}
 use Rattle.output_slice.specs.Shown.{extract_of, shown_text}
 use Rattle.run_events.specs.ChildOutput.{IsLoaded}
 use Rattle.run_events.specs.ListedErrors.{ListedErrors}
@@ -78,6 +78,17 @@ IsSearched false output found = found ≡ None
 abbrev pub IsSliceOf : UnitKind → ChildExecutionOutputDescription LiveSpec ChildOutputDescription → Option Extract → Type 0
 IsSliceOf k (left.Output end output errors) found = IsSearched (is_failed_test k end) output found
 IsSliceOf k (left.StartError e) found = found ≡ None
+
+-- What was found is a part of the stream that it comes from.
+abbrev pub LiesInStreams : ChildOutputDescription → Extract → Type 0
+LiesInStreams (Split stdout stderr) x = LiesIn stdout stderr x
+LiesInStreams (Combined o) x = LiesIn (Some o) (Some o) x
+LiesInStreams NotLoaded x = ⊥
+
+-- The same of what a process left; one that was not started left no stream.
+abbrev pub LiesInOutput : ChildExecutionOutputDescription LiveSpec ChildOutputDescription → Extract → Type 0
+LiesInOutput (left.Output end output errors) x = LiesInStreams output x
+LiesInOutput (left.StartError e) x = ⊥
 
 -- The output of a failed test is loaded.
 abbrev pub CanDescribe : UnitKind → ChildExecutionOutputDescription LiveSpec ChildOutputDescription → Type 0

@@ -1,11 +1,11 @@
 //! What went wrong with a unit, a test or a setup script, from what its process left.
 
-ghost use Rattle.std.specs.Prelude.{◌≡◌, ◌++◌, ◌↔◌, [], IfOk, IsOk, IsTrue, OnOk, Option, map, option_map, option_to_list};
+ghost use Rattle.std.specs.Prelude.{◌≡◌, ◌++◌, ◌↔◌, [], IfOk, IfSome, IsOk, IsTrue, OnOk, Option, map, option_map, option_to_list};
 ghost use Rattle.std.specs.Option.{option_copied};
 ghost use Rattle.output_slice.specs.Extraction.{Extract};
 ghost use Rattle.output_slice.specs.Shown.{extract_of};
 ghost use Rattle.run_events.specs.Texts.{executing_text};
-ghost use Rattle.run_events.specs.UnitErrors.{CanDescribe, IsExtractOf, IsListOf, IsSliceOf, abort_error, aborts_in, all_errors, child_process_errors, child_process_of, error_seen, errors_of, exec_fail_errors, exec_fail_of, is_failed_test, kind_of, output_error, described_slice};
+ghost use Rattle.run_events.specs.UnitErrors.{CanDescribe, IsExtractOf, IsListOf, IsSliceOf, LiesInOutput, LiesInStreams, abort_error, aborts_in, all_errors, child_process_errors, child_process_of, error_seen, errors_of, exec_fail_errors, exec_fail_of, is_failed_test, kind_of, output_error, described_slice};
 ghost use Rattle.run_events.specs.ChildOutput.{IsLoaded};
 
 use crate::child::{
@@ -66,6 +66,7 @@ impl<'a> UnitErrorDescription<'a> {
 
         // Whatever is the slice equals the description's, so `None` says that there is none.
         ensures only { (found : Option Extract) → IsSliceOf kind output.now found → found ≡ described_slice result }
+        ensures part { IfSome (described_slice result) (LiesInOutput output.now) }
     {
         match output {
             ChildExecutionOutputDescription::StartError(error) => UnitErrorDescription {
@@ -216,6 +217,7 @@ fn extracted(output: &ChildOutputDescription) -> Option<TestOutputErrorSlice<'_>
     requires { IsLoaded output.now }
     ensures value { IsExtractOf output.now (option_map extract_of result) }
     ensures only { (found : Option Extract) → IsExtractOf output.now found → found ≡ option_map extract_of result }
+    ensures part { IfSome (option_map extract_of result) (LiesInStreams output.now) }
 {
     match output {
         ChildOutputDescription::Split { stdout, stderr } => {

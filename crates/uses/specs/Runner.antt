@@ -4,20 +4,33 @@ use Rattle.run_events.specs.Counters.{ScriptUnit, TestUnit, UnitView}
 use Rattle.run_events.specs.Described.{described_result}
 use Rattle.run_events.specs.TestView.{TestView, attempts_of, last_of, view_of}
 use Rattle.run_events.specs.declared.attempts.statuses.ExecutionStatuses.{ExecutionStatuses}
+use Rattle.run_events.specs.declared.child.ChildExecutionOutputDescription.{ChildExecutionOutputDescription}
+use Rattle.run_events.specs.declared.child.ChildExecutionOutputDescription.TheVariants as left
 use Rattle.run_events.specs.declared.child.LiveSpec.{LiveSpec}
 use Rattle.run_events.specs.declared.child.output.ChildOutputDescription.{ChildOutputDescription}
+use Rattle.run_events.specs.declared.child.output.ChildOutputDescription.TheVariants.{Combined, NotLoaded, Split}
 use Rattle.run_events.specs.declared.config.FlakyResult.{FlakyResult}
 use Rattle.run_events.specs.declared.events.ReporterEvent.{ReporterEvent}
 use Rattle.run_events.specs.declared.events.ReporterEvent.TheVariants as told
 use Rattle.run_events.specs.declared.events.kind.TestEventKind.{TestEventKind}
 use Rattle.run_events.specs.declared.events.kind.TestEventKind.TheVariants.{SetupScriptFinished, TestFinished}
 use Rattle.run_events.specs.declared.results.ExecutionResult.{ExecutionResult}
-use Rattle.uses.specs.Junit.{stderr_of}
 
 -- the view of a test of so many attempts, of which the last ended so
 abbrev pub view_of_attempts : ℕ → ExecutionResult → Bool → FlakyResult → TestView
 view_of_attempts attempts outcome slow setting =
     record { result = described_result outcome None; attempts = attempts; is_slow = slow; setting = setting }
+
+-- what was captured of standard error; both streams in one are taken as it
+abbrev pub stderr_in : ChildOutputDescription → Option (List ℕ)
+stderr_in (Split stdout stderr) = stderr
+stderr_in (Combined both) = Some both
+stderr_in NotLoaded = None
+
+-- the same of what a process left; one that was not started left nothing
+abbrev pub stderr_of : ChildExecutionOutputDescription LiveSpec ChildOutputDescription → Option (List ℕ)
+stderr_of (left.Output end output errors) = stderr_in output
+stderr_of (left.StartError e) = None
 
 -- what was captured of standard error of the last attempt
 abbrev pub last_stderr : ExecutionStatuses LiveSpec ChildOutputDescription → Option (List ℕ)

@@ -33,7 +33,6 @@ pub struct Displayer {
 impl Displayer {
     /// What is shown and stored of a test that has just finished, in a run that is cancelled for
     /// this reason, if it is.
-    #[tactic(auto, using(crate::proofs::DisplayerLemmas::has_final_level))]
     pub fn on_test_finished(
         &self,
         test: &ExecutionStatuses<LiveSpec>,

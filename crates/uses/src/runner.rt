@@ -6,8 +6,7 @@ ghost use Rattle.std.specs.List.{filter_map};
 ghost use Rattle.run_events.specs.Counters.{TestUnit, stats_of, unit_view};
 ghost use Rattle.run_events.specs.Described.{described_result};
 ghost use Rattle.run_events.specs.TestView.{view_of};
-ghost use Rattle.uses.specs.Junit.{stderr_of};
-ghost use Rattle.uses.specs.Runner.{last_stderr, told_name, told_unit, view_of_attempts};
+ghost use Rattle.uses.specs.Runner.{last_stderr, stderr_of, told_name, told_unit, view_of_attempts};
 
 use bytes::Bytes;
 use jiff::Timestamp;

@@ -23,8 +23,9 @@ pub struct EmptyStatuses;
 impl<S: OutputSpec> ExecutionStatuses<S> {
     ghost use Rattle.std.specs.Prelude.{◌≡◌, ◌↔◌, ◌<◌, [], IfOk, IsErr, Some, length, vec_len};
     ghost use Rattle.run_events.specs.Attempts.{attempts_left};
-    ghost use Rattle.run_events.specs.Description.{ComesTo, IsConsistent, described_final_level, described_level};
+    ghost use Rattle.run_events.specs.Description.{ComesTo, HasFinalLevel, IsConsistent, described_final_level, described_level, is_success_description};
     ghost use Rattle.run_events.specs.Level.{final_level_of, level_of};
+    ghost use Rattle.run_events.specs.Results.{succeeds};
     ghost use Rattle.run_events.specs.TestView.{attempts_of, last_of, setting_of, view_of};
 
     /// A test with these attempts, in order, of which there must be at least one.
@@ -93,6 +94,8 @@ impl<S: OutputSpec> ExecutionStatuses<S> {
     pub fn describe(&self) -> ExecutionDescription<'_, S>
         ensures parts { ComesTo (attempts_of self.now) (setting_of self.now) result }
         ensures consistent { IsConsistent result }
+        ensures has_final_level { HasFinalLevel result }
+        ensures success { is_success_description result ≡ succeeds (view_of self.now).result }
         ensures level { described_level result ≡ level_of (view_of self.now) }
         ensures final_level { described_final_level result ≡ final_level_of (view_of self.now) }
     {
