@@ -61,7 +61,7 @@ impl Trial {
     }
 
     /// The reads of the counted search, if all searches find the last taken head, and it with few
-    /// reads: at most four a byte and eight more.
+    /// reads: at most three a byte and eight more.
     pub(crate) fn reads(&self) -> Option<Reads> {
         let last = self.taken.last().copied();
         let mut source = CountedBytes::new(self.bytes.as_slice());
@@ -72,7 +72,7 @@ impl Trial {
         };
         if found == last
             && last_head(self.bytes.as_slice()) == last
-            && reads.count <= 4 * reads.bytes as u128 + 8
+            && reads.count <= 3 * reads.bytes as u128 + 8
         {
             Some(reads)
         } else {
