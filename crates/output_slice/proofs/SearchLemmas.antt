@@ -27,6 +27,7 @@ pub record WithReads (b : List ℕ) (old new place q : ℕ) : Type 0 where
   pub tail : ℕ
   pub far : tail + place ≤ before + 5
   pub near : tail + 2 * place ≤ 2 * before + 2
+  -- one read for each byte up to q, two more for each before the place, that tail, and what was read at q
   pub few : FewReads (q - place) (q + 1) seen (old + ((q + 1) + 2 * place + tail)) new
 
 -- an opening lies behind the tail that was read before it
@@ -40,11 +41,11 @@ before-opening b old new place q w far line = ⊎_elim
     (λ (none : w.before ≤ place). omega arith)
     (cases_lt place w.before)
 
--- more reads before are still few
+-- with more reads before, the same are still few
 few-more : (name at last old old' new : ℕ) → old ≤ old' → FewReads name at last old new → FewReads name at last old' new
 few-more name at last old old' new more few = ⊎_elim (λ f. let far = f.0 in let near = f.1 in inl (omega arith, omega arith)) (λ f. let exact = f.1 in inr (f.0, omega arith)) few
 
--- what is paid by q, with the reads of the word before q
+-- three reads for each byte up to q pay for all but the tail behind q, the word before q included
 pub few-paid : (b : List ℕ) (old new place q word : ℕ) → (w : WithReads b old new place q) → word ≤ 8 → (0 < word → place + 7 ≤ q) → (1 < word → IsLineStart b (q - 7))
     → (tail : ℕ) × (tail + (q + 1) ≤ w.seen + 5) × (tail + 2 * (q + 1) ≤ 2 * w.seen + 2) × (new + word ≤ old + (3 * (q + 1) + tail))
 few-paid b old new place q word w short opened line =

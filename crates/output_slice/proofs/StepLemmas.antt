@@ -1,12 +1,12 @@
 -- What the steps of the counted search find.
-use Rattle.std.proofs.Common.{◌≡◌, ◌≢◌, ℕ, ◌+◌, ◌-◌, ◌<◌, ◌≤◌, List, length, get_or, sym, ap, subst, ◌∙◌, arith, ⊎_elim, inl, inr}
-use Rattle.std.specs.Prelude.{codes, Option, Some, None, IfSome}
+use Rattle.std.proofs.Common.{◌≡◌, ◌≢◌, ℕ, ◌+◌, ◌-◌, ◌<◌, ◌≤◌, List, length, get_or, sym, ap, subst, ◌∙◌, arith, ⊎_elim}
+use Rattle.std.specs.Prelude.{codes, Option, Some, None}
 use Rattle.std.proofs.lemmas.Bool.{cases_lt}
 use Rattle.std.proofs.lemmas.List.Elements.{All-from_get_or}
 use Rattle.bstr.specs.Find.{OccursAt}
 use Rattle.bstr.specs.Text.{part}
 use Rattle.output_slice.specs.Head.{IsLineStart, IsName, IsTail, IsHead}
-use Rattle.output_slice.specs.Steps.{IsTailEnd, ReadsUpTo, HeadReadsTo, IsHeadEnd, IsHeadStop, IsNextQuote, NoQuoteBetween}
+use Rattle.output_slice.specs.Steps.{IsTailEnd, IsHeadEnd, IsHeadStop, IsNextQuote, NoQuoteBetween}
 use Rattle.std.specs.Str.{IsUtf8}
 use Rattle.output_slice.proofs.OccursLemmas.{occurs-byte, occurs-front, occurs-both}
 use Rattle.output_slice.proofs.CharLemmas.{length-part, get_or-part}
@@ -25,21 +25,6 @@ name-from b i j low high utf8 quiet =
 pub IsHeadEnd-name : (b : List ℕ) (quote close : ℕ) (found : Option ℕ) → IsName (part (quote + 1) close b) → IsTailEnd b (close + 1) found → IsHeadEnd b quote close found
 IsHeadEnd-name b quote close None name h = λ e high n. h e high
 IsHeadEnd-name b quote close (Some e) name h = (h.0, name, h.1)
-
--- the reads of a tail that does not stand there
-pub HeadReadsTo-none : (b : List ℕ) (quote old new close : ℕ) → ReadsUpTo b (close + 1) old new None → HeadReadsTo b quote old new close None
-HeadReadsTo-none b quote old new close r =
-    record { last = r.last; low = omega (arith, r.low); high = r.high; quiet = r.quiet; one_line = r.one_line; few = inl (r.far, r.near); before = tt }
-
--- the reads of a tail that stands there, and of the name
-pub HeadReadsTo-some : (b : List ℕ) (quote old mid new close e : ℕ) (found : Option ℕ) → ReadsUpTo b (close + 1) old mid (Some e)
-    → new ≤ mid + (close - (quote + 1)) → IfSome found (λ f. f ≡ e) → HeadReadsTo b quote old new close found
-HeadReadsTo-some b quote old mid new close e found r name is =
-    let whole = r.before.1 in let tail = r.before.2 in
-    record { last = r.last; low = omega (arith, r.low); high = r.high; quiet = r.quiet; one_line = r.one_line; few = inr (omega arith, omega arith); before = before found is } where
-      before : (f : Option ℕ) → IfSome f (λ g. g ≡ e) → IfSome f (λ g. (r.last ≤ g) × (close + 14 ≤ r.last))
-      before None same = tt
-      before (Some g) same = (omega (arith, r.before.0), omega (arith, r.before.1))
 
 -- the closing quote of a head is the next one
 closing-same : (b : List ℕ) (s e q close : ℕ) → s + 7 ≡ q → (h : IsHead b s e) → get_or b close 0 ≡ 39 → q + 1 ≤ close → NoQuoteBetween b (q + 1) close → h.quote ≡ close

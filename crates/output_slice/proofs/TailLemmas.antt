@@ -187,11 +187,7 @@ found-joined : (b : List ℕ) (at : ℕ) (found : Option ℕ) → OccursAt b (co
 found-joined b at None space f = λ h. f (occurs-back b (codes " ") (codes "panicked at ") at h)
 found-joined b at (Some e) space f = (occurs-both b (codes " ") (codes "panicked at ") at space f.0, omega (arith, f.1))
 
--- the four ways in which the search for a tail ends
-pub IsTailEnd-closed : (b : List ℕ) (at : ℕ) → (OccursAt b (codes " ") at → ⊥) → IsTailEnd b at None
-IsTailEnd-closed b at none = λ e high tail. ⊎_elim (λ p. none (occurs-front b (codes " ") (codes "panicked at ") at p.0))
-    (λ q. none (occurs-front b (codes " ") (codes "(") at q.opens)) (tail_cases b at e high tail)
-
+-- the ways in which the search for a tail ends
 pub IsTailEnd-plain : (b : List ℕ) (at : ℕ) (found : Option ℕ) → (OccursAt b (codes " (") at → ⊥) → Found b (codes " panicked at ") at found → IsTailEnd b at found
 IsTailEnd-plain b at None none h = λ e high tail. ⊎_elim (λ p. h p.0) (λ q. none q.opens) (tail_cases b at e high tail)
 IsTailEnd-plain b at (Some e) none h = subst (λ i. (i ≤ length b) × IsTail (part at i b)) (sym h.1) (IsTail-plain b at h.0)
@@ -228,19 +224,6 @@ text-read b text at old new (Some e) r f = (length text, agrees b text at f.0, o
 if_some : (P Q : ℕ → Type 0) (found : Option ℕ) → ((e : ℕ) → P e → Q e) → IfSome found P → IfSome found Q
 if_some P Q None f h = tt
 if_some P Q (Some e) f h = f e h
-
--- how far is read where no space stands
-pub ReadsUpTo-closed : (b : List ℕ) (at k old new : ℕ) → at ≤ length b → k < 1 → new ≤ old + k + 1 → ReadsUpTo b at old new None
-ReadsUpTo-closed b at k old new high one few = record {
-  last = at;
-  low = omega arith;
-  high = high;
-  quiet = λ i low up is. omega arith;
-  one_line = λ i low up is. omega arith;
-  far = omega arith;
-  near = omega arith;
-  before = tt;
-}
 
 -- how far a plain tail is read
 pub ReadsUpTo-plain : (b : List ℕ) (at k old one two new : ℕ) (found : Option ℕ) → OccursAt b (codes " ") at → one ≤ old + 1 → k < 1 → two ≤ one + k + 1
@@ -285,19 +268,4 @@ ReadsUpTo-numbered b at close old mid mid' new found opens few digits some few' 
           (λ e h. let here = h.0 in let all = h.1 in let exact = h.2 in
           let paren : get_or b close 0 ≡ 41 = ap (λ i. get_or b i 0) (sym (add-zero close)) ∙ t.1.reads 0 (omega arith) in
           let one = ascii (omega arith) in (omega arith, omega arith, omega arith)) t.3;
-    }
-
--- how far is read where no digit stands
-pub ReadsUpTo-none : (b : List ℕ) (at close old mid new : ℕ) → close ≤ length b → OccursAt b (codes " (") at → mid ≤ old + 2
-    → AreDigits b (at + 2) close → close ≡ at + 2 → new + (at + 2) ≤ mid + close + 4 → ReadsUpTo b at old new None
-ReadsUpTo-none b at close old mid new high opens few digits is few' =
-    let none : AgreesFor b [] close 0 = record { short = omega arith; reads = λ j l. absurd (omega arith); fits = omega arith } in record {
-      last = close;
-      low = omega arith;
-      high = high;
-      quiet = subst (NoByteBetween 39 b at) (add-zero close) (numbered-without 39 (omega arith) (omega arith) b [] at close 0 opens refl digits none refl);
-      one_line = subst (NoByteBetween 10 b at) (add-zero close) (numbered-without 10 (omega arith) (omega arith) b [] at close 0 opens refl digits none refl);
-      far = omega arith;
-      near = omega arith;
-      before = tt;
     }

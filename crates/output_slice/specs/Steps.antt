@@ -61,7 +61,7 @@ pub record ReadsUpTo (b : List ℕ) (at old new : ℕ) (found : Option ℕ) : Ty
   pub near : new + 2 * at ≤ old + 2 * last + 2
   pub before : IfSome found (λ e. (last ≤ e) × (at + 13 ≤ last) × (new + at ≤ old + last + 1))
 
--- No tail stands at `at`, and it was read up to `last`; or one stands, and a name of this size may have been read too.
+-- Few reads: of a tail from `at` up to `last` that may not be whole, or of one that is whole and of a name of this size.
 abbrev pub FewReads : ℕ → ℕ → ℕ → ℕ → ℕ → Type 0
 FewReads name at last old new = ((new + at ≤ old + last + 5) × (new + 2 * at ≤ old + 2 * last + 2))
     ⊎ ((at + 13 ≤ last) × (new + at ≤ old + last + name + 1))

@@ -63,6 +63,7 @@ fn head_end<S: ByteSource>(source: &mut S, quote: usize, close: usize) -> Option
     if quote + 1 == close {
         return None;
     }
+    // The tail comes first: a name is then read only where a tail stands behind it.
     let Some(stop) = tail_end(source, close + 1) else {
         return None;
     };

@@ -44,6 +44,7 @@ pub(crate) fn opens<S: ByteSource>(source: &mut S, place: usize, quote: usize) -
         return false;
     }
     let start = quote - WORD_SIZE;
+    // The line start comes first: the word is then read only where a line starts.
     if start > 0 && source.byte(start - 1) != b'\n' {
         return false;
     }

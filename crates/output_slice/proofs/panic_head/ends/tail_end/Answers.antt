@@ -1,16 +1,8 @@
 use Rattle.std.proofs.Common.{◌≡◌, ◌+◌, sym, ◌∙◌, arith}
 use Rattle.std.specs.Prelude.{codes}
 use Rattle.output_slice.proofs.OccursLemmas.{occurs-both}
-use Rattle.output_slice.proofs.TailLemmas.{IsTailEnd-closed, IsTailEnd-split, IsTailEnd-none, IsTailEnd-numbered, ReadsUpTo-closed, ReadsUpTo-plain, ReadsUpTo-none, ReadsUpTo-numbered}
+use Rattle.output_slice.proofs.TailLemmas.{IsTailEnd-split, IsTailEnd-none, IsTailEnd-numbered, ReadsUpTo-plain, ReadsUpTo-numbered}
 use Rattle.output_slice.proofs.panic_head.ends.tail_end.Goals as goal
-
-pub returns-in_default-clause-value : goal.returns-in_default-clause-value
-returns-in_default-clause-value g c = IsTailEnd-closed _ c.args.at c.in_default.ensures.value
-
-pub returns-in_default-clause-reads : goal.returns-in_default-clause-reads
-returns-in_default-clause-reads g c =
-    let r = c.in_default.ensures.reads in
-    ReadsUpTo-closed _ c.args.at r.0 _ _ c.requires.within r.1 r.3
 
 pub returns-in_default-end_of_text-clause-value : goal.returns-in_default-end_of_text-clause-value
 returns-in_default-end_of_text-clause-value g c =
@@ -37,18 +29,6 @@ returns-then-close-number-clause-value g c =
     let same = c.end_of_text-2.ensures.same ∙ c.end_of_text.ensures.same in
     let run = rw two at rw same at c.digits_end-close.ensures.run in
     IsTailEnd-none _ c.args.at c.digits_end-close.result (occurs-both _ (codes " ") (codes "(") c.args.at s.0 p.0) run (omega (arith, two))
-
-pub returns-then-close-number-clause-reads : goal.returns-then-close-number-clause-reads
-returns-then-close-number-clause-reads g c =
-    let s = c.in-Some.ensures.value in
-    let p = rw s.1 at rw c.end_of_text.ensures.same at c.in-Some-end_of_text.ensures.value in
-    let two : c.in-Some-end_of_text.number ≡ c.args.at + 2 = omega (arith, p.1) in
-    let same = c.end_of_text-2.ensures.same ∙ c.end_of_text.ensures.same in
-    let run = rw two at rw same at c.digits_end-close.ensures.run in
-    let within = rw same at c.digits_end-close.ensures.within in
-    let few = c.in-Some-end_of_text.ensures.reads in
-    let few' = c.in-Some.ensures.reads in
-    ReadsUpTo-none _ c.args.at c.digits_end-close.result _ _ _ within (occurs-both _ (codes " ") (codes "(") c.args.at s.0 p.0) (omega arith) run.digits (omega (arith, two)) (rw two at c.digits_end-close.ensures.reads)
 
 pub returns-clause-value : goal.returns-clause-value
 returns-clause-value g c =
