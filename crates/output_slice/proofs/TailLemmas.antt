@@ -182,10 +182,20 @@ Found b text at found = MatchOption found (OccursAt b text at → ⊥) (λ e. Oc
 plain_numbered : (b : List ℕ) (at : ℕ) → OccursAt b (codes " panicked at ") at → OccursAt b (codes " (") at → ⊥
 plain_numbered b at p q = omega (arith, p.reads 1 (omega arith), q.reads 1 (omega arith))
 
--- the three ways in which the search for a tail ends
+-- a space, and what is found behind it
+found-joined : (b : List ℕ) (at : ℕ) (found : Option ℕ) → OccursAt b (codes " ") at → Found b (codes "panicked at ") (at + 1) found → Found b (codes " panicked at ") at found
+found-joined b at None space f = λ h. f (occurs-back b (codes " ") (codes "panicked at ") at h)
+found-joined b at (Some e) space f = (occurs-both b (codes " ") (codes "panicked at ") at space f.0, omega (arith, f.1))
+
+-- the ways in which the search for a tail ends
 pub IsTailEnd-plain : (b : List ℕ) (at : ℕ) (found : Option ℕ) → (OccursAt b (codes " (") at → ⊥) → Found b (codes " panicked at ") at found → IsTailEnd b at found
 IsTailEnd-plain b at None none h = λ e high tail. ⊎_elim (λ p. h p.0) (λ q. none q.opens) (tail_cases b at e high tail)
 IsTailEnd-plain b at (Some e) none h = subst (λ i. (i ≤ length b) × IsTail (part at i b)) (sym h.1) (IsTail-plain b at h.0)
+
+-- a plain tail in two parts
+pub IsTailEnd-split : (b : List ℕ) (at : ℕ) (found : Option ℕ) → OccursAt b (codes " ") at → (OccursAt b (codes "(") (at + 1) → ⊥) → Found b (codes "panicked at ") (at + 1) found → IsTailEnd b at found
+IsTailEnd-split b at found space none f =
+    IsTailEnd-plain b at found (λ h. none (occurs-back b (codes " ") (codes "(") at h)) (found-joined b at found space f)
 
 -- no tail stands where no digit stands between the parentheses
 pub IsTailEnd-none : (b : List ℕ) (at close : ℕ) → OccursAt b (codes " (") at → IsDigitRun b (at + 2) close → close ≡ at + 2 → IsTailEnd b at None
@@ -202,50 +212,60 @@ IsTailEnd-numbered b at close (Some e) opens run is h =
     IsTail-numbered b at e (record { close = close; opens = opens; run = run; some = omega arith; closes = h.0; ends = h.1 })
 
 -- and their reads
-before_end : (b text : List ℕ) (at k : ℕ) (found : Option ℕ) → AgreesFor b text at k → Found b text at found → IfSome found (λ e. at + k ≤ e)
-before_end b text at k None h f = tt
-before_end b text at k (Some e) h f = let short = h.short in omega (arith, f.1)
+-- how far a text is read that is found, or is not
+abbrev pub TextReads : List ℕ → List ℕ → ℕ → ℕ → ℕ → Option ℕ → Type 0
+TextReads b text at old new found = MatchOption found ((k : ℕ) × (k < length text) × AgreesFor b text at k × (new ≤ old + k + 1)) (λ e. new ≤ old + length text)
+
+text-read : (b text : List ℕ) (at old new : ℕ) (found : Option ℕ) → TextReads b text at old new found → Found b text at found
+    → (k : ℕ) × AgreesFor b text at k × (new ≤ old + k + 1) × IfSome found (λ e. (e ≡ at + k) × (k ≡ length text) × (new ≤ old + k))
+text-read b text at old new None r f = (r.0, r.2, r.3, tt)
+text-read b text at old new (Some e) r f = (length text, agrees b text at f.0, omega (arith, r), (f.1, refl, r))
+
+if_some : (P Q : ℕ → Type 0) (found : Option ℕ) → ((e : ℕ) → P e → Q e) → IfSome found P → IfSome found Q
+if_some P Q None f h = tt
+if_some P Q (Some e) f h = f e h
 
 -- how far a plain tail is read
-pub ReadsUpTo-plain : (b : List ℕ) (at k l old mid new : ℕ) (found : Option ℕ) → AgreesFor b (codes " (") at k → mid ≤ old + k + 1
-    → AgreesFor b (codes " panicked at ") at l → new ≤ mid + l + 1 → Found b (codes " panicked at ") at found → ReadsUpTo b at old new found
-ReadsUpTo-plain b at k l old mid new found h few h' few' f =
-    let short = h.short in let fits = h'.fits in record {
-      last = at + l;
+pub ReadsUpTo-plain : (b : List ℕ) (at k old one two new : ℕ) (found : Option ℕ) → OccursAt b (codes " ") at → one ≤ old + 1 → k < 1 → two ≤ one + k + 1
+    → TextReads b (codes "panicked at ") (at + 1) two new found → Found b (codes "panicked at ") (at + 1) found → ReadsUpTo b at old new found
+ReadsUpTo-plain b at k old one two new found space few none few' r f =
+    let t = text-read b (codes "panicked at ") (at + 1) two new found r f in
+    let more = t.2 in
+    let last = at + 1 + t.0 in record {
+      last = last;
       low = omega arith;
-      high = fits;
-      quiet = AgreesFor-without 39 (omega arith) (omega arith) b (codes " panicked at ") at l h' refl;
-      one_line = AgreesFor-without 10 (omega arith) (omega arith) b (codes " panicked at ") at l h' refl;
-      few = omega arith;
-      before = before_end b (codes " panicked at ") at l found h' f;
-    }
+      high = t.1.fits;
+      quiet = plain-without 39 (omega arith) (omega arith) refl refl t.0 t.1;
+      one_line = plain-without 10 (omega arith) (omega arith) refl refl t.0 t.1;
+      far = omega arith;
+      near = omega arith;
+      before = if_some (λ e. (e ≡ at + 1 + t.0) × (t.0 ≡ 12) × (new ≤ two + t.0)) (λ e. (last ≤ e) × (at + 13 ≤ last) × (new + at ≤ old + last + 1)) found
+          (λ e h. let here = h.0 in let all = h.1 in let exact = h.2 in (omega arith, omega arith, omega arith)) t.3;
+    } where
+      plain-without : (x : ℕ) (some : 0 < x) (small : x < 48) → list_all (λ y. not (y == x)) (codes " ") ≡ true → list_all (λ y. not (y == x)) (codes "panicked at ") ≡ true
+          → (l : ℕ) → AgreesFor b (codes "panicked at ") (at + 1) l → NoByteBetween x b at (at + 1 + l)
+      plain-without x some small first second l h =
+          without-join x some small b at (at + 1) (at + 1 + l) (AgreesFor-without x some small b (codes " ") at 1 (agrees b (codes " ") at space) first)
+          (AgreesFor-without x some small b (codes "panicked at ") (at + 1) l h second)
 
 -- how far a numbered tail is read
-pub ReadsUpTo-numbered : (b : List ℕ) (at close k l old mid mid' new : ℕ) (found : Option ℕ) → OccursAt b (codes " (") at → AgreesFor b (codes " (") at k → mid ≤ old + k + 1
-    → AreDigits b (at + 2) close → mid' + (at + 2) ≤ mid + close + 4
-    → AgreesFor b (codes ") panicked at ") close l → new ≤ mid' + l + 1 → Found b (codes ") panicked at ") close found → ReadsUpTo b at old new found
-ReadsUpTo-numbered b at close k l old mid mid' new found opens h few digits few' h' few'' f =
-    let short = h.short in let fits = h'.fits in let ends = digits.ends in record {
-      last = close + l;
+pub ReadsUpTo-numbered : (b : List ℕ) (at close old mid mid' new : ℕ) (found : Option ℕ) → OccursAt b (codes " (") at → mid ≤ old + 2
+    → AreDigits b (at + 2) close → (close ≡ at + 2 → ⊥) → mid' + (at + 2) ≤ mid + close + 4 → (get_or b close 0 < 128 → mid' + (at + 2) ≤ mid + close + 1)
+    → TextReads b (codes ") panicked at ") close mid' new found → Found b (codes ") panicked at ") close found → ReadsUpTo b at old new found
+ReadsUpTo-numbered b at close old mid mid' new found opens few digits some few' ascii r f =
+    let t = text-read b (codes ") panicked at ") close mid' new found r f in
+    let more = t.2 in let ends = digits.ends in
+    let long : at + 3 ≤ close = omega arith in
+    let last = close + t.0 in record {
+      last = last;
       low = omega arith;
-      high = fits;
-      quiet = numbered-without 39 (omega arith) (omega arith) b (codes ") panicked at ") at close l opens refl digits h' refl;
-      one_line = numbered-without 10 (omega arith) (omega arith) b (codes ") panicked at ") at close l opens refl digits h' refl;
-      few = omega arith;
-      before = before_end b (codes ") panicked at ") close l found h' f;
-    }
-
--- how far is read where no digit stands
-pub ReadsUpTo-none : (b : List ℕ) (at close k old mid new : ℕ) → close ≤ length b → OccursAt b (codes " (") at → AgreesFor b (codes " (") at k → mid ≤ old + k + 1
-    → AreDigits b (at + 2) close → new + (at + 2) ≤ mid + close + 4 → ReadsUpTo b at old new None
-ReadsUpTo-none b at close k old mid new high opens h few digits few' =
-    let none : AgreesFor b [] close 0 = record { short = omega arith; reads = λ j l. absurd (omega arith); fits = omega arith } in
-    let short = h.short in let ends = digits.ends in record {
-      last = close;
-      low = omega arith;
-      high = high;
-      quiet = subst (NoByteBetween 39 b at) (add-zero close) (numbered-without 39 (omega arith) (omega arith) b [] at close 0 opens refl digits none refl);
-      one_line = subst (NoByteBetween 10 b at) (add-zero close) (numbered-without 10 (omega arith) (omega arith) b [] at close 0 opens refl digits none refl);
-      few = omega arith;
-      before = tt;
+      high = t.1.fits;
+      quiet = numbered-without 39 (omega arith) (omega arith) b (codes ") panicked at ") at close t.0 opens refl digits t.1 refl;
+      one_line = numbered-without 10 (omega arith) (omega arith) b (codes ") panicked at ") at close t.0 opens refl digits t.1 refl;
+      far = omega arith;
+      near = omega arith;
+      before = if_some (λ e. (e ≡ close + t.0) × (t.0 ≡ 14) × (new ≤ mid' + t.0)) (λ e. (last ≤ e) × (at + 13 ≤ last) × (new + at ≤ old + last + 1)) found
+          (λ e h. let here = h.0 in let all = h.1 in let exact = h.2 in
+          let paren : get_or b close 0 ≡ 41 = ap (λ i. get_or b i 0) (sym (add-zero close)) ∙ t.1.reads 0 (omega arith) in
+          let one = ascii (omega arith) in (omega arith, omega arith, omega arith)) t.3;
     }

@@ -1,5 +1,5 @@
 -- What the steps of the counted search find, and how far they read.
-use Rattle.std.specs.Prelude.{◌≡◌, ◌≢◌, ℕ, ◌+◌, ◌-◌, ◌<◌, ◌≤◌, List, length, slice_index, All, Option, MatchOption, IfSome}
+use Rattle.std.specs.Prelude.{◌≡◌, ◌≢◌, ℕ, ◌+◌, ◌-◌, ◌*◌, ◌<◌, ◌≤◌, ◌⊎◌, List, length, slice_index, All, Option, MatchOption, IfSome}
 use Rattle.std.specs.Char.{encode_utf8, IsScalar}
 use Rattle.std.specs.Str.{encode_utf8_all}
 use Rattle.bstr.specs.Text.{part}
@@ -50,15 +50,21 @@ pub record IsDigitRun (b : List ℕ) (from to : ℕ) : Type 0 where
 abbrev pub IsTailEnd : List ℕ → ℕ → Option ℕ → Type 0
 IsTailEnd b at found = MatchOption found ((e : ℕ) → e ≤ length b → ¬ IsTail (part at e b)) (λ e. (e ≤ length b) × IsTail (part at e b))
 
--- The reads went up to a place on the line of `at`, before which there is no quote, and not past what was found.
+-- The reads of a tail went up to a place on the line of `at`, before which there is no quote, and not past what was found.
 pub record ReadsUpTo (b : List ℕ) (at old new : ℕ) (found : Option ℕ) : Type 0 where
   pub last : ℕ
   pub low : at ≤ last
   pub high : last ≤ length b
   pub quiet : NoQuoteBetween b at last
   pub one_line : NoFeedBetween b at last
-  pub few : new + at ≤ old + last + 6
-  pub before : IfSome found (λ e. last ≤ e)
+  pub far : new + at ≤ old + last + 5
+  pub near : new + 2 * at ≤ old + 2 * last + 2
+  pub before : IfSome found (λ e. (last ≤ e) × (at + 13 ≤ last) × (new + at ≤ old + last + 1))
+
+-- Few reads: of a tail from `at` up to `last` that may not be whole, or of one that is whole and of a name of this size.
+abbrev pub FewReads : ℕ → ℕ → ℕ → ℕ → ℕ → Type 0
+FewReads name at last old new = ((new + at ≤ old + last + 5) × (new + 2 * at ≤ old + 2 * last + 2))
+    ⊎ ((at + 13 ≤ last) × (new + at ≤ old + last + name + 1))
 
 -- What is found is where the head ends whose name stands between the quotes at `quote` and `close`.
 abbrev pub IsHeadEnd : List ℕ → ℕ → ℕ → Option ℕ → Type 0
@@ -73,15 +79,15 @@ IsHeadStop b place quote found = MatchOption found
     (λ e. (place + 7 ≤ quote) × IsHead b (quote - 7) e)
 
 -- The reads went up to a place on the line of `close`, before which there is no quote behind `close`, and not past what was found.
-pub record HeadReadsTo (b : List ℕ) (place old new close : ℕ) (found : Option ℕ) : Type 0 where
+pub record HeadReadsTo (b : List ℕ) (quote old new close : ℕ) (found : Option ℕ) : Type 0 where
   pub last : ℕ
   pub low : close < last
   pub high : last ≤ length b
   pub quiet : NoQuoteBetween b (close + 1) last
   pub one_line : NoFeedBetween b (close + 1) last
-  pub few : new + place ≤ old + last + 6
-  pub before : IfSome found (λ e. last ≤ e)
+  pub few : FewReads (close - (quote + 1)) (close + 1) last old new
+  pub before : IfSome found (λ e. (last ≤ e) × (close + 14 ≤ last))
 
--- The same where there is a next quote, and no read at all where there is none.
+-- The same beside eight reads before the quote, where there is a next quote, and no read at all where there is none.
 abbrev pub HeadReads : List ℕ → ℕ → ℕ → ℕ → Option ℕ → Option ℕ → Type 0
-HeadReads b place old new close found = MatchOption close (new ≡ old) (λ c. HeadReadsTo b place old new c found)
+HeadReads b quote old new close found = MatchOption close (new ≡ old) (λ c. HeadReadsTo b quote (old + 8) new c found)

@@ -2,8 +2,9 @@
 //!
 //! Standard input is a list of outputs, one a line, in hex. Each is tried with every byte replaced
 //! in turn by a quote, a line feed, a byte 0xFF and a space. An output on which the searches do not
-//! agree, or that is no hex, is printed with its number; then comes how many inputs were tried. The
-//! exit status is 0 where all agree, and else 1.
+//! agree, or that is no hex, is printed with its number; then come how many inputs were tried, and
+//! the most reads of the counted search: those where (reads - 8) / bytes is greatest. The exit status
+//! is 0 where all agree, and else 1.
 #![tactic(auto)]
 
 use crate::damage::{Met, disagreement};
@@ -46,6 +47,8 @@ fn main(rt: HostRuntime) -> io::Result<ExitCode> {
     println!(rt; "no head: {} inputs", met.no_head)?;
     println!(rt; "one taken head: {} inputs", met.one_taken)?;
     println!(rt; "more taken heads: {} inputs", met.more_taken)?;
+    let most = met.most_reads;
+    println!(rt; "most reads: {} of {} bytes", most.count, most.bytes)?;
     if all_agree {
         Ok(ExitCode::SUCCESS)
     } else {

@@ -6,6 +6,30 @@ use output_slice::last_head::last_head;
 use output_slice::panic_head::{HeadSpan, last_panic_head};
 use std::alloc::{AllocError, Global};
 
+/// How many reads a search made, and of how many bytes.
+#[derive(Clone, Copy, Debug)]
+pub(crate) struct Reads {
+    pub(crate) count: u128,
+    pub(crate) bytes: usize,
+}
+
+impl Reads {
+    /// No reads of no bytes: all others exceed these.
+    pub(crate) const NONE: Reads = Reads { count: 0, bytes: 0 };
+
+    /// Whether (count - 8) / bytes is greater here than there: the products are compared.
+    pub(crate) fn exceed(self, other: Reads) -> bool {
+        self.beside(other) > other.beside(self)
+    }
+
+    /// `count * other.bytes + 8 * bytes`, which is exact below 2^60 bytes.
+    fn beside(self, other: Reads) -> u128 {
+        self.count
+            .saturating_mul(other.bytes as u128)
+            .saturating_add(8 * self.bytes as u128)
+    }
+}
+
 /// Room for one input and its heads, used again for the next.
 #[derive(Drop)]
 pub(crate) struct Trial {
@@ -36,14 +60,28 @@ impl Trial {
         self.list()
     }
 
-    /// Whether all searches find the last taken head, and the counted one with few reads: at most
-    /// four a byte and eight more.
-    pub(crate) fn agrees(&self) -> bool {
+    /// The reads of the counted search, if all searches find the last taken head, and it with few
+    /// reads: at most three a byte and eight more.
+    pub(crate) fn reads(&self) -> Option<Reads> {
         let last = self.taken.last().copied();
         let mut source = CountedBytes::new(self.bytes.as_slice());
         let found = last_panic_head(&mut source);
-        found == last
+        let reads = Reads {
+            count: source.reads(),
+            bytes: self.bytes.len(),
+        };
+        if found == last
             && last_head(self.bytes.as_slice()) == last
-            && source.reads() <= 4 * self.bytes.len() as u128 + 8
+            && reads.count <= 3 * reads.bytes as u128 + 8
+        {
+            Some(reads)
+        } else {
+            None
+        }
+    }
+
+    /// Whether all searches find the last taken head, and the counted one with few reads.
+    pub(crate) fn agrees(&self) -> bool {
+        self.reads().is_some()
     }
 }

@@ -2,7 +2,7 @@
 ghost use Rattle.std.specs.Prelude.{◌≡◌, ◌≤◌, ◌+◌, ◌-◌, ◌*◌, ◌<◌, ◌^◌, ℕ, length, slice_index, IfSome, MatchOption};
 ghost use Rattle.bstr.specs.Find.{OccursAt};
 ghost use Rattle.output_slice.specs.Head.{IsLineStart};
-ghost use Rattle.output_slice.specs.Steps.{IsNextQuote, AgreesFor, IsTailEnd, ReadsUpTo, NoQuoteBetween, IsHeadEnd, IsHeadStop, HeadReads};
+ghost use Rattle.output_slice.specs.Steps.{IsNextQuote, AgreesFor, IsTailEnd, ReadsUpTo, NoQuoteBetween, IsHeadEnd, IsHeadStop, HeadReadsTo, HeadReads};
 
 use crate::byte_source::ByteSource;
 use crate::panic_head::characters::{digits_end, is_utf8_between};
@@ -13,7 +13,7 @@ fn end_of_text<S: ByteSource>(source: &mut S, at: usize, text: &[u8]) -> Option<
     requires room { S.count source.old + length (S.bytes source.old) < 2 ^ 128 + at }
     requires within { at ≤ length (S.bytes source.old) }
     ensures value { MatchOption result (¬ (OccursAt (S.bytes source.old) text.now at)) (λ e. OccursAt (S.bytes source.old) text.now at × (e ≡ at + length text.now)) }
-    ensures reads { (k : ℕ) × AgreesFor (S.bytes source.old) text.now at k × (S.count source.new ≤ S.count source.old + k + 1) }
+    ensures reads { MatchOption result ((k : ℕ) × (k < length text.now) × AgreesFor (S.bytes source.old) text.now at k × (S.count source.new ≤ S.count source.old + k + 1)) (λ e. S.count source.new ≤ S.count source.old + length text.now) }
     ensures same { S.bytes source.new ≡ S.bytes source.old }
 {
     let end = source.len();
@@ -36,8 +36,11 @@ fn tail_end<S: ByteSource>(source: &mut S, at: usize) -> Option<usize>
     ensures reads { ReadsUpTo (S.bytes source.old) at (S.count source.old) (S.count source.new) result }
     ensures same { S.bytes source.new ≡ S.bytes source.old }
 {
-    let Some(number) = end_of_text(source, at, b" (") else {
-        return end_of_text(source, at, b" panicked at ");
+    let Some(space) = end_of_text(source, at, b" ") else {
+        return None;
+    };
+    let Some(number) = end_of_text(source, space, b"(") else {
+        return end_of_text(source, space, b"panicked at ");
     };
     let close = digits_end(source, number);
     if close == number {
@@ -54,13 +57,20 @@ fn head_end<S: ByteSource>(source: &mut S, quote: usize, close: usize) -> Option
     requires quiet { NoQuoteBetween (S.bytes source.old) (quote + 1) close }
     requires room { S.count source.old + 2 * length (S.bytes source.old) + 6 < 2 ^ 128 + 2 * quote }
     ensures value { IsHeadEnd (S.bytes source.old) quote close result }
-    ensures reads { ReadsUpTo (S.bytes source.old) (close + 1) (S.count source.old + (close - quote)) (S.count source.new) result }
+    ensures reads { HeadReadsTo (S.bytes source.old) quote (S.count source.old) (S.count source.new) close result }
     ensures same { S.bytes source.new ≡ S.bytes source.old }
 {
-    if quote + 1 == close || !is_utf8_between(source, quote + 1, close) {
+    if quote + 1 == close {
         return None;
     }
-    tail_end(source, close + 1)
+    // The tail comes first: a name is then read only where a tail stands behind it.
+    let Some(stop) = tail_end(source, close + 1) else {
+        return None;
+    };
+    if !is_utf8_between(source, quote + 1, close) {
+        return None;
+    }
+    Some(stop)
 }
 
 /// Where the head ends that `quote` opens, at `place` or after it. The next quote is at `close`.
@@ -78,8 +88,8 @@ pub(crate) fn head_stop<S: ByteSource>(
     requires room { S.count source.old + 2 * length (S.bytes source.old) < 2 ^ 128 + 2 * place }
     ensures value { IsHeadStop (S.bytes source.old) place quote result }
     ensures opened { S.count source.old < S.count source.new → place + 7 ≤ quote }
-    ensures line { S.count source.old + 8 < S.count source.new → IsLineStart (S.bytes source.old) (quote - 7) }
-    ensures reads { HeadReads (S.bytes source.old) place (S.count source.old) (S.count source.new) close result }
+    ensures line { S.count source.old + 1 < S.count source.new → IsLineStart (S.bytes source.old) (quote - 7) }
+    ensures reads { HeadReads (S.bytes source.old) quote (S.count source.old) (S.count source.new) close result }
     ensures same { S.bytes source.new ≡ S.bytes source.old }
 {
     let Some(close) = close else {

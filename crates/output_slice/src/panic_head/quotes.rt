@@ -36,6 +36,7 @@ pub(crate) fn opens<S: ByteSource>(source: &mut S, place: usize, quote: usize) -
     requires room { place + 7 ≤ quote → S.count source.old + 8 < 2 ^ 128 }
     ensures value { IsTrue result ↔ ((place + 7 ≤ quote) × IsLineStart (S.bytes source.old) (quote - 7) × OccursAt (S.bytes source.old) (codes "thread ") (quote - 7)) }
     ensures few { S.count source.new ≤ S.count source.old + 8 }
+    ensures line { S.count source.old + 1 < S.count source.new → IsLineStart (S.bytes source.old) (quote - 7) }
     ensures none { quote < place + 7 → S.count source.new ≡ S.count source.old }
     ensures same { S.bytes source.new ≡ S.bytes source.old }
 {
@@ -43,11 +44,15 @@ pub(crate) fn opens<S: ByteSource>(source: &mut S, place: usize, quote: usize) -
         return false;
     }
     let start = quote - WORD_SIZE;
+    // The line start comes first: the word is then read only where a line starts.
+    if start > 0 && source.byte(start - 1) != b'\n' {
+        return false;
+    }
     let word = b"thread ";
-    for i in (0..WORD_SIZE).rev() {
+    for i in 0..WORD_SIZE {
         if source.byte(start + i) != word[i] {
             return false;
         }
     }
-    start == 0 || source.byte(start - 1) == b'\n'
+    true
 }

@@ -13,11 +13,11 @@ fn repeated(alloc: Global, piece: &[u8], times: usize) -> Result<Vec<u8>, AllocE
     Ok(bytes)
 }
 
-/// Whether a search of the bytes finds no head, with at most four reads a byte and eight more.
+/// Whether a search of the bytes finds no head, with at most three reads a byte and eight more.
 fn finds_none_soon(bytes: &[u8]) -> bool {
     let mut source = CountedBytes::new(bytes);
     let found = last_panic_head(&mut source);
-    found == None && source.reads() <= 4 * bytes.len() as u128 + 8
+    found == None && source.reads() <= 3 * bytes.len() as u128 + 8
 }
 
 #[test]
