@@ -7,7 +7,7 @@ pub(crate) const LOG: &[u8] = b"\
 [00:00:01.209 TRACE wire::frame] read 4096 bytes: kind Data, stream 5, end false\n\
 [00:00:01.215 WARN  cache::evict] can't keep entry 'users/17': 64 of 64 in use\n\
 [00:00:01.218 INFO  worker] thread 'pool-3' is now waiting for work\n\
-Compiling parser v0.4.2 (/home/user/project/crates/parser) anew\n\
+Compiling parser v0.4.2 (crates/parser, of this workspace) anew\n\
 test session::tests::closes_after_timeout ... ok\n\
 [00:00:01.231 ERROR wire::frame] error: stream 5 was reset by its peer\n\
 [00:00:01.232 DEBUG server::pool] 3 idle, 1 busy, 0 are waiting\n";

@@ -17,10 +17,16 @@ is_failure Flaky = false
 is_failure FlakyFailure = true
 is_failure (Failure message) = true
 
--- whether it has a success that came late
+-- whether it has a success that came late, and counts as a success
 abbrev pub is_flaky : TestCase → Bool
 is_flaky Flaky = true
 is_flaky _ = false
+
+-- whether it has a success that came late, however that counts
+abbrev pub is_late_success : TestCase → Bool
+is_late_success Flaky = true
+is_late_success FlakyFailure = true
+is_late_success _ = false
 
 -- the slice of a test that left this output, where it is loaded, and a part of the stream that it comes from
 pub record IsMessage (output : ChildExecutionOutputDescription LiveSpec ChildOutputDescription) (message : Option Extract) : Type 0 where

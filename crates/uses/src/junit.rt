@@ -1,10 +1,11 @@
 //! A JUnit writer: what it says of a finished test.
 
-ghost use Rattle.std.specs.Prelude.{◌≡◌, IfSome, option_map};
+ghost use Rattle.std.specs.Prelude.{◌≡◌, ◌&&◌, nat_lt, IfSome, option_map};
 ghost use Rattle.output_slice.specs.Shown.{extract_of};
 ghost use Rattle.run_events.specs.Level.{has_level_fail, has_level_retry};
+ghost use Rattle.run_events.specs.Results.{succeeds};
 ghost use Rattle.run_events.specs.TestView.{attempts_of, last_of, view_of};
-ghost use Rattle.uses.specs.Junit.{HasMessage, IsMessage, is_failure, is_flaky};
+ghost use Rattle.uses.specs.Junit.{HasMessage, IsMessage, is_failure, is_flaky, is_late_success};
 
 use output_slice::subslice::TestOutputErrorSlice;
 use run_events::attempts::{ExecutionDescription, ExecutionStatuses};
@@ -34,9 +35,11 @@ pub enum TestCase<'a> {
 
 /// What a report says of a test.
 pub fn test_case(test: &ExecutionStatuses<LiveSpec>) -> TestCase<'_>
-    // The report has a failure exactly where the test is counted as failed, and so with flaky.
+    // The report has a failure exactly where the test is counted as failed, and so with flaky. A
+    // success that came late is told apart from other failures, also where it counts as one.
     ensures failure { is_failure result ≡ has_level_fail (view_of test.now) }
     ensures flaky { is_flaky result ≡ has_level_retry (view_of test.now) }
+    ensures late { is_late_success result ≡ (nat_lt 1 (view_of test.now).attempts && succeeds (view_of test.now).result) }
     ensures message { IfSome (last_of (attempts_of test.now)) (λ last. HasMessage last.output result) }
 {
     match test.describe() {
