@@ -1,14 +1,18 @@
 -- What a displayer prints.
 use Rattle.std.specs.Prelude.{◌<◌, ◌&&◌, ℕ, Bool, if◌then◌else◌, nat_lt, List, ◌++◌, length, codes, Option, IfSome}
 use Rattle.std.specs.Fmt.{decimal}
+use Rattle.run_events.specs.Config.{is_final_display}
 use Rattle.run_events.specs.Counters.{UnitView, count_of, tests_of}
 use Rattle.run_events.specs.Level.{has_level_fail, has_level_retry}
 use Rattle.run_events.specs.Ranks.{final_level_rank, level_rank}
 use Rattle.run_events.specs.Results.{result_word, succeeds}
 use Rattle.run_events.specs.RunLaws.{has_no_failure}
 use Rattle.run_events.specs.TestView.{TestView}
+use Rattle.run_events.specs.Visibility.{is_stored}
 use Rattle.run_events.specs.declared.config.TestOutputDisplay.{TestOutputDisplay}
 use Rattle.run_events.specs.declared.levels.FinalStatusLevel.{FinalStatusLevel}
+use Rattle.run_events.specs.declared.levels.OutputStoreFinal.{OutputStoreFinal}
+use Rattle.run_events.specs.declared.levels.OutputStoreFinal.TheVariants.{No, Yes}
 use Rattle.run_events.specs.declared.levels.StatusLevel.{StatusLevel}
 use Rattle.uses.specs.declared.displayer.Displayer.{Displayer}
 
@@ -22,6 +26,13 @@ IsFinalAbove level own = IfSome level (λ l. final_level_rank own < final_level_
 -- when the output of a test is displayed that succeeded, or failed
 abbrev pub display_of : Displayer → Bool → TestOutputDisplay
 display_of d succeeded = if succeeded then d.success_output else d.failure_output
+
+-- What is listed at the end of a test of this final level: its name and its output where its output is displayed then,
+-- else its name where the level is not above the one that is set.
+abbrev pub listing : Displayer → Bool → FinalStatusLevel → OutputStoreFinal
+listing d succeeded level =
+    let display = display_of d succeeded in
+    if is_stored d.levels display level then Yes (is_final_display display) else No
 
 -- how a test ended: flaky, or the word of its last result
 abbrev pub test_word : TestView → List ℕ

@@ -1,13 +1,13 @@
 //! A reporter on a terminal: what it prints of a finished test, and of a run.
 
-ghost use Rattle.std.specs.Prelude.{◌≡◌, ◌≢◌, ◌↔◌, ◌≤◌, [], false, map, IfOk, IsTrue, None, Some, string_bytes, true};
+ghost use Rattle.std.specs.Prelude.{◌≡◌, ◌≢◌, ◌↔◌, ◌≤◌, [], false, map, IfOk, IfSome, IsTrue, None, Some, string_bytes, true};
 ghost use Rattle.run_events.specs.Config.{is_immediate_display};
 ghost use Rattle.run_events.specs.Counters.{unit_view};
 ghost use Rattle.run_events.specs.Level.{final_level_of, level_of};
 ghost use Rattle.run_events.specs.Results.{succeeds};
 ghost use Rattle.run_events.specs.TestView.{view_of};
 ghost use Rattle.run_events.specs.Visibility.{severity};
-ghost use Rattle.uses.specs.Displayer.{IsAbove, IsFinalAbove, display_of, numbers_line, status_line, summary_line, test_word};
+ghost use Rattle.uses.specs.Displayer.{IsAbove, IsFinalAbove, display_of, listing, numbers_line, status_line, summary_line, test_word};
 
 use run_events::attempts::ExecutionStatuses;
 use run_events::child::LiveSpec;
@@ -46,6 +46,8 @@ impl Displayer {
         ensures at_once { reason ≡ None → result.show_immediate ≡ is_immediate_display (display_of self.now (succeeds (view_of test.now).result)) }
         ensures unlisted { reason ≡ None → result.store_final ≡ OutputStoreFinal.No
             → IsFinalAbove (final_level_of (view_of test.now)) self.now.levels.final_status_level }
+        ensures listed { reason ≡ None → IfSome (final_level_of (view_of test.now))
+            (λ level. result.store_final ≡ listing self.now (succeeds (view_of test.now).result) level) }
 
         // From a signal on no output is displayed twice, and from an interrupt on none is.
         ensures never_twice { severity (Some CancelReason.Signal) ≤ severity reason
