@@ -8,8 +8,8 @@ use Rattle.std.proofs.lemmas.List.{append-nil, append_cancel_left}
 use Rattle.std.proofs.lemmas.List.Splits.{join_with_byte-slice_split}
 use Rattle.std.proofs.lemmas.Option.{option_and_then_some}
 use Rattle.std.proofs.lemmas.Slice.Eq.{bytes_eq-Decides}
-use Rattle.run_events.specs.declared.results.CancelReason.{CancelReason}
-use Rattle.run_events.specs.declared.results.CancelReason.TheVariants as reason
+use Rattle.unit_results.specs.declared.results.CancelReason.{CancelReason}
+use Rattle.unit_results.specs.declared.results.CancelReason.TheVariants as reason
 use Rattle.run_events.specs.declared.stats.RunStart.{RunStart}
 use Rattle.digest_engine.specs.Number.{SpellsNumber}
 use Rattle.digest_engine.specs.Reader.{number_of, reason_of, start_of_words, words_of}

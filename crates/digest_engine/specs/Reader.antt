@@ -7,15 +7,15 @@ use Rattle.std.specs.Str.{bytes_eq}
 use Rattle.std.specs.declared.result.Result.{Result}
 use Rattle.run_events.specs.TestView.{TestView}
 use Rattle.run_events.specs.Counters.{UnitView, ScriptUnit, TestUnit}
-use Rattle.run_events.specs.declared.config.FlakyResult.{FlakyResult}
-use Rattle.run_events.specs.declared.config.FlakyResult.TheVariants as setting
-use Rattle.run_events.specs.declared.config.LeakTimeoutResult.TheVariants as leak
-use Rattle.run_events.specs.declared.config.SlowTimeoutResult.TheVariants as slow
-use Rattle.run_events.specs.declared.results.CancelReason.{CancelReason}
-use Rattle.run_events.specs.declared.results.CancelReason.TheVariants as reason
-use Rattle.run_events.specs.declared.results.ExecutionResultDescription.{ExecutionResultDescription}
-use Rattle.run_events.specs.declared.results.ExecutionResultDescription.TheVariants as result
-use Rattle.run_events.specs.declared.results.failure.FailureDescription.TheVariants as failure
+use Rattle.unit_results.specs.declared.config.FlakyResult.{FlakyResult}
+use Rattle.unit_results.specs.declared.config.FlakyResult.TheVariants as setting
+use Rattle.unit_results.specs.declared.config.LeakTimeoutResult.TheVariants as leak
+use Rattle.unit_results.specs.declared.config.SlowTimeoutResult.TheVariants as slow
+use Rattle.unit_results.specs.declared.results.CancelReason.{CancelReason}
+use Rattle.unit_results.specs.declared.results.CancelReason.TheVariants as reason
+use Rattle.unit_results.specs.declared.results.ExecutionResultDescription.{ExecutionResultDescription}
+use Rattle.unit_results.specs.declared.results.ExecutionResultDescription.TheVariants as result
+use Rattle.unit_results.specs.declared.results.failure.FailureDescription.TheVariants as failure
 use Rattle.run_events.specs.declared.stats.RunStart.{RunStart}
 use Rattle.digest_engine.specs.Reading.{Run}
 use Rattle.digest_engine.specs.declared.fault.Fault.{Fault}

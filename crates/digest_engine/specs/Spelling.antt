@@ -2,14 +2,14 @@
 use Rattle.std.specs.Prelude.{◌≡◌, ◌<◌, ◌+◌, ℕ, Bool, true, false, if◌then◌else◌, List, [], ◌∷◌, ◌++◌, map, length, codes, pos, Option, None, Some}
 use Rattle.std.specs.List.{join_with_byte}
 use Rattle.run_events.specs.Counters.{UnitView, ScriptUnit, TestUnit}
-use Rattle.run_events.specs.declared.config.FlakyResult.TheVariants as setting
-use Rattle.run_events.specs.declared.config.LeakTimeoutResult.TheVariants as leak
-use Rattle.run_events.specs.declared.config.SlowTimeoutResult.TheVariants as slow
-use Rattle.run_events.specs.declared.results.CancelReason.{CancelReason}
-use Rattle.run_events.specs.declared.results.CancelReason.TheVariants as reason
-use Rattle.run_events.specs.declared.results.ExecutionResultDescription.{ExecutionResultDescription}
-use Rattle.run_events.specs.declared.results.ExecutionResultDescription.TheVariants as result
-use Rattle.run_events.specs.declared.results.failure.FailureDescription.TheVariants as failure
+use Rattle.unit_results.specs.declared.config.FlakyResult.TheVariants as setting
+use Rattle.unit_results.specs.declared.config.LeakTimeoutResult.TheVariants as leak
+use Rattle.unit_results.specs.declared.config.SlowTimeoutResult.TheVariants as slow
+use Rattle.unit_results.specs.declared.results.CancelReason.{CancelReason}
+use Rattle.unit_results.specs.declared.results.CancelReason.TheVariants as reason
+use Rattle.unit_results.specs.declared.results.ExecutionResultDescription.{ExecutionResultDescription}
+use Rattle.unit_results.specs.declared.results.ExecutionResultDescription.TheVariants as result
+use Rattle.unit_results.specs.declared.results.failure.FailureDescription.TheVariants as failure
 use Rattle.run_events.specs.declared.stats.RunStart.{RunStart}
 use Rattle.digest_engine.specs.Number.{SpellsNumber}
 

@@ -3,15 +3,15 @@ use Rattle.std.specs.Prelude.{◌≡◌, ◌+◌, ◌<◌, ◌&&◌, ◌==◌, �
 use Rattle.std.specs.Duration.{as_nanos}
 use Rattle.run_events.specs.Counters.{UnitView, ScriptUnit, TestUnit}
 use Rattle.run_events.specs.TestView.{view_of}
-use Rattle.run_events.specs.declared.attempts.ExecuteStatus.{ExecuteStatus}
-use Rattle.run_events.specs.declared.attempts.SetupScriptExecuteStatus.{SetupScriptExecuteStatus}
-use Rattle.run_events.specs.declared.child.ChildExecutionOutputDescription.{ChildExecutionOutputDescription}
-use Rattle.run_events.specs.declared.child.ChildExecutionOutputDescription.TheVariants.{Output}
-use Rattle.run_events.specs.declared.child.output.ChildOutputDescription.{ChildOutputDescription}
-use Rattle.run_events.specs.declared.child.output.ChildOutputDescription.TheVariants.{Split}
-use Rattle.run_events.specs.declared.child.LiveSpec.{LiveSpec}
-use Rattle.run_events.specs.declared.config.Moment.{Moment}
-use Rattle.run_events.specs.declared.results.ExecutionResultDescription.{ExecutionResultDescription}
+use Rattle.test_attempts.specs.declared.attempts.ExecuteStatus.{ExecuteStatus}
+use Rattle.test_attempts.specs.declared.attempts.SetupScriptExecuteStatus.{SetupScriptExecuteStatus}
+use Rattle.unit_results.specs.declared.child.ChildExecutionOutputDescription.{ChildExecutionOutputDescription}
+use Rattle.unit_results.specs.declared.child.ChildExecutionOutputDescription.TheVariants.{Output}
+use Rattle.unit_results.specs.declared.child.output.ChildOutputDescription.{ChildOutputDescription}
+use Rattle.unit_results.specs.declared.child.output.ChildOutputDescription.TheVariants.{Split}
+use Rattle.unit_results.specs.declared.child.LiveSpec.{LiveSpec}
+use Rattle.unit_results.specs.declared.config.Moment.{Moment}
+use Rattle.unit_results.specs.declared.results.ExecutionResultDescription.{ExecutionResultDescription}
 use Rattle.digest_engine.specs.declared.units.OwnedUnit.{OwnedUnit}
 use Rattle.digest_engine.specs.declared.units.OwnedUnit.TheVariants.{Script, Test}
 

@@ -7,8 +7,8 @@ use Rattle.std.proofs.lemmas.List.Elements.{filter_map-append}
 use Rattle.run_events.specs.Counters.{UnitView, ScriptUnit, TestUnit, unit_view, count_of, counted, stats_of, tests_of, scripts_of, test_of, script_of, with_test, with_script, TestCountersFit, ScriptCountersFit}
 use Rattle.run_events.specs.ScriptCounters.{script_passed, script_failed, script_exec_failed, script_timed_out}
 use Rattle.run_events.specs.TestCounters.{is_passed, is_passed_slow, is_passed_timed_out, is_flaky, is_failed, is_failed_slow, is_failed_timed_out, is_leaky, is_leaky_failed, is_exec_failed}
-use Rattle.run_events.specs.TestView.{TestView}
-use Rattle.run_events.specs.declared.results.ExecutionResultDescription.{ExecutionResultDescription}
+use Rattle.test_attempts.specs.TestView.{TestView}
+use Rattle.unit_results.specs.declared.results.ExecutionResultDescription.{ExecutionResultDescription}
 use Rattle.run_events.specs.declared.stats.FinishedUnit.{FinishedUnit}
 use Rattle.run_events.specs.declared.stats.RunStart.{RunStart}
 use Rattle.run_events.specs.declared.stats.RunStats.{RunStats}

@@ -1,13 +1,7 @@
-pub mod ChainLemmas
 pub mod Counting
 pub mod Counts
 pub mod EmptyLists
-pub mod Hexadecimal
-pub mod LastAttempt
 pub mod Parts
-pub mod SubRunIds
-pub mod SubRunOrder
 pub mod SubRuns
 pub mod SuccessLaws
 pub mod Verdicts
-pub mod VisibilityLaws

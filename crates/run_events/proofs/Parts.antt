@@ -7,8 +7,8 @@ use Rattle.run_events.specs.Counters.{UnitView, count_of, script_of, stats_of, t
 use Rattle.run_events.specs.RunLaws.{IsSum}
 use Rattle.run_events.specs.ScriptCounters.{script_passed, script_failed, script_exec_failed, script_timed_out}
 use Rattle.run_events.specs.TestCounters.{is_passed, is_passed_slow, is_passed_timed_out, is_flaky, is_failed, is_failed_slow, is_failed_timed_out, is_leaky, is_leaky_failed, is_exec_failed}
-use Rattle.run_events.specs.TestView.{TestView}
-use Rattle.run_events.specs.declared.results.ExecutionResultDescription.{ExecutionResultDescription}
+use Rattle.test_attempts.specs.TestView.{TestView}
+use Rattle.unit_results.specs.declared.results.ExecutionResultDescription.{ExecutionResultDescription}
 use Rattle.run_events.specs.declared.stats.RunStart.{RunStart}
 use Rattle.run_events.proofs.Counts.{count_of-append}
 

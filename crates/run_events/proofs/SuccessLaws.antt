@@ -5,14 +5,14 @@ use Rattle.std.specs.List.{list_all}
 use Rattle.std.proofs.lemmas.Bool.Decides.{eqb_tells}
 use Rattle.std.proofs.lemmas.List.Sums.{AllPass-from_list_all, list_all-from_AllPass}
 use Rattle.run_events.specs.Counters.{UnitView, scripts_of, stats_of, tests_of}
-use Rattle.run_events.specs.Level.{has_level_fail}
+use Rattle.test_attempts.specs.Level.{has_level_fail}
 use Rattle.run_events.specs.RunLaws.{RunSucceeds, has_no_failure}
 use Rattle.run_events.specs.ScriptCounters.{script_passed}
 use Rattle.run_events.specs.Summary.{any_script_failed, any_test_failed, failure, reason_is_failure, summary_of, tests_step}
 use Rattle.run_events.specs.declared.outcome.FinalRunStats.TheVariants.{Success, NoTestsRun, Cancelled, Failed}
 use Rattle.run_events.specs.declared.outcome.RunStatsFailureKind.{RunStatsFailureKind}
 use Rattle.run_events.specs.declared.outcome.RunStatsFailureKind.TheVariants.{SetupScript}
-use Rattle.run_events.specs.declared.results.CancelReason.{CancelReason}
+use Rattle.unit_results.specs.declared.results.CancelReason.{CancelReason}
 use Rattle.run_events.specs.declared.stats.RunStart.{RunStart}
 use Rattle.run_events.specs.declared.stats.RunStats.{RunStats}
 use Rattle.run_events.proofs.Counts.{count_of-zero, zero-count_of}

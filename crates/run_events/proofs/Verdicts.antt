@@ -2,20 +2,20 @@
 use Rattle.std.proofs.Common.{◌≡◌, ◌+◌, ◌<◌, ◌^◌, List, length, Bool, true, false, cond, not, ◌&&◌, ◌||◌, refl, arith}
 use Rattle.std.specs.Prelude.{Some}
 use Rattle.run_events.specs.Counters.{UnitView, count_of, stats_of, tests_of, scripts_of, test_of, script_of}
-use Rattle.run_events.specs.Level.{flaky_level, has_level_fail, has_level_retry, is_level_fail, is_level_retry, success_level}
-use Rattle.run_events.specs.Results.{succeeds, is_leak_fail, is_fail, is_exec_fail, is_timeout_fail, flaky_fails}
+use Rattle.test_attempts.specs.Level.{flaky_level, has_level_fail, has_level_retry, is_level_fail, is_level_retry, success_level}
+use Rattle.unit_results.specs.Results.{succeeds, is_leak_fail, is_fail, is_exec_fail, is_timeout_fail, flaky_fails}
 use Rattle.run_events.specs.RunLaws.{has_no_failure}
 use Rattle.run_events.specs.ScriptCounters.{script_passed, script_failed, script_exec_failed, script_timed_out}
 use Rattle.run_events.specs.Summary.{FailuresFit}
 use Rattle.run_events.specs.TestCounters.{is_exec_failed, is_failed, is_failed_timed_out, is_flaky, is_passed, was_retried}
-use Rattle.run_events.specs.TestView.{TestView}
-use Rattle.run_events.specs.declared.config.FlakyResult.{FlakyResult}
-use Rattle.run_events.specs.declared.config.FlakyResult.TheVariants as flaky
-use Rattle.run_events.specs.declared.config.LeakTimeoutResult.TheVariants as leak
-use Rattle.run_events.specs.declared.config.SlowTimeoutResult.TheVariants as slow
-use Rattle.run_events.specs.declared.levels.StatusLevel.TheVariants as level
-use Rattle.run_events.specs.declared.results.ExecutionResultDescription.{ExecutionResultDescription}
-use Rattle.run_events.specs.declared.results.ExecutionResultDescription.TheVariants as result
+use Rattle.test_attempts.specs.TestView.{TestView}
+use Rattle.unit_results.specs.declared.config.FlakyResult.{FlakyResult}
+use Rattle.unit_results.specs.declared.config.FlakyResult.TheVariants as flaky
+use Rattle.unit_results.specs.declared.config.LeakTimeoutResult.TheVariants as leak
+use Rattle.unit_results.specs.declared.config.SlowTimeoutResult.TheVariants as slow
+use Rattle.test_attempts.specs.declared.levels.StatusLevel.TheVariants as level
+use Rattle.unit_results.specs.declared.results.ExecutionResultDescription.{ExecutionResultDescription}
+use Rattle.unit_results.specs.declared.results.ExecutionResultDescription.TheVariants as result
 use Rattle.run_events.specs.declared.stats.RunStart.{RunStart}
 use Rattle.run_events.proofs.Counts.{one, count_of-le, count_of-not, count_of-same, count_of-three, length-filter_map-le}
 

@@ -17,6 +17,11 @@ use Rattle.run_events.specs.declared.outcome.run_outcome.RunOutcome.{RunOutcome}
 use Rattle.run_events.specs.declared.outcome.run_outcome.RunOutcome.TheVariants as outcome
 use Rattle.run_events.specs.declared.stats.FinishedRun.{FinishedRun}
 
+-- the order of steps
+abbrev pub step_rank : RunFailureStep → ℕ
+step_rank step.Test = 0
+step_rank step.SetupScript = 1
+
 abbrev pub step_of : RunStatsFailureKind → RunFailureStep
 step_of kind.SetupScript = step.SetupScript
 step_of (kind.Test initial_run_count not_run) = step.Test

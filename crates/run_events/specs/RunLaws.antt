@@ -2,9 +2,9 @@
 use Rattle.std.specs.Prelude.{◌≡◌, ◌+◌, ◌≤◌, ◌<◌, Bool, not, List, length}
 use Rattle.std.specs.List.{AllPass}
 use Rattle.run_events.specs.Counters.{UnitView, scripts_of, tests_of}
-use Rattle.run_events.specs.Level.{has_level_fail}
+use Rattle.test_attempts.specs.Level.{has_level_fail}
 use Rattle.run_events.specs.ScriptCounters.{script_passed}
-use Rattle.run_events.specs.TestView.{TestView}
+use Rattle.test_attempts.specs.TestView.{TestView}
 use Rattle.run_events.specs.declared.stats.RunStart.{RunStart}
 use Rattle.run_events.specs.declared.stats.RunStats.{RunStats}
 

@@ -1,7 +1,7 @@
 -- Which finished setup scripts each counter counts, by their results.
 use Rattle.std.specs.Prelude.{Bool, ◌||◌}
-use Rattle.run_events.specs.Results.{is_pass, is_leak_pass, is_leak_fail, is_fail, is_exec_fail, is_timeout_pass, is_timeout_fail}
-use Rattle.run_events.specs.declared.results.ExecutionResultDescription.{ExecutionResultDescription}
+use Rattle.unit_results.specs.Results.{is_pass, is_leak_pass, is_leak_fail, is_fail, is_exec_fail, is_timeout_pass, is_timeout_fail}
+use Rattle.unit_results.specs.declared.results.ExecutionResultDescription.{ExecutionResultDescription}
 
 -- `setup_scripts_passed`
 abbrev pub script_passed : ExecutionResultDescription → Bool

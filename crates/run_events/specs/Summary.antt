@@ -1,7 +1,7 @@
 -- What the counters of a run amount to.
 use Rattle.std.specs.Prelude.{◌-◌, ◌+◌, ◌<◌, ◌^◌, ℕ, Bool, true, false, ◌||◌, if◌then◌else◌, nat_lt, ◌==◌, Option, Some, None}
-use Rattle.run_events.specs.declared.results.CancelReason.{CancelReason}
-use Rattle.run_events.specs.declared.results.CancelReason.TheVariants as reason
+use Rattle.unit_results.specs.declared.results.CancelReason.{CancelReason}
+use Rattle.unit_results.specs.declared.results.CancelReason.TheVariants as reason
 use Rattle.run_events.specs.declared.stats.RunStats.{RunStats}
 use Rattle.run_events.specs.declared.outcome.RunStatsFailureKind.{RunStatsFailureKind}
 use Rattle.run_events.specs.declared.outcome.RunStatsFailureKind.TheVariants.{SetupScript, Test}

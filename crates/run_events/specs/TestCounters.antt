@@ -1,7 +1,7 @@
 -- Which finished tests each counter counts, by their views.
 use Rattle.std.specs.Prelude.{Bool, not, ◌&&◌, ◌||◌, nat_lt}
-use Rattle.run_events.specs.TestView.{TestView}
-use Rattle.run_events.specs.Results.{succeeds, is_pass, is_leak_pass, is_leak_fail, is_fail, is_exec_fail, is_timeout_pass, is_timeout_fail, flaky_fails}
+use Rattle.test_attempts.specs.TestView.{TestView}
+use Rattle.unit_results.specs.Results.{succeeds, is_pass, is_leak_pass, is_leak_fail, is_fail, is_exec_fail, is_timeout_pass, is_timeout_fail, flaky_fails}
 
 -- there was an attempt before the last
 abbrev pub was_retried : TestView → Bool

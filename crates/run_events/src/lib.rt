@@ -1,19 +1,16 @@
 //! What a test runner tells its reporters: events, and in them results, what child processes left,
 //! the errors of units, attempts, levels, counters, summaries and outcomes of a run.
+//!
+//! The layers below stand in crates of their own, `unit_results` and `test_attempts`. All of them
+//! is reached here too.
 #![tactic(auto)]
 
 pub use output_slice;
+pub use test_attempts::{attempts, levels};
+pub use unit_results::{chain, child, config, results, run_mode, stress};
 
-pub mod attempts;
-pub mod chain;
-pub mod child;
-pub mod config;
 pub mod events;
 pub mod laws;
-pub mod levels;
 pub mod outcome;
-pub mod results;
-pub mod run_mode;
 pub mod stats;
-pub mod stress;
 pub mod unit_error;

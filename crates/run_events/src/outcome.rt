@@ -3,7 +3,7 @@
 ghost use Rattle.std.specs.Prelude.{◌≡◌};
 ghost use Rattle.run_events.specs.Outcome.{step_of};
 
-use crate::results::CancelReason;
+use unit_results::results::CancelReason;
 
 mod finished;
 mod run_outcome;

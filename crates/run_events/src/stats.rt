@@ -1,12 +1,14 @@
 //! The counters of a run.
 
-use crate::attempts::{ExecutionStatuses, SetupScriptExecuteStatus};
-use crate::child::LiveSpec;
-use crate::results::CancelReason;
+use test_attempts::attempts::{ExecutionStatuses, SetupScriptExecuteStatus};
+use unit_results::child::LiveSpec;
+use unit_results::results::CancelReason;
 
+mod cases;
 mod run;
 mod summary;
 mod update;
+mod verdict;
 
 /// How many setup scripts and tests were to run, how many finished, and with what. Each counter is
 /// a number of units.

@@ -1,9 +1,9 @@
 -- The words of levels.
 use Rattle.std.specs.Prelude.{ℕ, List, codes}
-use Rattle.run_events.specs.declared.levels.FinalStatusLevel.{FinalStatusLevel}
-use Rattle.run_events.specs.declared.levels.FinalStatusLevel.TheVariants as final
-use Rattle.run_events.specs.declared.levels.StatusLevel.{StatusLevel}
-use Rattle.run_events.specs.declared.levels.StatusLevel.TheVariants as level
+use Rattle.test_attempts.specs.declared.levels.FinalStatusLevel.{FinalStatusLevel}
+use Rattle.test_attempts.specs.declared.levels.FinalStatusLevel.TheVariants as final
+use Rattle.test_attempts.specs.declared.levels.StatusLevel.{StatusLevel}
+use Rattle.test_attempts.specs.declared.levels.StatusLevel.TheVariants as level
 
 abbrev pub level_word : StatusLevel → List ℕ
 level_word level.None = codes "None"

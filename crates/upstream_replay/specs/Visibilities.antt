@@ -1,7 +1,7 @@
 -- The words of displays and results of finished tests. Reasons have those of the input of `count`.
 use Rattle.std.specs.Prelude.{ℕ, List, codes}
-use Rattle.run_events.specs.declared.config.TestOutputDisplay.{TestOutputDisplay}
-use Rattle.run_events.specs.declared.config.TestOutputDisplay.TheVariants as display
+use Rattle.unit_results.specs.declared.config.TestOutputDisplay.{TestOutputDisplay}
+use Rattle.unit_results.specs.declared.config.TestOutputDisplay.TheVariants as display
 use Rattle.upstream_replay.specs.declared.visibility.Tested.{Tested}
 use Rattle.upstream_replay.specs.declared.visibility.Tested.TheVariants.{Passed, Exited, Terminated}
 

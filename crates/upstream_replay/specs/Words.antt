@@ -1,11 +1,11 @@
 -- Words of the frozen answers.
 use Rattle.std.specs.Prelude.{ℕ, Bool, true, false, List, codes}
-use Rattle.run_events.specs.declared.config.FlakyResult.{FlakyResult}
-use Rattle.run_events.specs.declared.config.FlakyResult.TheVariants as setting
-use Rattle.run_events.specs.declared.config.LeakTimeoutResult.TheVariants as leak
-use Rattle.run_events.specs.declared.config.SlowTimeoutResult.TheVariants as slow
-use Rattle.run_events.specs.declared.results.ExecutionResult.{ExecutionResult}
-use Rattle.run_events.specs.declared.results.ExecutionResult.TheVariants as result
+use Rattle.unit_results.specs.declared.config.FlakyResult.{FlakyResult}
+use Rattle.unit_results.specs.declared.config.FlakyResult.TheVariants as setting
+use Rattle.unit_results.specs.declared.config.LeakTimeoutResult.TheVariants as leak
+use Rattle.unit_results.specs.declared.config.SlowTimeoutResult.TheVariants as slow
+use Rattle.unit_results.specs.declared.results.ExecutionResult.{ExecutionResult}
+use Rattle.unit_results.specs.declared.results.ExecutionResult.TheVariants as result
 
 -- the word of a result
 abbrev pub result_word : ExecutionResult → List ℕ

@@ -4,16 +4,16 @@ use Rattle.std.specs.Fmt.{decimal}
 use Rattle.run_events.specs.Config.{is_final_display}
 use Rattle.run_events.specs.Counters.{UnitView, count_of, tests_of}
 use Rattle.run_events.specs.Level.{has_level_fail, has_level_retry}
-use Rattle.run_events.specs.Ranks.{final_level_rank, level_rank}
+use Rattle.run_events.specs.LevelRanks.{final_level_rank, level_rank}
 use Rattle.run_events.specs.Results.{result_word, succeeds}
 use Rattle.run_events.specs.RunLaws.{has_no_failure}
 use Rattle.run_events.specs.TestView.{TestView}
 use Rattle.run_events.specs.Visibility.{is_stored}
-use Rattle.run_events.specs.declared.config.TestOutputDisplay.{TestOutputDisplay}
-use Rattle.run_events.specs.declared.levels.FinalStatusLevel.{FinalStatusLevel}
-use Rattle.run_events.specs.declared.levels.OutputStoreFinal.{OutputStoreFinal}
-use Rattle.run_events.specs.declared.levels.OutputStoreFinal.TheVariants.{No, Yes}
-use Rattle.run_events.specs.declared.levels.StatusLevel.{StatusLevel}
+use Rattle.unit_results.specs.declared.config.TestOutputDisplay.{TestOutputDisplay}
+use Rattle.test_attempts.specs.declared.levels.FinalStatusLevel.{FinalStatusLevel}
+use Rattle.test_attempts.specs.declared.levels.OutputStoreFinal.{OutputStoreFinal}
+use Rattle.test_attempts.specs.declared.levels.OutputStoreFinal.TheVariants.{No, Yes}
+use Rattle.test_attempts.specs.declared.levels.StatusLevel.{StatusLevel}
 use Rattle.uses.specs.declared.displayer.Displayer.{Displayer}
 
 -- a test's level is above the one that is set, so the test is not asked for

@@ -1,10 +1,10 @@
 //! What units answer where one asks in the middle of a run.
 
-use crate::attempts::RetryData;
-use crate::child::{ChildExecutionOutputDescription, LiveSpec};
-use crate::config::{ScriptId, TestInstanceId};
 use crate::events::unit_state::UnitState;
-use crate::stress::StressIndex;
+use test_attempts::attempts::RetryData;
+use unit_results::child::{ChildExecutionOutputDescription, LiveSpec};
+use unit_results::config::{ScriptId, TestInstanceId};
+use unit_results::stress::StressIndex;
 
 /// What a unit answers to a request for information.
 #[derive(Drop)]

@@ -1,18 +1,20 @@
 //! The kinds of events.
 
-use crate::attempts::{ExecuteStatus, ExecutionStatuses, RetryData, SetupScriptExecuteStatus};
-use crate::child::LiveSpec;
-use crate::config::{
-    JunitFlakyFailStatus, MismatchReason, Moment, ReportSkipPolicy, ScriptId, StressCondition,
-    TestInstanceId, TestList, TestOutputDisplay,
-};
 use crate::events::info::InfoResponse;
 use crate::events::not_seen::TestsNotSeen;
 use crate::events::slots::TestSlotAssignment;
 use crate::outcome::RunFinishedStats;
 use crate::stats::RunStats;
-use crate::stress::{StressIndex, StressProgress};
 use std::time::Duration;
+use test_attempts::attempts::{
+    ExecuteStatus, ExecutionStatuses, RetryData, SetupScriptExecuteStatus,
+};
+use unit_results::child::LiveSpec;
+use unit_results::config::{
+    JunitFlakyFailStatus, MismatchReason, Moment, ReportSkipPolicy, ScriptId, StressCondition,
+    TestInstanceId, TestList, TestOutputDisplay,
+};
+use unit_results::stress::{StressIndex, StressProgress};
 use uuid::Uuid;
 
 /// What happened in a run. The kinds stand in the order in which a run meets them, those that may

@@ -1,7 +1,7 @@
 //! Why and by what a runner ends a unit.
 
 ghost use Rattle.std.specs.Prelude.{Some};
-ghost use Rattle.run_events.specs.Texts.{terminate_reason_text, terminate_signal_text};
+ghost use Rattle.run_events.specs.TerminateTexts.{terminate_reason_text, terminate_signal_text};
 
 use std::fmt;
 

@@ -5,7 +5,7 @@ ghost use Rattle.run_events.specs.Outcome.{final_stats_of, stress_summary_of};
 
 use crate::outcome::FinalRunStats;
 use crate::stats::RunStats;
-use crate::stress::StressIndex;
+use unit_results::stress::StressIndex;
 
 /// The statistics of a run that is over. The dispatcher hands them to reporters as the last thing
 /// of a run.

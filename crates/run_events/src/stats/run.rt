@@ -2,7 +2,7 @@
 
 ghost use Rattle.std.specs.Prelude.{◌≡◌, ◌↔◌, ◌+◌, ◌++◌, List, map};
 ghost use Rattle.run_events.specs.Counters.{UnitView, count_of, stats_of, tests_of, unit_view};
-ghost use Rattle.run_events.specs.Level.{has_level_fail, has_level_retry};
+ghost use Rattle.test_attempts.specs.Level.{has_level_fail, has_level_retry};
 ghost use Rattle.run_events.specs.RunLaws.{IsSum, RunSucceeds, has_no_failure};
 ghost use Rattle.run_events.specs.Summary.{FailuresFit, failed_scripts, failed_tests, summary_of};
 ghost use Rattle.run_events.specs.declared.outcome.FinalRunStats.TheVariants.{Success};

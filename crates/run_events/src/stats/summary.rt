@@ -4,8 +4,8 @@ ghost use Rattle.std.specs.Prelude.{◌≡◌, ◌↔◌, ◌<◌, ◌^◌, ◌|
 ghost use Rattle.run_events.specs.Summary.{FailuresFit, any_script_failed, any_test_failed, failed_scripts, failed_tests, failure, summary_of};
 
 use crate::outcome::{FinalRunStats, RunStatsFailureKind};
-use crate::results::CancelReason;
 use crate::stats::RunStats;
+use unit_results::results::CancelReason;
 
 impl RunStats {
     /// The number of tests that did not pass: `failed`, `exec_failed` and `failed_timed_out`

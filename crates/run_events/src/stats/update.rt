@@ -1,14 +1,21 @@
 //! How a finished unit changes the counters.
 
 ghost use Rattle.std.specs.Prelude.{◌≡◌, ◌↔◌, ◌<◌, ◌^◌, IsTrue};
-ghost use Rattle.run_events.specs.TestView.{view_of};
+ghost use Rattle.test_attempts.specs.TestView.{view_of};
 ghost use Rattle.run_events.specs.Counters.{ScriptCountersFit, TestCountersFit, raised, with_script, with_test};
 
-use crate::attempts::{ExecutionStatuses, SetupScriptExecuteStatus};
-use crate::child::LiveSpec;
-use crate::config::LeakTimeoutResult;
-use crate::results::ExecutionResultDescription;
 use crate::stats::RunStats;
+use crate::stats::cases::{
+    is_exec_fail, is_fail, is_leak_fail, is_leak_pass, is_pass, is_timeout_fail, is_timeout_pass,
+};
+use crate::stats::verdict::{
+    is_failed, is_failed_slow, is_flaky, is_passed, is_passed_slow, is_passed_timed_out,
+    last_result,
+};
+use test_attempts::attempts::{ExecutionStatuses, SetupScriptExecuteStatus};
+use unit_results::child::LiveSpec;
+use unit_results::config::LeakTimeoutResult;
+use unit_results::results::ExecutionResultDescription;
 
 impl RunStats {
     /// Counts one more finished test: each counter whose rule holds of it is raised by one, and
@@ -20,16 +27,16 @@ impl RunStats {
         ensures { self.new ≡ with_test self.old (view_of test.now) }
     {
         self.finished_count += 1;
-        self.passed += usize::from(test.is_passed());
-        self.passed_slow += usize::from(test.is_passed_slow());
-        self.passed_timed_out += usize::from(test.is_passed_timed_out());
-        self.flaky += usize::from(test.is_flaky());
-        self.failed += usize::from(test.is_failed());
-        self.failed_slow += usize::from(test.is_failed_slow());
-        self.failed_timed_out += usize::from(test.last_result().is_timeout_fail());
-        self.leaky += usize::from(test.last_result().is_leak_pass());
-        self.leaky_failed += usize::from(test.last_result().is_leak_fail());
-        self.exec_failed += usize::from(test.last_result().is_exec_fail());
+        self.passed += usize::from(is_passed(test));
+        self.passed_slow += usize::from(is_passed_slow(test));
+        self.passed_timed_out += usize::from(is_passed_timed_out(test));
+        self.flaky += usize::from(is_flaky(test));
+        self.failed += usize::from(is_failed(test));
+        self.failed_slow += usize::from(is_failed_slow(test));
+        self.failed_timed_out += usize::from(is_timeout_fail(last_result(test)));
+        self.leaky += usize::from(is_leak_pass(last_result(test)));
+        self.leaky_failed += usize::from(is_leak_fail(last_result(test)));
+        self.exec_failed += usize::from(is_exec_fail(last_result(test)));
     }
 
     /// Whether one more finished test can be counted: every counter that it raises is below
@@ -37,18 +44,18 @@ impl RunStats {
     pub fn can_count_test(&self, test: &ExecutionStatuses<LiveSpec>) -> bool
         ensures { IsTrue result ↔ TestCountersFit (with_test self.now (view_of test.now)) }
     {
-        let result = test.last_result();
+        let result = last_result(test);
         fits(self.finished_count, true)
-            && fits(self.passed, test.is_passed())
-            && fits(self.passed_slow, test.is_passed_slow())
-            && fits(self.passed_timed_out, test.is_passed_timed_out())
-            && fits(self.flaky, test.is_flaky())
-            && fits(self.failed, test.is_failed())
-            && fits(self.failed_slow, test.is_failed_slow())
-            && fits(self.failed_timed_out, result.is_timeout_fail())
-            && fits(self.leaky, result.is_leak_pass())
-            && fits(self.leaky_failed, result.is_leak_fail())
-            && fits(self.exec_failed, result.is_exec_fail())
+            && fits(self.passed, is_passed(test))
+            && fits(self.passed_slow, is_passed_slow(test))
+            && fits(self.passed_timed_out, is_passed_timed_out(test))
+            && fits(self.flaky, is_flaky(test))
+            && fits(self.failed, is_failed(test))
+            && fits(self.failed_slow, is_failed_slow(test))
+            && fits(self.failed_timed_out, is_timeout_fail(result))
+            && fits(self.leaky, is_leak_pass(result))
+            && fits(self.leaky_failed, is_leak_fail(result))
+            && fits(self.exec_failed, is_exec_fail(result))
     }
 
     /// Counts one more finished setup script: each counter whose rule holds of its result is
@@ -83,16 +90,16 @@ impl RunStats {
         fits(self.setup_scripts_finished_count, true)
             && fits(
                 self.setup_scripts_passed,
-                result.is_pass() || result.is_leak_pass(),
+                is_pass(result) || is_leak_pass(result),
             )
             && fits(
                 self.setup_scripts_failed,
-                result.is_fail() || result.is_leak_fail(),
+                is_fail(result) || is_leak_fail(result),
             )
-            && fits(self.setup_scripts_exec_failed, result.is_exec_fail())
+            && fits(self.setup_scripts_exec_failed, is_exec_fail(result))
             && fits(
                 self.setup_scripts_timed_out,
-                result.is_timeout_pass() || result.is_timeout_fail(),
+                is_timeout_pass(result) || is_timeout_fail(result),
             )
     }
 }

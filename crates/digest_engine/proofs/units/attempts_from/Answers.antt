@@ -2,9 +2,9 @@ use Rattle.std.proofs.Common.{◌≡◌, ℕ, ◌+◌, ◌&&◌, length, ap, sym
 use Rattle.std.specs.Prelude.{◌==◌, Some}
 use Rattle.std.proofs.lemmas.Grind.{common_steps}
 use Rattle.std.proofs.lemmas.List.{map-append}
-use Rattle.run_events.specs.declared.attempts.ExecuteStatus.{ExecuteStatus}
-use Rattle.run_events.specs.declared.child.output.ChildOutputDescription.{ChildOutputDescription}
-use Rattle.run_events.specs.declared.child.LiveSpec.{LiveSpec}
+use Rattle.test_attempts.specs.declared.attempts.ExecuteStatus.{ExecuteStatus}
+use Rattle.unit_results.specs.declared.child.output.ChildOutputDescription.{ChildOutputDescription}
+use Rattle.unit_results.specs.declared.child.LiveSpec.{LiveSpec}
 use Rattle.digest_engine.specs.Statuses.{IsAttempt}
 use Rattle.digest_engine.proofs.Attempts.{results_more, results_none, results_end, placed_push}
 use Rattle.digest_engine.proofs.units.attempts_from.Goals as goal

@@ -1,0 +1,18 @@
+-- The texts by which the ending of a unit is shown.
+use Rattle.std.specs.Prelude.{ℕ, List, codes}
+use Rattle.run_events.specs.declared.events.terminate.UnitTerminateReason.{UnitTerminateReason}
+use Rattle.run_events.specs.declared.events.terminate.UnitTerminateReason.TheVariants as why
+use Rattle.run_events.specs.declared.events.terminate.UnitTerminateSignal.{UnitTerminateSignal}
+use Rattle.run_events.specs.declared.events.terminate.UnitTerminateSignal.TheVariants as signal
+
+abbrev pub terminate_reason_text : UnitTerminateReason → List ℕ
+terminate_reason_text why.Timeout = codes "timeout"
+terminate_reason_text why.Signal = codes "signal"
+terminate_reason_text why.Interrupt = codes "interrupt"
+
+abbrev pub terminate_signal_text : UnitTerminateSignal → List ℕ
+terminate_signal_text signal.Interrupt = codes "SIGINT"
+terminate_signal_text signal.Term = codes "SIGTERM"
+terminate_signal_text signal.Hangup = codes "SIGHUP"
+terminate_signal_text signal.Quit = codes "SIGQUIT"
+terminate_signal_text signal.Kill = codes "SIGKILL"

@@ -1,0 +1,2 @@
+pub mod LastAttempt
+pub mod VisibilityLaws

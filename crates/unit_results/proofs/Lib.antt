@@ -1,0 +1,4 @@
+pub mod ChainLemmas
+pub mod Hexadecimal
+pub mod SubRunIds
+pub mod SubRunOrder

@@ -1,0 +1,45 @@
+-- The errors of a child process: their causes, and how what the runner has is described.
+use Rattle.std.specs.Prelude.{map}
+use Rattle.unit_results.specs.ErrorChain.{ErrorChain}
+use Rattle.unit_results.specs.ListedErrors.{ListedErrors}
+use Rattle.unit_results.specs.declared.child.errors.ChildError.{ChildError}
+use Rattle.unit_results.specs.declared.child.errors.ChildError.TheVariants as seen
+use Rattle.unit_results.specs.declared.child.errors.ChildErrorDescription.{ChildErrorDescription}
+use Rattle.unit_results.specs.declared.child.errors.ChildErrorDescription.TheVariants as error
+use Rattle.unit_results.specs.declared.child.errors.ChildFdError.{ChildFdError}
+use Rattle.unit_results.specs.declared.child.errors.ChildFdError.TheVariants as reading
+use Rattle.unit_results.specs.declared.child.errors.ChildStartError.{ChildStartError}
+use Rattle.unit_results.specs.declared.child.errors.ChildStartError.TheVariants as starting
+use Rattle.unit_results.specs.declared.child.errors.ChildStartErrorDescription.{ChildStartErrorDescription}
+use Rattle.unit_results.specs.declared.child.errors.ChildStartErrorDescription.TheVariants as start
+
+-- what lies behind an error
+abbrev pub start_cause : ChildStartErrorDescription → ErrorChain
+start_cause (start.TempPath e) = e
+start_cause (start.Spawn e) = e
+
+abbrev pub error_cause : ChildErrorDescription → ErrorChain
+error_cause (error.ReadStdout e) = e
+error_cause (error.ReadStderr e) = e
+error_cause (error.ReadCombined e) = e
+error_cause (error.Wait e) = e
+error_cause (error.SetupScriptOutput e) = e
+
+-- what the runner has, described: the same case with the same cause
+abbrev pub described_start_error : ChildStartError → ChildStartErrorDescription
+described_start_error (starting.TempPath e) = start.TempPath e
+described_start_error (starting.Spawn e) = start.Spawn e
+
+abbrev pub described_fd_error : ChildFdError → ChildErrorDescription
+described_fd_error (reading.ReadStdout e) = error.ReadStdout e
+described_fd_error (reading.ReadStderr e) = error.ReadStderr e
+described_fd_error (reading.ReadCombined e) = error.ReadCombined e
+described_fd_error (reading.Wait e) = error.Wait e
+
+abbrev pub described_error : ChildError → ChildErrorDescription
+described_error (seen.Fd e) = described_fd_error e
+described_error (seen.SetupScriptOutput e) = error.SetupScriptOutput e
+
+-- a list: its errors in order, under the same description
+abbrev pub described_errors : ListedErrors ChildError → ListedErrors ChildErrorDescription
+described_errors l = record { description = l.description; items = map described_error l.items }

@@ -1,0 +1,14 @@
+pub mod ChainObject
+pub mod ChainReading
+pub mod ChainValue
+pub mod ChildErrors
+pub mod ChildOutput
+pub mod Config
+pub mod Described
+pub mod ErrorChain
+pub mod Execution
+pub mod ListedErrors
+pub mod Ranks
+pub mod Results
+pub mod Stress
+pub mod Texts
