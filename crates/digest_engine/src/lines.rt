@@ -1,6 +1,6 @@
 //! What the lines of the input say of runs.
 
-ghost use Rattle.std.specs.Prelude.{◌≡◌, map, IfOk};
+ghost use Rattle.std.specs.Prelude.{◌≡◌, map};
 ghost use Rattle.digest_engine.specs.Reader.{Gives, begun, runs_from, runs_of};
 ghost use Rattle.digest_engine.specs.Reading.{texts_of};
 ghost use Rattle.digest_engine.specs.RunInput.{run_said};
@@ -9,9 +9,9 @@ use crate::entry::{Entry, entry_in};
 use crate::fault::Fault;
 use crate::units::OwnedUnit;
 use crate::words::{start_from, words_in};
-use bstr::ByteSlice;
+use bstr::{ByteSlice, Lines};
 use run_events::stats::RunStart;
-use std::alloc::{AllocError, Global};
+use std::alloc::Global;
 use std::mem;
 
 /// What the input says of a run.
@@ -39,17 +39,18 @@ impl RunInput {
 /// The runs that the lines after line 1 say, where line 1 begins with this start. There are at most
 /// 10,000 lines.
 #[tactic(auto, unfolding(crate::specs::Reader::runs_from))]
-fn runs_after(alloc: Global, start: RunStart, lines: &[&[u8]]) -> Result<Vec<RunInput>, Fault>
-    ensures { Gives (λ v. map run_said v.items) result (runs_from 2 (begun start) (map (λ l. l.now) lines.now)) }
+fn runs_after(alloc: Global, start: RunStart, mut lines: Lines<'_>) -> Result<Vec<RunInput>, Fault>
+    ensures { Gives (λ v. map run_said v.items) result (runs_from 2 (begun start) lines.entry) }
 {
     let mut runs = Vec::new(alloc);
     let mut run = RunInput::begun(alloc, start);
-    for (i, line) in lines.iter().enumerate() {
-        if i >= 9_999 {
-            return Err(Fault::BadLine { number: 10_001 });
+    let mut number = 2;
+    while let Some(line) = lines.next() {
+        if number > 10_000 {
+            return Err(Fault::BadLine { number });
         }
         let Some(entry) = entry_in(alloc, line)? else {
-            return Err(Fault::BadLine { number: i + 2 });
+            return Err(Fault::BadLine { number });
         };
         match entry {
             Entry::Unit(unit) => run.units.push(unit)?,
@@ -58,37 +59,24 @@ fn runs_after(alloc: Global, start: RunStart, lines: &[&[u8]]) -> Result<Vec<Run
                 runs.push(before)?;
             }
         }
+        number += 1;
     }
     runs.push(run)?;
     Ok(runs)
 }
 
-/// The lines, without their ends.
-fn lines_in(alloc: Global, bytes: &[u8]) -> Result<Vec<&[u8]>, AllocError>
-    ensures { IfOk result (λ v. map (λ l. l.now) v.items ≡ texts_of bytes.now) }
-{
-    bytes.lines().collect(alloc)
-}
-
-/// What lines say.
+/// What the input says of runs, at least one, or the first bad line.
 #[tactic(auto, unfolding(crate::specs::Reader::runs_of))]
-fn runs_from_lines(alloc: Global, lines: &[&[u8]]) -> Result<Vec<RunInput>, Fault>
-    ensures { Gives (λ v. map run_said v.items) result (runs_of (map (λ l. l.now) lines.now)) }
+pub(crate) fn runs_in(alloc: Global, bytes: &[u8]) -> Result<Vec<RunInput>, Fault>
+    ensures { Gives (λ v. map run_said v.items) result (runs_of (texts_of bytes.now)) }
 {
-    let Some((first, rest)) = lines.split_first() else {
+    let mut lines = bytes.lines();
+    let Some(first) = lines.next() else {
         return Err(Fault::BadLine { number: 1 });
     };
     let words = words_in(alloc, first)?;
     let Some(start) = start_from(b"run", words.as_slice()) else {
         return Err(Fault::BadLine { number: 1 });
     };
-    runs_after(alloc, start, rest)
-}
-
-/// What the input says of runs, at least one, or the first bad line.
-pub(crate) fn runs_in(alloc: Global, bytes: &[u8]) -> Result<Vec<RunInput>, Fault>
-    ensures { Gives (λ v. map run_said v.items) result (runs_of (texts_of bytes.now)) }
-{
-    let lines = lines_in(alloc, bytes)?;
-    runs_from_lines(alloc, lines.as_slice())
+    runs_after(alloc, start, lines)
 }

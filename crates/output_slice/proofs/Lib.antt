@@ -21,3 +21,4 @@ pub mod CutLemmas
 pub mod CrossLemmas
 pub mod OpeningLemmas
 pub mod LineLemmas
+pub mod SignLemmas

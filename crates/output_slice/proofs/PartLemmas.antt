@@ -16,6 +16,7 @@ use Rattle.std.proofs.lemmas.List.Elements.{All-head}
 use Rattle.std.proofs.lemmas.List.{get_or-take, length-take-le}
 use Rattle.bstr.specs.Find.{OccursAt}
 use Rattle.bstr.specs.Text.{without_terminator, no_cr}
+use Rattle.output_slice.specs.declared.subslice.ByteSubslice.{ByteSubslice}
 use Rattle.output_slice.specs.declared.subslice.TestOutputErrorSlice.{TestOutputErrorSlice}
 use Rattle.output_slice.specs.declared.subslice.TestOutputErrorSlice.TheVariants.{PanicMessage, ErrorStr, ShouldPanic}
 use Rattle.output_slice.specs.Head.{IsHead}
@@ -142,6 +143,12 @@ IsErrorSlice-part b x p = trimmed-part b x p.1 (error-letter b x.start p.0.1.1)
 -- a note line is a part
 pub IsNoteLine-part : (b : List ℕ) (x : Slice) → IsNoteLine b (Some x) → IsPart b x
 IsNoteLine-part b x p = let h = p.2 in note-part b h.0 h.1 h.2 x (ap concat (sym h.3) ∙ p.1.joined) h.5 h.6 h.7
+
+-- what holds of each slice holds of what is found
+pub found-part : (Is : List ℕ → Option Slice → Type 0) → ((b : List ℕ) (x : Slice) → Is b (Some x) → IsPart b x)
+    → (b : List ℕ) (found : Option ByteSubslice) → Is b (option_map slice_of found) → IfSome found (λ x. IsPart b (slice_of x))
+found-part Is part b None p = tt
+found-part Is part b (Some x) p = part b (slice_of x) p
 
 -- what holds of the slice of each stream's bytes holds of a stream's
 OfStream-part : (Is : List ℕ → Option Slice → Type 0) → ((b : List ℕ) (x : Slice) → Is b (Some x) → IsPart b x)

@@ -8,3 +8,4 @@ pub mod Shown
 pub mod Laws
 pub mod Steps
 pub mod Search
+pub mod Signs

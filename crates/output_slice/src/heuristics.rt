@@ -1,17 +1,22 @@
 //! The three heuristics, and which of them is used.
-ghost use Rattle.std.specs.Prelude.{◌≡◌, ◌+◌, ◌≤◌, ◌<◌, ℕ, ◌-◌, length, slice_index, Option, option_map, IfSome};
+ghost use Rattle.std.specs.Prelude.{codes, ◌≡◌, ◌+◌, ◌≤◌, ◌<◌, ℕ, ◌-◌, length, slice_index, Option, option_map, IfSome};
 ghost use Rattle.std.specs.Option.{option_copied};
 ghost use Rattle.bstr.specs.Text.{without_terminator};
 ghost use Rattle.output_slice.specs.Slices.{Slice, IsErrorSlice, IsNoteLine, IsPart, IsPanicSlice, IsTrimmedSlice, IsWidened, IsBreak};
 ghost use Rattle.output_slice.specs.Extraction.{Extract, IsCappedExtract, IsExtract, LiesIn};
 ghost use Rattle.output_slice.specs.Shown.{slice_of, extract_of, part_of};
+ghost use Rattle.output_slice.specs.Signs.{IsQuietFrom};
 ghost use Rattle.std.specs.Int.NonZero.{non_zero_usize_get};
 
-use crate::last_head::last_head;
+use crate::last_head::last_head_before;
 use crate::lines::{line_end, line_start};
+use crate::signs::{ERROR_SIGN, first_sign, quiet_size};
 use crate::subslice::{ByteSubslice, TestOutputErrorSlice};
 use bstr::ByteSlice;
 use std::num::NonZero;
+
+/// The note that a test did not panic.
+const NOTE: &[u8] = b"note: test did not panic as expected";
 
 impl<'a> TestOutputErrorSlice<'a> {
     /// The part of a test's output that says why it failed: the panic slice of standard error, else
@@ -56,27 +61,32 @@ fn first_slice<'a>(
 ) -> Option<TestOutputErrorSlice<'a>>
     ensures { IsExtract (option_copied stdout.entry) (option_copied stderr.entry) (option_map extract_of result) }
 {
+    let quiet = quiet_size(stdout.unwrap_or(b""), stderr.unwrap_or(b""));
     let Some(bytes) = stderr else {
-        return note_slice(stdout);
+        return note_slice(stdout, quiet);
     };
-    match heuristic_panic_message(bytes) {
+    let end = bytes.len().saturating_sub(quiet);
+    match panic_message_before(bytes, end) {
         Some(part) => Some(TestOutputErrorSlice::PanicMessage {
             stderr_subslice: part,
         }),
-        None => match heuristic_error_str(bytes) {
+        None => match error_str_before(bytes, end) {
             Some(part) => Some(TestOutputErrorSlice::ErrorStr {
                 stderr_subslice: part,
             }),
-            None => note_slice(stdout),
+            None => note_slice(stdout, quiet),
         },
     }
 }
 
-/// The note line of standard output, where it was captured.
-fn note_slice(stdout: Option<&[u8]>) -> Option<TestOutputErrorSlice<'_>>
+/// The note line of standard output, where it was captured; no note begins in its last `quiet`
+/// bytes.
+fn note_slice(stdout: Option<&[u8]>, quiet: usize) -> Option<TestOutputErrorSlice<'_>>
+    requires { IfSome stdout (λ b. IsQuietFrom b.now (codes "note: test did not panic as expected") (length b.now - quiet)) }
     ensures { IsExtract (option_copied stdout.entry) None (option_map extract_of result) }
 {
-    let part = heuristic_should_panic(stdout?)?;
+    let bytes = stdout?;
+    let part = should_panic_before(bytes, bytes.len().saturating_sub(quiet))?;
     Some(TestOutputErrorSlice::ShouldPanic {
         stdout_subslice: part,
     })
@@ -93,7 +103,15 @@ pub fn heuristic_panic_message(stderr: &[u8]) -> Option<ByteSubslice<'_>>
     ensures only { (found : Option Slice) → IsPanicSlice stderr.now found → found ≡ option_map slice_of result }
     ensures part { IfSome result (λ x. IsPart stderr.now (slice_of x)) }
 {
-    let Some(head) = last_head(stderr) else {
+    panic_message_before(stderr, stderr.len())
+}
+
+/// The same, where no sign of a panic begins at `end` or behind it.
+fn panic_message_before(stderr: &[u8], end: usize) -> Option<ByteSubslice<'_>>
+    requires { IsQuietFrom stderr.now (codes "\nthread '") end }
+    ensures { IsPanicSlice stderr.now (option_map slice_of result) }
+{
+    let Some(head) = last_head_before(stderr, end) else {
         return None;
     };
     let start = widened(stderr, head.start);
@@ -109,10 +127,18 @@ pub fn heuristic_error_str(stderr: &[u8]) -> Option<ByteSubslice<'_>>
     ensures only { (found : Option Slice) → IsErrorSlice stderr.now found → found ≡ option_map slice_of result }
     ensures part { IfSome result (λ x. IsPart stderr.now (slice_of x)) }
 {
+    error_str_before(stderr, stderr.len())
+}
+
+/// The same, where no sign of an error begins at `end` or behind it.
+fn error_str_before(stderr: &[u8], end: usize) -> Option<ByteSubslice<'_>>
+    requires { IsQuietFrom stderr.now (codes "\nError: ") end }
+    ensures { IsErrorSlice stderr.now (option_map slice_of result) }
+{
     if stderr.starts_with_str(b"Error: ") {
         return Some(trimmed(stderr, 0));
     }
-    let Some(at) = stderr.find(b"\nError: ") else {
+    let Some(at) = first_sign(stderr, ERROR_SIGN, end) else {
         return None;
     };
     Some(trimmed(stderr, at + 1))
@@ -127,7 +153,15 @@ pub fn heuristic_should_panic(stdout: &[u8]) -> Option<ByteSubslice<'_>>
     ensures only { (found : Option Slice) → IsNoteLine stdout.now found → found ≡ option_map slice_of result }
     ensures part { IfSome result (λ x. IsPart stdout.now (slice_of x)) }
 {
-    let Some(at) = stdout.find(b"note: test did not panic as expected") else {
+    should_panic_before(stdout, stdout.len())
+}
+
+/// The same, where no note begins at `end` or behind it.
+fn should_panic_before(stdout: &[u8], end: usize) -> Option<ByteSubslice<'_>>
+    requires { IsQuietFrom stdout.now (codes "note: test did not panic as expected") end }
+    ensures { IsNoteLine stdout.now (option_map slice_of result) }
+{
+    let Some(at) = first_sign(stdout, NOTE, end) else {
         return None;
     };
     let start = line_start(stdout, at);

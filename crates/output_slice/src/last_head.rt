@@ -1,22 +1,26 @@
 //! The search for the last taken head, from the back.
-ghost use Rattle.std.specs.Prelude.{◌≡◌, ◌≤◌, ◌<◌, ◌+◌, ◌↔◌, ℕ, List, length, take, MatchOption, IsSome, Option, Some, None};
+ghost use Rattle.std.specs.Prelude.{codes, ◌≡◌, ◌≤◌, ◌<◌, ◌+◌, ◌↔◌, ℕ, List, length, take, MatchOption, IsSome, Option, Some, None};
 ghost use Rattle.output_slice.specs.declared.panic_head.HeadSpan.{HeadSpan};
 ghost use Rattle.output_slice.specs.Head.{IsLineStart, IsHead};
 ghost use Rattle.output_slice.specs.Taken.{IsLastTaken, IsTaken, last_of};
 ghost use Rattle.output_slice.specs.Cut.{IsCut};
 ghost use Rattle.output_slice.specs.Search.{IsLastOpening, MayCross};
+ghost use Rattle.output_slice.specs.Signs.{IsQuietFrom};
 
 use crate::byte_source::CountedBytes;
 use crate::lines::line_end;
 use crate::panic_head::quotes::{OPENING_SIZE, WORD_SIZE, opens};
 use crate::panic_head::{HeadSpan, last_panic_head};
+use crate::signs::{PANIC_SIGN, last_sign};
 use bstr::ByteSlice;
 
-/// The last line start at which a head may stand.
-fn last_opening(bytes: &[u8]) -> Option<usize>
+/// The last line start at which a head may stand, where no sign of a panic begins at `quiet` or
+/// behind it.
+fn last_opening(bytes: &[u8], quiet: usize) -> Option<usize>
+    requires { IsQuietFrom bytes.now (codes "\nthread '") quiet }
     ensures { MatchOption result ((s : ℕ) → (e : ℕ) → ¬ IsHead bytes.now s e) (λ s. IsLastOpening bytes.now s) }
 {
-    if let Some(feed) = bytes.rfind(b"\nthread '") {
+    if let Some(feed) = last_sign(bytes, PANIC_SIGN, quiet) {
         return Some(feed + 1);
     }
     if bytes.starts_with_str(b"thread '") {
@@ -98,15 +102,16 @@ pub fn last_head(bytes: &[u8]) -> Option<HeadSpan>
     ensures only { (taken : List HeadSpan) → IsTaken bytes.now taken → result ≡ last_of taken }
     ensures found { IsSome result ↔ ((s : ℕ) × (e : ℕ) × IsHead bytes.now s e) }
 {
-    last_in_windows(bytes)
+    last_head_before(bytes, bytes.len())
 }
 
-/// The last taken head, from the last window on.
-fn last_in_windows(bytes: &[u8]) -> Option<HeadSpan>
+/// The same, where no sign of a panic begins at `quiet` or behind it.
+pub(crate) fn last_head_before(bytes: &[u8], quiet: usize) -> Option<HeadSpan>
+    requires { IsQuietFrom bytes.now (codes "\nthread '") quiet }
     ensures { IsLastTaken bytes.now result }
 {
     let mut rest = bytes;
-    while let Some(at) = last_opening(rest) {
+    while let Some(at) = last_opening(rest, quiet) {
         let front = &rest[..heads_end(rest, at)];
         let cut = cut_before(front, at);
         if let Some(head) = last_from(front, cut) {

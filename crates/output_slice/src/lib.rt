@@ -11,6 +11,7 @@ pub mod last_head;
 pub mod laws;
 mod lines;
 pub mod panic_head;
+mod signs;
 pub mod subslice;
 #[cfg(test)]
 mod tests;

@@ -13,8 +13,8 @@ pub use test_attempts::laws::{
     status_level_at_most, status_level_order,
 };
 pub use unit_results::laws::{
-    cancel_reason_at_most, cancel_reason_order, flaky_result_default, run_mode_default,
-    stress_index_at_most, stress_index_hashes, stress_index_order,
+    cancel_reason_at_most, cancel_reason_order, errors_are_equal, flaky_result_default,
+    run_mode_default, stress_index_at_most, stress_index_hashes, stress_index_order,
 };
 
 /// By default all counters are zero, and there is no reason to cancel: the statistics of a run

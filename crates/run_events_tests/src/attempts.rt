@@ -1,9 +1,9 @@
 //! The attempts of a test.
 
-use crate::builders::{EXIT_ONE, PASS, attempt};
 use run_events::attempts::{EmptyStatuses, ExecuteStatus, ExecutionStatuses};
 use run_events::child::LiveSpec;
 use run_events::config::FlakyResult;
+use sample_units::{EXIT_ONE, PASS, attempt};
 use std::test::Fail;
 
 #[test]

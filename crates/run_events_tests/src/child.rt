@@ -1,12 +1,12 @@
 //! What a child process left.
 
-use crate::builders::{EXIT_ONE, PASS, TIMEOUT_PASS, captured, error};
 use run_events::child::{
     ChildError, ChildErrorDescription, ChildExecutionOutputDescription, ChildFdError, ChildOutput,
     ChildOutputDescription, ChildSplitOutput, ChildStartError, ChildStartErrorDescription,
     ErrorList, LiveSpec, OutputSpec,
 };
 use run_events::results::{ExecutionResult, ExecutionResultDescription};
+use sample_units::{EXIT_ONE, PASS, TIMEOUT_PASS, captured, error};
 use std::alloc::Global;
 use std::test::Fail;
 

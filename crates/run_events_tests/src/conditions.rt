@@ -1,13 +1,13 @@
 //! Counters at their end, and the tests of what the updates and sums ask for.
 
-use crate::builders::{
-    EXEC_FAIL, EXIT_ONE, LEAK_FAIL, LEAK_PASS, PASS, TIMEOUT_FAIL, TIMEOUT_PASS, finished_script,
-    finished_test,
-};
 use run_events::config::FlakyResult;
 use run_events::outcome::{FinalRunStats, RunStatsFailureKind};
 use run_events::results::ExecutionResult;
 use run_events::stats::RunStats;
+use sample_units::{
+    EXEC_FAIL, EXIT_ONE, LEAK_FAIL, LEAK_PASS, PASS, TIMEOUT_FAIL, TIMEOUT_PASS, finished_script,
+    finished_test,
+};
 use std::test::Fail;
 
 #[test]

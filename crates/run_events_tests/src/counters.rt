@@ -1,15 +1,15 @@
 //! The counters of a run.
 
-use crate::builders::{
-    EXEC_FAIL, EXIT_ONE, LEAK_FAIL, LEAK_PASS, PASS, TIMEOUT_FAIL, TIMEOUT_PASS, finished_script,
-    finished_test,
-};
 use run_events::attempts::{ExecutionStatuses, SetupScriptExecuteStatus};
 use run_events::child::LiveSpec;
 use run_events::config::FlakyResult;
 use run_events::outcome::{FinalRunStats, RunStatsFailureKind};
 use run_events::results::CancelReason;
 use run_events::stats::{FinishedUnit, RunStart, RunStats};
+use sample_units::{
+    EXEC_FAIL, EXIT_ONE, LEAK_FAIL, LEAK_PASS, PASS, TIMEOUT_FAIL, TIMEOUT_PASS, finished_script,
+    finished_test,
+};
 use std::test::Fail;
 
 /// A run of which nothing was to run.

@@ -1,6 +1,5 @@
 //! How what a runner has of a child process is described for reporters.
 
-use crate::builders::{EXEC_FAIL, SIGNAL_FIFTEEN, captured, error};
 use run_events::child::{
     ChildError, ChildErrorDescription, ChildExecutionOutput, ChildExecutionOutputDescription,
     ChildFdError, ChildOutput, ChildOutputDescription, ChildSplitOutput, ChildStartError,
@@ -9,6 +8,7 @@ use run_events::child::{
 use run_events::results::{
     AbortDescription, ExecutionResult, ExecutionResultDescription, FailureDescription,
 };
+use sample_units::{EXEC_FAIL, SIGNAL_FIFTEEN, captured, error};
 use std::alloc::Global;
 use std::test::Fail;
 

@@ -1,16 +1,16 @@
 //! What the attempts of a test come to, and how much attention it asks for.
 
 use super::counters::EMPTY_START;
-use crate::builders::{
-    EXEC_FAIL, EXIT_ONE, LEAK_FAIL, LEAK_PASS, PASS, TIMEOUT_FAIL, TIMEOUT_PASS, attempt,
-    finished_test,
-};
 use run_events::attempts::{ExecutionDescription, RetryData};
 use run_events::child::LiveSpec;
 use run_events::config::FlakyResult;
 use run_events::levels::{FinalStatusLevel, StatusLevel};
 use run_events::results::ExecutionResult;
 use run_events::stats::{FinishedUnit, RunStats};
+use sample_units::{
+    EXEC_FAIL, EXIT_ONE, LEAK_FAIL, LEAK_PASS, PASS, TIMEOUT_FAIL, TIMEOUT_PASS, attempt,
+    finished_test,
+};
 use std::test::Fail;
 
 /// The case of a description in one word.

@@ -1,12 +1,10 @@
-//! Tests of `run_events` through its public calls alone: rows worked by hand, printed text, and
+//! Tests of `run_events`, but for its events, through its public calls alone: rows worked by hand, printed text, and
 //! that each public call succeeds once. They stand in a crate of their own, so that the check of
 //! the tests does not prove the library once more.
 #![tactic(auto)]
 
 #[cfg(test)]
 mod attempts;
-#[cfg(test)]
-mod builders;
 #[cfg(test)]
 mod chain;
 #[cfg(test)]
@@ -21,8 +19,6 @@ mod config;
 mod counters;
 #[cfg(test)]
 mod descriptions;
-#[cfg(test)]
-mod events;
 #[cfg(test)]
 mod laws;
 #[cfg(test)]

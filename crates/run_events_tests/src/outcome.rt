@@ -1,6 +1,5 @@
 //! Outcomes of runs, of sub-runs and of repeated runs.
 
-use crate::builders::{EXIT_ONE, PASS, finished_test};
 use run_events::config::FlakyResult;
 use run_events::outcome::{
     FinalRunStats, RunFailureStep, RunFinishedStats, RunOutcome, RunStatsFailureKind,
@@ -9,6 +8,7 @@ use run_events::outcome::{
 use run_events::results::CancelReason;
 use run_events::stats::{FinishedRun, FinishedUnit, RunStart, RunStats};
 use run_events::stress::StressIndex;
+use sample_units::{EXIT_ONE, PASS, finished_test};
 use std::test::Fail;
 
 /// The step of the tests, with numbers.

@@ -1,11 +1,11 @@
 //! Results: which succeed, their words, and what is described of them.
 
-use crate::builders::{
-    EXEC_FAIL, EXIT_ONE, LEAK_FAIL, LEAK_PASS, PASS, SIGNAL_FIFTEEN, TIMEOUT_FAIL, TIMEOUT_PASS,
-};
 use run_events::results::{
     AbortDescription, AbortStatus, ExecutionResult, ExecutionResultDescription, FailureDescription,
     FailureStatus,
+};
+use sample_units::{
+    EXEC_FAIL, EXIT_ONE, LEAK_FAIL, LEAK_PASS, PASS, SIGNAL_FIFTEEN, TIMEOUT_FAIL, TIMEOUT_PASS,
 };
 use std::test::Fail;
 

@@ -1,12 +1,12 @@
 //! The errors of a unit.
 
-use crate::builders::{EXEC_FAIL, EXIT_ONE, PASS, SIGNAL_FIFTEEN, captured, error};
 use run_events::child::{
     ChildErrorDescription, ChildExecutionOutputDescription, ChildOutputDescription,
     ChildStartErrorDescription, ErrorList, LiveSpec,
 };
 use run_events::results::{ExecutionResult, ExecutionResultDescription, UnitKind};
 use run_events::unit_error::{UnitError, UnitErrorDescription};
+use sample_units::{EXEC_FAIL, EXIT_ONE, PASS, SIGNAL_FIFTEEN, captured, error};
 use std::alloc::Global;
 use std::test::Fail;
 

@@ -1,12 +1,12 @@
 -- Error chains as JSON: what is written for one, and what is read again.
-use Rattle.std.proofs.Common.{◌≡◌, ◌⊎◌, Ordering, ℕ, ◌+◌, Bool, true, cond, Result, Ok, List, [], ◌∷◌, map, codes, None, Some, IsSome, is_some, not, position, unwrap_or, refl, sym, ap, subst, ◌∙◌, inl, inr, true≢false}
+use Rattle.std.proofs.Common.{◌≡◌, ◌≤◌, ◌⊎◌, Ordering, ℕ, ◌+◌, max, Bool, true, cond, Result, Ok, List, [], ◌∷◌, map, codes, None, Some, IsSome, is_some, not, position, unwrap_or, refl, sym, ap, subst, ◌∙◌, inl, inr, true≢false, arith}
 use Rattle.std.specs.Ordering.{nat_cmp, match_ordering}
 use Rattle.std.specs.declared.cmp.Ordering.TheVariants.{Less, Equal, Greater}
 use Rattle.std.specs.Cmp.Lexicographic.{slice_cmp}
 use Rattle.std.specs.List.{position_from}
 use Rattle.std.proofs.lemmas.Iterator.Adapters.{position_from-zero}
 use Rattle.std.proofs.lemmas.Map.Lookups.{exact_bytes}
-use Rattle.serde_json.specs.Data.{Data, string, array, object, null, boolean, number, Members, no_members, member}
+use Rattle.serde_json.specs.Data.{Data, depth, items_depth, string, array, object, null, boolean, number, Members, no_members, member}
 use Rattle.serde_json.specs.Find.{as_object, as_str, get, get_member}
 use Rattle.serde_json.specs.View.{items_of, view}
 use Rattle.serde_json.specs.declared.value.Value.{Value}
@@ -95,3 +95,16 @@ is_chain_value c = record { message = refl; causes = refl; only = only_members c
 -- the object that is written for a chain is a value of it
 pub is_chain_value_from_object : (d : Data) (c : ErrorChain) → d ≡ chain_object c → IsChainValue d c
 is_chain_value_from_object d c e = subst (λ x. IsChainValue x c) (sym e) (is_chain_value c)
+
+-- texts nest nothing
+flat : (cs : List (List ℕ)) → items_depth (items_of (map string cs)) ≡ 0
+flat [] = refl
+flat (c ∷ cs) = ap (max 0) (flat cs)
+
+-- the object that is written for a chain nests no deeper than its list of causes
+pub nests_from_object : (d : Data) (c : ErrorChain) → d ≡ chain_object c → depth d ≤ 2
+nests_from_object d c e = let list = flat c.causes in rw (e, list) (omega arith)
+
+-- and is read as that chain
+pub reads_from_object : (d : Data) (c : ErrorChain) → d ≡ chain_object c → read_chain d ≡ Ok c
+reads_from_object d c e = read_chain-of_value d c (is_chain_value_from_object d c e)

@@ -2,3 +2,4 @@ pub mod ChainLemmas
 pub mod Hexadecimal
 pub mod SubRunIds
 pub mod SubRunOrder
+pub mod SameChains

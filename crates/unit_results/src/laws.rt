@@ -4,6 +4,7 @@ ghost use Rattle.std.specs.Prelude.{◌≡◌, ◌≢◌, ◌↔◌, ◌≤◌, 
 ghost use Rattle.std.specs.Ordering.{nat_cmp};
 ghost use Rattle.unit_results.specs.Ranks.{IsNoLaterSubRun, reason_rank};
 
+use crate::chain::SerializableError;
 use crate::config::FlakyResult;
 use crate::results::CancelReason;
 use crate::run_mode::NextestRunMode;
@@ -25,6 +26,14 @@ pub fn cancel_reason_at_most(a: CancelReason, b: CancelReason) -> bool
     ensures { IsTrue result ↔ (reason_rank a ≤ reason_rank b) }
 {
     a <= b
+}
+
+/// Errors are equal exactly where their messages are, and all their causes.
+#[tactic(auto, using(crate::proofs::SameChains::same_chain))]
+pub fn errors_are_equal(a: &SerializableError, b: &SerializableError) -> bool
+    ensures { IsTrue result ↔ (a.now ≡ b.now) }
+{
+    a == b
 }
 
 /// By default a flaky test counts as passed.

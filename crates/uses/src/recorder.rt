@@ -20,37 +20,21 @@ pub enum LoadError {
     OutOfMemory,
 }
 
-/// Why an error was not stored.
-#[derive(Clone, Copy, Debug, PartialEq, Eq)]
-pub enum StoreError {
-    /// The text would not be read as that error.
-    Unreadable,
-
-    /// Memory was refused.
-    OutOfMemory,
-}
-
-impl From<AllocError> for StoreError {
-    ghost use Rattle.uses.specs.declared.recorder.StoreError.TheVariants.{OutOfMemory};
+impl From<AllocError> for LoadError {
+    ghost use Rattle.uses.specs.declared.recorder.LoadError.TheVariants.{OutOfMemory};
 
     ghost from_gives = { λ _ e. e ≡ OutOfMemory };
 
-    fn from(_: AllocError) -> StoreError {
-        StoreError::OutOfMemory
+    fn from(_: AllocError) -> LoadError {
+        LoadError::OutOfMemory
     }
 }
 
-/// The text of an error. It is read again before it is answered, so that nothing is stored which
-/// no one can load.
-pub fn store(alloc: Global, error: &SerializableError) -> Result<String, StoreError>
+/// The text of an error.
+pub fn store(alloc: Global, error: &SerializableError) -> Result<String, AllocError>
     ensures { IfOk result (λ text. chain_in (string_bytes text) ≡ Some error.now) }
 {
-    let text = error.to_value(alloc)?.to_string(alloc)?;
-    match load(alloc, text.as_str()) {
-        Ok(back) if back == *error => Ok(text),
-        Err(LoadError::OutOfMemory) => Err(StoreError::OutOfMemory),
-        _ => Err(StoreError::Unreadable),
-    }
+    error.to_value(alloc)?.to_string(alloc)
 }
 
 /// The error that a text says.
@@ -70,17 +54,14 @@ pub fn load(alloc: Global, text: &str) -> Result<SerializableError, LoadError>
     }
 }
 
-/// What comes back of an error that was stored.
+/// What comes back of an error that was stored: that error, unless memory is refused.
 pub fn through_text(
     alloc: Global,
     error: &SerializableError,
-) -> Result<SerializableError, StoreError>
-    ensures { IfOk result (λ back. back ≡ error.now) }
+) -> Result<SerializableError, LoadError>
+    ensures same { IfOk result (λ back. back ≡ error.now) }
+    ensures refused { IfErr result (λ e. e ≡ LoadError.OutOfMemory) }
 {
     let text = store(alloc, error)?;
-    match load(alloc, text.as_str()) {
-        Ok(back) => Ok(back),
-        Err(LoadError::OutOfMemory) => Err(StoreError::OutOfMemory),
-        Err(LoadError::NotJson | LoadError::NotAnError(_)) => unreachable!(),
-    }
+    load(alloc, text.as_str())
 }

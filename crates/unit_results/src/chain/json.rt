@@ -1,7 +1,8 @@
 //! Error chains as JSON values.
 
-ghost use Rattle.std.specs.Prelude.{◌≡◌, codes, is_some, not, map, option_map, position, Err, IfOk, if◌then◌else◌};
+ghost use Rattle.std.specs.Prelude.{◌≡◌, ◌≤◌, codes, is_some, not, map, option_map, position, Err, IfOk, Ok, if◌then◌else◌};
 ghost use Rattle.std.specs.Result.{result_map_both};
+ghost use Rattle.serde_json.specs.Data.{depth};
 ghost use Rattle.serde_json.specs.Find.{as_object, as_str, get};
 ghost use Rattle.serde_json.specs.View.{view};
 ghost use Rattle.unit_results.specs.ErrorChain.{ErrorChain};
@@ -53,9 +54,13 @@ impl SerializableError {
     /// the nearest cause first, which is there also where it is empty.
     ///
     /// Takes memory for the object, its texts and its list.
-    #[tactic(auto, using(crate::proofs::ChainLemmas::is_chain_value_from_object))]
+    #[tactic(auto, using(crate::proofs::ChainLemmas::is_chain_value_from_object, crate::proofs::ChainLemmas::nests_from_object, crate::proofs::ChainLemmas::reads_from_object))]
     pub fn to_value(&self, alloc: Global) -> Result<Value, AllocError>
-        ensures { IfOk result (λ v. IsChainValue (view v) self.now) }
+        ensures members { IfOk result (λ v. IsChainValue (view v) self.now) }
+
+        // So its JSON text is one that `serde_json` reads again.
+        ensures nests { IfOk result (λ v. depth (view v) ≤ 2) }
+        ensures reads_back { IfOk result (λ v. read_chain (view v) ≡ Ok self.now) }
     {
         object_of(alloc, self)
     }

@@ -2,13 +2,13 @@
 
 use super::states::{delayed, ending};
 use super::{SO_FAR, THIRD, instance, is_instance, kind_of, owned, script_id, told};
-use crate::builders::{EXIT_ONE, attempt};
 use run_events::attempts::RetryData;
 use run_events::child::{ChildExecutionOutputDescription, LiveSpec};
 use run_events::events::{
     InfoResponse, SetupScriptInfoResponse, TestEventKind, TestInfoResponse, UnitState,
 };
 use run_events::results::ExecutionResultDescription;
+use sample_units::{EXIT_ONE, attempt};
 use std::test::Fail;
 
 /// Whether the output is that of a process that failed, and of which nothing was captured.

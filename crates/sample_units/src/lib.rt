@@ -1,5 +1,6 @@
-//! Finished units of which only what decides their counters matters, and captured output and errors
-//! to put into others.
+//! What tests take as given: finished units of which only what decides their counters matters, and
+//! captured output and errors to put into others.
+#![tactic(auto)]
 
 use bytes::Bytes;
 use jiff::Timestamp;
@@ -13,37 +14,44 @@ use run_events::config::{FlakyResult, LeakTimeoutResult, Moment, SlowTimeoutResu
 use run_events::results::{
     AbortStatus, ExecutionResult, ExecutionResultDescription, FailureStatus,
 };
-use std::alloc::Global;
-use std::test::Fail;
+use std::alloc::{AllocError, Global};
 use std::time::Duration;
 
-pub(crate) const PASS: ExecutionResult = ExecutionResult::Pass;
+/// It succeeded.
+pub const PASS: ExecutionResult = ExecutionResult::Pass;
 
-pub(crate) const LEAK_PASS: ExecutionResult = ExecutionResult::Leak {
+/// It leaked, which passes.
+pub const LEAK_PASS: ExecutionResult = ExecutionResult::Leak {
     result: LeakTimeoutResult::Pass,
 };
 
-pub(crate) const LEAK_FAIL: ExecutionResult = ExecutionResult::Leak {
+/// It leaked, which fails.
+pub const LEAK_FAIL: ExecutionResult = ExecutionResult::Leak {
     result: LeakTimeoutResult::Fail,
 };
 
-pub(crate) const EXIT_ONE: ExecutionResult = ExecutionResult::Fail {
+/// It exited with code 1.
+pub const EXIT_ONE: ExecutionResult = ExecutionResult::Fail {
     failure_status: FailureStatus::ExitCode(1),
     leaked: false,
 };
 
-pub(crate) const SIGNAL_FIFTEEN: ExecutionResult = ExecutionResult::Fail {
+/// It was ended by signal 15, and leaked.
+pub const SIGNAL_FIFTEEN: ExecutionResult = ExecutionResult::Fail {
     failure_status: FailureStatus::Abort(AbortStatus::UnixSignal(15)),
     leaked: true,
 };
 
-pub(crate) const EXEC_FAIL: ExecutionResult = ExecutionResult::ExecFail;
+/// It could not be run.
+pub const EXEC_FAIL: ExecutionResult = ExecutionResult::ExecFail;
 
-pub(crate) const TIMEOUT_PASS: ExecutionResult = ExecutionResult::Timeout {
+/// Its time ran out, which passes.
+pub const TIMEOUT_PASS: ExecutionResult = ExecutionResult::Timeout {
     result: SlowTimeoutResult::Pass,
 };
 
-pub(crate) const TIMEOUT_FAIL: ExecutionResult = ExecutionResult::Timeout {
+/// Its time ran out, which fails.
+pub const TIMEOUT_FAIL: ExecutionResult = ExecutionResult::Timeout {
     result: SlowTimeoutResult::Fail,
 };
 
@@ -66,11 +74,7 @@ fn nothing_captured(outcome: ExecutionResult) -> ChildExecutionOutputDescription
 }
 
 /// An attempt of this number that ended so.
-pub(crate) fn attempt(
-    outcome: ExecutionResult,
-    number: u32,
-    is_slow: bool,
-) -> ExecuteStatus<LiveSpec> {
+pub fn attempt(outcome: ExecutionResult, number: u32, is_slow: bool) -> ExecuteStatus<LiveSpec> {
     ExecuteStatus {
         retry_data: RetryData {
             attempt: number,
@@ -88,13 +92,13 @@ pub(crate) fn attempt(
 }
 
 /// A test whose attempts ended so, the last of them slow or not.
-pub(crate) fn finished_test(
+pub fn finished_test(
     alloc: Global,
     earlier: &[ExecutionResult],
     last: ExecutionResult,
     is_slow: bool,
     setting: FlakyResult,
-) -> Result<ExecutionStatuses<LiveSpec>, Fail> {
+) -> Result<ExecutionStatuses<LiveSpec>, AllocError> {
     let mut statuses = Vec::new(alloc);
     let mut number: u32 = 1;
     for outcome in earlier {
@@ -102,11 +106,11 @@ pub(crate) fn finished_test(
         number = number.saturating_add(1);
     }
     statuses.push(attempt(last, number, is_slow))?;
-    Ok(ExecutionStatuses::try_from_parts(statuses, setting)?)
+    Ok(ExecutionStatuses::new(statuses, setting))
 }
 
 /// A setup script that ended so.
-pub(crate) fn finished_script(outcome: ExecutionResult) -> SetupScriptExecuteStatus<LiveSpec> {
+pub fn finished_script(outcome: ExecutionResult) -> SetupScriptExecuteStatus<LiveSpec> {
     SetupScriptExecuteStatus {
         output: nothing_captured(outcome),
         result: ExecutionResultDescription::from_status(outcome, None),
@@ -119,13 +123,13 @@ pub(crate) fn finished_script(outcome: ExecutionResult) -> SetupScriptExecuteSta
 }
 
 /// Output of which this was captured.
-pub(crate) fn captured(alloc: Global, bytes: &[u8]) -> Result<ChildSingleOutput, Fail> {
+pub fn captured(alloc: Global, bytes: &[u8]) -> Result<ChildSingleOutput, AllocError> {
     Ok(ChildSingleOutput::from(Bytes::copy_from_slice(alloc, bytes)?))
 }
 
 /// An error without a cause.
-pub(crate) fn error(alloc: Global, message: &str) -> Result<SerializableError, Fail> {
+pub fn error(alloc: Global, message: &str) -> Result<SerializableError, AllocError> {
     let message = String::from_str(alloc, message)?;
     let causes = Vec::new(alloc);
-    Ok(SerializableError::from_message_and_causes(alloc, message, causes)?)
+    SerializableError::from_message_and_causes(alloc, message, causes)
 }

@@ -1,8 +1,8 @@
 //! Setup scripts start, are slow and finish.
 
 use super::{THIRD, kind_of, owned, script_id, told};
-use crate::builders::{LEAK_FAIL, finished_script};
 use run_events::events::TestEventKind;
+use sample_units::{LEAK_FAIL, finished_script};
 use std::test::Fail;
 use std::time::Duration;
 

@@ -1,13 +1,13 @@
 //! Tests start, are slow, are tried again, finish and are skipped.
 
 use super::{SO_FAR, THIRD, instance, is_instance, kind_of, owned, told};
-use crate::builders::{EXIT_ONE, LEAK_PASS, attempt, finished_test};
 use run_events::attempts::RetryData;
 use run_events::config::{
     FlakyResult, JunitFlakyFailStatus, MismatchReason, ReportSkipPolicy, TestGroup,
     TestOutputDisplay,
 };
 use run_events::events::{TestEventKind, TestSlotAssignment};
+use sample_units::{EXIT_ONE, LEAK_PASS, attempt, finished_test};
 use std::alloc::{AllocError, Global};
 use std::test::Fail;
 use std::time::Duration;

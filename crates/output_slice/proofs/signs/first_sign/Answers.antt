@@ -1,0 +1,5 @@
+use Rattle.output_slice.proofs.SignLemmas.{finds-first}
+use Rattle.output_slice.proofs.signs.first_sign.Goals as goal
+
+pub returns : goal.returns
+returns c = finds-first c.args.bytes.now c.args.sign.now c.args.end c.reach.result c.requires c.reach.ensures c.find.result c.find.ensures
