@@ -1,7 +1,7 @@
 -- Bytes that are read and written in pieces.
 use Rattle.std.proofs.Common.{◌≡◌, ℕ, List, ◌++◌, take, drop, ap, sym, ◌∙◌, append_assoc}
 use Rattle.std.specs.Prelude.{Option, Some, None}
-use Rattle.std.specs.Io.KnownBytes.{Appends, Consumes}
+use Rattle.std.specs.Io.KnownBytes.{Appends}
 use Rattle.std.proofs.lemmas.List.{take-append-drop}
 
 -- known bytes have grown by the text but for its rest
@@ -16,13 +16,6 @@ appends_more None mid new xs ys first second = tt
 appends_more (Some a) None new xs ys first second = absurd first
 appends_more (Some a) (Some b) None xs ys first second = absurd second
 appends_more (Some a) (Some b) (Some c) xs ys first second = second ∙ ap (λ x. x ++ ys) first ∙ append_assoc a xs ys
-
--- known bytes that are taken twice
-pub consumes_more : (old mid new : Option (List ℕ)) (xs ys : List ℕ) → Consumes old mid xs → Consumes mid new ys → Consumes old new (xs ++ ys)
-consumes_more None mid new xs ys first second = tt
-consumes_more (Some a) None new xs ys first second = absurd first
-consumes_more (Some a) (Some b) None xs ys first second = absurd second
-consumes_more (Some a) (Some b) (Some c) xs ys first second = first ∙ ap (λ x. xs ++ x) second ∙ sym (append_assoc xs ys c)
 
 -- the front of the rest was written
 pub writing_more : (old mid new : Option (List ℕ)) (text rest : List ℕ) (n : ℕ) → Writing old mid text rest → Appends mid new (take n rest) → Writing old new text (drop n rest)

@@ -165,9 +165,9 @@ fn should_panic_before(stdout: &[u8], end: usize) -> Option<ByteSubslice<'_>>
         return None;
     };
     let start = line_start(stdout, at);
-    let end = line_end(stdout, at);
+    let stop = line_end(stdout, at);
     Some(ByteSubslice {
-        slice: without_end(&stdout[start..end]),
+        slice: without_end(&stdout[start..stop]),
         start,
     })
 }

@@ -14,13 +14,13 @@ use crate::panic_head::{HeadSpan, last_panic_head};
 use crate::signs::{PANIC_SIGN, last_sign};
 use bstr::ByteSlice;
 
-/// The last line start at which a head may stand, where no sign of a panic begins at `quiet` or
+/// The last line start at which a head may stand, where no sign of a panic begins at `end` or
 /// behind it.
-fn last_opening(bytes: &[u8], quiet: usize) -> Option<usize>
-    requires { IsQuietFrom bytes.now (codes "\nthread '") quiet }
+fn last_opening(bytes: &[u8], end: usize) -> Option<usize>
+    requires { IsQuietFrom bytes.now (codes "\nthread '") end }
     ensures { MatchOption result ((s : ℕ) → (e : ℕ) → ¬ IsHead bytes.now s e) (λ s. IsLastOpening bytes.now s) }
 {
-    if let Some(feed) = last_sign(bytes, PANIC_SIGN, quiet) {
+    if let Some(feed) = last_sign(bytes, PANIC_SIGN, end) {
         return Some(feed + 1);
     }
     if bytes.starts_with_str(b"thread '") {
@@ -105,13 +105,13 @@ pub fn last_head(bytes: &[u8]) -> Option<HeadSpan>
     last_head_before(bytes, bytes.len())
 }
 
-/// The same, where no sign of a panic begins at `quiet` or behind it.
-pub(crate) fn last_head_before(bytes: &[u8], quiet: usize) -> Option<HeadSpan>
-    requires { IsQuietFrom bytes.now (codes "\nthread '") quiet }
+/// The same, where no sign of a panic begins at `end` or behind it.
+pub(crate) fn last_head_before(bytes: &[u8], end: usize) -> Option<HeadSpan>
+    requires { IsQuietFrom bytes.now (codes "\nthread '") end }
     ensures { IsLastTaken bytes.now result }
 {
     let mut rest = bytes;
-    while let Some(at) = last_opening(rest, quiet) {
+    while let Some(at) = last_opening(rest, end) {
         let front = &rest[..heads_end(rest, at)];
         let cut = cut_before(front, at);
         if let Some(head) = last_from(front, cut) {

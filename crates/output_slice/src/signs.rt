@@ -3,7 +3,7 @@
 //!
 //! In most output there is no sign at all, and then each is looked for in all of it. So they are
 //! looked for side by side, block by block, while the block is at hand in the processor's cache.
-ghost use Rattle.std.specs.Prelude.{◌≡◌, ◌≤◌, ◌+◌, ◌-◌, codes, length, min, IsTrue};
+ghost use Rattle.std.specs.Prelude.{◌≡◌, ◌≤◌, ◌+◌, ◌-◌, length, min, IsTrue};
 ghost use Rattle.bstr.specs.Find.{FindsLastNeedle, FindsNeedle};
 ghost use Rattle.output_slice.specs.Signs.{AreQuiet, IsQuietFrom};
 
@@ -29,29 +29,37 @@ pub(crate) fn quiet_size(stdout: &[u8], stderr: &[u8]) -> usize
 {
     let most = stdout.len().max(stderr.len());
     let mut quiet = 0;
-    while quiet < most && are_quiet_before(stdout, stderr, quiet) {
-        quiet = quiet.saturating_add(BLOCK_SIZE);
+    while quiet < most {
+        let more = quiet.saturating_add(BLOCK_SIZE);
+        if !are_quiet_before(stdout, stderr, quiet, more) {
+            return quiet;
+        }
+        quiet = more;
     }
     quiet
 }
 
-/// Whether no sign begins in the block before the last `quiet` bytes of its stream.
-fn are_quiet_before(stdout: &[u8], stderr: &[u8], quiet: usize) -> bool
-    requires { AreQuiet stdout.now stderr.now quiet }
-    ensures { IsTrue result → AreQuiet stdout.now stderr.now (quiet + 131072) }
+/// Whether no sign begins in the last `more` bytes of its stream, where it is known of the last
+/// `quiet` ones.
+fn are_quiet_before(stdout: &[u8], stderr: &[u8], quiet: usize, more: usize) -> bool
+    requires quiet { AreQuiet stdout.now stderr.now quiet }
+    requires order { quiet ≤ more }
+    ensures { IsTrue result → AreQuiet stdout.now stderr.now more }
 {
-    is_quiet_before(stderr, PANIC_SIGN, quiet)
-        && is_quiet_before(stderr, ERROR_SIGN, quiet)
-        && is_quiet_before(stdout, NOTE_SIGN, quiet)
+    is_quiet_before(stderr, PANIC_SIGN, quiet, more)
+        && is_quiet_before(stderr, ERROR_SIGN, quiet, more)
+        && is_quiet_before(stdout, NOTE_SIGN, quiet, more)
 }
 
-/// Whether the sign does not begin in the block before the last `quiet` bytes.
-fn is_quiet_before(bytes: &[u8], sign: &[u8], quiet: usize) -> bool
-    requires { IsQuietFrom bytes.now sign.now (length bytes.now - quiet) }
-    ensures { IsTrue result → IsQuietFrom bytes.now sign.now (length bytes.now - (quiet + 131072)) }
+/// Whether the sign does not begin in the last `more` bytes, where it is known of the last `quiet`
+/// ones.
+fn is_quiet_before(bytes: &[u8], sign: &[u8], quiet: usize, more: usize) -> bool
+    requires quiet { IsQuietFrom bytes.now sign.now (length bytes.now - quiet) }
+    requires order { quiet ≤ more }
+    ensures { IsTrue result → IsQuietFrom bytes.now sign.now (length bytes.now - more) }
 {
     let end = bytes.len().saturating_sub(quiet);
-    let block = &bytes[end.saturating_sub(BLOCK_SIZE)..reach(bytes, sign, end)];
+    let block = &bytes[bytes.len().saturating_sub(more)..reach(bytes, sign, end)];
     !block.contains_str(sign)
 }
 

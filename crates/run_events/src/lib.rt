@@ -1,8 +1,8 @@
 //! What a test runner tells its reporters: events, and in them results, what child processes left,
 //! the errors of units, attempts, levels, counters, summaries and outcomes of a run.
 //!
-//! The layers below stand in crates of their own, `unit_results` and `test_attempts`. All of them
-//! is reached here too.
+//! The layers below stand in crates of their own, `unit_results` and `test_attempts`. What they
+//! hold is reached here too.
 #![tactic(auto)]
 
 pub use output_slice;

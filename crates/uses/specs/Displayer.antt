@@ -4,7 +4,7 @@ use Rattle.std.specs.Fmt.{decimal}
 use Rattle.run_events.specs.Config.{is_final_display}
 use Rattle.run_events.specs.Counters.{UnitView, count_of, tests_of}
 use Rattle.run_events.specs.Level.{has_level_fail, has_level_retry}
-use Rattle.run_events.specs.LevelRanks.{final_level_rank, level_rank}
+use Rattle.run_events.specs.LevelRanks.{level_rank}
 use Rattle.run_events.specs.Results.{result_word, succeeds}
 use Rattle.run_events.specs.RunLaws.{has_no_failure}
 use Rattle.run_events.specs.TestView.{TestView}
@@ -19,9 +19,6 @@ use Rattle.uses.specs.declared.displayer.Displayer.{Displayer}
 -- a test's level is above the one that is set, so the test is not asked for
 abbrev pub IsAbove : Option StatusLevel → StatusLevel → Type 0
 IsAbove level own = IfSome level (λ l. level_rank own < level_rank l)
-
-abbrev pub IsFinalAbove : Option FinalStatusLevel → FinalStatusLevel → Type 0
-IsFinalAbove level own = IfSome level (λ l. final_level_rank own < final_level_rank l)
 
 -- when the output of a test is displayed that succeeded, or failed
 abbrev pub display_of : Displayer → Bool → TestOutputDisplay

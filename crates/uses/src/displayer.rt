@@ -7,7 +7,7 @@ ghost use Rattle.run_events.specs.Level.{final_level_of, level_of};
 ghost use Rattle.run_events.specs.Results.{succeeds};
 ghost use Rattle.run_events.specs.TestView.{view_of};
 ghost use Rattle.run_events.specs.Visibility.{severity};
-ghost use Rattle.uses.specs.Displayer.{IsAbove, IsFinalAbove, display_of, listing, numbers_line, status_line, summary_line, test_word};
+ghost use Rattle.uses.specs.Displayer.{IsAbove, display_of, listing, numbers_line, status_line, summary_line, test_word};
 
 use run_events::attempts::ExecutionStatuses;
 use run_events::child::LiveSpec;
@@ -42,10 +42,8 @@ impl Displayer {
         ensures line { (result.write_status_line ≡ false) ↔ IsAbove (level_of (view_of test.now)) self.now.levels.status_level }
 
         // While nothing cancels the run, the setting for such a test says whether its output is
-        // displayed at once, and it is not listed only if its final level is above the one set.
+        // displayed at once, and with its final level what is listed of it at the end.
         ensures at_once { reason ≡ None → result.show_immediate ≡ is_immediate_display (display_of self.now (succeeds (view_of test.now).result)) }
-        ensures unlisted { reason ≡ None → result.store_final ≡ OutputStoreFinal.No
-            → IsFinalAbove (final_level_of (view_of test.now)) self.now.levels.final_status_level }
         ensures listed { reason ≡ None → IfSome (final_level_of (view_of test.now))
             (λ level. result.store_final ≡ listing self.now (succeeds (view_of test.now).result) level) }
 

@@ -58,7 +58,7 @@ impl SerializableError {
     pub fn to_value(&self, alloc: Global) -> Result<Value, AllocError>
         ensures members { IfOk result (λ v. IsChainValue (view v) self.now) }
 
-        // So its JSON text is one that `serde_json` reads again.
+        // `serde_json` reads a text again that nests no deeper than 127.
         ensures nests { IfOk result (λ v. depth (view v) ≤ 2) }
         ensures reads_back { IfOk result (λ v. read_chain (view v) ≡ Ok self.now) }
     {

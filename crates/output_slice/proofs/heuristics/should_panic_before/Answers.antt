@@ -8,6 +8,6 @@ pub returns : goal.returns
 returns c =
     let b = c.args.stdout.now in
     let s = c.line_start-start in
-    let e = c.line_end-end in
+    let e = c.line_end-stop in
     let text = c.without_end.ensures in
     rw text (note-line b c.in-Some.at s.result e.result c.in-Some.ensures s.ensures.within s.ensures.first s.ensures.one_line e.ensures.low e.ensures.high e.ensures.last e.ensures.one_line)

@@ -17,7 +17,7 @@ loop-at-preserved c =
     let end = c.heads_end.result in
     let cut = c.cut_before-cut.ensures.cut in (
       λ found last. c.loop-at.invariant.0 found (last-within-front rest end found e.high e.ends (c.in_default-last_from.ensures found last)),
-      quiet-front (take end rest) _ _ c.args.quiet cut.within (quiet-front rest _ end c.args.quiet e.high c.loop-at.invariant.1),
+      quiet-front (take end rest) _ _ c.args.end cut.within (quiet-front rest _ end c.args.end e.high c.loop-at.invariant.1),
     )
 
 pub last_opening-requires : goal.last_opening-requires

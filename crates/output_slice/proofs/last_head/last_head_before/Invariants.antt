@@ -7,7 +7,7 @@ use Rattle.output_slice.proofs.last_head.last_head_before.Given as goal
 
 -- the last of the rest is the last of all, and the end of the rest is quiet too
 abbrev pub invariant-loop-at : goal.invariant-loop-at
-invariant-loop-at l = ((found : Option HeadSpan) → IsLastTaken l.rest found → IsLastTaken l.fn.bytes found) × IsQuietFrom l.rest (codes "\nthread '") l.fn.quiet
+invariant-loop-at l = ((found : Option HeadSpan) → IsLastTaken l.rest found → IsLastTaken l.fn.bytes found) × IsQuietFrom l.rest (codes "\nthread '") l.fn.end
 
 abbrev pub decreases-loop-at : goal.decreases-loop-at
 decreases-loop-at l = length l.rest

@@ -8,4 +8,4 @@ returns c = λ yes i from.
     let end : c.saturating_sub-end.result ≡ length b - c.args.quiet = c.saturating_sub-end.ensures in
     let low = c.saturating_sub.ensures in
     let stop = c.reach.ensures in
-    quiet-block b c.args.sign.now c.saturating_sub.result c.saturating_sub-end.result c.reach.result (rw end c.requires) (omega arith) stop (λ h. not-so c.contains_str.result yes (c.contains_str.ensures.1 h)) i (omega arith)
+    quiet-block b c.args.sign.now c.saturating_sub.result c.saturating_sub-end.result c.reach.result (rw end c.requires.quiet) (omega arith) stop (λ h. not-so c.contains_str.result yes (c.contains_str.ensures.1 h)) i (omega arith)
