@@ -9,7 +9,8 @@ ghost use Rattle.output_slice.specs.Signs.{AreQuiet, IsQuietFrom};
 
 use bstr::ByteSlice;
 
-/// How many bytes a block has.
+/// How many bytes a block has: so few that it is still in the processor's cache for the next
+/// search.
 const BLOCK_SIZE: usize = 131_072;
 
 /// The start of a panic's head, behind a line feed.
