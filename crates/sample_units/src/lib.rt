@@ -2,6 +2,10 @@
 //! captured output and errors to put into others.
 #![tactic(auto)]
 
+ghost use Rattle.std.specs.Prelude.{◌≡◌, ◌++◌, ◌∷◌, [], map, string_bytes, false, None, IfOk};
+ghost use Rattle.run_events.specs.Described.{described_result};
+ghost use Rattle.run_events.specs.TestView.{attempts_of, setting_of};
+
 use bytes::Bytes;
 use jiff::Timestamp;
 use jiff::tz::Offset;
@@ -73,8 +77,12 @@ fn nothing_captured(outcome: ExecutionResult) -> ChildExecutionOutputDescription
     }
 }
 
-/// An attempt of this number that ended so.
-pub fn attempt(outcome: ExecutionResult, number: u32, is_slow: bool) -> ExecuteStatus<LiveSpec> {
+/// An attempt of this number, from 1, that ended so.
+pub fn attempt(outcome: ExecutionResult, number: u32, is_slow: bool) -> ExecuteStatus<LiveSpec>
+    ensures result { result.result ≡ described_result outcome None }
+    ensures number { result.retry_data.attempt ≡ number }
+    ensures slow { result.is_slow ≡ is_slow }
+{
     ExecuteStatus {
         retry_data: RetryData {
             attempt: number,
@@ -98,7 +106,11 @@ pub fn finished_test(
     last: ExecutionResult,
     is_slow: bool,
     setting: FlakyResult,
-) -> Result<ExecutionStatuses<LiveSpec>, AllocError> {
+) -> Result<ExecutionStatuses<LiveSpec>, AllocError>
+    ensures results { IfOk result (λ t. map (λ s. s.result) (attempts_of t) ≡ map (λ o. described_result o None) (earlier.now ++ last ∷ [])) }
+    ensures slow { IfOk result (λ t. map (λ s. s.is_slow) (attempts_of t) ≡ map (λ _. false) earlier.now ++ is_slow ∷ []) }
+    ensures setting { IfOk result (λ t. setting_of t ≡ setting) }
+{
     let mut statuses = Vec::new(alloc);
     let mut number: u32 = 1;
     for outcome in earlier {
@@ -110,7 +122,10 @@ pub fn finished_test(
 }
 
 /// A setup script that ended so.
-pub fn finished_script(outcome: ExecutionResult) -> SetupScriptExecuteStatus<LiveSpec> {
+pub fn finished_script(outcome: ExecutionResult) -> SetupScriptExecuteStatus<LiveSpec>
+    ensures result { result.result ≡ described_result outcome None }
+    ensures slow { result.is_slow ≡ false }
+{
     SetupScriptExecuteStatus {
         output: nothing_captured(outcome),
         result: ExecutionResultDescription::from_status(outcome, None),
@@ -123,12 +138,17 @@ pub fn finished_script(outcome: ExecutionResult) -> SetupScriptExecuteStatus<Liv
 }
 
 /// Output of which this was captured.
-pub fn captured(alloc: Global, bytes: &[u8]) -> Result<ChildSingleOutput, AllocError> {
+pub fn captured(alloc: Global, bytes: &[u8]) -> Result<ChildSingleOutput, AllocError>
+    ensures { IfOk result (λ output. output ≡ bytes.now) }
+{
     Ok(ChildSingleOutput::from(Bytes::copy_from_slice(alloc, bytes)?))
 }
 
 /// An error without a cause.
-pub fn error(alloc: Global, message: &str) -> Result<SerializableError, AllocError> {
+pub fn error(alloc: Global, message: &str) -> Result<SerializableError, AllocError>
+    ensures message { IfOk result (λ e. e.message ≡ message.now) }
+    ensures causes { IfOk result (λ e. e.causes ≡ []) }
+{
     let message = String::from_str(alloc, message)?;
     let causes = Vec::new(alloc);
     SerializableError::from_message_and_causes(alloc, message, causes)

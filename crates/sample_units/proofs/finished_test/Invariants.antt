@@ -1,0 +1,9 @@
+use Rattle.std.proofs.Common.{◌≡◌, false, map, take, None}
+use Rattle.run_events.specs.Described.{described_result}
+use Rattle.sample_units.proofs.finished_test.Given as goal
+
+-- what is known of the attempts so far
+abbrev pub invariant-loop-outcome : goal.invariant-loop-outcome
+invariant-loop-outcome l =
+    (map (λ s. s.result) l.statuses.items ≡ map (λ o. described_result o None) (take l.outcome-index l.earlier))
+    × (map (λ s. s.is_slow) l.statuses.items ≡ map (λ _. false) (take l.outcome-index l.earlier))
