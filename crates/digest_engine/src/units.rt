@@ -8,7 +8,7 @@ ghost use Rattle.run_events.specs.TestView.{view_of};
 ghost use Rattle.digest_engine.specs.Reader.{all_results, script_of_words, test_of_words, unit_of_words};
 ghost use Rattle.digest_engine.specs.Statuses.{AreAttempts, IsAttempt, IsEpoch, IsScript, nothing_captured, owned_view};
 
-use crate::words::{flags_from, named_result};
+use crate::words::{flags_from, named_result, parts_at};
 use jiff::Timestamp;
 use jiff::tz::Offset;
 use run_events::attempts::{ExecuteStatus, ExecutionStatuses, RetryData, SetupScriptExecuteStatus};
@@ -138,7 +138,7 @@ fn attempts_from(
 fn parts_of(alloc: Global, list: &[u8]) -> Result<Vec<&[u8]>, AllocError>
     ensures { IfOk result (λ v. map (λ w. w.now) v.items ≡ slice_split (λ b. b == 44) list.now) }
 {
-    list.split(|b| *b == b',').collect(alloc)
+    parts_at(alloc, list, b',')
 }
 
 /// The test that the words after `test` name: the results of its attempts, and its flags.

@@ -1,8 +1,8 @@
 //! What the words of the input name.
 
-ghost use Rattle.std.specs.Prelude.{◌≡◌, ◌≤◌, true, None, length, map, option_map, IfOk};
+ghost use Rattle.std.specs.Prelude.{◌≡◌, ◌==◌, ◌≤◌, true, None, length, map, option_map, IfOk};
 ghost use Rattle.std.specs.Char.{is_ascii_digit};
-ghost use Rattle.std.specs.List.{list_all};
+ghost use Rattle.std.specs.List.{list_all, slice_split};
 ghost use Rattle.run_events.specs.Described.{described_result};
 ghost use Rattle.digest_engine.specs.Reader.{flags_of, number_of, reason_of, result_of, start_of_words, value_of_digits, words_of};
 
@@ -11,11 +11,24 @@ use run_events::results::{CancelReason, ExecutionResult, FailureStatus};
 use run_events::stats::RunStart;
 use std::alloc::{AllocError, Global};
 
+/// The parts of bytes, divided by one such byte.
+///
+/// They are pushed one by one: `collect` would do without room that it is refused.
+pub(crate) fn parts_at(alloc: Global, bytes: &[u8], divider: u8) -> Result<Vec<&[u8]>, AllocError>
+    ensures { IfOk result (λ v. map (λ w. w.now) v.items ≡ slice_split (λ b. b == divider) bytes.now) }
+{
+    let mut parts = Vec::new(alloc);
+    for part in bytes.split(|b| *b == divider) {
+        parts.push(part)?;
+    }
+    Ok(parts)
+}
+
 /// The words of a line, divided by one space.
 pub(crate) fn words_in(alloc: Global, line: &[u8]) -> Result<Vec<&[u8]>, AllocError>
     ensures { IfOk result (λ v. map (λ w. w.now) v.items ≡ words_of line.now) }
 {
-    line.split(|b| *b == b' ').collect(alloc)
+    parts_at(alloc, line, b' ')
 }
 
 /// The result that a word names.
