@@ -13,5 +13,3 @@ pub mod RunInput
 pub mod Spelling
 pub mod Statuses
 pub mod StdDevice
-pub use Rattle.run_events.specs.Counters
-pub use Rattle.run_events.specs.Summary

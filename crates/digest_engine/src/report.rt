@@ -12,7 +12,7 @@ use run_events::stats::{FinishedRun, RunStats};
 use std::alloc::{AllocError, Global};
 
 /// The word of a reason, as line 1 spells it.
-fn word_of(reason: Option<CancelReason>) -> &'static str
+fn reason_text(reason: Option<CancelReason>) -> &'static str
     ensures { result.now ≡ reason_word reason }
 {
     match reason {
@@ -31,7 +31,7 @@ fn word_of(reason: Option<CancelReason>) -> &'static str
 
 /// The step at which a run ended.
 #[tactic(auto, unfolding(crate::specs::Report::step_words))]
-fn step_of(alloc: Global, kind: RunStatsFailureKind) -> Result<String, AllocError>
+fn step_text(alloc: Global, kind: RunStatsFailureKind) -> Result<String, AllocError>
     ensures { IfOk result (λ s. string_bytes s ≡ step_words kind) }
 {
     match kind {
@@ -52,12 +52,12 @@ fn summary_text(alloc: Global, summary: FinalRunStats) -> Result<String, AllocEr
         FinalRunStats::Success => String::from_str(alloc, "success"),
         FinalRunStats::NoTestsRun => String::from_str(alloc, "no-tests-run"),
         FinalRunStats::Cancelled { reason, kind } => {
-            let word = word_of(reason);
-            let step = step_of(alloc, kind)?;
+            let word = reason_text(reason);
+            let step = step_text(alloc, kind)?;
             format!(in alloc; "cancelled {word} {step}")
         }
         FinalRunStats::Failed { kind } => {
-            let step = step_of(alloc, kind)?;
+            let step = step_text(alloc, kind)?;
             format!(in alloc; "failed {step}")
         }
     }

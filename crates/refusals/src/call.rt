@@ -4,7 +4,8 @@ ghost use Rattle.std.specs.Prelude.{◌≡◌, ◌≢◌, MatchOption};
 ghost use Rattle.refusals.specs.Call.{word_of};
 
 use crate::outcome::Outcome;
-use crate::{chain, child, engines, stress, unit_errors};
+use crate::unit_errors::{ErrorKinds, errors, no_errors};
+use crate::{chain, child, engines, stress};
 use std::alloc::{AllocError, Global};
 
 /// A call that is made, with arguments of its own.
@@ -119,10 +120,10 @@ impl Call {
             Call::FromValue => chain::from_value(alloc),
             Call::FromOtherValues => chain::from_other_values(alloc),
             Call::FromOutput => child::from_output(alloc),
-            Call::AllErrors => unit_errors::all_errors(alloc),
-            Call::ExecFailErrors => unit_errors::exec_fail_errors(alloc),
-            Call::ChildProcessErrors => unit_errors::child_process_errors(alloc),
-            Call::NoErrors => unit_errors::no_errors(alloc),
+            Call::AllErrors => errors(alloc, ErrorKinds::All),
+            Call::ExecFailErrors => errors(alloc, ErrorKinds::ExecFail),
+            Call::ChildProcessErrors => errors(alloc, ErrorKinds::ChildProcess),
+            Call::NoErrors => no_errors(alloc),
             Call::UniqueId => Ok(stress::unique_id(alloc)),
             Call::Extract => engines::extract(alloc),
             Call::Count => Ok(engines::count(alloc)),

@@ -1,8 +1,6 @@
 //! What a child process left, described for reporters.
 
 use crate::outcome::Outcome;
-use bytes::Bytes;
-use run_events::chain::SerializableError;
 use run_events::child::{
     ChildError, ChildErrorDescription, ChildExecutionOutput, ChildExecutionOutputDescription,
     ChildFdError, ChildOutput, ChildOutputDescription, ChildSingleOutput, ChildSplitOutput,
@@ -12,23 +10,13 @@ use run_events::results::{
     AbortDescription, AbortStatus, ExecutionResult, ExecutionResultDescription, FailureDescription,
     FailureStatus,
 };
+use sample_units::{captured, error};
 use std::alloc::{AllocError, Global};
 
 const END: ExecutionResult = ExecutionResult::Fail {
     failure_status: FailureStatus::Abort(AbortStatus::UnixSignal(15)),
     leaked: true,
 };
-
-/// An error without a cause.
-pub(crate) fn error(alloc: Global, message: &str) -> Result<SerializableError, AllocError> {
-    let message = String::from_str(alloc, message)?;
-    SerializableError::from_message_and_causes(alloc, message, Vec::new(alloc))
-}
-
-/// Output of which this was captured.
-pub(crate) fn captured(alloc: Global, bytes: &[u8]) -> Result<ChildSingleOutput, AllocError> {
-    Ok(ChildSingleOutput::from(Bytes::copy_from_slice(alloc, bytes)?))
-}
 
 /// What a process left that a signal ended, with two errors in reading from it.
 fn left(alloc: Global) -> Result<ChildExecutionOutput, AllocError> {

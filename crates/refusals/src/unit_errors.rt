@@ -1,6 +1,5 @@
 //! Lists of the errors of a unit.
 
-use crate::child::{captured, error};
 use crate::outcome::Outcome;
 use run_events::child::{
     ChildErrorDescription, ChildExecutionOutputDescription, ChildOutputDescription, ErrorList,
@@ -10,6 +9,7 @@ use run_events::results::{
     AbortDescription, ExecutionResultDescription, FailureDescription, UnitKind,
 };
 use run_events::unit_error::{UnitError, UnitErrorDescription};
+use sample_units::{captured, error};
 use std::alloc::{AllocError, Global};
 
 type Answer<'a> = Result<Option<ErrorList<UnitError<'a>>>, AllocError>;
@@ -88,43 +88,30 @@ fn outcome_of(answer: Answer<'_>, letters: &[u8]) -> Outcome {
     }
 }
 
-pub(crate) fn all_errors(alloc: Global) -> Result<Outcome, AllocError> {
-    let output = failed(alloc)?;
-    if !UnitErrorDescription::can_describe(UnitKind::Test, &output) {
-        return Ok(Outcome::Wrong("it cannot be described"));
-    }
-    let errors = UnitErrorDescription::new(UnitKind::Test, &output);
-    let answer = errors.all_error_list(alloc);
-    if !is_failed(&output) {
-        return Ok(Outcome::Wrong("the output is changed"));
-    }
-    Ok(outcome_of(answer, b"oat"))
+/// One of the three lists of errors.
+#[derive(Clone, Copy)]
+pub(crate) enum ErrorKinds {
+    All,
+    ExecFail,
+    ChildProcess,
 }
 
-pub(crate) fn exec_fail_errors(alloc: Global) -> Result<Outcome, AllocError> {
+/// One of the lists of what [`failed`] makes.
+pub(crate) fn errors(alloc: Global, kinds: ErrorKinds) -> Result<Outcome, AllocError> {
     let output = failed(alloc)?;
     if !UnitErrorDescription::can_describe(UnitKind::Test, &output) {
         return Ok(Outcome::Wrong("it cannot be described"));
     }
     let errors = UnitErrorDescription::new(UnitKind::Test, &output);
-    let answer = errors.exec_fail_error_list(alloc);
+    let (answer, letters) = match kinds {
+        ErrorKinds::All => (errors.all_error_list(alloc), b"oat".as_slice()),
+        ErrorKinds::ExecFail => (errors.exec_fail_error_list(alloc), b"o".as_slice()),
+        ErrorKinds::ChildProcess => (errors.child_process_error_list(alloc), b"at".as_slice()),
+    };
     if !is_failed(&output) {
         return Ok(Outcome::Wrong("the output is changed"));
     }
-    Ok(outcome_of(answer, b"o"))
-}
-
-pub(crate) fn child_process_errors(alloc: Global) -> Result<Outcome, AllocError> {
-    let output = failed(alloc)?;
-    if !UnitErrorDescription::can_describe(UnitKind::Test, &output) {
-        return Ok(Outcome::Wrong("it cannot be described"));
-    }
-    let errors = UnitErrorDescription::new(UnitKind::Test, &output);
-    let answer = errors.child_process_error_list(alloc);
-    if !is_failed(&output) {
-        return Ok(Outcome::Wrong("the output is changed"));
-    }
-    Ok(outcome_of(answer, b"at"))
+    Ok(outcome_of(answer, letters))
 }
 
 /// The three lists of a test that passed, which are empty.

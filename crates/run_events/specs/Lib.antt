@@ -18,7 +18,6 @@ pub use Rattle.test_attempts.specs.Level
 pub use Rattle.test_attempts.specs.LevelRanks
 pub use Rattle.test_attempts.specs.TestView
 pub use Rattle.test_attempts.specs.Visibility
-pub use Rattle.unit_results.specs.ChainObject
 pub use Rattle.unit_results.specs.ChainReading
 pub use Rattle.unit_results.specs.ChainValue
 pub use Rattle.unit_results.specs.ChildErrors

@@ -4,17 +4,3 @@ pub mod Level
 pub mod LevelRanks
 pub mod TestView
 pub mod Visibility
-pub use Rattle.unit_results.specs.ChainObject
-pub use Rattle.unit_results.specs.ChainReading
-pub use Rattle.unit_results.specs.ChainValue
-pub use Rattle.unit_results.specs.ChildErrors
-pub use Rattle.unit_results.specs.ChildOutput
-pub use Rattle.unit_results.specs.Config
-pub use Rattle.unit_results.specs.Described
-pub use Rattle.unit_results.specs.ErrorChain
-pub use Rattle.unit_results.specs.Execution
-pub use Rattle.unit_results.specs.ListedErrors
-pub use Rattle.unit_results.specs.Ranks
-pub use Rattle.unit_results.specs.Results
-pub use Rattle.unit_results.specs.Stress
-pub use Rattle.unit_results.specs.Texts
