@@ -11,7 +11,7 @@ use run_events::results::{CancelReason, ExecutionResult, FailureStatus};
 use run_events::stats::RunStart;
 use std::alloc::{AllocError, Global};
 
-/// The words of a line, divided by one space.
+/// The words of a line, with one space between two.
 pub(crate) fn words_in(alloc: Global, line: &[u8]) -> Result<Vec<&[u8]>, AllocError>
     ensures { IfOk result (λ v. map (λ w. w.now) v.items ≡ words_of line.now) }
 {
