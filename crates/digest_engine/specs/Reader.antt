@@ -63,7 +63,7 @@ number_of word =
     if nat_lt 0 (length word) && (nat_le (length word) 7 && (list_all is_ascii_digit word && nat_le (value_of_digits word) 1000000))
     then Some (value_of_digits word) else None
 
--- words, divided by one space
+-- words, with one space between two
 abbrev pub words_of : List ℕ → List (List ℕ)
 words_of line = slice_split (λ b. b == 32) line
 

@@ -16,8 +16,8 @@ pub enum Command {
 }
 
 impl Command {
-    /// What the words after the program's name ask for: `extract` or `count`, which is also meant
-    /// where there is no word.
+    /// The command that is asked for by the words after the program's name. The word `extract`
+    /// asks for [`Command::Extract`]; `count`, or no word at all, for [`Command::Count`].
     ///
     /// Any other word, and more than one, is [`Fault::BadWord`].
     pub fn from_words(words: &[String]) -> Result<Command, Fault>

@@ -65,7 +65,8 @@ fn count_runs<R: Source, W: Sink>(
 /// `sub-run TESTS SCRIPTS REASON` begins another sub-run. Each other line is a finished unit of the
 /// run that was begun last: `script R`, or `test R,R,..` with the results of 1 to 100 attempts, then
 /// perhaps ` slow` for a slow last attempt, then perhaps ` flaky-fail` for the setting that fails
-/// flaky tests. Lines end with `\n` or `\r\n`, the last with or without; there are at most 10,000.
+/// flaky tests. A line ends with `\n` or `\r\n`, which the last may lack; there are at most
+/// 10,000.
 ///
 /// Neither device may have failed before. Everything is read first, then the whole text is made,
 /// then it is written, then the sink is flushed.

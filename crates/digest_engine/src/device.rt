@@ -23,8 +23,8 @@ pub trait Source {
     /// answers how many bytes that are: never more than the buffer holds, and 0 only where none is
     /// left.
     ///
-    /// The buffer must not be empty. After [`DeviceFailed`] the source has failed, and nothing is
-    /// said of the bytes left.
+    /// The buffer must not be empty. After [`DeviceFailed`] the source has failed, and what it has
+    /// left is not known.
     fn read(&mut self, buffer: &mut [u8]) -> Result<usize, DeviceFailed>
         requires { 0 < length buffer.old }
         ensures count { IfOk result (λ n. n ≤ length buffer.new) }

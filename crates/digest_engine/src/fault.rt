@@ -48,6 +48,7 @@ impl From<AllocError> for Fault {
 
     ghost from_gives = { λ _ e. e ≡ OutOfMemory };
 
+    /// Answers [`Fault::OutOfMemory`].
     fn from(_: AllocError) -> Fault {
         Fault::OutOfMemory
     }
@@ -59,6 +60,7 @@ impl<T: Drop> From<AllocFailed<T>> for Fault {
 
     ghost from_gives = { λ _ e. e ≡ OutOfMemory };
 
+    /// Answers [`Fault::OutOfMemory`]. The value that the refusal hands back is dropped.
     fn from(_: AllocFailed<T>) -> Fault {
         Fault::OutOfMemory
     }
@@ -70,6 +72,7 @@ impl fmt::Display for Fault {
 
     ghost output = { λ f. Some (fault_text f) };
 
+    /// The line of the fault, without a line feed.
     fn fmt<W: fmt::Write>(&self, f: &mut fmt::Formatter<W>) -> fmt::Result {
         match self {
             Fault::BadLine { number } => write!(f, "line {number}: bad line"),

@@ -101,6 +101,7 @@ impl<W: Write> Sink for StdSink<W> {
         self.failed
     }
 
+    /// As [`Sink::write`], by one write of the writer. It also fails where that takes no byte.
     fn write(&mut self, buffer: &[u8]) -> Result<usize, DeviceFailed> {
         self.flushed = false;
         match self.writer.write(buffer) {
@@ -112,6 +113,7 @@ impl<W: Write> Sink for StdSink<W> {
         }
     }
 
+    /// As [`Sink::flush`], by one flush of the writer.
     fn flush(&mut self) -> Result<(), DeviceFailed> {
         match self.writer.flush() {
             Ok(()) => {

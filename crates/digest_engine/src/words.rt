@@ -24,7 +24,7 @@ pub(crate) fn parts_at(alloc: Global, bytes: &[u8], divider: u8) -> Result<Vec<&
     Ok(parts)
 }
 
-/// The words of a line, divided by one space.
+/// The words of a line, with one space between two.
 pub(crate) fn words_in(alloc: Global, line: &[u8]) -> Result<Vec<&[u8]>, AllocError>
     ensures { IfOk result (λ v. map (λ w. w.now) v.items ≡ words_of line.now) }
 {

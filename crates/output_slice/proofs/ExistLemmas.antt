@@ -66,11 +66,11 @@ char-dec b at low = by_found (decoded (part at (length b) b)).char refl where
   by_found None e = inr (λ c. not_char-decoded b at (length b) c (omega arith) e)
   by_found (Some c) e = inl (c, (IsCharAt-decoded b at (length b) c low (omega arith) e).0)
 
--- where the digits end, by the number of bytes left
+-- digits end where the bytes do
 run-end : (b : List ℕ) (from at : ℕ) → AreDigits b from at → length b ≤ at → IsDigitRun b from at
 run-end b from at h done = record { digits = h; stops = λ x k d. let len = length-encode x in let some = len_utf8_bounds x in absurd (omega (arith, k.ends)) }
 
--- where they end
+-- where the digits end, by the number of bytes left
 digit-run : (fuel : ℕ) (b : List ℕ) (from at : ℕ) → AreDigits b from at → length b ≤ at + fuel → (to : ℕ) × IsDigitRun b from to
 digit-run zero b from at h done = (at, run-end b from at h (omega arith))
 digit-run (suc fuel) b from at h done = ⊎_elim

@@ -18,7 +18,7 @@ feed-head b s e h later =
     let one : OccursAt b (codes "\n") (s - 1) = occurs-byte b 10 (s - 1) (omega arith) (h.line_start later) in
     occurs-both b (codes "\n") (codes "thread '") (s - 1) one (subst (OccursAt b (codes "thread '")) (sym place) h.opening)
 
--- the last line start at which a head may stand
+-- without an opening behind a line feed or at the front there is no head
 pub opening-none : (b : List ℕ) → FindsLastNeedle b (codes "\nthread '") None → (OccursAt b (codes "thread '") 0 → ⊥) → (s e : ℕ) → IsHead b s e → ⊥
 opening-none b none first s e h = ⊎_elim
     (λ (later : 0 < s). let here = feed-head b s e h later in none (s - 1) (omega arith) (omega (arith, h.opening.fits)) here)

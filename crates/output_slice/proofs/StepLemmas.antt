@@ -12,7 +12,7 @@ use Rattle.output_slice.proofs.OccursLemmas.{occurs-byte, occurs-front, occurs-b
 use Rattle.output_slice.proofs.CharLemmas.{length-part, get_or-part}
 use Rattle.output_slice.proofs.HeadLemmas.{name-quiet, head-order}
 
--- what the steps of the search find
+-- bytes of UTF-8 without a quote, at least one, are a name
 pub name-from : (b : List ℕ) (i j : ℕ) → i < j → j ≤ length b → IsUtf8 (part i j b) → NoQuoteBetween b i j → IsName (part i j b)
 name-from b i j low high utf8 quiet =
     let size = length-part b i j high in record {

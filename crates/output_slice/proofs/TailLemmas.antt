@@ -88,12 +88,12 @@ tail_cases b at e high h = ⊎_elim
     }))
     h
 
--- some characters have some bytes
+-- where there are bytes there are characters
 chars-some : (cs : List ℕ) → 0 < length (encode_utf8_all cs) → 0 < length cs
 chars-some [] h = h
 chars-some (c ∷ cs) h = omega arith
 
--- and back
+-- what is plain is a tail
 pub IsTail-plain : (b : List ℕ) (at : ℕ) → OccursAt b (codes " panicked at ") at → (at + 13 ≤ length b) × IsTail (part at (at + 13) b)
 IsTail-plain b at h = (h.fits, inl (occurs-part b (codes " panicked at ") at (at + 13) h refl))
 
@@ -211,7 +211,6 @@ IsTailEnd-numbered b at close (Some e) opens run is h =
     let ends = run.digits.ends in
     IsTail-numbered b at e (record { close = close; opens = opens; run = run; some = omega arith; closes = h.0; ends = h.1 })
 
--- and their reads
 -- how far a text is read that is found, or is not
 abbrev pub TextReads : List ℕ → List ℕ → ℕ → ℕ → ℕ → Option ℕ → Type 0
 TextReads b text at old new found = MatchOption found ((k : ℕ) × (k < length text) × AgreesFor b text at k × (new ≤ old + k + 1)) (λ e. new ≤ old + length text)

@@ -18,7 +18,7 @@ use Rattle.output_slice.specs.Slices.{IsBlank, IsBreak, IsTrimmedSlice}
 abbrev pub AllPass : (ℕ → Bool) → List ℕ → Type 0
 AllPass t text = (cs : List ℕ) × All (λ c. IsScalar c × IsTrue (t c)) cs × (text ≡ encode_utf8_all cs)
 
--- no blank text begins inside a piece
+-- each byte of a piece but the first is one that continues
 tail-at : (bs : List ℕ) (k : ℕ) → 0 < length bs → 0 < k → k < (decoded bs).size → continues (get_or bs k 0) ≡ true
 tail-at bs k some pos below =
     let tail = tail-continues (length bs) (get_or bs 0 0) (get_or bs 1 0) (get_or bs 2 0) (get_or bs 3 0) in
@@ -49,6 +49,7 @@ module _ (t : ℕ → Bool) (other : t 65533 ≡ false) where
         let rest : drop (decoded bs).size bs ≡ encode_utf8_all cs = ap (λ (p : Decoded). drop p.size bs) read ∙ ap (drop (length (encode_utf8 c))) e ∙ drop_at (encode_utf8 c) (encode_utf8_all cs) (length (encode_utf8 c)) refl in
         ((c, ap (λ (p : Decoded). p.char) read, first.1), (cs, All-tail P c cs all, rest))
 
+  -- no such text begins inside a piece
   pass-inside : (bs : List ℕ) (i : ℕ) → 0 < length bs → 0 < i → i < (decoded bs).size → AllPass t (drop i bs) → ⊥
   pass-inside bs i some pos below h =
       let bounds = piece-bounds bs some in

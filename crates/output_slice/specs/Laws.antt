@@ -9,7 +9,7 @@ use Rattle.output_slice.specs.Cut.{IsCut, shifted}
 use Rattle.output_slice.specs.Lines.{AreLines}
 use Rattle.output_slice.specs.Extraction.{Extract, IsExtract}
 
--- At one start there is at most one head.
+-- Heads that begin at one place end at one place.
 abbrev pub HeadsHaveOneEnd : Type 0
 HeadsHaveOneEnd = (b : List ℕ) (s e f : ℕ) → IsHead b s e → IsHead b s f → e ≡ f
 

@@ -21,7 +21,9 @@ pub trait ByteSource {
     fn reads(&self) -> u128
         ensures { result ≡ count self.now };
 
-    /// Reads the byte at `at`, counted from 0.
+    /// Reads the byte at `at`, counted from 0. The count rises by one.
+    ///
+    /// `at` must be below [`ByteSource::len`], and the count below `u128::MAX`.
     fn byte(&mut self, at: usize) -> u8
         requires within { at < length (bytes self.old) }
         requires room { count self.old + 1 < 2 ^ 128 }

@@ -2,7 +2,7 @@
 //! does nothing, and its contract is the law.
 ghost use Rattle.output_slice.specs.Laws.{HeadsHaveOneEnd, TakenHeadsExist, TakenHeadsDivide, LinesExist, OneExtraction, LossyTextIsExact};
 
-/// At one start there is at most one head.
+/// Heads that begin at one place end at one place.
 pub fn heads_have_one_end()
     ensures { HeadsHaveOneEnd }
 {}

@@ -30,7 +30,8 @@ pub struct HeadSpan {
 /// message, and so nextest-runner recognizes it. The first head is taken, then the first that does
 /// not start before the taken one stops, and so on.
 ///
-/// The search goes from quote to quote, and reads each byte a bounded number of times.
+/// From one quote the search goes on to the next. Of n bytes it makes at most 3n + 8 reads; the
+/// source's count plus 8n + 8 must stay below 2^128.
 pub fn last_panic_head<S: ByteSource>(source: &mut S) -> Option<HeadSpan>
     requires room { S.count source.old + 8 * length (S.bytes source.old) + 8 < 2 ^ 128 }
     ensures last { IsLastTaken (S.bytes source.old) result }

@@ -19,7 +19,7 @@ use Rattle.unit_results.specs.declared.results.ExecutionResultDescription.TheVar
 use Rattle.run_events.specs.declared.stats.RunStart.{RunStart}
 use Rattle.run_events.proofs.Counts.{one, count_of-le, count_of-not, count_of-same, count_of-three, length-filter_map-le}
 
--- the same of a test with this last result, retried or not, with this setting
+-- a test with this last result, retried or not, with this setting: it is counted in one failure counter where its level is `Fail`, and else in none
 one_failure_by : (r : ExecutionResultDescription) (retried : Bool) (setting : FlakyResult) → one ((succeeds r && retried && flaky_fails setting) || is_leak_fail r || is_fail r) + one (is_exec_fail r) + one (is_timeout_fail r) ≡ one (is_level_fail (cond (succeeds r) (cond retried (Some (flaky_level setting)) (success_level r)) (Some level.Fail)))
 one_failure_by result.Pass true flaky.Pass = refl
 one_failure_by result.Pass true flaky.Fail = refl

@@ -84,13 +84,13 @@ pub struct RunStats {
 /// What is known of a run apart from its finished units.
 #[derive(Clone, Copy, Debug)]
 pub struct RunStart {
-    /// The tests that were to run.
+    /// How many tests were to run.
     pub initial_run_count: usize,
 
-    /// The setup scripts that were to run.
+    /// How many setup scripts were to run.
     pub setup_scripts_initial_count: usize,
 
-    /// The tests that were skipped.
+    /// How many tests were skipped.
     pub skipped: usize,
 
     /// Why the run was cancelled, if it was.

@@ -103,7 +103,7 @@ impl<'a> UnitErrorDescription<'a> {
 
     /// All errors: that of the start, those of the output, the abort, the slice. They stand under
     /// the description of what the unit's kind tries. `None` exactly where there is no error, and
-    /// then no memory is taken.
+    /// then no memory is taken. The only error is that memory is refused.
     pub fn all_error_list(
         &self,
         alloc: Global,
@@ -119,7 +119,7 @@ impl<'a> UnitErrorDescription<'a> {
 
     /// The errors that keep a unit from being run: that of the start, those of the output. They
     /// stand under the description of what the unit's kind tries. `None` exactly where there are
-    /// none, and then no memory is taken.
+    /// none, and then no memory is taken. The only error is that memory is refused.
     pub fn exec_fail_error_list(
         &self,
         alloc: Global,
@@ -134,6 +134,7 @@ impl<'a> UnitErrorDescription<'a> {
 
     /// The errors of the process itself: the abort, the slice. They stand under the description of
     /// what the unit's kind tries. `None` exactly where there are none, and then no memory is taken.
+    /// The only error is that memory is refused.
     pub fn child_process_error_list(
         &self,
         alloc: Global,

@@ -41,7 +41,7 @@ wanted own display level final_level result = record {
   terminated = is_termination_failure result;
 }
 
--- how severe a reason is; no reason is below all reasons
+-- how severe a reason is: from 1 on, and 0 where there is none
 abbrev pub severity : Option CancelReason → ℕ
 severity None = 0
 severity (Some r) = reason_rank r + 1
@@ -50,7 +50,7 @@ severity (Some r) = reason_rank r + 1
 abbrev pub is_stopped : Wanted → Option CancelReason → Bool
 is_stopped w why = (severity why == severity (Some reason.TestFailureImmediate)) && w.terminated
 
--- what is shown and stored under a reason
+-- the line as it is wanted, with output at once or not, and with this stored
 abbrev pub visible : Wanted → Bool → OutputStoreFinal → OutputOnTestFinished
 visible w shown stored = record { write_status_line = w.line; show_immediate = shown; store_final = stored }
 

@@ -1,4 +1,4 @@
--- What is left of a repeated run, the ids of its sub-runs, and their order.
+-- What is left of a repeated run, and the ids of its sub-runs.
 use Rattle.std.specs.Prelude.{◌≡◌, ◌-◌, ◌<◌, ◌^◌, ◌==◌, ◌↔◌, ◌++◌, ℕ, List, length, All, codes, Option, None, Some, if◌then◌else◌}
 use Rattle.std.specs.Duration.{as_nanos}
 use Rattle.std.specs.Fmt.{decimal}

@@ -45,11 +45,12 @@ abbrev pub failure_text : FailureDescription → List ℕ
 failure_text (failure.ExitCode code) = codes "exited with code " ++ signed_decimal code
 failure_text (failure.Abort a) = abort_text a
 
--- an abort as an error of a unit
+-- what is said of handles that were left open, or nothing
 abbrev pub leak_text : Bool → List ℕ
 leak_text true = codes " (leaked handles)"
 leak_text false = []
 
+-- an abort as an error of a unit
 abbrev pub unit_abort_text : AbortDescription → Bool → List ℕ
 unit_abort_text a leaked = codes "process " ++ abort_text a ++ leak_text leaked
 

@@ -117,8 +117,8 @@ pub enum ExecutionResultDescription {
 }
 
 impl ExecutionResultDescription {
-    /// The description of a result: the same case. The name goes into the signal of a failure, and
-    /// is dropped in every other case.
+    /// Describes a result, case by case. The name is that of the signal behind a failure; a result
+    /// without a signal drops it.
     pub fn from_status(status: ExecutionResult, name: Option<String>) -> Self
         ensures { result ≡ described_result status name }
     {

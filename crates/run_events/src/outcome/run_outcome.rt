@@ -19,7 +19,7 @@ pub enum RunOutcome {
     /// Nothing failed and nothing is missing, but no test was run. Of sub-runs: so it is of each.
     NoTestsRun,
 
-    /// The run was cancelled. Of sub-runs: none failed, and at least one was cancelled.
+    /// The run was cancelled. Of sub-runs: no failure among them, but a cancellation.
     Cancelled {
         /// At which step. Of sub-runs: the greatest step of a cancelled one.
         step: RunFailureStep,

@@ -15,9 +15,9 @@ impl RunStats {
     pub fn of_run(units: &[FinishedUnit<'_>], start: RunStart) -> RunStats
         ensures counts { result ≡ stats_of (map unit_view units.now) start }
 
-        // Two neighbouring parts of the list may change places, and so, step by step, any.
+        // Swapping two neighbouring parts of the list changes nothing, so its order is no matter.
         ensures exchange { (a p q b : List UnitView) → map unit_view units.now ≡ a ++ p ++ q ++ b → stats_of (a ++ q ++ p ++ b) start ≡ result }
-        // For each cut of the list in two, each counter is the sum of both parts'.
+        // Split the list anywhere: a counter of the whole is what those of both pieces add up to.
         ensures cut { (a b : List UnitView) → map unit_view units.now ≡ a ++ b → IsSum (stats_of a start) (stats_of b start) result }
 
         // Each finished test, and each finished script, is counted in one way.

@@ -52,6 +52,7 @@ pub enum UnitError<'a> {
 impl fmt::Display for UnitError<'_> {
     ghost output = { λ e. Some (unit_error_text e) };
 
+    /// The error that it holds, in that error's own words.
     fn fmt<W: fmt::Write>(&self, f: &mut fmt::Formatter<W>) -> fmt::Result {
         match self {
             UnitError::Start(error) => write!(f, "{error}"),

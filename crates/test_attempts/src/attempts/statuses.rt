@@ -80,7 +80,7 @@ impl<S: OutputSpec> ExecutionStatuses<S> {
         self.statuses.len()
     }
 
-    /// The attempts, in order, from both ends.
+    /// Visits the attempts, the first one first; from the back, the last one first.
     pub fn iter(&self) -> ExecutionStatusesIter<'_, S>
         ensures { attempts_left result ≡ attempts_of self.now }
     {
@@ -90,7 +90,8 @@ impl<S: OutputSpec> ExecutionStatuses<S> {
     }
 
     /// What the attempts come to: a success where there is one and it succeeded, flaky where there
-    /// are more and the last one succeeded, otherwise a failure. Earlier results are not looked at.
+    /// are more and the last one succeeded, otherwise a failure. Of the results the last counts
+    /// alone.
     pub fn describe(&self) -> ExecutionDescription<'_, S>
         ensures parts { ComesTo (attempts_of self.now) (setting_of self.now) result }
         ensures consistent { IsConsistent result }
@@ -119,6 +120,7 @@ impl<'a, S: OutputSpec> Iterator for ExecutionStatusesIter<'a, S> {
 
     ghost remaining = { item_count attempts_left };
 
+    /// The first attempt that is left; `None` where none is.
     fn next(&mut self) -> Option<&'a ExecuteStatus<S>> {
         let (first, rest) = self.rest.split_first()?;
         self.rest = rest;
@@ -132,6 +134,7 @@ impl<'a, S: OutputSpec> DoubleEndedIterator for ExecutionStatusesIter<'a, S> {
 
     ghost next_back_gives = { YieldsLastRef attempts_left };
 
+    /// The last attempt that is left; `None` where none is.
     fn next_back(&mut self) -> Option<&'a ExecuteStatus<S>> {
         let (last, rest) = self.rest.split_last()?;
         self.rest = rest;
@@ -139,7 +142,7 @@ impl<'a, S: OutputSpec> DoubleEndedIterator for ExecutionStatusesIter<'a, S> {
     }
 }
 
-/// The attempts by value, in order, from both ends.
+/// Gives the attempts away, the first one first; from the back, the last one first.
 impl<S: OutputSpec> IntoIterator for ExecutionStatuses<S>
 where
     S::ChildOutputDesc: Drop,

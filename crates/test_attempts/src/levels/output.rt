@@ -49,7 +49,7 @@ impl StatusLevels {
             (lesser : Option CancelReason) → IsException asked lesser cancel_status
             → ¬ (IsNoMoreVisible result (visibility asked lesser)) }
 
-        // The line does not depend on the reason.
+        // The line is written under every reason or under none.
         ensures line { let asked = wanted self.now display test_status_level test_final_status_level execution_result.now in
             (other : Option CancelReason) → (visibility asked other).write_status_line ≡ result.write_status_line }
 

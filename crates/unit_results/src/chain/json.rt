@@ -44,6 +44,7 @@ impl From<AllocError> for FromValueError {
 
     ghost from_gives = { λ _ e. e ≡ OutOfMemory };
 
+    /// Answers [`FromValueError::OutOfMemory`].
     fn from(_: AllocError) -> FromValueError {
         FromValueError::OutOfMemory
     }
@@ -53,7 +54,8 @@ impl SerializableError {
     /// The error as an object with two members: `message`, a text, and `causes`, a list of texts,
     /// the nearest cause first, which is there also where it is empty.
     ///
-    /// Takes memory for the object, its texts and its list.
+    /// Takes memory for the object, its texts and its list. The only error is that memory is
+    /// refused.
     #[tactic(auto, using(crate::proofs::ChainLemmas::is_chain_value_from_object, crate::proofs::ChainLemmas::nests_from_object, crate::proofs::ChainLemmas::reads_from_object))]
     pub fn to_value(&self, alloc: Global) -> Result<Value, AllocError>
         ensures members { IfOk result (λ v. IsChainValue (view v) self.now) }

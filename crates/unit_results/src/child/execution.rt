@@ -46,8 +46,8 @@ impl ChildExecutionOutputDescription<LiveSpec> {
     /// in their order. The name goes into the signal that ended the process, and is dropped where
     /// none did.
     ///
-    /// Memory is taken only where there are errors, and before anything is moved. Where it is
-    /// refused, output and name are handed back as they were.
+    /// Without errors no memory is asked for. With errors it is asked for first, and where it is
+    /// refused, output and name come back as they were handed in.
     pub fn from_output(
         alloc: Global,
         output: ChildExecutionOutput,

@@ -23,6 +23,7 @@ impl Model for ChildSingleOutput {
 impl From<Bytes> for ChildSingleOutput {
     ghost from_gives = { λ b o. o ≡ b };
 
+    /// The bytes, as what was captured.
     fn from(buf: Bytes) -> ChildSingleOutput {
         ChildSingleOutput { buf }
     }

@@ -57,8 +57,7 @@ pub enum FailureDescription {
 }
 
 impl FailureDescription {
-    /// The description of a failure: the same case. The name goes into a signal, and is dropped
-    /// where there is none.
+    /// Describes a failure, case by case. The name is that of the signal; an exit code drops it.
     pub fn from_status(status: FailureStatus, name: Option<String>) -> Self
         ensures { result ≡ described_failure status name }
     {
