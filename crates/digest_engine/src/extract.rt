@@ -1,6 +1,6 @@
 //! Extracting: from a test's output to the part of it that says why the test failed.
 
-ghost use Rattle.std.specs.Prelude.{◌≡◌, ◌↔◌, ◌⊎◌, true, false, IfErr, IfOk, IfSome, OnOk, IsErrOf, codes, length, option_map, string_bytes};
+ghost use Rattle.std.specs.Prelude.{◌≡◌, ◌↔◌, ◌⊎◌, true, false, IfErr, IfOk, IfSome, OnOk, IsErrOf, option_map, string_bytes};
 ghost use Rattle.run_events.specs.Shown.{extract_of};
 ghost use Rattle.digest_engine.specs.Answer.{KeepsSink, ReadsToEnd};
 ghost use Rattle.digest_engine.specs.ExtractAnswer.{AnswersExtract, IsExtracted, extract_text, heading};

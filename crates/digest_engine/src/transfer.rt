@@ -3,7 +3,6 @@
 ghost use Rattle.std.specs.Prelude.{◌≡◌, ◌↔◌, ◌⊎◌, true, false, IfOk, IfErr, IfSome, OnOk, OnErr, IsErr, IsErrOf};
 ghost use Rattle.std.specs.Io.KnownBytes.{Appends, IsAtEnd};
 ghost use Rattle.digest_engine.specs.Answer.{AppendsStart};
-ghost use Rattle.digest_engine.specs.declared.fault.Fault.{Fault};
 ghost use Rattle.digest_engine.specs.declared.fault.Fault.TheVariants as faults;
 
 use crate::device::{Sink, Source};

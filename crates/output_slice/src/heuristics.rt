@@ -1,5 +1,5 @@
 //! The three heuristics, and which of them is used.
-ghost use Rattle.std.specs.Prelude.{codes, ◌≡◌, ◌+◌, ◌≤◌, ◌<◌, ℕ, ◌-◌, length, slice_index, Option, option_map, IfSome};
+ghost use Rattle.std.specs.Prelude.{codes, ◌≡◌, ◌≤◌, ◌<◌, ℕ, ◌-◌, length, slice_index, Option, option_map, IfSome};
 ghost use Rattle.std.specs.Option.{option_copied};
 ghost use Rattle.bstr.specs.Text.{without_terminator};
 ghost use Rattle.output_slice.specs.Slices.{Slice, IsErrorSlice, IsNoteLine, IsPart, IsPanicSlice, IsTrimmedSlice, IsWidened, IsBreak};

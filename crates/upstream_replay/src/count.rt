@@ -2,7 +2,7 @@
 //!
 //! A case is `STATUS INPUT STDOUT STDERR`: the exit status, and bytes in hex, `-` for none.
 
-ghost use Rattle.std.specs.Prelude.{◌≡◌, true, IfOk};
+ghost use Rattle.std.specs.Prelude.{IfOk};
 ghost use Rattle.digest_engine.specs.Reading.{texts_of};
 ghost use Rattle.upstream_replay.specs.Count.{IsOutputFor};
 

@@ -3,10 +3,7 @@
 //! A case is `OUTPUT KIND START LEN` or `OUTPUT none`: bytes in hex, `-` for none, and the kind,
 //! the start and the length of the slice.
 
-ghost use Rattle.std.specs.Prelude.{◌≡◌, Some, option_map};
-ghost use Rattle.run_events.specs.Extraction.{IsExtract};
-ghost use Rattle.run_events.specs.Shown.{extract_of};
-ghost use Rattle.upstream_replay.specs.Extracts.{FoundExtract, found_of};
+ghost use Rattle.upstream_replay.specs.Extracts.{FoundExtract};
 
 use crate::bytes::bytes_in;
 use run_events::output_slice::subslice::TestOutputErrorSlice;
