@@ -3,6 +3,7 @@
 use run_events::attempts::{ExecutionStatuses, SetupScriptExecuteStatus};
 use run_events::child::LiveSpec;
 use run_events::config::FlakyResult;
+use run_events::levels::StatusLevel;
 use run_events::outcome::{FinalRunStats, RunStatsFailureKind};
 use run_events::results::CancelReason;
 use run_events::stats::{FinishedUnit, RunStart, RunStats};
@@ -173,5 +174,31 @@ fn a_run_counts_units_of_both_kinds(rt: HostRuntime) -> Result<(), Fail> {
     assert_eq!(rt; stats, wanted);
     assert_eq!(rt; stats.failed_count(), 3);
     assert_eq!(rt; stats.failed_setup_script_count(), 1);
+    Ok(())
+}
+
+#[test]
+fn the_level_is_fail_exactly_where_the_test_counts_as_failed(rt: HostRuntime) -> Result<(), Fail> {
+    for last in [
+        PASS,
+        LEAK_PASS,
+        LEAK_FAIL,
+        EXIT_ONE,
+        EXEC_FAIL,
+        TIMEOUT_FAIL,
+        TIMEOUT_PASS,
+    ] {
+        for earlier in [[].as_slice(), [EXIT_ONE].as_slice()] {
+            for setting in [FlakyResult::Pass, FlakyResult::Fail] {
+                for is_slow in [false, true] {
+                    let test = finished_test(rt.alloc(), earlier, last, is_slow, setting)?;
+                    let stats = RunStats::of_run(&[FinishedUnit::Test(&test)], EMPTY_START);
+                    let fails = test.describe().status_level() == StatusLevel::Fail;
+                    assert_eq!(rt; stats.failed_count(), usize::from(fails), "{last:?}");
+                    assert_eq!(rt; stats.has_failures(), fails, "{last:?}");
+                }
+            }
+        }
+    }
     Ok(())
 }

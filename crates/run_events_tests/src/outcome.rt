@@ -24,6 +24,24 @@ const CANCELLED_AT_SCRIPT: FinalRunStats = FinalRunStats::Cancelled {
     kind: RunStatsFailureKind::SetupScript,
 };
 
+/// All outcomes, the lowest first.
+const OUTCOMES: [RunOutcome; 6] = [
+    RunOutcome::NoTestsRun,
+    RunOutcome::Success,
+    RunOutcome::Cancelled {
+        step: RunFailureStep::Test,
+    },
+    RunOutcome::Cancelled {
+        step: RunFailureStep::SetupScript,
+    },
+    RunOutcome::Failed {
+        step: RunFailureStep::Test,
+    },
+    RunOutcome::Failed {
+        step: RunFailureStep::SetupScript,
+    },
+];
+
 /// A repeated run with so many failed sub-runs, whose last one has this summary.
 fn repeated(failed_count: u32, last_final_stats: FinalRunStats) -> StressRunStats {
     StressRunStats {
@@ -72,6 +90,16 @@ fn a_failed_test_outranks_a_cancelled_script(rt: HostRuntime) {
     };
     assert_eq!(rt; cancelled.combine(failed), failed);
     assert_eq!(rt; failed.combine(cancelled), failed);
+}
+
+#[test]
+fn of_two_outcomes_the_higher_is_taken(rt: HostRuntime) {
+    for (place, lower) in OUTCOMES.iter().enumerate() {
+        for higher in &OUTCOMES[place..] {
+            assert_eq!(rt; lower.combine(*higher), *higher, "{lower:?}");
+            assert_eq!(rt; higher.combine(*lower), *higher, "{lower:?}");
+        }
+    }
 }
 
 #[test]

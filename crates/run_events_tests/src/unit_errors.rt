@@ -4,8 +4,10 @@ use run_events::child::{
     ChildErrorDescription, ChildExecutionOutputDescription, ChildOutputDescription,
     ChildStartErrorDescription, ErrorList, LiveSpec,
 };
-use run_events::results::{ExecutionResult, ExecutionResultDescription, UnitKind};
-use run_events::unit_error::{UnitError, UnitErrorDescription};
+use run_events::results::{
+    AbortDescription, ExecutionResult, ExecutionResultDescription, UnitKind,
+};
+use run_events::unit_error::{UnitAbortDescription, UnitError, UnitErrorDescription};
 use sample_units::{EXEC_FAIL, EXIT_ONE, PASS, SIGNAL_FIFTEEN, captured, error};
 use std::alloc::Global;
 use std::test::Fail;
@@ -35,28 +37,6 @@ fn with_stderr(alloc: Global, stderr: &[u8]) -> Result<ChildOutputDescription, F
 fn in_one(alloc: Global, bytes: &[u8]) -> Result<ChildOutputDescription, Fail> {
     Ok(ChildOutputDescription::Combined {
         output: captured(alloc, bytes)?,
-    })
-}
-
-/// The kind of an error, by a letter.
-fn letter(error: &UnitError<'_>) -> u8 {
-    match error {
-        UnitError::Start(_) => b's',
-        UnitError::Output(_) => b'o',
-        UnitError::Abort(_) => b'a',
-        UnitError::Slice(_) => b't',
-    }
-}
-
-/// Whether a list of the errors of a test holds errors of these kinds, in this order.
-fn holds(list: &Option<ErrorList<UnitError<'_>>>, letters: &[u8]) -> bool {
-    list.as_ref().is_some_and(|list| {
-        list.description() == "executing test"
-            && list.len() == letters.len()
-            && list
-                .iter()
-                .zip(letters)
-                .all(|(error, kind)| letter(error) == *kind)
     })
 }
 
@@ -142,8 +122,11 @@ fn output_in_one_of_a_test_that_passed_has_no_errors(rt: HostRuntime) -> Result<
 
 #[test]
 fn a_test_that_still_runs_has_no_errors(rt: HostRuntime) -> Result<(), Fail> {
-    let output = with_stderr(rt.alloc(), b"Error: e")?;
-    assert!(rt; has_no_errors(rt.alloc(), None, output)?);
+    let output = left(None, with_stderr(rt.alloc(), b"Error: e")?);
+    assert!(rt; !output.has_errors());
+    let errors = described(UnitKind::Test, &output)?;
+    assert!(rt; errors.output_slice().is_none());
+    assert!(rt; errors.all_error_list(rt.alloc())?.is_none());
     Ok(())
 }
 
@@ -164,7 +147,11 @@ fn a_test_has_all_errors_in_order(rt: HostRuntime) -> Result<(), Fail> {
 fn errors_of_execution_leave_the_abort_and_the_slice(rt: HostRuntime) -> Result<(), Fail> {
     let output = aborted(rt.alloc())?;
     let errors = described(UnitKind::Test, &output)?;
-    assert!(rt; holds(&errors.exec_fail_error_list(rt.alloc())?, b"o"));
+    let exec_fail = errors.exec_fail_error_list(rt.alloc())?;
+    assert_eq!(rt;
+        text_of(rt.alloc(), exec_fail)?.as_str(),
+        "executing test\nerror reading standard output"
+    );
     Ok(())
 }
 
@@ -172,7 +159,11 @@ fn errors_of_execution_leave_the_abort_and_the_slice(rt: HostRuntime) -> Result<
 fn errors_of_the_process_leave_those_of_reading(rt: HostRuntime) -> Result<(), Fail> {
     let output = aborted(rt.alloc())?;
     let errors = described(UnitKind::Test, &output)?;
-    assert!(rt; holds(&errors.child_process_error_list(rt.alloc())?, b"at"));
+    let child_process = errors.child_process_error_list(rt.alloc())?;
+    assert_eq!(rt;
+        text_of(rt.alloc(), child_process)?.as_str(),
+        "executing test\nprocess aborted with signal 15 (SIGTERM) (leaked handles)\nError: e"
+    );
     Ok(())
 }
 
@@ -180,9 +171,34 @@ fn errors_of_the_process_leave_those_of_reading(rt: HostRuntime) -> Result<(), F
 fn a_test_that_did_not_start_has_one_error(rt: HostRuntime) -> Result<(), Fail> {
     let output = not_started(rt.alloc())?;
     let errors = described(UnitKind::Test, &output)?;
-    assert!(rt; holds(&errors.all_error_list(rt.alloc())?, b"s"));
-    assert!(rt; holds(&errors.exec_fail_error_list(rt.alloc())?, b"s"));
+    let all = errors.all_error_list(rt.alloc())?;
+    let exec_fail = errors.exec_fail_error_list(rt.alloc())?;
+    for list in [all, exec_fail] {
+        assert_eq!(rt;
+            text_of(rt.alloc(), list)?.as_str(),
+            "executing test\nerror spawning child process"
+        );
+    }
     assert!(rt; errors.child_process_error_list(rt.alloc())?.is_none());
+    Ok(())
+}
+
+#[test]
+fn an_abort_tells_only_of_handles_that_leaked(rt: HostRuntime) -> Result<(), Fail> {
+    let description = AbortDescription::UnixSignal {
+        signal: 6,
+        name: None,
+    };
+    for (leaked, text) in [
+        (false, "process aborted with signal 6"),
+        (true, "process aborted with signal 6 (leaked handles)"),
+    ] {
+        let abort = UnitAbortDescription {
+            description: &description,
+            leaked,
+        };
+        assert_eq!(rt; abort.to_string(rt.alloc())?.as_str(), text);
+    }
     Ok(())
 }
 

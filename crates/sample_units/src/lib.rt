@@ -2,24 +2,26 @@
 //! captured output and errors to put into others.
 #![tactic(auto)]
 
-ghost use Rattle.std.specs.Prelude.{◌≡◌, ◌++◌, ◌∷◌, [], map, string_bytes, false, None, IfOk};
-ghost use Rattle.run_events.specs.Described.{described_result};
-ghost use Rattle.run_events.specs.TestView.{attempts_of, setting_of};
+ghost use Rattle.std.specs.Prelude.{◌≡◌, ◌++◌, ◌∷◌, [], map, false, None, IfOk};
+ghost use Rattle.test_attempts.specs.TestView.{attempts_of, setting_of};
+ghost use Rattle.unit_results.specs.Described.{described_result};
 
 use bytes::Bytes;
 use jiff::Timestamp;
 use jiff::tz::Offset;
-use run_events::attempts::{ExecuteStatus, ExecutionStatuses, RetryData, SetupScriptExecuteStatus};
-use run_events::chain::SerializableError;
-use run_events::child::{
-    ChildExecutionOutputDescription, ChildOutputDescription, ChildSingleOutput, LiveSpec,
-};
-use run_events::config::{FlakyResult, LeakTimeoutResult, Moment, SlowTimeoutResult};
-use run_events::results::{
-    AbortStatus, ExecutionResult, ExecutionResultDescription, FailureStatus,
-};
 use std::alloc::{AllocError, Global};
 use std::time::Duration;
+use test_attempts::attempts::{
+    ExecuteStatus, ExecutionStatuses, RetryData, SetupScriptExecuteStatus,
+};
+use unit_results::chain::SerializableError;
+use unit_results::child::{
+    ChildExecutionOutputDescription, ChildOutputDescription, ChildSingleOutput, LiveSpec,
+};
+use unit_results::config::{FlakyResult, LeakTimeoutResult, Moment, SlowTimeoutResult};
+use unit_results::results::{
+    AbortStatus, ExecutionResult, ExecutionResultDescription, FailureStatus,
+};
 
 /// It succeeded.
 pub const PASS: ExecutionResult = ExecutionResult::Pass;

@@ -27,6 +27,7 @@ fn at_most_the_limit_is_taken(rt: HostRuntime) -> Result<(), Fail> {
         let found = TestOutputErrorSlice::heuristic_extract_capped(None, Some(stderr), limit).ok_or(
             "nothing found",
         )?;
+        assert!(rt; matches!(found, TestOutputErrorSlice::ErrorStr { .. }));
         let part = found.stderr_subslice().ok_or("not on standard error")?;
         assert_eq!(rt; part.slice, slice);
         assert_eq!(rt; part.start, 0);

@@ -296,6 +296,23 @@ last words
 
 ";
 
+/// The same with a full backtrace: each frame has its address and a hash, and no note follows.
+const WITH_FULL_BACKTRACE: &[u8] = b"
+some text
+thread 'runner::tests::stops' panicked at src/runner.rs:237:9:
+stopped
+stack backtrace:
+   0:     0x55d0c1a2b3e5 - std::panicking::begin_panic::h5d1c0a9b8e7f6a3c
+                               at /lib/panicking.rs:652:5
+   1:     0x55d0c1a2b3e5 - <runner::Frame as core::fmt::Display>::fmt::h0b1a2c3d4e5f6071
+                               at ./src/runner.rs:44:22
+   2:     0x55d0c1a4f33b - core::fmt::write::hc6d5e4f3a2b1c0d9
+                               at /lib/fmt.rs:1168:21
+last words
+
+
+";
+
 fn is_part(found: Option<ByteSubslice<'_>>, start: usize, text: &[u8]) -> bool {
     match found {
         Some(part) => part.start == start && part.slice == text,
@@ -304,12 +321,17 @@ fn is_part(found: Option<ByteSubslice<'_>>, start: usize, text: &[u8]) -> bool {
 }
 
 #[test]
-fn each_heuristic(rt: HostRuntime) {
-    let found = heuristic_panic_message(WITH_BACKTRACE);
-    let text = WITH_BACKTRACE
-        .get(11..WITH_BACKTRACE.len() - 3)
-        .unwrap_or(b"");
-    assert!(rt; is_part(found, 11, text), "a panic");
+fn a_backtrace_belongs_to_the_panic(rt: HostRuntime) {
+    for bytes in [WITH_BACKTRACE, WITH_FULL_BACKTRACE] {
+        let end = bytes.len().saturating_sub(3);
+        let text = bytes.get(11..end).unwrap_or(b"");
+        assert!(rt; text.ends_with(b"last words"));
+        assert!(rt; is_part(heuristic_panic_message(bytes), 11, text));
+    }
+}
+
+#[test]
+fn errors_and_notes_are_found_alone(rt: HostRuntime) {
     let found = heuristic_error_str(b"foobar\nError: \"this is an error\"\n");
     assert!(rt;
         is_part(found, 7, b"Error: \"this is an error\""),

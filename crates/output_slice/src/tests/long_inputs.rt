@@ -45,6 +45,7 @@ fn linear_time(rt: HostRuntime) -> Result<(), AllocError> {
     assert!(rt; found.is_none(), "openings");
     let panics = repeated(rt.alloc(), b"thread 'a' panicked at \n", 1_000_000)?;
     let found = TestOutputErrorSlice::heuristic_extract(None, Some(panics.as_slice()));
+    assert!(rt; matches!(found, Some(TestOutputErrorSlice::PanicMessage { .. })));
     let part = found.and_then(|found| found.stderr_subslice());
     assert_eq!(rt; part.map(|part| part.start), Some(23_999_976));
     assert_eq!(rt; part.map(|part| part.slice.len()), Some(22));

@@ -1,5 +1,5 @@
 use Rattle.std.proofs.Common.{◌≡◌, false, map, take, None}
-use Rattle.run_events.specs.Described.{described_result}
+use Rattle.unit_results.specs.Described.{described_result}
 use Rattle.sample_units.proofs.finished_test.Given as goal
 
 -- what is known of the attempts so far

@@ -1,11 +1,11 @@
 //! What is left of repeated runs, and the ids of sub-runs.
 
-use run_events::stress::{
-    NonZeroDuration, StressCount, StressIndex, StressProgress, StressRemaining,
-};
 use std::num::NonZero;
 use std::test::Fail;
 use std::time::Duration;
+use unit_results::stress::{
+    NonZeroDuration, StressCount, StressIndex, StressProgress, StressRemaining,
+};
 use uuid::Uuid;
 
 /// A run that is repeated for so many seconds.
@@ -47,6 +47,23 @@ fn what_is_left_is_above_nothing(rt: HostRuntime) -> Result<(), Fail> {
     );
     assert_eq!(rt; timed(5, 5).remaining(), None);
     Ok(())
+}
+
+#[test]
+fn what_is_left_of_a_time_is_exact_to_the_nanosecond(rt: HostRuntime) {
+    for (elapsed, left) in [
+        (Duration::ZERO, Duration::from_secs(5)),
+        (Duration::new(4, 999_999_999), Duration::from_nanos(1)),
+        (Duration::new(5, 1), Duration::ZERO),
+    ] {
+        let progress = StressProgress::Time {
+            total: Duration::from_secs(5),
+            elapsed,
+            completed: 7,
+        };
+        let left = NonZeroDuration::new(left).map(StressRemaining::Time);
+        assert_eq!(rt; progress.remaining(), left, "{elapsed:?}");
+    }
 }
 
 #[test]

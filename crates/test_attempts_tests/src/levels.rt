@@ -1,17 +1,12 @@
 //! What the attempts of a test come to, and how much attention it asks for.
 
-use super::counters::EMPTY_START;
-use run_events::attempts::{ExecutionDescription, RetryData};
-use run_events::child::LiveSpec;
-use run_events::config::FlakyResult;
-use run_events::levels::{FinalStatusLevel, StatusLevel};
-use run_events::results::ExecutionResult;
-use run_events::stats::{FinishedUnit, RunStats};
-use sample_units::{
-    EXEC_FAIL, EXIT_ONE, LEAK_FAIL, LEAK_PASS, PASS, TIMEOUT_FAIL, TIMEOUT_PASS, attempt,
-    finished_test,
-};
+use sample_units::{EXIT_ONE, LEAK_PASS, PASS, attempt, finished_test};
 use std::test::Fail;
+use test_attempts::attempts::{ExecutionDescription, RetryData};
+use test_attempts::levels::{FinalStatusLevel, StatusLevel};
+use unit_results::child::LiveSpec;
+use unit_results::config::FlakyResult;
+use unit_results::results::ExecutionResult;
 
 /// The case of a description in one word.
 fn case_of(description: &ExecutionDescription<'_, LiveSpec>) -> &'static str {
@@ -34,7 +29,7 @@ type Row = (
     FinalStatusLevel,
 );
 
-const ROWS: [Row; 4] = [
+const ROWS: [Row; 6] = [
     (
         &[],
         LEAK_PASS,
@@ -55,6 +50,24 @@ const ROWS: [Row; 4] = [
     ),
     (
         &[PASS],
+        EXIT_ONE,
+        false,
+        FlakyResult::Pass,
+        "failure",
+        StatusLevel::Fail,
+        FinalStatusLevel::Fail,
+    ),
+    (
+        &[],
+        EXIT_ONE,
+        false,
+        FlakyResult::Pass,
+        "failure",
+        StatusLevel::Fail,
+        FinalStatusLevel::Fail,
+    ),
+    (
+        &[EXIT_ONE, EXIT_ONE],
         EXIT_ONE,
         false,
         FlakyResult::Pass,
@@ -84,32 +97,6 @@ fn tests_are_described_with_their_levels(rt: HostRuntime) -> Result<(), Fail> {
         assert_eq!(rt; description.is_success_for_output(), case != "failure");
         assert_eq!(rt; description.last_status().is_slow, is_slow);
         assert!(rt; description.is_consistent());
-    }
-    Ok(())
-}
-
-#[test]
-fn the_level_is_fail_exactly_where_the_test_counts_as_failed(rt: HostRuntime) -> Result<(), Fail> {
-    for last in [
-        PASS,
-        LEAK_PASS,
-        LEAK_FAIL,
-        EXIT_ONE,
-        EXEC_FAIL,
-        TIMEOUT_FAIL,
-        TIMEOUT_PASS,
-    ] {
-        for earlier in [[].as_slice(), [EXIT_ONE].as_slice()] {
-            for setting in [FlakyResult::Pass, FlakyResult::Fail] {
-                for is_slow in [false, true] {
-                    let test = finished_test(rt.alloc(), earlier, last, is_slow, setting)?;
-                    let stats = RunStats::of_run(&[FinishedUnit::Test(&test)], EMPTY_START);
-                    let fails = test.describe().status_level() == StatusLevel::Fail;
-                    assert_eq!(rt; stats.failed_count(), usize::from(fails), "{last:?}");
-                    assert_eq!(rt; stats.has_failures(), fails, "{last:?}");
-                }
-            }
-        }
     }
     Ok(())
 }

@@ -1,16 +1,16 @@
 //! How what a runner has of a child process is described for reporters.
 
-use run_events::child::{
+use sample_units::{EXEC_FAIL, SIGNAL_FIFTEEN, captured, error};
+use std::alloc::Global;
+use std::test::Fail;
+use unit_results::child::{
     ChildError, ChildErrorDescription, ChildExecutionOutput, ChildExecutionOutputDescription,
     ChildFdError, ChildOutput, ChildOutputDescription, ChildSplitOutput, ChildStartError,
     ChildStartErrorDescription, ErrorList, LiveSpec, Refused,
 };
-use run_events::results::{
+use unit_results::results::{
     AbortDescription, ExecutionResult, ExecutionResultDescription, FailureDescription,
 };
-use sample_units::{EXEC_FAIL, SIGNAL_FIFTEEN, captured, error};
-use std::alloc::Global;
-use std::test::Fail;
 
 fn described(
     alloc: Global,

@@ -1,10 +1,15 @@
 //! Errors with their causes.
 
-use run_events::chain::SerializableError;
 use std::alloc::Global;
 use std::test::Fail;
+use unit_results::chain::SerializableError;
 
-fn chain_of(alloc: Global, message: &str, causes: &[&str]) -> Result<SerializableError, Fail> {
+/// An error with these causes, the nearest first.
+pub(crate) fn chain_of(
+    alloc: Global,
+    message: &str,
+    causes: &[&str],
+) -> Result<SerializableError, Fail> {
     let mut texts = Vec::new(alloc);
     for cause in causes {
         texts.push(String::from_str(alloc, cause)?)?;

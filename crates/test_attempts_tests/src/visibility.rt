@@ -1,13 +1,13 @@
 //! What is shown of a finished test.
 
-use run_events::config::TestOutputDisplay;
-use run_events::levels::{
+use std::process::Abort;
+use test_attempts::levels::{
     FinalStatusLevel, OutputOnTestFinished, OutputStoreFinal, StatusLevel, StatusLevels,
 };
-use run_events::results::{
+use unit_results::config::TestOutputDisplay;
+use unit_results::results::{
     AbortDescription, CancelReason, ExecutionResultDescription, FailureDescription,
 };
-use std::process::Abort;
 
 /// No reason, and all reasons, the least first.
 const REASONS: [Option<CancelReason>; 10] = [
@@ -42,14 +42,42 @@ const FINAL_LEVELS: [FinalStatusLevel; 8] = [
     FinalStatusLevel::All,
 ];
 
-/// A failure by a signal, which left no handle open.
-fn signalled(signal: i32) -> ExecutionResultDescription {
+/// Of a failed test the line alone is written.
+const HIDDEN: OutputOnTestFinished = OutputOnTestFinished {
+    write_status_line: true,
+    show_immediate: false,
+    store_final: OutputStoreFinal::No,
+};
+
+/// Its output is shown too, at once and at the end.
+const SHOWN_TWICE: OutputOnTestFinished = OutputOnTestFinished {
+    write_status_line: true,
+    show_immediate: true,
+    store_final: OutputStoreFinal::Yes {
+        display_output: true,
+    },
+};
+
+/// Its output is shown too, at once and not at the end.
+const SHOWN_ONCE: OutputOnTestFinished = OutputOnTestFinished {
+    write_status_line: true,
+    show_immediate: true,
+    store_final: OutputStoreFinal::Yes {
+        display_output: false,
+    },
+};
+
+/// A failure by an abort, which left no handle open.
+fn aborted(abort: AbortDescription) -> ExecutionResultDescription {
     ExecutionResultDescription::Fail {
-        failure: FailureDescription::Abort {
-            abort: AbortDescription::UnixSignal { signal, name: None },
-        },
+        failure: FailureDescription::Abort { abort },
         leaked: false,
     }
+}
+
+/// A failure by a signal.
+fn signalled(signal: i32) -> ExecutionResultDescription {
+    aborted(AbortDescription::UnixSignal { signal, name: None })
 }
 
 /// A failure by exit code 1.
@@ -84,53 +112,17 @@ fn output(
 
 #[test]
 fn a_terminated_test_is_hidden_as_the_run_stops(rt: HostRuntime) {
-    let terminated = signalled(15);
+    let by_signal = signalled(15);
+    let by_job_object = aborted(AbortDescription::WindowsJobObject);
     let other = exited();
-    for (reason, execution_result, show_immediate, store_final) in [
-        (
-            CancelReason::TestFailureImmediate,
-            &terminated,
-            false,
-            OutputStoreFinal::No,
-        ),
-        (
-            CancelReason::GlobalTimeout,
-            &terminated,
-            true,
-            OutputStoreFinal::Yes {
-                display_output: true,
-            },
-        ),
-        (
-            CancelReason::Signal,
-            &terminated,
-            true,
-            OutputStoreFinal::Yes {
-                display_output: false,
-            },
-        ),
-        (
-            CancelReason::OutputLimit,
-            &terminated,
-            true,
-            OutputStoreFinal::Yes {
-                display_output: true,
-            },
-        ),
-        (
-            CancelReason::SecondSignal,
-            &terminated,
-            false,
-            OutputStoreFinal::No,
-        ),
-        (
-            CancelReason::TestFailureImmediate,
-            &other,
-            true,
-            OutputStoreFinal::Yes {
-                display_output: true,
-            },
-        ),
+    for (reason, execution_result, wanted) in [
+        (CancelReason::TestFailureImmediate, &by_signal, HIDDEN),
+        (CancelReason::TestFailureImmediate, &by_job_object, HIDDEN),
+        (CancelReason::TestFailureImmediate, &other, SHOWN_TWICE),
+        (CancelReason::OutputLimit, &by_signal, SHOWN_TWICE),
+        (CancelReason::GlobalTimeout, &by_signal, SHOWN_TWICE),
+        (CancelReason::Signal, &by_signal, SHOWN_ONCE),
+        (CancelReason::SecondSignal, &by_signal, HIDDEN),
     ] {
         let shown = output(
             FinalStatusLevel::Fail,
@@ -139,15 +131,7 @@ fn a_terminated_test_is_hidden_as_the_run_stops(rt: HostRuntime) {
             FinalStatusLevel::Fail,
             execution_result,
         );
-        assert_eq!(rt;
-            shown,
-            OutputOnTestFinished {
-                write_status_line: true,
-                show_immediate,
-                store_final,
-            },
-            "{reason:?}"
-        );
+        assert_eq!(rt; shown, wanted, "{reason:?} {execution_result:?}");
     }
 }
 
@@ -214,7 +198,8 @@ fn is_no_more(x: OutputOnTestFinished, y: OutputOnTestFinished) -> bool {
         && amount_stored(x.store_final) <= amount_stored(y.store_final)
 }
 
-/// Whether more is shown under the greater of two reasons, for a failed test of any final level.
+/// Asserts that a failed test of any final level is shown no more under the greater of two reasons,
+/// exactly but for the one exception.
 fn grows_only_by_the_exception(
     rt: &impl Abort,
     own: FinalStatusLevel,

@@ -1,13 +1,13 @@
 //! Results: which succeed, their words, and what is described of them.
 
-use run_events::results::{
-    AbortDescription, AbortStatus, ExecutionResult, ExecutionResultDescription, FailureDescription,
-    FailureStatus,
-};
 use sample_units::{
     EXEC_FAIL, EXIT_ONE, LEAK_FAIL, LEAK_PASS, PASS, SIGNAL_FIFTEEN, TIMEOUT_FAIL, TIMEOUT_PASS,
 };
 use std::test::Fail;
+use unit_results::results::{
+    AbortDescription, AbortStatus, ExecutionResult, ExecutionResultDescription, FailureDescription,
+    FailureStatus,
+};
 
 const RESULTS: [(ExecutionResult, bool, &str); 8] = [
     (PASS, true, "pass"),

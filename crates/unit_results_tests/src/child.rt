@@ -1,14 +1,14 @@
 //! What a child process left.
 
-use run_events::child::{
+use sample_units::{EXIT_ONE, PASS, TIMEOUT_PASS, captured, error};
+use std::alloc::Global;
+use std::test::Fail;
+use unit_results::child::{
     ChildError, ChildErrorDescription, ChildExecutionOutputDescription, ChildFdError, ChildOutput,
     ChildOutputDescription, ChildSplitOutput, ChildStartError, ChildStartErrorDescription,
     ErrorList, LiveSpec, OutputSpec,
 };
-use run_events::results::{ExecutionResult, ExecutionResultDescription};
-use sample_units::{EXIT_ONE, PASS, TIMEOUT_PASS, captured, error};
-use std::alloc::Global;
-use std::test::Fail;
+use unit_results::results::{ExecutionResult, ExecutionResultDescription};
 
 #[test]
 fn captured_bytes_are_kept(rt: HostRuntime) -> Result<(), Fail> {

@@ -1,6 +1,6 @@
 //! Settings.
 
-use run_events::config::{FlakyResult, TestOutputDisplay};
+use unit_results::config::{FlakyResult, TestOutputDisplay};
 
 #[test]
 fn displays_are_immediate_and_final(rt: HostRuntime) {

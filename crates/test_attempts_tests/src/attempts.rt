@@ -1,10 +1,10 @@
 //! The attempts of a test.
 
-use run_events::attempts::{EmptyStatuses, ExecuteStatus, ExecutionStatuses};
-use run_events::child::LiveSpec;
-use run_events::config::FlakyResult;
 use sample_units::{EXIT_ONE, PASS, attempt};
 use std::test::Fail;
+use test_attempts::attempts::{EmptyStatuses, ExecuteStatus, ExecutionStatuses};
+use unit_results::child::LiveSpec;
+use unit_results::config::FlakyResult;
 
 #[test]
 fn a_test_has_its_attempts_and_setting(rt: HostRuntime) -> Result<(), Fail> {

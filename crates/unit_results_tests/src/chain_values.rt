@@ -1,22 +1,14 @@
 //! Errors with their causes: as an iterator, and as JSON values.
 
-use run_events::chain::{FromValueError, SerializableError};
+use super::chain::chain_of;
 use serde_json::Value;
 use std::alloc::Global;
 use std::test::Fail;
-
-fn error_of(alloc: Global, message: &str, causes: &[&str]) -> Result<SerializableError, Fail> {
-    let mut texts = Vec::new(alloc);
-    for cause in causes {
-        texts.push(String::from_str(alloc, cause)?)?;
-    }
-    let message = String::from_str(alloc, message)?;
-    Ok(SerializableError::from_message_and_causes(alloc, message, texts)?)
-}
+use unit_results::chain::{FromValueError, SerializableError};
 
 #[test]
 fn causes_come_in_order(rt: HostRuntime) -> Result<(), Fail> {
-    let error = error_of(rt.alloc(), "m", &["a", "b"])?;
+    let error = chain_of(rt.alloc(), "m", &["a", "b"])?;
     let mut sources = error.sources();
     assert_eq!(rt; sources.next().map(|e| e.message()), Some("a"));
     assert_eq!(rt; sources.next().map(|e| e.message()), Some("b"));
@@ -27,7 +19,7 @@ fn causes_come_in_order(rt: HostRuntime) -> Result<(), Fail> {
 
 #[test]
 fn an_error_shows_its_message_alone(rt: HostRuntime) -> Result<(), Fail> {
-    let error = error_of(rt.alloc(), "m", &["a", "b"])?;
+    let error = chain_of(rt.alloc(), "m", &["a", "b"])?;
     assert_eq!(rt; error.to_string(rt.alloc())?.as_str(), "m");
     Ok(())
 }
@@ -47,7 +39,7 @@ fn errors_are_written(rt: HostRuntime) -> Result<(), Fail> {
             r#"{"message":"","causes":["","b"]}"#,
         ),
     ] {
-        let value = error_of(rt.alloc(), message, causes)?.to_value(rt.alloc())?;
+        let value = chain_of(rt.alloc(), message, causes)?.to_value(rt.alloc())?;
         assert!(rt; value == Value::from_str(rt.alloc(), text)?, "{text}");
     }
     Ok(())
@@ -70,7 +62,7 @@ fn values_are_read(rt: HostRuntime) -> Result<(), Fail> {
         ("m", none.as_slice(), r#"{"message":"m","causes":[]}"#),
         ("m", none.as_slice(), r#"{"message":"m","x":0}"#),
     ] {
-        let wanted = error_of(rt.alloc(), message, causes)?;
+        let wanted = chain_of(rt.alloc(), message, causes)?;
         let value = Value::from_str(rt.alloc(), text)?;
         let read = SerializableError::from_value(rt.alloc(), &value);
         assert_eq!(rt; read, Ok(wanted), "{text}");
