@@ -203,7 +203,7 @@ fn an_abort_tells_only_of_handles_that_leaked(rt: HostRuntime) -> Result<(), Fai
 }
 
 #[test]
-fn a_script_has_no_slice(rt: HostRuntime) -> Result<(), Fail> {
+fn a_script_has_its_errors_but_no_slice(rt: HostRuntime) -> Result<(), Fail> {
     let output = aborted(rt.alloc())?;
     let errors = described(UnitKind::Script, &output)?;
     let all = errors.all_error_list(rt.alloc())?;
@@ -212,6 +212,11 @@ fn a_script_has_no_slice(rt: HostRuntime) -> Result<(), Fail> {
         "executing script\nerror reading standard output\nprocess aborted with signal 15 (SIGTERM) \
          (leaked handles)"
     );
+    Ok(())
+}
+
+#[test]
+fn the_output_of_a_script_is_not_searched(rt: HostRuntime) -> Result<(), Fail> {
     let output = left(ended(EXIT_ONE), with_stderr(rt.alloc(), b"Error: e")?);
     let errors = described(UnitKind::Script, &output)?;
     assert!(rt; errors.output_slice().is_none());

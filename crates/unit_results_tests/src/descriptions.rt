@@ -98,7 +98,7 @@ fn errors_are_described_in_order(rt: HostRuntime) -> Result<(), Fail> {
 }
 
 #[test]
-fn output_is_moved_into_its_description(rt: HostRuntime) -> Result<(), Fail> {
+fn two_streams_are_moved_into_their_description(rt: HostRuntime) -> Result<(), Fail> {
     let output = split(rt.alloc(), None, None)?;
     let split = described(rt.alloc(), output, None)?;
     let ChildExecutionOutputDescription::Output {
@@ -114,6 +114,11 @@ fn output_is_moved_into_its_description(rt: HostRuntime) -> Result<(), Fail> {
     };
     assert_eq!(rt; stdout.buf().as_slice(), b"out".as_slice());
     assert_eq!(rt; stderr.buf().as_slice(), b"err".as_slice());
+    Ok(())
+}
+
+#[test]
+fn output_in_one_is_moved_into_its_description(rt: HostRuntime) -> Result<(), Fail> {
     let combined = ChildExecutionOutput::Output {
         result: Some(EXEC_FAIL),
         output: ChildOutput::Combined {
