@@ -15,7 +15,7 @@ impl RunStats {
     pub fn of_run(units: &[FinishedUnit<'_>], start: RunStart) -> RunStats
         ensures counts { result ≡ stats_of (map unit_view units.now) start }
 
-        // Swapping two neighbouring parts of the list changes nothing, so its order is no matter.
+        // Swapping two neighbouring parts of the list changes nothing: its order does not matter.
         ensures exchange { (a p q b : List UnitView) → map unit_view units.now ≡ a ++ p ++ q ++ b → stats_of (a ++ q ++ p ++ b) start ≡ result }
         // Split the list anywhere: a counter of the whole is what those of both pieces add up to.
         ensures cut { (a b : List UnitView) → map unit_view units.now ≡ a ++ b → IsSum (stats_of a start) (stats_of b start) result }
