@@ -4,10 +4,10 @@ use crate::extraction::reads_all;
 use crate::inputs::{Output, joined};
 use crate::size::Size;
 use crate::timing::{Step, Work};
+use digest_devices::device::Source;
+use digest_devices::memory_device::{MemorySink, MemorySource};
 use digest_engine::count::count;
-use digest_engine::device::Source;
 use digest_engine::extract::extract;
-use digest_engine::memory_device::{MemorySink, MemorySource};
 use std::alloc::{AllocError, Global};
 
 /// How many bytes a sink has room for.

@@ -3,12 +3,13 @@ use Rattle.std.proofs.Common.{ℕ, List, Bool, ap, subst}
 use Rattle.std.specs.Prelude.{◌≡◌, Option, None, Some, Ok, Err, IfSome}
 use Rattle.std.specs.Io.KnownBytes.{Appends}
 use Rattle.std.specs.declared.result.Result.{Result}
-use Rattle.digest_engine.specs.Answer.{Answers, AppendsStart}
+use Rattle.digest_devices.specs.Transfer.{AppendsStart}
+use Rattle.digest_devices.specs.declared.fault.Fault.{Fault}
+use Rattle.digest_devices.specs.declared.fault.Fault.TheVariants as faults
+use Rattle.digest_engine.specs.Answer.{Answers}
 use Rattle.digest_engine.specs.CountSteps.{AnswersRuns}
 use Rattle.digest_engine.specs.Reader.{runs_of}
 use Rattle.digest_engine.specs.Reading.{IsFirstBadLine, Run, texts_of}
-use Rattle.digest_engine.specs.declared.fault.Fault.{Fault}
-use Rattle.digest_engine.specs.declared.fault.Fault.TheVariants as faults
 use Rattle.digest_engine.proofs.Readings.{GivenRuns, given}
 
 answers_runs : (r : Result Bool Fault) (old new : Option (List ℕ)) (lines : List (List ℕ)) (read : Result (List Run) ℕ) → GivenRuns lines read → AnswersRuns r old new read → Answers r old new lines

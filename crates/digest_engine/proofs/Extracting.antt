@@ -4,10 +4,10 @@ use Rattle.std.specs.Prelude.{is_some, Option, None, Some, Ok, Err, IfSome, IsEr
 use Rattle.std.specs.Io.KnownBytes.{Appends}
 use Rattle.std.specs.declared.result.Result.{Result}
 use Rattle.run_events.specs.Extraction.{Extract}
-use Rattle.digest_engine.specs.Answer.{AppendsStart}
+use Rattle.digest_devices.specs.Transfer.{AppendsStart}
+use Rattle.digest_devices.specs.declared.fault.Fault.{Fault}
+use Rattle.digest_devices.specs.declared.fault.Fault.TheVariants as faults
 use Rattle.digest_engine.specs.ExtractAnswer.{AnswersExtract, IsExtracted, extract_text}
-use Rattle.digest_engine.specs.declared.fault.Fault.{Fault}
-use Rattle.digest_engine.specs.declared.fault.Fault.TheVariants as faults
 
 -- what is extracted of what was read is what is of the input, where the source tells its bytes
 extraction_of : (input bytes : List ℕ) (found : Option Extract) → bytes ≡ input → IsExtracted bytes found → IsExtracted input found

@@ -3,7 +3,6 @@ pub mod Attempts
 pub mod Continued
 pub mod EntryLines
 pub mod Extracting
-pub mod KnownBytes
 pub mod Numbers
 pub mod Readings
 pub mod Reports

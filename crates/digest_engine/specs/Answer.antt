@@ -1,17 +1,14 @@
 -- What engines leave in their devices, and what `count` answers.
-use Rattle.std.specs.Prelude.{◌≡◌, ℕ, ◌++◌, Bool, List, map, Option, Ok, Err}
+use Rattle.std.specs.Prelude.{◌≡◌, ℕ, Bool, List, map, Option, Ok, Err}
 use Rattle.std.specs.Io.KnownBytes.{Appends, IsAtEnd, Keeps}
 use Rattle.std.specs.declared.result.Result.{Result}
 use Rattle.run_events.specs.Outcome.{IsHighest}
 use Rattle.run_events.specs.declared.outcome.run_outcome.RunOutcome.{RunOutcome}
+use Rattle.digest_devices.specs.Transfer.{AppendsStart}
+use Rattle.digest_devices.specs.declared.fault.Fault.{Fault}
+use Rattle.digest_devices.specs.declared.fault.Fault.TheVariants as faults
 use Rattle.digest_engine.specs.Reading.{IsBadLine, IsFirstBadLine, IsReading, Run}
 use Rattle.digest_engine.specs.Report.{is_success, reports_of, run_outcome}
-use Rattle.digest_engine.specs.declared.fault.Fault.{Fault}
-use Rattle.digest_engine.specs.declared.fault.Fault.TheVariants as faults
-
--- known bytes grow by a beginning of the text
-abbrev pub AppendsStart : Option (List ℕ) → Option (List ℕ) → List ℕ → Type 0
-AppendsStart old new text = (start rest : List ℕ) × (text ≡ start ++ rest) × Appends old new start
 
 -- no line is bad
 abbrev pub NoBadLine : List (List ℕ) → Type 0

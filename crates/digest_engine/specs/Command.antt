@@ -2,10 +2,10 @@
 use Rattle.std.specs.Prelude.{List, [], ◌∷◌, ℕ, Ok, Err, codes, if◌then◌else◌}
 use Rattle.std.specs.Str.{bytes_eq}
 use Rattle.std.specs.declared.result.Result.{Result}
+use Rattle.digest_devices.specs.declared.fault.Fault.{Fault}
+use Rattle.digest_devices.specs.declared.fault.Fault.TheVariants.{BadWord}
 use Rattle.digest_engine.specs.declared.command.Command.{Command}
 use Rattle.digest_engine.specs.declared.command.Command.TheVariants.{Count, Extract}
-use Rattle.digest_engine.specs.declared.fault.Fault.{Fault}
-use Rattle.digest_engine.specs.declared.fault.Fault.TheVariants.{BadWord}
 
 -- the command that words ask for: the one that the only word names, and to count where there is no word
 abbrev pub command_of : List (List ℕ) → Result Command Fault

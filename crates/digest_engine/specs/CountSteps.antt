@@ -4,11 +4,11 @@ use Rattle.std.specs.Io.KnownBytes.{Appends}
 use Rattle.std.specs.declared.result.Result.{Result}
 use Rattle.run_events.specs.Outcome.{IsHighest}
 use Rattle.run_events.specs.declared.outcome.run_outcome.RunOutcome.{RunOutcome}
-use Rattle.digest_engine.specs.Answer.{AppendsStart}
+use Rattle.digest_devices.specs.Transfer.{AppendsStart}
+use Rattle.digest_devices.specs.declared.fault.Fault.{Fault}
+use Rattle.digest_devices.specs.declared.fault.Fault.TheVariants as faults
 use Rattle.digest_engine.specs.Reading.{Run}
 use Rattle.digest_engine.specs.Report.{is_success, reports_of, run_outcome}
-use Rattle.digest_engine.specs.declared.fault.Fault.{Fault}
-use Rattle.digest_engine.specs.declared.fault.Fault.TheVariants as faults
 
 -- the text for these runs and their outcome, the highest of theirs, and whether that is Success
 pub record IsDigest (runs : List Run) (digest : List ℕ × Bool) : Type 0 where

@@ -5,9 +5,9 @@ use Rattle.std.specs.Io.KnownBytes.{Appends}
 use Rattle.std.specs.declared.result.Result.{Result}
 use Rattle.run_events.specs.Extraction.{Extract, IsCappedExtract, error_slice, note_line, panic_slice}
 use Rattle.run_events.specs.Slices.{Slice}
-use Rattle.digest_engine.specs.Answer.{AppendsStart}
-use Rattle.digest_engine.specs.declared.fault.Fault.{Fault}
-use Rattle.digest_engine.specs.declared.fault.Fault.TheVariants as faults
+use Rattle.digest_devices.specs.Transfer.{AppendsStart}
+use Rattle.digest_devices.specs.declared.fault.Fault.{Fault}
+use Rattle.digest_devices.specs.declared.fault.Fault.TheVariants as faults
 
 -- the first line for a slice: its kind, its start and its length in bytes
 unfoldable pub heading : List ℕ → ℕ → ℕ → List ℕ

@@ -2,9 +2,6 @@ pub mod Answer
 pub mod Command
 pub mod CountSteps
 pub mod ExtractAnswer
-pub mod Fault
-pub mod MemoryCalls
-pub mod MemoryDevice
 pub mod Number
 pub mod Reader
 pub mod Reading
@@ -12,4 +9,3 @@ pub mod Report
 pub mod RunInput
 pub mod Spelling
 pub mod Statuses
-pub mod StdDevice

@@ -17,9 +17,9 @@ use Rattle.unit_results.specs.declared.results.ExecutionResultDescription.{Execu
 use Rattle.unit_results.specs.declared.results.ExecutionResultDescription.TheVariants as result
 use Rattle.unit_results.specs.declared.results.failure.FailureDescription.TheVariants as failure
 use Rattle.run_events.specs.declared.stats.RunStart.{RunStart}
+use Rattle.digest_devices.specs.declared.fault.Fault.{Fault}
+use Rattle.digest_devices.specs.declared.fault.Fault.TheVariants as faults
 use Rattle.digest_engine.specs.Reading.{Run}
-use Rattle.digest_engine.specs.declared.fault.Fault.{Fault}
-use Rattle.digest_engine.specs.declared.fault.Fault.TheVariants as faults
 
 -- what comes of a value that is there
 infixl 10 ◌>>=◌

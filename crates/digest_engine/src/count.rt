@@ -5,19 +5,19 @@ ghost use Rattle.bstr.specs.Text.{lines_of};
 ghost use Rattle.run_events.specs.Counters.{UnitView};
 ghost use Rattle.run_events.specs.Lines.{AreLines};
 ghost use Rattle.run_events.specs.declared.stats.RunStart.{RunStart};
+ghost use Rattle.digest_devices.specs.declared.fault.Fault.TheVariants as faults;
 ghost use Rattle.digest_engine.specs.Answer.{Answers, KeepsSink, ReadsToEnd};
 ghost use Rattle.digest_engine.specs.CountSteps.{AnswersRuns, GivesDigest};
 ghost use Rattle.digest_engine.specs.Reader.{runs_of};
 ghost use Rattle.digest_engine.specs.Reading.{IsReading, Run, texts_of};
 ghost use Rattle.digest_engine.specs.Spelling.{SpellsStart, SpellsUnit};
-ghost use Rattle.digest_engine.specs.declared.fault.Fault.TheVariants as faults;
 
-use crate::device::{Sink, Source};
-use crate::fault::Fault;
 use crate::lent::{finished_runs, lent_runs};
 use crate::lines::runs_in;
 use crate::report::reports;
-use crate::transfer::{read_all, write_all};
+use digest_devices::device::{Sink, Source};
+use digest_devices::fault::Fault;
+use digest_devices::transfer::{read_all, write_all};
 use run_events::outcome::RunOutcome;
 use std::alloc::Global;
 

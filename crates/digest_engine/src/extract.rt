@@ -2,13 +2,13 @@
 
 ghost use Rattle.std.specs.Prelude.{◌≡◌, ◌↔◌, ◌⊎◌, true, false, IfErr, IfOk, IfSome, OnOk, IsErrOf, option_map, string_bytes};
 ghost use Rattle.run_events.specs.Shown.{extract_of};
+ghost use Rattle.digest_devices.specs.declared.fault.Fault.TheVariants as faults;
 ghost use Rattle.digest_engine.specs.Answer.{KeepsSink, ReadsToEnd};
 ghost use Rattle.digest_engine.specs.ExtractAnswer.{AnswersExtract, IsExtracted, extract_text, heading};
-ghost use Rattle.digest_engine.specs.declared.fault.Fault.TheVariants as faults;
 
-use crate::device::{Sink, Source};
-use crate::fault::Fault;
-use crate::transfer::{read_all, write_all};
+use digest_devices::device::{Sink, Source};
+use digest_devices::fault::Fault;
+use digest_devices::transfer::{read_all, write_all};
 use run_events::output_slice::subslice::TestOutputErrorSlice;
 use std::alloc::{AllocError, Global};
 use std::num::NonZero;

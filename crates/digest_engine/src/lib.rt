@@ -1,17 +1,13 @@
-//! What the program `run-digest` does, over any source and any sink of bytes.
+//! What the program `run-digest` does, over any source and any sink of bytes: those of
+//! `digest_devices`, where its faults stand too.
 #![tactic(auto)]
 
 pub mod command;
 pub mod count;
-pub mod device;
 mod entry;
 pub mod extract;
-pub mod fault;
 mod lent;
 mod lines;
-pub mod memory_device;
 mod report;
-pub mod std_device;
-mod transfer;
 mod units;
 mod words;

@@ -6,10 +6,10 @@ ghost use Rattle.digest_engine.specs.Reading.{texts_of};
 ghost use Rattle.digest_engine.specs.RunInput.{run_said};
 
 use crate::entry::{Entry, entry_in};
-use crate::fault::Fault;
 use crate::units::OwnedUnit;
 use crate::words::{start_from, words_in};
 use bstr::{ByteSlice, Lines};
+use digest_devices::fault::Fault;
 use run_events::stats::RunStart;
 use std::alloc::Global;
 use std::mem;

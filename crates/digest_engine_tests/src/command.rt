@@ -1,7 +1,7 @@
 //! What words ask for.
 
+use digest_devices::fault::Fault;
 use digest_engine::command::Command;
-use digest_engine::fault::Fault;
 use std::test::Fail;
 
 #[test]

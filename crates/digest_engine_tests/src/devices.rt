@@ -1,9 +1,10 @@
 //! Devices over memory, and the engine over those that fail.
 
+use digest_devices::device::{DeviceFailed, Sink, Source};
+use digest_devices::fault::Fault;
+use digest_devices::memory_device::{MemorySink, MemorySource};
+use digest_devices::transfer::{read_all, write_all};
 use digest_engine::count::count;
-use digest_engine::device::{DeviceFailed, Sink, Source};
-use digest_engine::fault::Fault;
-use digest_engine::memory_device::{MemorySink, MemorySource};
 use std::alloc::Global;
 use std::test::Fail;
 
@@ -70,6 +71,18 @@ fn a_sink_keeps_its_room_after_a_failed_write(rt: HostRuntime) {
     assert_eq!(rt; sink.written(), b"helloworld".as_slice());
     assert_eq!(rt; sink.write(b"s"), Err(DeviceFailed));
     assert_eq!(rt; sink.written(), b"helloworld".as_slice());
+}
+
+#[test]
+fn all_is_read_and_all_is_written(rt: HostRuntime) -> Result<(), Fault> {
+    let mut source = MemorySource::new(RUN, None);
+    let bytes = read_all(rt.alloc(), &mut source)?;
+    assert_eq!(rt; bytes.as_slice(), RUN);
+    let mut buffer = [0; 200];
+    let mut sink = MemorySink::new(&mut buffer, None);
+    write_all(&mut sink, REPORT)?;
+    assert_eq!(rt; sink.written(), REPORT);
+    Ok(())
 }
 
 #[test]

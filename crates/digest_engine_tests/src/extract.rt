@@ -1,9 +1,9 @@
 //! Whole outputs with what the program extracts from them.
 
-use digest_engine::device::Sink;
+use digest_devices::device::Sink;
+use digest_devices::fault::Fault;
+use digest_devices::memory_device::{MemorySink, MemorySource};
 use digest_engine::extract::extract;
-use digest_engine::fault::Fault;
-use digest_engine::memory_device::{MemorySink, MemorySource};
 use std::alloc::Global;
 use std::test::Fail;
 

@@ -1,6 +1,6 @@
 //! The texts and statuses of faults.
 
-use digest_engine::fault::Fault;
+use digest_devices::fault::Fault;
 use std::test::Fail;
 
 const FAULTS: [(Fault, u8, &str); 6] = [

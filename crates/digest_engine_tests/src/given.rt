@@ -1,8 +1,8 @@
 //! What the program gives for an input, by the engine over memory.
 
+use digest_devices::fault::Fault;
+use digest_devices::memory_device::{MemorySink, MemorySource};
 use digest_engine::count::count;
-use digest_engine::fault::Fault;
-use digest_engine::memory_device::{MemorySink, MemorySource};
 use std::alloc::Global;
 use std::test::Fail;
 

@@ -1,6 +1,6 @@
-//! Tests of `digest_engine` through its public calls alone: rows worked by hand, and what readers
-//! and writers of std are asked. They stand in a crate of their own, so that the check of the tests
-//! does not prove the library once more.
+//! Tests of `digest_engine` and `digest_devices` through their public calls alone: rows worked by
+//! hand, and what readers and writers of std are asked. They stand in a crate of their own, so that
+//! the check of the tests does not prove the libraries once more.
 #![tactic(auto)]
 
 #[cfg(test)]

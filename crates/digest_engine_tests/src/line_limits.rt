@@ -1,7 +1,7 @@
 //! Which lines say something.
 
 use crate::given::{answer, given};
-use digest_engine::fault::Fault;
+use digest_devices::fault::Fault;
 use std::alloc::Global;
 use std::test::Fail;
 

@@ -1,10 +1,10 @@
 //! What readers and writers of std are asked: fakes that keep a log of their calls.
 
+use digest_devices::device::{DeviceFailed, Sink, Source};
+use digest_devices::fault::Fault;
+use digest_devices::std_device::{StdSink, StdSource};
 use digest_engine::count::count;
-use digest_engine::device::{DeviceFailed, Sink, Source};
 use digest_engine::extract::extract;
-use digest_engine::fault::Fault;
-use digest_engine::std_device::{StdSink, StdSource};
 use std::alloc::Global;
 use std::io::{self, Read, Write};
 use std::test::Fail;

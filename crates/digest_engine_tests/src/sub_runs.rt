@@ -1,9 +1,9 @@
 //! Inputs with sub-runs.
 
 use crate::given::{answer, given};
+use digest_devices::fault::Fault;
+use digest_devices::memory_device::{MemorySink, MemorySource};
 use digest_engine::count::count;
-use digest_engine::fault::Fault;
-use digest_engine::memory_device::{MemorySink, MemorySource};
 use std::test::Fail;
 
 /// An input, the exit status, standard output and standard error.

@@ -1,14 +1,14 @@
 //! The engines of the program, over memory devices that do not fail.
 
 ghost use Rattle.std.specs.Prelude.{◌≡◌, Err, Ok, []};
-ghost use Rattle.digest_engine.specs.MemoryDevice.{written_of};
-ghost use Rattle.digest_engine.specs.declared.fault.Fault.TheVariants as faults;
+ghost use Rattle.digest_devices.specs.MemoryDevice.{written_of};
+ghost use Rattle.digest_devices.specs.declared.fault.Fault.TheVariants as faults;
 ghost use Rattle.refusals.specs.declared.outcome.Outcome.TheVariants as outcomes;
 
 use crate::outcome::Outcome;
-use digest_engine::device::{Sink, Source};
-use digest_engine::fault::Fault;
-use digest_engine::memory_device::{MemorySink, MemorySource};
+use digest_devices::device::{Sink, Source};
+use digest_devices::fault::Fault;
+use digest_devices::memory_device::{MemorySink, MemorySource};
 use digest_engine::{count, extract};
 use std::alloc::{AllocError, Global};
 

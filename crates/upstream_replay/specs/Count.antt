@@ -1,9 +1,9 @@
 -- What `run-digest count` gives, by its definitions.
 use Rattle.std.specs.Prelude.{◌≡◌, ◌++◌, ℕ, Bool, true, false, List, [], Some, Ok, Err, codes}
 use Rattle.std.specs.declared.result.Result.{Result}
+use Rattle.digest_devices.specs.Fault.{fault_text, status_of}
+use Rattle.digest_devices.specs.declared.fault.Fault.{Fault}
 use Rattle.digest_engine.specs.Answer.{Answers, KeepsSink}
-use Rattle.digest_engine.specs.Fault.{fault_text, status_of}
-use Rattle.digest_engine.specs.declared.fault.Fault.{Fault}
 use Rattle.upstream_replay.specs.declared.count.Output.{Output}
 
 -- the exit status after an answer

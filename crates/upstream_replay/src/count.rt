@@ -7,8 +7,8 @@ ghost use Rattle.digest_engine.specs.Reading.{texts_of};
 ghost use Rattle.upstream_replay.specs.Count.{IsOutputFor};
 
 use crate::bytes::bytes_in;
+use digest_devices::memory_device::{MemorySink, MemorySource};
 use digest_engine::count::count;
-use digest_engine::memory_device::{MemorySink, MemorySource};
 use std::alloc::{AllocError, Global};
 
 /// What a program gives: its exit status, and what it writes to standard output and error.

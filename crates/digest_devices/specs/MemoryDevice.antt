@@ -1,7 +1,7 @@
 -- Devices over memory, which fail at a call that was chosen.
 use Rattle.std.specs.Prelude.{◌-◌, ℕ, Bool, List, Option, length, take}
-use Rattle.digest_engine.specs.declared.memory_device.MemorySource.{MemorySource}
-use Rattle.digest_engine.specs.declared.memory_device.MemorySink.{MemorySink}
+use Rattle.digest_devices.specs.declared.memory_device.MemorySource.{MemorySource}
+use Rattle.digest_devices.specs.declared.memory_device.MemorySink.{MemorySink}
 
 -- the bytes that a source has left
 abbrev pub left_of : MemorySource → List ℕ

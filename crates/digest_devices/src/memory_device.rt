@@ -1,7 +1,7 @@
 //! Devices over memory, which fail where they are told to: to see what stands after a failure.
 
 ghost use Rattle.std.specs.Prelude.{◌≡◌, ◌≤◌, length};
-ghost use Rattle.digest_engine.specs.MemoryCalls.{after_call};
+ghost use Rattle.digest_devices.specs.MemoryCalls.{after_call};
 
 use crate::device::{DeviceFailed, Sink, Source};
 
@@ -25,7 +25,7 @@ pub struct MemorySource<'a> {
 
 impl<'a> MemorySource<'a> {
     ghost use Rattle.std.specs.Prelude.{◌≡◌, false};
-    ghost use Rattle.digest_engine.specs.MemoryDevice.{left_of, reads_left, source_failed};
+    ghost use Rattle.digest_devices.specs.MemoryDevice.{left_of, reads_left, source_failed};
 
     /// The bytes as a source that has not failed. The read of number `fail_at`, counted from 0,
     /// will fail; with `None` no read will.
@@ -45,8 +45,8 @@ impl<'a> MemorySource<'a> {
 impl Source for MemorySource<'_> {
     ghost use Rattle.std.specs.Prelude.{◌≡◌, ◌<◌, ◌≤◌, ◌↔◌, Some, true, IsErr, IfOk, OnOk, OnErr, length, min, take};
     ghost use Rattle.std.specs.Io.KnownBytes.{Consumes, IsAtEnd};
-    ghost use Rattle.digest_engine.specs.MemoryCalls.{after_call};
-    ghost use Rattle.digest_engine.specs.MemoryDevice.{left_of, reads_left, source_failed};
+    ghost use Rattle.digest_devices.specs.MemoryCalls.{after_call};
+    ghost use Rattle.digest_devices.specs.MemoryDevice.{left_of, reads_left, source_failed};
 
     ghost left = { λ s. Some (left_of s) };
 
@@ -97,8 +97,8 @@ pub struct MemorySink<'a> {
 
 impl<'a> MemorySink<'a> {
     ghost use Rattle.std.specs.Prelude.{◌≡◌, ◌↔◌, ◌||◌, false, [], length, IsTrue, Some};
-    ghost use Rattle.digest_engine.specs.MemoryCalls.{after_call};
-    ghost use Rattle.digest_engine.specs.MemoryDevice.{calls_left, room_of, sink_failed, sink_flushed, written_of};
+    ghost use Rattle.digest_devices.specs.MemoryCalls.{after_call};
+    ghost use Rattle.digest_devices.specs.MemoryDevice.{calls_left, room_of, sink_failed, sink_flushed, written_of};
 
     /// The memory as a sink that has not failed, with nothing written. The write or flush of number
     /// `fail_at`, counted from 0, will fail; with `None` none will for that reason.
@@ -145,8 +145,8 @@ impl<'a> MemorySink<'a> {
 impl Sink for MemorySink<'_> {
     ghost use Rattle.std.specs.Prelude.{◌≡◌, ◌<◌, ◌≤◌, ◌-◌, ◌↔◌, ◌⊎◌, Some, true, false, IsErr, IfOk, OnOk, OnErr, MatchResult, length, min, take};
     ghost use Rattle.std.specs.Io.KnownBytes.{Appends, Keeps};
-    ghost use Rattle.digest_engine.specs.MemoryCalls.{after_call};
-    ghost use Rattle.digest_engine.specs.MemoryDevice.{calls_left, room_of, sink_failed, sink_flushed, written_of};
+    ghost use Rattle.digest_devices.specs.MemoryCalls.{after_call};
+    ghost use Rattle.digest_devices.specs.MemoryDevice.{calls_left, room_of, sink_failed, sink_flushed, written_of};
 
     ghost written = { λ s. Some (written_of s) };
 

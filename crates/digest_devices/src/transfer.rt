@@ -2,15 +2,18 @@
 
 ghost use Rattle.std.specs.Prelude.{◌≡◌, ◌↔◌, ◌⊎◌, true, false, IfOk, IfErr, IfSome, OnOk, OnErr, IsErr, IsErrOf};
 ghost use Rattle.std.specs.Io.KnownBytes.{Appends, IsAtEnd};
-ghost use Rattle.digest_engine.specs.Answer.{AppendsStart};
-ghost use Rattle.digest_engine.specs.declared.fault.Fault.TheVariants as faults;
+ghost use Rattle.digest_devices.specs.Transfer.{AppendsStart};
+ghost use Rattle.digest_devices.specs.declared.fault.Fault.TheVariants as faults;
 
 use crate::device::{Sink, Source};
 use crate::fault::Fault;
 use std::alloc::Global;
 
-/// All the bytes that a source has left.
-pub(crate) fn read_all<R: Source>(alloc: Global, source: &mut R) -> Result<Vec<u8>, Fault>
+/// All the bytes that a source has left. It must not have failed before.
+///
+/// - [`Fault::Read`] exactly where the source fails.
+/// - [`Fault::OutOfMemory`] where memory is refused. What the source has left is then not said.
+pub fn read_all<R: Source>(alloc: Global, source: &mut R) -> Result<Vec<u8>, Fault>
     requires { R.failed source.old ≡ false }
     ensures bytes { IfOk result (λ bytes. IfSome (R.left source.old) (λ all. bytes.items ≡ all)) }
     ensures end { OnOk result (IsAtEnd (R.left source.new)) }
@@ -31,9 +34,11 @@ pub(crate) fn read_all<R: Source>(alloc: Global, source: &mut R) -> Result<Vec<u
     }
 }
 
-/// Writes all of the text, then flushes. An `Err` comes exactly where the sink failed, and then a
-/// beginning of the text is written.
-pub(crate) fn write_all<W: Sink>(sink: &mut W, text: &[u8]) -> Result<(), Fault>
+/// Writes all of the text, then flushes the sink. It must not have failed before.
+///
+/// [`Fault::Write`] comes exactly where the sink fails, and then a beginning of the text is
+/// written.
+pub fn write_all<W: Sink>(sink: &mut W, text: &[u8]) -> Result<(), Fault>
     requires { W.failed sink.old ≡ false }
     ensures bytes { OnOk result (Appends (W.written sink.old) (W.written sink.new) text.now) }
     ensures flushed { OnOk result (W.flushed sink.new ≡ true) }

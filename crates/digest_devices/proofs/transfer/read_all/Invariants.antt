@@ -1,6 +1,6 @@
 use Rattle.std.proofs.Common.{◌≡◌, ◌-◌, ◌^◌, false, vec_len}
 use Rattle.std.specs.Io.KnownBytes.{Consumes}
-use Rattle.digest_engine.proofs.transfer.read_all.Given as goal
+use Rattle.digest_devices.proofs.transfer.read_all.Given as goal
 
 -- the bytes so far are those that the source has lost
 abbrev pub invariant-loop-n : goal.invariant-loop-n

@@ -1,6 +1,6 @@
 use Rattle.std.proofs.Common.{◌≡◌, false, length}
-use Rattle.digest_engine.proofs.KnownBytes.{Writing}
-use Rattle.digest_engine.proofs.transfer.write_all.Given as goal
+use Rattle.digest_devices.proofs.KnownBytes.{Writing}
+use Rattle.digest_devices.proofs.transfer.write_all.Given as goal
 
 -- what was written is the text without its rest
 abbrev pub invariant-loop-rest : goal.invariant-loop-rest

@@ -1,7 +1,7 @@
 -- Readers and writers of std as devices.
 use Rattle.std.specs.Prelude.{Bool}
-use Rattle.digest_engine.specs.declared.std_device.StdSource.{StdSource}
-use Rattle.digest_engine.specs.declared.std_device.StdSink.{StdSink}
+use Rattle.digest_devices.specs.declared.std_device.StdSource.{StdSource}
+use Rattle.digest_devices.specs.declared.std_device.StdSink.{StdSink}
 
 -- the reader of a source, and whether a read of it has failed
 abbrev pub reader_of : {R : Type 0} → StdSource R → R

@@ -1,7 +1,7 @@
 use Rattle.std.proofs.Common.{◌∙◌, arith}
 use Rattle.std.proofs.lemmas.Grind.{common_steps}
-use Rattle.digest_engine.proofs.KnownBytes.{writing_more}
-use Rattle.digest_engine.proofs.transfer.write_all.Goals as goal
+use Rattle.digest_devices.proofs.KnownBytes.{writing_more}
+use Rattle.digest_devices.proofs.transfer.write_all.Goals as goal
 
 pub loop-rest-preserved : goal.loop-rest-preserved
 loop-rest-preserved g c = record {

@@ -1,7 +1,7 @@
 //! Why the program gives no answer.
 
 ghost use Rattle.std.specs.Prelude.{◌≡◌};
-ghost use Rattle.digest_engine.specs.Fault.{status_of};
+ghost use Rattle.digest_devices.specs.Fault.{status_of};
 
 use std::alloc::{AllocError, AllocFailed};
 use std::fmt;
@@ -44,7 +44,7 @@ impl Fault {
 
 impl From<AllocError> for Fault {
     ghost use Rattle.std.specs.Prelude.{◌≡◌};
-    ghost use Rattle.digest_engine.specs.declared.fault.Fault.TheVariants.{OutOfMemory};
+    ghost use Rattle.digest_devices.specs.declared.fault.Fault.TheVariants.{OutOfMemory};
 
     ghost from_gives = { λ _ e. e ≡ OutOfMemory };
 
@@ -56,7 +56,7 @@ impl From<AllocError> for Fault {
 
 impl<T: Drop> From<AllocFailed<T>> for Fault {
     ghost use Rattle.std.specs.Prelude.{◌≡◌};
-    ghost use Rattle.digest_engine.specs.declared.fault.Fault.TheVariants.{OutOfMemory};
+    ghost use Rattle.digest_devices.specs.declared.fault.Fault.TheVariants.{OutOfMemory};
 
     ghost from_gives = { λ _ e. e ≡ OutOfMemory };
 
@@ -68,7 +68,7 @@ impl<T: Drop> From<AllocFailed<T>> for Fault {
 
 impl fmt::Display for Fault {
     ghost use Rattle.std.specs.Prelude.{Some};
-    ghost use Rattle.digest_engine.specs.Fault.{fault_text};
+    ghost use Rattle.digest_devices.specs.Fault.{fault_text};
 
     ghost output = { λ f. Some (fault_text f) };
 

@@ -13,7 +13,7 @@ pub struct StdSource<R> {
 
 impl<R: Read> StdSource<R> {
     ghost use Rattle.std.specs.Prelude.{◌≡◌, false};
-    ghost use Rattle.digest_engine.specs.StdDevice.{reader_of, source_failed};
+    ghost use Rattle.digest_devices.specs.StdDevice.{reader_of, source_failed};
 
     /// The reader as a source that has not failed. Nothing is read.
     pub fn new(reader: R) -> StdSource<R>
@@ -30,7 +30,7 @@ impl<R: Read> StdSource<R> {
 impl<R: Read> Source for StdSource<R> {
     ghost use Rattle.std.specs.Prelude.{◌≡◌, ◌<◌, ◌≤◌, true, IfOk, OnOk, OnErr, length, take};
     ghost use Rattle.std.specs.Io.KnownBytes.{Consumes, IsAtEnd, Keeps};
-    ghost use Rattle.digest_engine.specs.StdDevice.{reader_of, source_failed};
+    ghost use Rattle.digest_devices.specs.StdDevice.{reader_of, source_failed};
 
     ghost left = { λ s. R.remaining (reader_of s) };
 
@@ -72,7 +72,7 @@ pub struct StdSink<W> {
 
 impl<W: Write> StdSink<W> {
     ghost use Rattle.std.specs.Prelude.{◌≡◌, false};
-    ghost use Rattle.digest_engine.specs.StdDevice.{sink_failed, sink_flushed, writer_of};
+    ghost use Rattle.digest_devices.specs.StdDevice.{sink_failed, sink_flushed, writer_of};
 
     /// The writer as a sink that has not failed. Nothing is written.
     pub fn new(writer: W) -> StdSink<W>
@@ -89,7 +89,7 @@ impl<W: Write> StdSink<W> {
 }
 
 impl<W: Write> Sink for StdSink<W> {
-    ghost use Rattle.digest_engine.specs.StdDevice.{sink_failed, sink_flushed, writer_of};
+    ghost use Rattle.digest_devices.specs.StdDevice.{sink_failed, sink_flushed, writer_of};
 
     ghost written = { λ s. W.contents (writer_of s) };
 

@@ -1,0 +1,5 @@
+pub mod Fault
+pub mod MemoryCalls
+pub mod MemoryDevice
+pub mod StdDevice
+pub mod Transfer
