@@ -35,7 +35,7 @@ pub enum ExecutionResult {
         leaked: bool,
     },
 
-    /// It could not be run to its end: its process could not be started, say.
+    /// It could not be executed: its process could not be started, say.
     ExecFail,
 
     /// It was ended because its time ran out.
@@ -106,7 +106,7 @@ pub enum ExecutionResultDescription {
         leaked: bool,
     },
 
-    /// It could not be run to its end: its process could not be started, say.
+    /// It could not be executed: its process could not be started, say.
     ExecFail,
 
     /// It was ended because its time ran out.
