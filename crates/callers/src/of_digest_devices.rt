@@ -1,7 +1,8 @@
 //! A caller of `digest_devices`, as its page of calls has it.
 
-ghost use Rattle.std.specs.Prelude.{◌≡◌, false, IfSome, OnOk};
+ghost use Rattle.std.specs.Prelude.{◌≡◌, ◌↔◌, ◌⊎◌, true, false, IfErr, IfSome, IsErrOf, OnOk};
 ghost use Rattle.std.specs.Io.KnownBytes.{Appends};
+ghost use Rattle.digest_devices.specs.declared.fault.Fault.TheVariants as faults;
 
 use digest_devices::device::{Sink, Source};
 use digest_devices::fault::Fault;
@@ -12,7 +13,10 @@ use std::alloc::Global;
 pub fn copy<R: Source, W: Sink>(alloc: Global, source: &mut R, sink: &mut W) -> Result<(), Fault>
     requires source_works { R.failed source.old ≡ false }
     requires sink_works { W.failed sink.old ≡ false }
-    ensures { OnOk result (IfSome (R.left source.old) (λ all. Appends (W.written sink.old) (W.written sink.new) all)) }
+    ensures bytes { OnOk result (IfSome (R.left source.old) (λ all. Appends (W.written sink.old) (W.written sink.new) all)) }
+    ensures errors { IfErr result (λ e. (e ≡ faults.Read) ⊎ (e ≡ faults.Write) ⊎ (e ≡ faults.OutOfMemory)) }
+    ensures read { IsErrOf result faults.Read ↔ (R.failed source.new ≡ true) }
+    ensures write { IsErrOf result faults.Write ↔ (W.failed sink.new ≡ true) }
 {
     let bytes = read_all(alloc, source)?;
     write_all(sink, bytes.as_slice())

@@ -1,10 +1,12 @@
 //! A caller of `output_slice`, as its page of calls has it.
 
-ghost use Rattle.std.specs.Prelude.{◌≡◌, ◌↔◌, ◌+◌, ◌≤◌, ℕ, length, IsTrue, IfSome};
+ghost use Rattle.std.specs.Prelude.{◌≡◌, ◌↔◌, ℕ, IsTrue, Some, option_map};
+ghost use Rattle.output_slice.specs.Extraction.{IsExtract};
 ghost use Rattle.output_slice.specs.Head.{IsHead};
+ghost use Rattle.output_slice.specs.Shown.{extract_of};
 
-use output_slice::heuristic_panic_message;
 use output_slice::last_head::last_head;
+use output_slice::subslice::TestOutputErrorSlice;
 
 /// Whether a panic message begins in the output of a test.
 pub fn has_panicked(stderr: &[u8]) -> bool
@@ -13,10 +15,9 @@ pub fn has_panicked(stderr: &[u8]) -> bool
     last_head(stderr).is_some()
 }
 
-/// Where the message of the last panic ends.
-pub fn panic_end(stderr: &[u8]) -> Option<usize>
-    ensures { IfSome result (λ end. end ≤ length stderr.now) }
+/// What a test's combined output says of its failure.
+pub fn failure_in(output: &[u8]) -> Option<TestOutputErrorSlice<'_>>
+    ensures { IsExtract (Some output.now) (Some output.now) (option_map extract_of result) }
 {
-    let part = heuristic_panic_message(stderr)?;
-    Some(part.start + part.slice.len())
+    TestOutputErrorSlice::heuristic_extract(Some(output), Some(output))
 }
