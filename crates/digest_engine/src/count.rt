@@ -19,6 +19,7 @@ use digest_devices::device::{Sink, Source};
 use digest_devices::fault::Fault;
 use digest_devices::transfer::{read_all, write_all};
 use run_events::outcome::RunOutcome;
+use run_events::output_slice::laws::lines_are_cut;
 use std::alloc::Global;
 
 /// The text for an input, and whether the outcome of its runs is `Success`.
@@ -96,5 +97,7 @@ pub fn count<R: Source, W: Sink>(alloc: Global, source: &mut R, sink: &mut W) ->
     ensures one_entry { (line : List ℕ) → (unit : UnitView) → (start : RunStart) → SpellsUnit line unit → ¬ SpellsStart (codes "sub-run") line start }
     ensures one_reading { (lines : List (List ℕ)) → (a : List Run) → (b : List Run) → IsReading lines a → IsReading lines b → a ≡ b }
 {
+    // The law that the clause `lines` hands on.
+    lines_are_cut();
     count_runs(alloc, source, sink)
 }

@@ -1,12 +1,12 @@
 -- The taken heads on either side of a cut.
-use Rattle.std.proofs.Common.{true, false, ◌≡◌, ℕ, ◌+◌, ◌-◌, ◌<◌, ◌≤◌, ◌↔◌, List, [], ◌++◌, length, get_or, take, drop, sym, ap, subst, ◌∙◌, arith, ⊎_elim, length-append, length-drop, append-nil}
-use Rattle.std.specs.Prelude.{IsSome, Option, Some, None, All, AllPairs, Contains, map}
+use Rattle.std.proofs.Common.{refl, true, false, ◌≡◌, ℕ, ◌+◌, ◌-◌, ◌<◌, ◌≤◌, ◌↔◌, List, [], ◌++◌, length, get_or, take, drop, sym, ap, subst, ◌∙◌, arith, ⊎_elim, length-append, length-drop, append-nil}
+use Rattle.std.specs.Prelude.{option_map, slice_get, IsSome, Option, Some, None, All, AllPairs, Contains, map}
 use Rattle.std.proofs.lemmas.Bool.{cases_lt}
 use Rattle.std.proofs.lemmas.List.{get_or-map, length-map, get_or-append-add}
 use Rattle.std.proofs.Math.ListN.{get_or-append}
 use Rattle.std.proofs.Math.Seq.{get_or-append_right}
 use Rattle.std.proofs.lemmas.List.Elements.{All-nil, All-append, All-map, All-weaker, All-contains, Contains-append_left, Contains-append_right, Contains-append_cases}
-use Rattle.std.proofs.lemmas.Option.{slice_get-get_or, slice_get_within, get_or_from_slice_get}
+use Rattle.std.proofs.lemmas.Option.{slice_get_read, slice_get-map, slice_get_within, get_or_from_slice_get}
 use Rattle.output_slice.specs.declared.panic_head.HeadSpan.{HeadSpan}
 use Rattle.output_slice.specs.Head.{IsHead}
 use Rattle.output_slice.specs.Taken.{IsTaken, IsLastTaken, last_of}
@@ -119,18 +119,12 @@ last_of-append xs ys h e =
     let read = get_or_from_slice_get ys (length ys - 1) h h (sym e) in
     let size = length-append xs ys in
     let place : length xs + (length ys - 1) ≡ length (xs ++ ys) - 1 = omega arith in
-    sym (slice_get-get_or (xs ++ ys) (length (xs ++ ys) - 1) h (omega arith)
-    ∙ ap Some (ap (λ k. get_or (xs ++ ys) k h) (sym place) ∙ get_or-append-add xs ys (length ys - 1) h ∙ read))
+    sym (slice_get_read (xs ++ ys) _ _ h refl (omega arith) (sym (ap (λ k. get_or (xs ++ ys) k h) (sym place) ∙ get_or-append-add xs ys (length ys - 1) h ∙ read)))
 
 -- the last of a shifted list
 last_of-map : (c : ℕ) (ys : List HeadSpan) (h : HeadSpan) → Some h ≡ last_of ys → Some (shifted c h) ≡ last_of (map (shifted c) ys)
 last_of-map c ys h e =
-    let low = slice_get_within ys (length ys - 1) h (sym e) in
-    let read = get_or_from_slice_get ys (length ys - 1) h h (sym e) in
-    let size = length-map ys (shifted c) in
-    let place : length ys - 1 ≡ length (map (shifted c) ys) - 1 = omega arith in
-    sym (slice_get-get_or (map (shifted c) ys) (length (map (shifted c) ys) - 1) (shifted c h) (omega arith)
-    ∙ ap Some (ap (λ k. get_or (map (shifted c) ys) k (shifted c h)) (sym place) ∙ get_or-map (shifted c) ys (length ys - 1) h (shifted c h) low ∙ ap (shifted c) read))
+    ap (option_map (shifted c)) e ∙ sym (slice_get-map (shifted c) ys (length ys - 1)) ∙ ap (λ n. slice_get (map (shifted c) ys) (n - 1)) (sym (length-map ys (shifted c)))
 
 -- the last behind a cut is the last of all
 pub last-behind : (b : List ℕ) (c : ℕ) (h : HeadSpan) → IsCut b c → IsLastTaken (drop c b) (Some h) → IsLastTaken b (Some (shifted c h))

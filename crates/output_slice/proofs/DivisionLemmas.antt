@@ -1,11 +1,13 @@
 -- Bytes divide into lines in one way.
 use Rattle.std.proofs.Common.{◌≡◌, ◌≢◌, ◌⊎◌, ℕ, zero, suc, ◌+◌, ◌-◌, ◌<◌, ◌≤◌, List, [], ◌∷◌, ◌++◌, length, length-append, length-drop, length-take-le, take, drop, take_at, drop_at, get_or, get_or-take, refl, sym, ap, subst, ◌∙◌, arith, inl, inr, ⊎_elim}
-use Rattle.std.specs.Prelude.{All, AllPairs}
-use Rattle.std.specs.List.{concat}
+use Rattle.std.specs.Prelude.{◌==◌, All, AllPairs}
+use Rattle.std.specs.List.{concat, position_or_len}
 use Rattle.std.proofs.Math.ListN.{get_or-append}
-use Rattle.std.proofs.lemmas.Bool.{cases_lt, cases_eq}
+use Rattle.std.proofs.lemmas.Bool.{cases_lt, cases_eq, eqb-false, eqb-true}
 use Rattle.std.proofs.lemmas.List.{get_or_past}
 use Rattle.std.proofs.lemmas.List.Elements.{All-cons, All-head, All-tail, All-nil}
+use Rattle.std.proofs.lemmas.List.Kept.{AllPairs-cons}
+use Rattle.std.proofs.lemmas.List.Sums.{fails_before_first, passes_at_first}
 use Rattle.bstr.specs.Text.{lines_of, line_len}
 use Rattle.bstr.proofs.lemmas.LineLemmas.{lines-nil, lines-step, line_len-at, line_len-none, line_len-bounds}
 use Rattle.bstr.proofs.lemmas.RestLemmas.{concat-lines_of}
@@ -17,17 +19,13 @@ Ended line later = get_or line (length line - 1) 0 ≡ 10
 
 -- the first line feed, if there is one
 first-feed : (bs : List ℕ) → ((e : ℕ) × (e < length bs) × (get_or bs e 0 ≡ 10) × ((k : ℕ) → k < e → get_or bs k 0 ≢ 10)) ⊎ ((k : ℕ) → k < length bs → get_or bs k 0 ≢ 10)
-first-feed [] = inr (λ k l is. omega arith)
-first-feed (x ∷ xs) = ⊎_elim
-    (λ (is : x ≡ 10). inl (0, omega arith, is, λ k l e. omega arith))
-    (λ (no : x ≢ 10). ⊎_elim
-    (λ later. inl (suc later.0, omega (arith, later.1), later.2, by_place (λ k. k < suc later.0) no (λ k l. later.3 k (omega arith))))
-    (λ none. inr (by_place (λ k. k < length (x ∷ xs)) no (λ k l. none k (omega arith))))
-    (first-feed xs))
-    (cases_eq x 10) where
-      by_place : (P : ℕ → Type 0) → x ≢ 10 → ((k : ℕ) → P (suc k) → get_or xs k 0 ≢ 10) → (k : ℕ) → P k → get_or (x ∷ xs) k 0 ≢ 10
-      by_place P other rest zero p is = other is
-      by_place P other rest (suc k) p is = rest k p is
+first-feed bs =
+    let p = λ (x : ℕ). x == 10 in
+    let e = position_or_len p bs in
+    ⊎_elim
+    (λ low. inl (e, low, eqb-true _ _ (passes_at_first p bs 0 low), λ k l. eqb-false _ _ (fails_before_first p bs k 0 l)))
+    (λ (past : length bs ≤ e). inr (λ k l. eqb-false _ _ (fails_before_first p bs k 0 (omega arith))))
+    (cases_lt e (length bs))
 
 -- a line feed stands within the line
 within-line : (line : List ℕ) (k : ℕ) → get_or line k 0 ≡ 10 → k < length line
@@ -61,14 +59,6 @@ front-line bs some =
     ))
     (first-feed bs)
 
--- one line in front of lines
-pairs-cons : (x : List ℕ) (xs : List (List ℕ)) → (0 < length xs → Ended x []) → AllPairs Ended xs → AllPairs Ended (x ∷ xs)
-pairs-cons x xs first rest = by_index where
-  by_index : (i j : ℕ) (d : List ℕ) → i < j → j < length (x ∷ xs) → Ended (get_or (x ∷ xs) i d) (get_or (x ∷ xs) j d)
-  by_index zero j d low high = first (omega arith)
-  by_index (suc i) zero d low high = absurd (omega arith)
-  by_index (suc i) (suc j) d low high = rest i j d (omega arith) (omega arith)
-
 -- each of the lines is one, and each but the last ends with a line feed
 each-line : (f : ℕ) (bs : List ℕ) → length bs ≤ f → All IsLine (lines_of bs) × AllPairs Ended (lines_of bs)
 each-line f [] le = subst (λ ls. All IsLine ls × AllPairs Ended ls) (sym lines-nil) (All-nil _, λ i j d low high. absurd (omega arith))
@@ -90,7 +80,7 @@ each-line (suc f) (x ∷ xs) le =
     let last : length (take n bs) - 1 ≡ n - 1 = omega arith in
     ap (λ k. get_or (take n bs) k 0) last ∙ get_or-take n bs (n - 1) 0 (omega arith) ∙ front.1 (more some) in
     subst (λ ls. All IsLine ls × AllPairs Ended ls) (sym (lines-step bs (omega arith)))
-    (All-cons IsLine (take n bs) (lines_of (drop n bs)) front.0 rest.0, pairs-cons (take n bs) (lines_of (drop n bs)) ended rest.1) where
+    (All-cons IsLine (take n bs) (lines_of (drop n bs)) front.0 rest.0, AllPairs-cons Ended (take n bs) (lines_of (drop n bs)) (λ k d low. ended (omega arith)) rest.1) where
       joined_some : (ls : List (List ℕ)) → All IsLine ls → 0 < length ls → length (concat ls) ≡ 0 → ⊥
       joined_some [] all some none = omega arith
       joined_some (l ∷ ls) all some none = let first = (All-head IsLine l ls all).some in omega (arith, length-append l (concat ls))

@@ -1,7 +1,10 @@
 -- There is always a list of taken heads.
 use Rattle.std.proofs.Common.{true, false, ◌≡◌, ℕ, zero, suc, ◌+◌, ◌-◌, ◌<◌, ◌≤◌, ◌⊎◌, List, [], ◌∷◌, ◌++◌, length, get_or, refl, subst, arith, ⊎_elim, inl, inr}
-use Rattle.std.specs.Prelude.{codes, Option, Some, None}
-use Rattle.std.proofs.lemmas.Bool.{cases_lt, cases_eq, cases_Bool}
+use Rattle.std.specs.Prelude.{Bool, nat_le, ◌&&◌, codes, Option, Some, None}
+use Rattle.std.proofs.lemmas.Bool.{cases_lt, cases_eq, cases_Bool, le-leb, leb-true}
+use Rattle.std.proofs.lemmas.Bool.Decides.{Decides-and, Decides-or, not_from_Decides}
+use Rattle.std.proofs.lemmas.Slice.Eq.{bytes_eq-Decides}
+use Rattle.std.specs.Bool.{Decides}
 use Rattle.std.proofs.lemmas.Str.{length-encode, len_utf8_bounds, IsUtf8-from_is_utf8, is_utf8-from_IsUtf8}
 use Rattle.std.specs.Char.{encode_utf8}
 use Rattle.std.specs.Str.{is_utf8}
@@ -19,15 +22,9 @@ use Rattle.output_slice.proofs.TailLemmas.{occurs-part, part-occurs, Found, IsTa
 use Rattle.output_slice.proofs.SettledLemmas.{Settled, settled-first, settled-none, settled-head, settled-done}
 use Rattle.output_slice.proofs.StepLemmas.{name-from, IsHeadEnd-name, IsHeadStop-none, IsHeadStop-closed, IsHeadStop-opened, head_stop-order}
 
--- two lists are equal or not
-list-dec : (xs ys : List ℕ) → (xs ≡ ys) ⊎ (xs ≡ ys → ⊥)
-list-dec [] [] = inl refl
-list-dec [] (y ∷ ys) = inr (λ e. cc)
-list-dec (x ∷ xs) [] = inr (λ e. cc)
-list-dec (x ∷ xs) (y ∷ ys) = ⊎_elim
-    (λ (e : x ≡ y). ⊎_elim (λ (f : xs ≡ ys). inl (cc)) (λ n. inr (λ (g : x ∷ xs ≡ y ∷ ys). n (cc))) (list-dec xs ys))
-    (λ n. inr (λ (g : x ∷ xs ≡ y ∷ ys). n (cc)))
-    (cases_eq x y)
+-- what a test decides holds or does not
+decided : {P : Type 0} (r : Bool) → Decides r P → P ⊎ (P → ⊥)
+decided r d = ⊎_elim (λ yes. inl (d.0 yes)) (λ no. inr (not_from_Decides r d no)) (cases_Bool r)
 
 -- a text stands at a place or not
 occurs-dec : (b xs : List ℕ) (at : ℕ) → 0 < length xs → OccursAt b xs at ⊎ (OccursAt b xs at → ⊥)
@@ -36,7 +33,7 @@ occurs-dec b xs at some = ⊎_elim
     (λ (fits : at + length xs ≤ length b). ⊎_elim
     (λ e. inl (part-occurs b xs at (at + length xs) e fits some).0)
     (λ n. inr (λ h. n (occurs-part b xs at (at + length xs) h refl)))
-    (list-dec (part at (at + length xs) b) xs))
+    (decided _ (bytes_eq-Decides (part at (at + length xs) b) xs)))
     (cases_lt (length b) (at + length xs))
 
 -- the same, with where it ends
@@ -45,19 +42,9 @@ after-dec b xs at some = ⊎_elim (λ h. (Some (at + length xs), (h, refl))) (λ
 
 -- a character is a digit or not
 digit-dec : (c : ℕ) → IsDigit c ⊎ (IsDigit c → ⊥)
-digit-dec c = ⊎_elim
-    (λ (small : c < 48). inr (λ h. ⊎_elim (λ a. omega arith) (λ a. omega arith) h))
-    (λ (low : 48 ≤ c). ⊎_elim
-    (λ (ascii : c < 58). inl (inl (low, omega arith)))
-    (λ (past : 58 ≤ c). ⊎_elim
-    (λ (mid : c < 128). inr (λ h. ⊎_elim (λ a. omega arith) (λ a. omega arith) h))
-    (λ (high : 128 ≤ c). ⊎_elim
-    (λ t. inl (inr (high, t)))
-    (λ f. inr (λ h. ⊎_elim (λ a. omega arith) (λ a. let yes : is_digit_char c ≡ true = a.1 in absurd (cc)) h))
-    (cases_Bool (is_digit_char c)))
-    (cases_lt c 128))
-    (cases_lt c 58))
-    (cases_lt c 48)
+digit-dec c = decided _ (Decides-or (nat_le 48 c && nat_le c 57) (nat_le 128 c && is_digit_char c)
+    (Decides-and (nat_le 48 c) (nat_le c 57) (leb-true 48 c, le-leb 48 c) (leb-true c 57, le-leb c 57))
+    (Decides-and (nat_le 128 c) (is_digit_char c) (leb-true 128 c, le-leb 128 c) (λ t. t, λ t. t)))
 
 -- a character stands at a place or none does
 char-dec : (b : List ℕ) (at : ℕ) → at < length b → ((c : ℕ) × IsCharAt b at (length b) c) ⊎ ((c : ℕ) → IsCharAt b at (length b) c → ⊥)

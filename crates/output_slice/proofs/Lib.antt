@@ -1,24 +1,24 @@
-pub mod OccursLemmas
-pub mod CharLemmas
-pub mod DigitLemmas
-pub mod TailLemmas
-pub mod ListLemmas
-pub mod HeadLemmas
-pub mod StepLemmas
-pub mod SettledLemmas
-pub mod SearchLemmas
-pub mod TakenLemmas
-pub mod TrimLemmas
-pub mod WideningLemmas
-pub mod ErrorLemmas
-pub mod DivisionLemmas
-pub mod NoteLemmas
-pub mod PartLemmas
-pub mod SameLemmas
-pub mod MoveLemmas
-pub mod ExistLemmas
-pub mod CutLemmas
-pub mod CrossLemmas
-pub mod OpeningLemmas
-pub mod LineLemmas
-pub mod SignLemmas
+mod OccursLemmas
+mod CharLemmas
+mod DigitLemmas
+mod TailLemmas
+mod ListLemmas
+mod HeadLemmas
+mod StepLemmas
+mod SettledLemmas
+mod SearchLemmas
+mod TakenLemmas
+mod TrimLemmas
+mod WideningLemmas
+mod ErrorLemmas
+mod DivisionLemmas
+mod NoteLemmas
+mod PartLemmas
+mod SameLemmas
+mod MoveLemmas
+mod ExistLemmas
+mod CutLemmas
+mod CrossLemmas
+mod OpeningLemmas
+mod LineLemmas
+mod SignLemmas

@@ -5,7 +5,7 @@ use Rattle.std.specs.List.{concat}
 use Rattle.std.proofs.Math.ListN.{get_or-append}
 use Rattle.std.proofs.lemmas.Bool.{cases_lt, cases_eq}
 use Rattle.std.proofs.lemmas.List.{get_or-take, length-take-le, get_or-append-add}
-use Rattle.std.proofs.lemmas.List.Sums.{sum_by-append}
+use Rattle.std.proofs.lemmas.List.Sums.{sum_by-cons}
 use Rattle.std.proofs.lemmas.List.Elements.{All-cons, All-nil}
 use Rattle.bstr.specs.Find.{OccursAt, FindsNeedle}
 use Rattle.bstr.specs.Text.{Contains, lines_of, line_len, part, without_terminator}
@@ -19,14 +19,10 @@ use Rattle.output_slice.proofs.CharLemmas.{length-part, get_or-part}
 use Rattle.output_slice.proofs.OccursLemmas.{text-feed}
 use Rattle.output_slice.proofs.TailLemmas.{not-in}
 
--- a sum with one more in front
-sum-cons : (x : List ℕ) (xs : List (List ℕ)) → sum_by length (x ∷ xs) ≡ length x + sum_by length xs
-sum-cons x xs = let parts : sum_by length (x ∷ xs) ≡ 0 + length x + sum_by length xs = sum_by-append length (x ∷ []) xs in omega arith
-
 -- the length of joined lines is the sum of their lengths
 pub length-concat : (xs : List (List ℕ)) → length (concat xs) ≡ sum_by length xs
 length-concat [] = refl
-length-concat (x ∷ xs) = length-append x (concat xs) ∙ ap (λ n. length x + n) (length-concat xs) ∙ sym (sum-cons x xs)
+length-concat (x ∷ xs) = length-append x (concat xs) ∙ ap (λ n. length x + n) (length-concat xs) ∙ sym (sum_by-cons length x xs)
 
 -- a text that stands in none of the joined bytes stands in no line
 none-in-lines : (t : List ℕ) (ls : List (List ℕ)) → (Contains (concat ls) t → ⊥) → All (λ line. Contains line t → ⊥) ls

@@ -3,6 +3,7 @@ use Rattle.std.proofs.Common.{◌≡◌, ℕ, ◌+◌, ◌<◌, ◌≤◌, List,
 use Rattle.std.specs.Prelude.{All, Option, Some, None, MatchOption, IfSome, option_map, sum_by}
 use Rattle.std.proofs.lemmas.Bool.{cases_lt}
 use Rattle.std.proofs.lemmas.List.Elements.{All-contains, All-head, All-tail, Contains-append_right}
+use Rattle.std.proofs.lemmas.Option.{same_Some}
 use Rattle.bstr.specs.Find.{IsFirst}
 use Rattle.bstr.specs.Text.{part, lines_of, without_terminator}
 use Rattle.output_slice.specs.declared.panic_head.HeadSpan.{HeadSpan}
@@ -22,10 +23,6 @@ IsFirst-same P i j (Some k) (Some l) g h = ap Some (⊎_elim
     (λ (more : l ≤ k). ⊎_elim (λ (less : l < k). absurd (g.0.before l h.0.low less h.1)) (λ (same : k ≤ l). omega arith) (cases_lt l k))
     (cases_lt k l))
 
--- equal options hold equal values
-some-same : {A : Type 0} (x y : A) → Some x ≡ Some y → x ≡ y
-some-same x y e = cc
-
 -- a slice is its start and its bytes
 slice-same : (x y : Slice) → x.start ≡ y.start → x.bytes ≡ y.bytes → x ≡ y
 slice-same x y p q = ap (λ s. slice s x.bytes) p ∙ ap (slice y.start) q where
@@ -35,7 +32,7 @@ slice-same x y p q = ap (λ s. slice s x.bytes) p ∙ ap (slice y.start) q where
 -- trimming gives one slice
 IsTrimmedSlice-same : (b : List ℕ) (x y : Slice) → x.start ≡ y.start → IsTrimmedSlice b x → IsTrimmedSlice b y → x ≡ y
 IsTrimmedSlice-same b x y p g h =
-    let ends : g.0 ≡ h.0 = some-same g.0 h.0 (IsFirst-same _ _ _ (Some g.0) (Some h.0) (subst (λ s. IsTrimmed b s g.0) p g.1) h.1) in
+    let ends : g.0 ≡ h.0 = same_Some g.0 h.0 (IsFirst-same _ _ _ (Some g.0) (Some h.0) (subst (λ s. IsTrimmed b s g.0) p g.1) h.1) in
     slice-same x y p (g.2 ∙ ap (λ s. part s g.0 b) p ∙ ap (λ e. part y.start e b) ends ∙ sym h.2)
 
 -- there is one panic slice
@@ -44,7 +41,7 @@ IsPanicSlice-same b None None p q = refl
 IsPanicSlice-same b None (Some y) p q = let heads = IsLastTaken-same b None (Some q.0) p q.1 in absurd (cc)
 IsPanicSlice-same b (Some x) None p q = let heads = IsLastTaken-same b None (Some p.0) q p.1 in absurd (cc)
 IsPanicSlice-same b (Some x) (Some y) p q =
-    let heads : p.0 ≡ q.0 = some-same p.0 q.0 (IsLastTaken-same b (Some p.0) (Some q.0) p.1 q.1) in
+    let heads : p.0 ≡ q.0 = same_Some p.0 q.0 (IsLastTaken-same b (Some p.0) (Some q.0) p.1 q.1) in
     let starts = IsWidened-same b q.0.start x.start y.start (subst (λ (h : HeadSpan). IsWidened b h.start x.start) heads p.2) q.2 in
     ap Some (IsTrimmedSlice-same b x y starts p.3 q.3)
 
@@ -58,7 +55,7 @@ IsErrorSlice-same b f g p q = by_found f g (IsFirst-same (IsErrorStart b) 0 (len
   by_found None None e one two = refl
   by_found None (Some y) e one two = absurd (cc)
   by_found (Some x) None e one two = absurd (cc)
-  by_found (Some x) (Some y) e one two = ap Some (IsTrimmedSlice-same b x y (some-same x.start y.start e) one two)
+  by_found (Some x) (Some y) e one two = ap Some (IsTrimmedSlice-same b x y (same_Some x.start y.start e) one two)
 
 -- there is one first element for which P holds
 first-same : (P : List ℕ → Type 0) (xs ys : List (List ℕ)) (x y : List ℕ) (us vs : List (List ℕ)) → xs ++ x ∷ us ≡ ys ++ y ∷ vs
@@ -110,7 +107,7 @@ module _ (out err : Option (List ℕ)) where
   notes = OfStream-same IsNoteLine IsNoteLine-same out
 
   of_kind : (kind : Slice → Extract) (x y : Slice) → Some x ≡ Some y → Some (kind x) ≡ Some (kind y)
-  of_kind kind x y e = ap (λ z. Some (kind z)) (some-same x y e)
+  of_kind kind x y e = ap (λ z. Some (kind z)) (same_Some x y e)
 
   apart : {A : Type 0} (x : Slice) → Some x ≡ None → A
   apart x e = absurd (cc)

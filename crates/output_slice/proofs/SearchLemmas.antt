@@ -1,9 +1,9 @@
 -- The state of the counted search, and its reads.
-use Rattle.std.proofs.Common.{◌≡◌, ◌≢◌, ℕ, ◌+◌, ◌-◌, ◌*◌, ◌<◌, ◌≤◌, List, [], ◌∷◌, ◌++◌, length, get_or, refl, sym, ap, ◌∙◌, arith, ⊎_elim, inl, inr, length-append}
+use Rattle.std.proofs.Common.{◌≡◌, ◌≢◌, ℕ, ◌+◌, ◌-◌, ◌*◌, ◌<◌, ◌≤◌, List, [], ◌∷◌, ◌++◌, length, get_or, refl, sym, ap, arith, ⊎_elim, inl, inr}
 use Rattle.std.specs.Prelude.{Option, Some, None, MatchOption, IfSome, ◌^◌}
 use Rattle.std.proofs.lemmas.Bool.{cases_lt}
-use Rattle.std.proofs.lemmas.List.{get_or_at}
-use Rattle.std.proofs.lemmas.Option.{slice_get-get_or}
+use Rattle.std.proofs.lemmas.List.{get_or_push, length_push}
+use Rattle.std.proofs.lemmas.Option.{slice_get_read}
 use Rattle.output_slice.specs.declared.panic_head.HeadSpan.{HeadSpan}
 use Rattle.output_slice.specs.Head.{IsLineStart}
 use Rattle.output_slice.specs.Taken.{last_of}
@@ -76,8 +76,8 @@ pub record Searched (b : List ℕ) (old new place : ℕ) (next : Option ℕ) (la
 -- the last of a list and one more
 last_of-push : (xs : List HeadSpan) (x : HeadSpan) → last_of (xs ++ x ∷ []) ≡ Some x
 last_of-push xs x =
-    let size = length-append xs (x ∷ []) in
-    slice_get-get_or (xs ++ x ∷ []) (length (xs ++ x ∷ []) - 1) x (omega arith) ∙ ap Some (get_or_at xs x [] x (length (xs ++ x ∷ []) - 1) (omega arith))
+    let size = length_push xs x in
+    slice_get_read (xs ++ x ∷ []) _ _ x refl (omega arith) (sym (get_or_push xs x x _ (omega arith)))
 
 -- the start of the search
 pub searched-first : (b : List ℕ) (old new : ℕ) (next : Option ℕ) → IsNextQuote b 0 next → IfSome next (λ q. q + 1 < 2 ^ 64)

@@ -9,6 +9,7 @@ use Rattle.std.proofs.lemmas.List.Elements.{All-head, All-tail}
 use Rattle.std.proofs.lemmas.Bool.{and_parts, cases_lt, eq-eqb}
 use Rattle.std.proofs.Common.{ext_get_or, zero, suc}
 use Rattle.std.proofs.lemmas.Str.{length-le-encodes}
+use Rattle.std.proofs.lemmas.Option.{IfSome_then}
 use Rattle.bstr.specs.Find.{OccursAt}
 use Rattle.bstr.specs.Text.{part}
 use Rattle.output_slice.specs.Head.{IsDigit, IsTail}
@@ -220,10 +221,6 @@ text-read : (b text : List ℕ) (at old new : ℕ) (found : Option ℕ) → Text
 text-read b text at old new None r f = (r.0, r.2, r.3, tt)
 text-read b text at old new (Some e) r f = (length text, agrees b text at f.0, omega (arith, r), (f.1, refl, r))
 
-if_some : (P Q : ℕ → Type 0) (found : Option ℕ) → ((e : ℕ) → P e → Q e) → IfSome found P → IfSome found Q
-if_some P Q None f h = tt
-if_some P Q (Some e) f h = f e h
-
 -- how far a plain tail is read
 pub ReadsUpTo-plain : (b : List ℕ) (at k old one two new : ℕ) (found : Option ℕ) → OccursAt b (codes " ") at → one ≤ old + 1 → k < 1 → two ≤ one + k + 1
     → TextReads b (codes "panicked at ") (at + 1) two new found → Found b (codes "panicked at ") (at + 1) found → ReadsUpTo b at old new found
@@ -238,8 +235,8 @@ ReadsUpTo-plain b at k old one two new found space few none few' r f =
       one_line = plain-without 10 (omega arith) (omega arith) refl refl t.0 t.1;
       far = omega arith;
       near = omega arith;
-      before = if_some (λ e. (e ≡ at + 1 + t.0) × (t.0 ≡ 12) × (new ≤ two + t.0)) (λ e. (last ≤ e) × (at + 13 ≤ last) × (new + at ≤ old + last + 1)) found
-          (λ e h. let here = h.0 in let all = h.1 in let exact = h.2 in (omega arith, omega arith, omega arith)) t.3;
+      before = IfSome_then found {P = λ e. (e ≡ at + 1 + t.0) × (t.0 ≡ 12) × (new ≤ two + t.0)} {Q = λ e. (last ≤ e) × (at + 13 ≤ last) × (new + at ≤ old + last + 1)} t.3
+          (λ e h. let here = h.0 in let all = h.1 in let exact = h.2 in (omega arith, omega arith, omega arith));
     } where
       plain-without : (x : ℕ) (some : 0 < x) (small : x < 48) → list_all (λ y. not (y == x)) (codes " ") ≡ true → list_all (λ y. not (y == x)) (codes "panicked at ") ≡ true
           → (l : ℕ) → AgreesFor b (codes "panicked at ") (at + 1) l → NoByteBetween x b at (at + 1 + l)
@@ -263,8 +260,8 @@ ReadsUpTo-numbered b at close old mid mid' new found opens few digits some few' 
       one_line = numbered-without 10 (omega arith) (omega arith) b (codes ") panicked at ") at close t.0 opens refl digits t.1 refl;
       far = omega arith;
       near = omega arith;
-      before = if_some (λ e. (e ≡ close + t.0) × (t.0 ≡ 14) × (new ≤ mid' + t.0)) (λ e. (last ≤ e) × (at + 13 ≤ last) × (new + at ≤ old + last + 1)) found
+      before = IfSome_then found {P = λ e. (e ≡ close + t.0) × (t.0 ≡ 14) × (new ≤ mid' + t.0)} {Q = λ e. (last ≤ e) × (at + 13 ≤ last) × (new + at ≤ old + last + 1)} t.3
           (λ e h. let here = h.0 in let all = h.1 in let exact = h.2 in
           let paren : get_or b close 0 ≡ 41 = ap (λ i. get_or b i 0) (sym (add-zero close)) ∙ t.1.reads 0 (omega arith) in
-          let one = ascii (omega arith) in (omega arith, omega arith, omega arith)) t.3;
+          let one = ascii (omega arith) in (omega arith, omega arith, omega arith));
     }

@@ -1,6 +1,7 @@
 -- Laws of the definitions.
 use Rattle.std.specs.Prelude.{◌≡◌, ℕ, ◌++◌, List, Option, take, drop, map}
 use Rattle.std.specs.Str.{IsUtf8, encode_utf8_all}
+use Rattle.bstr.specs.Text.{lines_of}
 use Rattle.bstr.specs.Utf8.{lossy_chars}
 use Rattle.output_slice.specs.declared.panic_head.HeadSpan.{HeadSpan}
 use Rattle.output_slice.specs.Head.{IsHead}
@@ -25,6 +26,10 @@ TakenHeadsDivide = (b : List ℕ) (c : ℕ) (before behind : List HeadSpan) → 
 -- All bytes divide into lines, and in one way only.
 abbrev pub LinesExist : Type 0
 LinesExist = (b : List ℕ) → (lines : List (List ℕ)) × AreLines b lines × ((other : List (List ℕ)) → AreLines b other → other ≡ lines)
+
+-- The lines that the function of `bstr` cuts bytes into are the lines of those bytes.
+abbrev pub LinesAreCut : Type 0
+LinesAreCut = (b : List ℕ) → AreLines b (lines_of b)
 
 -- Two streams have at most one extraction.
 abbrev pub OneExtraction : Type 0

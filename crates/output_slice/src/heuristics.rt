@@ -111,9 +111,7 @@ fn panic_message_before(stderr: &[u8], end: usize) -> Option<ByteSubslice<'_>>
     requires { IsQuietFrom stderr.now (codes "\nthread '") end }
     ensures { IsPanicSlice stderr.now (option_map slice_of result) }
 {
-    let Some(head) = last_head_before(stderr, end) else {
-        return None;
-    };
+    let head = last_head_before(stderr, end)?;
     let start = widened(stderr, head.start);
     Some(trimmed(stderr, start))
 }
@@ -138,9 +136,7 @@ fn error_str_before(stderr: &[u8], end: usize) -> Option<ByteSubslice<'_>>
     if stderr.starts_with_str(b"Error: ") {
         return Some(trimmed(stderr, 0));
     }
-    let Some(at) = first_sign(stderr, ERROR_SIGN, end) else {
-        return None;
-    };
+    let at = first_sign(stderr, ERROR_SIGN, end)?;
     Some(trimmed(stderr, at + 1))
 }
 
@@ -161,9 +157,7 @@ fn should_panic_before(stdout: &[u8], end: usize) -> Option<ByteSubslice<'_>>
     requires { IsQuietFrom stdout.now (codes "note: test did not panic as expected") end }
     ensures { IsNoteLine stdout.now (option_map slice_of result) }
 {
-    let Some(at) = first_sign(stdout, NOTE, end) else {
-        return None;
-    };
+    let at = first_sign(stdout, NOTE, end)?;
     let start = line_start(stdout, at);
     let stop = line_end(stdout, at);
     Some(ByteSubslice {

@@ -49,9 +49,7 @@ fn crossing(bytes: &[u8], at: usize) -> Option<usize>
     requires line_start { IsLineStart bytes.now at }
     ensures { MatchOption result (IsCut bytes.now at) (λ s. MayCross bytes.now s at) }
 {
-    let Some(quote) = (&bytes[..at]).rfind_byte(b'\'') else {
-        return None;
-    };
+    let quote = (&bytes[..at]).rfind_byte(b'\'')?;
     let mut source = CountedBytes::new(bytes);
     if opens(&mut source, 0, quote) {
         Some(quote - WORD_SIZE)
@@ -81,9 +79,7 @@ fn last_from(bytes: &[u8], cut: usize) -> Option<HeadSpan>
     ensures { MatchOption result ((found : Option HeadSpan) → IsLastTaken (take cut bytes.now) found → IsLastTaken bytes.now found) (λ h. IsLastTaken bytes.now (Some h)) }
 {
     let mut source = CountedBytes::new(&bytes[cut..]);
-    let Some(head) = last_panic_head(&mut source) else {
-        return None;
-    };
+    let head = last_panic_head(&mut source)?;
     Some(HeadSpan {
         start: cut + head.start,
         stop: cut + head.stop,

@@ -1,6 +1,6 @@
 //! Laws of the definitions that contracts cite, for the proofs of callers. Each is a function that
 //! does nothing, and its contract is the law.
-ghost use Rattle.output_slice.specs.Laws.{HeadsHaveOneEnd, TakenHeadsExist, TakenHeadsDivide, LinesExist, OneExtraction, LossyTextIsExact};
+ghost use Rattle.output_slice.specs.Laws.{HeadsHaveOneEnd, TakenHeadsExist, TakenHeadsDivide, LinesExist, LinesAreCut, OneExtraction, LossyTextIsExact};
 
 /// Heads that begin at one place end at one place.
 pub fn heads_have_one_end()
@@ -21,6 +21,11 @@ pub fn taken_heads_divide()
 /// All bytes divide into lines, and in one way only.
 pub fn lines_exist()
     ensures { LinesExist }
+{}
+
+/// The lines that the function of `bstr` cuts bytes into are the lines of those bytes.
+pub fn lines_are_cut()
+    ensures { LinesAreCut }
 {}
 
 /// Two streams have one extraction only, and it may be that there is none.

@@ -2,7 +2,7 @@
 use Rattle.std.proofs.Common.{◌≡◌, ℕ, ◌+◌, ◌<◌, ◌^◌, List, [], ◌∷◌, ◌++◌, length, get_or, take, Bool, ap, sym, ◌∙◌, subst, arith, length-append, length-take}
 use Rattle.std.specs.Prelude.{map, Option}
 use Rattle.std.specs.List.{filter_map}
-use Rattle.std.proofs.lemmas.List.{take_more, append-nil, map-append, length-map}
+use Rattle.std.proofs.lemmas.List.{append-nil, length-map, map_more}
 use Rattle.std.proofs.lemmas.List.Elements.{filter_map-append}
 use Rattle.run_events.specs.Counters.{UnitView, ScriptUnit, TestUnit, unit_view, count_of, counted, stats_of, tests_of, scripts_of, test_of, script_of, with_test, with_script, TestCountersFit, ScriptCountersFit}
 use Rattle.run_events.specs.ScriptCounters.{script_passed, script_failed, script_exec_failed, script_timed_out}
@@ -43,10 +43,7 @@ stats_of-script us r start =
 -- the views of the units so far, and of one more
 pub views-more : (us : List FinishedUnit) (i : ℕ) (u : FinishedUnit) (v : UnitView) → i < length us → u ≡ get_or us i u → unit_view u ≡ v → map unit_view (take (i + 1) us) ≡ map unit_view (take i us) ++ v ∷ []
 views-more us i u v within is_at is_v =
-    ap (map unit_view) (take_more us i u within)
-    ∙ map-append unit_view (take i us) (get_or us i u ∷ [])
-    ∙ ap (λ x. map unit_view (take i us) ++ unit_view x ∷ []) (sym is_at)
-    ∙ ap (λ x. map unit_view (take i us) ++ x ∷ []) is_v
+    map_more unit_view us i u within ∙ ap (λ x. map unit_view (take i us) ++ x ∷ []) (ap unit_view (sym is_at) ∙ is_v)
 
 -- a count over a part of a list that fits
 count-fits : {X Y : Type 0} (h : X → Option Y) (p : Y → Bool) (xs : List X) → length xs < 2 ^ 64 → count_of p (filter_map h xs) < 2 ^ 64
@@ -84,19 +81,6 @@ scripts-fit us start short =
 views-short : (us : List FinishedUnit) (i : ℕ) → length us < 2 ^ 64 → length (map unit_view (take i us)) < 2 ^ 64
 views-short us i short = omega (arith, length-map (take i us) unit_view, length-take i us)
 
--- the counters have room for one more unit of the list
-pub test-fits : (us : List FinishedUnit) (i : ℕ) (u : FinishedUnit) (start : RunStart) (t : TestView) → length us < 2 ^ 64 → i < length us → u ≡ get_or us i u → unit_view u ≡ TestUnit t → TestCountersFit (with_test (stats_of (map unit_view (take i us)) start) t)
-test-fits us i u start t short within is_at is_test =
-    let P : RunStats → Type 0 = λ s. TestCountersFit s in
-    subst P (ap (λ vs. stats_of vs start) (views-more us i u (TestUnit t) within is_at is_test) ∙ stats_of-test (map unit_view (take i us)) t start)
-    (tests-fit (map unit_view (take (i + 1) us)) start (views-short us (i + 1) short))
-
-pub script-fits : (us : List FinishedUnit) (i : ℕ) (u : FinishedUnit) (start : RunStart) (r : ExecutionResultDescription) → length us < 2 ^ 64 → i < length us → u ≡ get_or us i u → unit_view u ≡ ScriptUnit r → ScriptCountersFit (with_script (stats_of (map unit_view (take i us)) start) r)
-script-fits us i u start r short within is_at is_script =
-    let P : RunStats → Type 0 = λ s. ScriptCountersFit s in
-    subst P (ap (λ vs. stats_of vs start) (views-more us i u (ScriptUnit r) within is_at is_script) ∙ stats_of-script (map unit_view (take i us)) r start)
-    (scripts-fit (map unit_view (take (i + 1) us)) start (views-short us (i + 1) short))
-
 -- the statistics so far, and of one more unit
 pub stats-more-test : (us : List FinishedUnit) (i : ℕ) (u : FinishedUnit) (start : RunStart) (t : TestView) → i < length us → u ≡ get_or us i u → unit_view u ≡ TestUnit t → stats_of (map unit_view (take (i + 1) us)) start ≡ with_test (stats_of (map unit_view (take i us)) start) t
 stats-more-test us i u start t within is_at is_test =
@@ -105,3 +89,12 @@ stats-more-test us i u start t within is_at is_test =
 pub stats-more-script : (us : List FinishedUnit) (i : ℕ) (u : FinishedUnit) (start : RunStart) (r : ExecutionResultDescription) → i < length us → u ≡ get_or us i u → unit_view u ≡ ScriptUnit r → stats_of (map unit_view (take (i + 1) us)) start ≡ with_script (stats_of (map unit_view (take i us)) start) r
 stats-more-script us i u start r within is_at is_script =
     ap (λ vs. stats_of vs start) (views-more us i u (ScriptUnit r) within is_at is_script) ∙ stats_of-script (map unit_view (take i us)) r start
+
+-- the counters have room for one more unit of the list
+pub test-fits : (us : List FinishedUnit) (i : ℕ) (u : FinishedUnit) (start : RunStart) (t : TestView) → length us < 2 ^ 64 → i < length us → u ≡ get_or us i u → unit_view u ≡ TestUnit t → TestCountersFit (with_test (stats_of (map unit_view (take i us)) start) t)
+test-fits us i u start t short within is_at is_test =
+    subst (λ (s : RunStats). TestCountersFit s) (stats-more-test us i u start t within is_at is_test) (tests-fit (map unit_view (take (i + 1) us)) start (views-short us (i + 1) short))
+
+pub script-fits : (us : List FinishedUnit) (i : ℕ) (u : FinishedUnit) (start : RunStart) (r : ExecutionResultDescription) → length us < 2 ^ 64 → i < length us → u ≡ get_or us i u → unit_view u ≡ ScriptUnit r → ScriptCountersFit (with_script (stats_of (map unit_view (take i us)) start) r)
+script-fits us i u start r short within is_at is_script =
+    subst (λ (s : RunStats). ScriptCountersFit s) (stats-more-script us i u start r within is_at is_script) (scripts-fit (map unit_view (take (i + 1) us)) start (views-short us (i + 1) short))

@@ -2,6 +2,10 @@
 use Rattle.std.proofs.Common.{◌≡◌, ℕ, ◌+◌, ◌≤◌, List, [], ◌∷◌, ◌++◌, length, Bool, true, false, cond, not, ◌&&◌, refl, ap, sym, ◌∙◌, arith}
 use Rattle.std.specs.Prelude.{filter, Option, Some, None}
 use Rattle.std.specs.List.{filter_map, cons_option, list_all}
+use Rattle.std.proofs.lemmas.List.{length-append}
+use Rattle.std.proofs.lemmas.List.Elements.{filter-append, filter_agree}
+use Rattle.std.proofs.lemmas.List.Filters.{length-filter_both}
+use Rattle.std.proofs.lemmas.List.Sums.{count_by-le-length, length-filter, sum_by-cons}
 use Rattle.run_events.specs.Counters.{count_of, raised}
 
 -- one where a rule holds
@@ -9,20 +13,16 @@ abbrev pub one : Bool → ℕ
 one b = cond b 1 0
 
 pub count_of-cons : {X : Type 0} (p : X → Bool) (x : X) (xs : List X) → count_of p (x ∷ xs) ≡ one (p x) + count_of p xs
-count_of-cons p x xs =
-    elim (p x) as (λ b. length (cond b (x ∷ filter p xs) (filter p xs)) ≡ one b + length (filter p xs)) [ true ↦ omega arith | false ↦ omega arith ]
+count_of-cons p x xs = omega (arith, length-filter p (x ∷ xs), length-filter p xs, sum_by-cons (λ y. one (p y)) x xs)
 
 pub count_of-append : {X : Type 0} (p : X → Bool) (xs ys : List X) → count_of p (xs ++ ys) ≡ count_of p xs + count_of p ys
-count_of-append p [] ys = omega arith
-count_of-append p (x ∷ xs) ys = omega (arith, count_of-cons p x (xs ++ ys), count_of-cons p x xs, count_of-append p xs ys)
+count_of-append p xs ys = ap length (filter-append p xs ys) ∙ length-append (filter p xs) (filter p ys)
 
 pub count_of-push : {X : Type 0} (p : X → Bool) (xs : List X) (x : X) → count_of p (xs ++ x ∷ []) ≡ raised (count_of p xs) (p x)
 count_of-push p xs x = omega (arith, count_of-append p xs (x ∷ []), count_of-cons p x [])
 
 pub count_of-le : {X : Type 0} (p : X → Bool) (xs : List X) → count_of p xs ≤ length xs
-count_of-le p [] = omega arith
-count_of-le p (x ∷ xs) =
-    elim (p x) as (λ b. length (cond b (x ∷ filter p xs) (filter p xs)) ≤ length (x ∷ xs)) [ true ↦ omega (arith, count_of-le p xs) | false ↦ omega (arith, count_of-le p xs) ]
+count_of-le p xs = omega (arith, length-filter p xs, count_by-le-length p xs)
 
 -- rules that share out another rule share out its count
 pub count_of-three : {X : Type 0} (p q r whole : X → Bool) → ((x : X) → one (p x) + one (q x) + one (r x) ≡ one (whole x)) → (xs : List X) → count_of p xs + count_of q xs + count_of r xs ≡ count_of whole xs
@@ -31,15 +31,11 @@ count_of-three p q r whole each (x ∷ xs) = omega (arith, each x, count_of-thre
 
 -- rules that agree count the same
 pub count_of-same : {X : Type 0} (p q : X → Bool) → ((x : X) → p x ≡ q x) → (xs : List X) → count_of p xs ≡ count_of q xs
-count_of-same p q same [] = refl
-count_of-same p q same (x ∷ xs) = omega (arith, count_of-cons p x xs, count_of-cons q x xs, ap one (same x), count_of-same p q same xs)
+count_of-same p q same xs = ap length (filter_agree p q same xs)
 
 -- a rule holds of an element or it does not
 pub count_of-not : {X : Type 0} (p : X → Bool) (xs : List X) → count_of (λ x. not (p x)) xs + count_of p xs ≡ length xs
-count_of-not p [] = refl
-count_of-not p (x ∷ xs) =
-    let each : one (not (p x)) + one (p x) ≡ 1 = elim (p x) as (λ b. one (not b) + one b ≡ 1) [ true ↦ refl | false ↦ refl ] in
-    omega (arith, count_of-cons (λ y. not (p y)) x xs, count_of-cons p x xs, count_of-not p xs, each)
+count_of-not p xs = omega (arith, length-filter_both p (λ x. not (p x)) (λ _. refl) xs)
 
 -- a rule that holds of nothing in a list fails of each element
 pub count_of-zero : {X : Type 0} (p : X → Bool) (xs : List X) → count_of p xs ≡ 0 → list_all (λ x. not (p x)) xs ≡ true

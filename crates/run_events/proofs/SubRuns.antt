@@ -1,6 +1,6 @@
 -- The highest outcome of sub-runs, one sub-run after the other.
 use Rattle.std.proofs.Common.{◌≡◌, ◌≤◌, ◌⊎◌, ℕ, ◌+◌, ◌<◌, List, [], ◌∷◌, ◌++◌, length, get_or, map, max, take, Contains, refl, sym, ap, ◌∙◌, subst, inl, inr, arith}
-use Rattle.std.proofs.lemmas.List.{map-append, take_more}
+use Rattle.std.proofs.lemmas.List.{map_more}
 use Rattle.std.proofs.lemmas.List.Elements.{All-push, All-weaker, Contains-append_left, Contains-push}
 use Rattle.run_events.specs.Outcome.{IsHighest, combined, outcome_rank}
 use Rattle.run_events.specs.declared.outcome.RunFailureStep.TheVariants as step
@@ -8,12 +8,9 @@ use Rattle.run_events.specs.declared.outcome.run_outcome.RunOutcome.{RunOutcome}
 use Rattle.run_events.specs.declared.outcome.run_outcome.RunOutcome.TheVariants as outcome
 
 combined-least : (o : RunOutcome) → combined outcome.NoTestsRun o ≡ o
-combined-least outcome.NoTestsRun = refl
-combined-least outcome.Success = refl
 combined-least (outcome.Cancelled step.Test) = refl
-combined-least (outcome.Cancelled step.SetupScript) = refl
 combined-least (outcome.Failed step.Test) = refl
-combined-least (outcome.Failed step.SetupScript) = refl
+combined-least _ = refl
 
 -- the only outcome is the highest
 highest-one : (o : RunOutcome) → IsHighest (o ∷ []) o
@@ -50,7 +47,6 @@ pub highest-sub_run : {A : Type 0} (f : A → RunOutcome) (sub_runs : List A) (i
     → IsHighest (map f (take i sub_runs)) o → IsHighest (map f (take (i + 1) sub_runs)) r
 highest-sub_run f sub_runs i d o next r within is_next exact rank one so_far =
     let more : map f (take (i + 1) sub_runs) ≡ map f (take i sub_runs) ++ next ∷ [] =
-    ap (map f) (take_more sub_runs i d within) ∙ map-append f (take i sub_runs) (get_or sub_runs i d ∷ [])
-    ∙ ap (λ x. map f (take i sub_runs) ++ x ∷ []) (sym is_next) in
+    map_more f sub_runs i d within ∙ ap (λ x. map f (take i sub_runs) ++ x ∷ []) (sym is_next) in
     let P : List RunOutcome → Type 0 = λ os. IsHighest os r in
     subst P (sym more) (highest-more (map f (take i sub_runs)) o next r exact rank one so_far)

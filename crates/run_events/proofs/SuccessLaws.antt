@@ -1,14 +1,15 @@
 -- When the summary of a run is `Success`.
-use Rattle.std.proofs.Common.{◌≡◌, ℕ, ◌+◌, ◌<◌, ◌≤◌, zero, suc, List, [], ◌∷◌, cond, Bool, true, false, not, ◌||◌, ◌&&◌, refl, sym, ◌∙◌, arith, inl, inr, le-ltb, ltb-false}
-use Rattle.std.specs.Prelude.{◌↔◌, ◌⊎◌, ◌==◌, nat_lt, Option}
+use Rattle.std.proofs.Common.{◌≡◌, ℕ, ◌+◌, ◌<◌, ◌≤◌, zero, suc, List, [], ◌∷◌, cond, Bool, true, false, not, ◌||◌, ◌&&◌, refl, sym, ◌∙◌, arith, le-ltb, ltb-false}
+use Rattle.std.specs.Prelude.{◌↔◌, ◌==◌, nat_lt, Option}
 use Rattle.std.specs.List.{list_all}
-use Rattle.std.proofs.lemmas.Bool.Decides.{eqb_tells}
+use Rattle.std.proofs.lemmas.Bool.{cond_both, cond-false, ne_eqb, or_parts}
 use Rattle.std.proofs.lemmas.List.Sums.{AllPass-from_list_all, list_all-from_AllPass}
 use Rattle.run_events.specs.Counters.{UnitView, scripts_of, stats_of, tests_of}
 use Rattle.test_attempts.specs.Level.{has_level_fail}
 use Rattle.run_events.specs.RunLaws.{RunSucceeds, has_no_failure}
 use Rattle.run_events.specs.ScriptCounters.{script_passed}
 use Rattle.run_events.specs.Summary.{any_script_failed, any_test_failed, failure, reason_is_failure, summary_of, tests_step}
+use Rattle.run_events.specs.declared.outcome.FinalRunStats.{FinalRunStats}
 use Rattle.run_events.specs.declared.outcome.FinalRunStats.TheVariants.{Success, NoTestsRun, Cancelled, Failed}
 use Rattle.run_events.specs.declared.outcome.RunStatsFailureKind.{RunStatsFailureKind}
 use Rattle.run_events.specs.declared.outcome.RunStatsFailureKind.TheVariants.{SetupScript}
@@ -18,26 +19,17 @@ use Rattle.run_events.specs.declared.stats.RunStats.{RunStats}
 use Rattle.run_events.proofs.Counts.{count_of-zero, zero-count_of}
 use Rattle.run_events.proofs.Verdicts.{failed-level, failed-scripts}
 
-chosen : {A : Type 0} (b : Bool) (x y z : A) → cond b x y ≡ z → ((b ≡ true) × (x ≡ z)) ⊎ ((b ≡ false) × (y ≡ z))
-chosen true x y z e = inl (refl, e)
-chosen false x y z e = inr (refl, e)
-
-either_false : (x y : Bool) → (x || y) ≡ false → (x ≡ false) × (y ≡ false)
-either_false true y e = absurd cc
-either_false false y e = (refl, e)
-
 none_positive : (a b c : ℕ) → (nat_lt 0 a || nat_lt 0 b || nat_lt 0 c) ≡ false → a + b + c ≡ 0
 none_positive a b c e =
-    let last = either_false (nat_lt 0 a || nat_lt 0 b) (nat_lt 0 c) e in
-    let first = either_false (nat_lt 0 a) (nat_lt 0 b) last.0 in
+    let last = or_parts (nat_lt 0 a || nat_lt 0 b) (nat_lt 0 c) e in
+    let first = or_parts (nat_lt 0 a) (nat_lt 0 b) last.0 in
     omega (arith, ltb-false 0 a first.0, ltb-false 0 b first.1, ltb-false 0 c last.1)
 
 all_zero : (a b c : ℕ) → a + b + c ≡ 0 → (nat_lt 0 a || nat_lt 0 b || nat_lt 0 c) ≡ false
 all_zero a b c e = rw (le-ltb 0 a (omega (arith, e)), le-ltb 0 b (omega (arith, e)), le-ltb 0 c (omega (arith, e))) refl
 
 failure_fails : {P : Type 0} (why : Option CancelReason) (kind : RunStatsFailureKind) → failure why kind ≡ Success → P
-failure_fails why kind e =
-    elim (chosen (reason_is_failure why) (Failed kind) (Cancelled why kind) Success e) [ inl is ↦ absurd cc | inr is ↦ absurd cc ]
+failure_fails {P = P} why kind = cond_both (reason_is_failure why) (Failed kind) (Cancelled why kind) (λ r. r ≡ Success → P) (λ is e. absurd cc) (λ is e. absurd cc)
 
 -- the numbers of a run that succeeded
 record Good (s : RunStats) : Type 0 where
@@ -52,33 +44,23 @@ zero_or_more zero e = absurd cc
 zero_or_more (suc n) e = omega arith
 
 more : (n : ℕ) → 0 < n → cond (n == 0) NoTestsRun Success ≡ Success
-more n h = elim (eqb_tells n 0) [ inl is ↦ absurd (omega (arith, is.1, h)) | inr is ↦ rw is.0 refl ]
+more n h = cond-false (n == 0) NoTestsRun Success (ne_eqb n 0 (λ e. omega (arith, h, e)))
 
 good_from : (s : RunStats) → summary_of s ≡ Success → Good s
-good_from s e =
-    elim (chosen (any_script_failed s) (failure s.cancel_reason SetupScript) _ Success e) [
-      | inl is ↦ failure_fails s.cancel_reason SetupScript is.1
-      | inr first ↦
-          elim (chosen (nat_lt s.setup_scripts_finished_count s.setup_scripts_initial_count) (Cancelled s.cancel_reason SetupScript) _ Success first.1) [
-            | inl is ↦ absurd cc
-            | inr second ↦
-                elim (chosen (any_test_failed s) (failure s.cancel_reason (tests_step s)) _ Success second.1) [
-                  | inl is ↦ failure_fails s.cancel_reason (tests_step s) is.1
-                  | inr third ↦
-                      elim (chosen (nat_lt s.finished_count s.initial_run_count) (Cancelled s.cancel_reason (tests_step s)) _ Success third.1) [
-                        | inl is ↦ absurd cc
-                        | inr fourth ↦
-                            record {
-                              scripts = none_positive s.setup_scripts_failed s.setup_scripts_exec_failed s.setup_scripts_timed_out first.0;
-                              scripts_ran = ltb-false s.setup_scripts_finished_count s.setup_scripts_initial_count second.0;
-                              tests = none_positive s.failed s.exec_failed s.failed_timed_out third.0;
-                              tests_ran = ltb-false s.finished_count s.initial_run_count fourth.0;
-                              some = zero_or_more s.finished_count fourth.1;
-                            }
-                      ]
-                ]
-          ]
-    ]
+good_from s =
+    let Tells : FinalRunStats → Type 0 = λ r. r ≡ Success → Good s in
+    cond_both (any_script_failed s) (failure s.cancel_reason SetupScript) _ Tells (λ is. failure_fails s.cancel_reason SetupScript)
+    (λ scripts. cond_both (nat_lt s.setup_scripts_finished_count s.setup_scripts_initial_count) (Cancelled s.cancel_reason SetupScript) _ Tells (λ is e. absurd cc)
+    (λ scripts_ran. cond_both (any_test_failed s) (failure s.cancel_reason (tests_step s)) _ Tells (λ is. failure_fails s.cancel_reason (tests_step s))
+    (λ tests. cond_both (nat_lt s.finished_count s.initial_run_count) (Cancelled s.cancel_reason (tests_step s)) _ Tells (λ is e. absurd cc)
+    (λ tests_ran e.
+    record {
+      scripts = none_positive s.setup_scripts_failed s.setup_scripts_exec_failed s.setup_scripts_timed_out scripts;
+      scripts_ran = ltb-false s.setup_scripts_finished_count s.setup_scripts_initial_count scripts_ran;
+      tests = none_positive s.failed s.exec_failed s.failed_timed_out tests;
+      tests_ran = ltb-false s.finished_count s.initial_run_count tests_ran;
+      some = zero_or_more s.finished_count e;
+    }))))
 
 good_to : (s : RunStats) → Good s → summary_of s ≡ Success
 good_to s g =

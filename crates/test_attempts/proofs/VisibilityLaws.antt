@@ -1,5 +1,6 @@
 -- Visibility under greater reasons.
-use Rattle.std.proofs.Common.{◌≡◌, ◌≢◌, ◌≤◌, ◌<◌, ◌⊎◌, ◌==◌, ◌&&◌, ◌||◌, ℕ, Bool, true, false, IsTrue, if◌then◌else◌, nat_lt, Option, Some, refl, sym, ◌∙◌, inl, inr, arith}
+use Rattle.std.proofs.Common.{◌≡◌, ◌≢◌, ◌≤◌, ◌<◌, ◌⊎◌, ◌==◌, ◌&&◌, ◌||◌, ℕ, Bool, true, false, if◌then◌else◌, nat_lt, Option, Some, refl, sym, ◌∙◌, inl, inr, arith}
+use Rattle.std.proofs.lemmas.Bool.{and_parts, eqb-false, eqb-true, false≢true, false_from_ne_true, or_parts}
 use Rattle.std.proofs.lemmas.Bool.Decides.{nat_tests}
 use Rattle.test_attempts.specs.Visibility.{IsException, IsNoMoreVisible, Wanted, severity, visibility, visible}
 use Rattle.test_attempts.specs.declared.levels.OutputOnTestFinished.{OutputOnTestFinished}
@@ -16,9 +17,6 @@ row w stopped below signal =
     else if signal then visible w w.at_once (if w.stored then Yes (if w.at_once then false else w.at_end) else No)
     else visible w false No
 
-false≢true : false ≢ true
-false≢true = λ e. cc
-
 at-most-itself : (x : OutputOnTestFinished) → IsNoMoreVisible x x
 at-most-itself x = record { shown = λ h. h; stored = omega arith }
 
@@ -26,15 +24,10 @@ hidden-least : (w : Wanted) (y : OutputOnTestFinished) → IsNoMoreVisible (visi
 hidden-least w y = record { shown = λ h. absurd (false≢true h); stored = omega arith }
 
 -- of output that nobody asked for nothing is shown
-nothing-asked : (line at_once at_end stored terminated : Bool) (y : OutputOnTestFinished) (below signal : Bool)
-    → (at_once || stored) ≡ false
-    → let w : Wanted = record { line = line; at_once = at_once; at_end = at_end; stored = stored; terminated = terminated } in
-    IsNoMoreVisible (row w false below signal) y
-nothing-asked line true at_end stored terminated y below signal e = absurd (false≢true (sym e))
-nothing-asked line false at_end true terminated y below signal e = absurd (false≢true (sym e))
-nothing-asked line false at_end false terminated y true signal e = record { shown = λ h. absurd (false≢true h); stored = omega arith }
-nothing-asked line false at_end false terminated y false true e = record { shown = λ h. absurd (false≢true h); stored = omega arith }
-nothing-asked line false at_end false terminated y false false e = record { shown = λ h. absurd (false≢true h); stored = omega arith }
+nothing-asked : (w : Wanted) (below signal : Bool) (y : OutputOnTestFinished) → (w.at_once || w.stored) ≡ false → IsNoMoreVisible (row w false below signal) y
+nothing-asked w true signal y e = let none = or_parts w.at_once w.stored e in rw (none.0, none.1) (hidden-least w y)
+nothing-asked w false true y e = let none = or_parts w.at_once w.stored e in rw (none.0, none.1) (hidden-least w y)
+nothing-asked w false false y e = hidden-least w y
 
 -- no more is shown under a signal than below it
 signal-below : (line at_once at_end stored terminated : Bool)
@@ -53,8 +46,8 @@ rows : (w : Wanted) (stopped below signal stopped' below' signal' : Bool)
     → IsNoMoreVisible (row w stopped below signal) (row w stopped' below' signal')
 rows w true below signal stopped' below' signal' b s e = hidden-least w _
 rows w false false false stopped' below' signal' b s e = hidden-least w _
-rows w false true signal true below' signal' b s e = nothing-asked w.line w.at_once w.at_end w.stored w.terminated _ true signal (e refl refl refl)
-rows w false false true true below' signal' b s e = nothing-asked w.line w.at_once w.at_end w.stored w.terminated _ false true (e refl refl refl)
+rows w false true signal true below' signal' b s e = nothing-asked w true signal _ (e refl refl refl)
+rows w false false true true below' signal' b s e = nothing-asked w false true _ (e refl refl refl)
 rows w false true signal false true signal' b s e = at-most-itself _
 rows w false true signal false false signal' b s e = absurd (false≢true (b refl))
 rows w false false true false true signal' b s e = signal-below w.line w.at_once w.at_end w.stored w.terminated
@@ -62,10 +55,8 @@ rows w false false true false false true b s e = at-most-itself _
 rows w false false true false false false b s e = absurd (false≢true (elim (s refl) as (λ _. false ≡ true) [ inl h ↦ h | inr h ↦ h ]))
 
 row-line : (w : Wanted) (stopped below signal : Bool) → (row w stopped below signal).write_status_line ≡ w.line
-row-line w true below signal = refl
-row-line w false true signal = refl
 row-line w false false true = refl
-row-line w false false false = refl
+row-line w _ _ _ = refl
 
 -- the line is the same under every reason
 pub line-stays : (w : Wanted) (why : Option CancelReason) → (visibility w why).write_status_line ≡ w.line
@@ -79,30 +70,12 @@ below-lesser n m k order h = grind (arith, nat_tests)
 at-lesser : (n m k : ℕ) → n ≤ m → (m == k) ≡ true → (nat_lt n k ≡ true) ⊎ ((n == k) ≡ true)
 at-lesser n m k order h = grind (arith, nat_tests)
 
-is-equal : (n m : ℕ) → (n == m) ≡ true → n ≡ m
-is-equal n m h = grind (arith, nat_tests)
-
-is-other : (n m : ℕ) → (n == m) ≡ false → n ≢ m
-is-other n m h = grind (arith, nat_tests)
-
 up-to : (n k : ℕ) → (nat_lt n k || n == k) ≡ true → n ≤ k
 up-to n k h = grind (arith, nat_tests)
-
-first-holds : (a b : Bool) → (a && b) ≡ true → a ≡ true
-first-holds true b e = refl
-first-holds false b e = e
-
-second-holds : (a b : Bool) → (a && b) ≡ true → b ≡ true
-second-holds true b e = e
-second-holds false b e = absurd (false≢true e)
 
 first-fails : (a b : Bool) → (a && b) ≡ false → b ≡ true → a ≡ false
 first-fails true b e h = absurd (false≢true (sym e ∙ h))
 first-fails false b e h = refl
-
-is-false : (b : Bool) → ¬ (IsTrue b) → b ≡ false
-is-false true h = absurd (h refl)
-is-false false h = refl
 
 -- the reason by its rank
 stop-reason : (why : Option CancelReason) → severity why ≡ severity (Some reason.TestFailureImmediate) → why ≡ Some reason.TestFailureImmediate
@@ -123,15 +96,15 @@ hidden-unasked : (w : Wanted) (why greater : Option CancelReason) → severity w
     → ((severity why == severity (Some reason.TestFailureImmediate)) && w.terminated) ≡ true
     → (w.at_once || w.stored) ≡ false
 hidden-unasked w why greater order usual goes_on seen stops =
-    let ended : w.terminated ≡ true = second-holds (severity why == severity (Some reason.TestFailureImmediate)) w.terminated stops in
-    let stop : severity why ≡ severity (Some reason.TestFailureImmediate) = is-equal (severity why) _ (first-holds _ w.terminated stops) in
-    let other : severity greater ≢ severity (Some reason.TestFailureImmediate) = is-other (severity greater) _ (first-fails _ w.terminated goes_on ended) in
+    let both = and_parts (severity why == severity (Some reason.TestFailureImmediate)) w.terminated stops in
+    let stop : severity why ≡ severity (Some reason.TestFailureImmediate) = eqb-true (severity why) _ both.0 in
+    let other : severity greater ≢ severity (Some reason.TestFailureImmediate) = eqb-false (severity greater) _ (first-fails _ w.terminated goes_on both.1) in
     let low : severity (Some reason.TestFailureImmediate) < severity greater = omega arith in
     let high : severity greater ≤ severity (Some reason.Signal) = up-to (severity greater) _ seen in
-    is-false _ (λ asked. usual (record {
+    false_from_ne_true _ (λ asked. usual (record {
       stopped = stop-reason why stop;
       later = later-reasons greater low high;
-      terminated = ended;
+      terminated = both.1;
       asked = asked;
     }))
 

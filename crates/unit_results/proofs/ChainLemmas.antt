@@ -1,12 +1,12 @@
 -- Error chains as JSON: what is written for one, and what is read again.
 use Rattle.std.proofs.Common.{◌≡◌, ◌≤◌, ◌⊎◌, Ordering, ℕ, ◌+◌, max, Bool, true, cond, Result, Ok, List, [], ◌∷◌, map, codes, None, Some, IsSome, is_some, not, position, unwrap_or, refl, sym, ap, subst, ◌∙◌, inl, inr, true≢false, arith}
 use Rattle.std.specs.Ordering.{nat_cmp, match_ordering}
-use Rattle.std.specs.declared.cmp.Ordering.TheVariants.{Less, Equal, Greater}
+use Rattle.std.specs.declared.cmp.Ordering.TheVariants.{Equal}
 use Rattle.std.specs.Cmp.Lexicographic.{slice_cmp}
 use Rattle.std.specs.List.{position_from}
 use Rattle.std.proofs.lemmas.Iterator.Adapters.{position_from-zero}
 use Rattle.std.proofs.lemmas.Map.Lookups.{exact_bytes}
-use Rattle.serde_json.specs.Data.{Data, depth, items_depth, string, array, object, null, boolean, number, Members, no_members, member}
+use Rattle.serde_json.specs.Data.{Data, depth, items_depth, string, object, Members, no_members, member}
 use Rattle.serde_json.specs.Find.{as_object, as_str, get, get_member}
 use Rattle.serde_json.specs.View.{items_of, view}
 use Rattle.serde_json.specs.declared.value.Value.{Value}
@@ -58,12 +58,8 @@ read_causes-text_list cs = ap read_texts (values_in_items_of (map string cs)) �
 
 -- what has a member is an object
 has_members : (d : Data) (key : List ℕ) → IsSome (get key d) → is_some (as_object d) ≡ true
-has_members null key h = h
-has_members (boolean b) key h = h
-has_members (number n) key h = h
-has_members (string s) key h = h
-has_members (array ds) key h = h
 has_members (object ms) key h = refl
+has_members _ key h = h
 
 -- the value of a chain is read as that chain
 read_chain-of_value : (d : Data) (c : ErrorChain) → IsChainValue d c → read_chain d ≡ Ok c
@@ -75,9 +71,8 @@ reads_back_from_reads d c answer h reads = rw (read_chain-of_value d c h) at rea
 -- a key at which one member stands before others is the member's, or stands among the others
 found_first : (key name : List ℕ) (d : Data) (ms : Members) (r : Ordering) → r ≡ slice_cmp nat_cmp key name
     → IsSome (match_ordering r (get_member key ms) (Some d) (get_member key ms)) → (key ≡ name) ⊎ IsSome (get_member key ms)
-found_first key name d ms Less e h = inr h
 found_first key name d ms Equal e h = inl (exact_bytes key name (sym e))
-found_first key name d ms Greater e h = inr h
+found_first key name d ms _ e h = inr h
 
 only_members : (c : ErrorChain) (key : List ℕ) → IsSome (get key (chain_object c)) → (key ≡ codes "message") ⊎ (key ≡ codes "causes")
 only_members c key h =

@@ -1,35 +1,26 @@
 -- What `{:08x}` writes of the 32 bits of a number.
-use Rattle.std.proofs.Common.{◌≡◌, ℕ, zero, suc, ◌+◌, ◌-◌, ◌/◌, ◌%◌, ◌^◌, ◌<◌, ◌≤◌, false, List, [], ◌∷◌, ◌++◌, length, refl, sym, ap, ◌∙◌, inl, inr, ◌⊎◌, arith, append_assoc, append-nil, ◌==◌}
+use Rattle.std.proofs.Common.{◌≡◌, ℕ, zero, suc, add-one, ◌+◌, ◌-◌, ◌/◌, ◌%◌, ◌^◌, ◌<◌, ◌≤◌, false, List, [], ◌∷◌, ◌++◌, length, refl, sym, ap, ◌∙◌, inl, inr, arith, append_assoc, append-nil}
 use Rattle.std.specs.Prelude.{replicate}
 use Rattle.std.proofs.Math.Nat.{pow-suc, sub-zero}
-use Rattle.std.proofs.lemmas.Bool.{cases_order}
-use Rattle.std.proofs.lemmas.Bool.Decides.{nat_tests}
+use Rattle.std.proofs.lemmas.Bool.{cases_lt, ne_eqb}
+use Rattle.std.proofs.lemmas.List.{replicate_more}
 use Rattle.std.specs.Fmt.{digits, digits_onto, digit_glyph, padded_integral, char_count, format_spec}
 use Rattle.std.proofs.Common.{ℤ}
 use Rattle.std.specs.Int.{cast_unsigned, w32}
 use Rattle.unit_results.specs.Texts.{hexadecimal_digits, code_digits}
 
--- one more at the end of a replicated element is one more in front
-replicate_push : (k : ℕ) (x : ℕ) → replicate k x ++ x ∷ [] ≡ x ∷ replicate k x
-replicate_push zero x = refl
-replicate_push (suc k) x = ap (λ xs. x ∷ xs) (replicate_push k x)
-
 -- zero has zeros for digits
 hexadecimal_digits-zero : (k : ℕ) → hexadecimal_digits k 0 ≡ replicate k 48
 hexadecimal_digits-zero zero = refl
-hexadecimal_digits-zero (suc k) = rw (hexadecimal_digits-zero k) (replicate_push k 48)
+hexadecimal_digits-zero (suc k) = rw (hexadecimal_digits-zero k) (replicate_more k 48 ∙ ap (λ n. replicate {A = ℕ} n 48) (add-one k))
 
 -- the first digit is written before what is written already
 onto_first : (i n : ℕ) (acc : List ℕ) → n / 16 ≡ 0 → digits_onto (suc i) 16 false n acc ≡ digit_glyph false (n % 16) ∷ acc
 onto_first i n acc e = rw e refl
 
--- a number of at least 16 has a digit before its last
-has_more : (n : ℕ) → 16 ≤ n → (n / 16 == 0) ≡ false
-has_more n h = grind (arith, nat_tests)
-
 -- the last digit is written, and then those before it
 onto_more : (i n : ℕ) (acc : List ℕ) → 16 ≤ n → digits_onto (suc i) 16 false n acc ≡ digits_onto i 16 false (n / 16) (digit_glyph false (n % 16) ∷ acc)
-onto_more i n acc h = rw (has_more n h) refl
+onto_more i n acc h = rw (ne_eqb (n / 16) 0 (λ e. omega (arith, h, e))) refl
 
 -- zeros before a single digit
 padded_single : (k n : ℕ) (acc : List ℕ) → n / 16 ≡ 0 → replicate (suc k + length acc - length (digit_glyph false (n % 16) ∷ acc)) 48 ++ digit_glyph false (n % 16) ∷ acc ≡ hexadecimal_digits (suc k) n ++ acc
@@ -46,20 +37,14 @@ padded_first : (k i n : ℕ) (acc : List ℕ) → n / 16 ≡ 0 → padded_digits
 padded_first k i n acc e = let written : digits_onto (suc i) 16 false n acc ≡ digit_glyph false (n % 16) ∷ acc = onto_first i n acc e in
     ap (λ ds. replicate (suc k + length acc - length ds) 48 ++ ds) written ∙ padded_single k n acc e
 
--- a number has more than one digit, or one
-more_or_one : (n : ℕ) → (16 ≤ n) ⊎ (n < 16)
-more_or_one n = elim (cases_order n 16) [
-  | inl same ↦ inl (omega arith)
-  | inr apart ↦ elim apart [ inl below ↦ inr (omega arith) | inr above ↦ inl (omega arith) ]
-]
-
 -- the digits padded to k + 1 are the last k + 1 digits of the number, where it has no more
 padded_onto : (k i n : ℕ) (acc : List ℕ) → n < 16 ^ suc k → k ≤ i → padded_digits (suc k) (suc i) n acc ≡ hexadecimal_digits (suc k) n ++ acc
 padded_onto zero i n acc small room = padded_first zero i n acc (omega (arith, pow-suc 16 0))
 padded_onto (suc k) zero n acc small room = absurd (omega arith)
 padded_onto (suc k) (suc i) n acc small room =
-    elim (more_or_one n) [
-      | inl more ↦
+    elim (cases_lt n 16) [
+      | inl one ↦ padded_first (suc k) (suc i) n acc (omega arith)
+      | inr more ↦
           let last : List ℕ = digit_glyph false (n % 16) ∷ acc in
           let written : digits_onto (suc (suc i)) 16 false n acc ≡ digits_onto (suc i) 16 false (n / 16) last = onto_more (suc i) n acc more in
           let same_length : suc (suc k) + length acc ≡ suc k + length last = omega arith in
@@ -67,7 +52,6 @@ padded_onto (suc k) (suc i) n acc small room =
           ∙ ap (λ m. replicate (m - length (digits_onto (suc i) 16 false (n / 16) last)) 48 ++ digits_onto (suc i) 16 false (n / 16) last) same_length
           ∙ padded_onto k i (n / 16) last (omega (arith, pow-suc 16 (suc k))) (omega arith)
           ∙ sym (append_assoc (hexadecimal_digits (suc k) (n / 16)) (digit_glyph false (n % 16) ∷ []) acc)
-      | inr one ↦ padded_first (suc k) (suc i) n acc (omega arith)
     ]
 
 -- what a width of eight with zeros adds

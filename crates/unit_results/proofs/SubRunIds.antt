@@ -1,9 +1,10 @@
 -- The ids of sub-runs tell them apart.
-use Rattle.std.proofs.Common.{◌≡◌, ℕ, ◌<◌, ◌^◌, ◌↔◌, List, ◌++◌, length, take, Some, Result, Ok, Err, IfOk, String, Global, string_bytes, refl, sym, ap, ◌∙◌, inl, arith, append_assoc}
+use Rattle.std.proofs.Common.{◌≡◌, ℕ, ◌<◌, ◌^◌, ◌↔◌, List, ◌++◌, length, take, Result, Ok, Err, IfOk, String, Global, string_bytes, refl, sym, ap, ◌∙◌, inl, arith, append_assoc}
 use Rattle.std.specs.Prelude.{codes}
 use Rattle.std.specs.Fmt.{decimal}
 use Rattle.std.proofs.lemmas.Fmt.{decimal_injective}
 use Rattle.std.proofs.lemmas.List.{append_cancel_left}
+use Rattle.std.proofs.lemmas.Option.{same_Some}
 use Rattle.std.proofs.Math.Seq.{take-append_seam}
 use Rattle.uuid.specs.Text.{hyphenated_text, lower, parsed_hyphenated}
 use Rattle.uuid.proofs.TextLemmas.{by_index_length}
@@ -20,10 +21,8 @@ text_length run = by_index_length 36 _
 
 same_run : (a b : List ℕ) → IsRunId a → IsRunId b → hyphenated_text lower a ≡ hyphenated_text lower b → a ≡ b
 same_run a b ida idb e =
-    let both : Some a ≡ Some b =
-    parses_hyphenated_text lower a (inl refl) ida.bytes ida.in_range ∙ ap parsed_hyphenated e
-    ∙ sym (parses_hyphenated_text lower b (inl refl) idb.bytes idb.in_range) in
-    cc
+    same_Some a b (parses_hyphenated_text lower a (inl refl) ida.bytes ida.in_range ∙ ap parsed_hyphenated e
+    ∙ sym (parses_hyphenated_text lower b (inl refl) idb.bytes idb.in_range))
 
 same_count : (a b : List ℕ) (m n : ℕ) → m < 2 ^ 32 → n < 2 ^ 32 → a ≡ b
     → a ++ codes ":@stress-" ++ decimal m ≡ b ++ codes ":@stress-" ++ decimal n → m ≡ n

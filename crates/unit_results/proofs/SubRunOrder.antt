@@ -1,12 +1,12 @@
 -- Sub-runs are equal exactly where they compare as equal.
-use Rattle.std.proofs.Common.{◌≡◌, ◌<◌, ◌==◌, ◌&&◌, ℕ, Bool, true, false, Option, Some, None, refl, ap, ◌∙◌, subst, arith, nat_cmp}
+use Rattle.std.proofs.Common.{◌≡◌, ◌<◌, ◌==◌, ◌&&◌, ℕ, Bool, true, Option, Some, None, refl, ap, ◌∙◌, subst, arith, nat_cmp}
 use Rattle.std.proofs.Props.{props}
-use Rattle.std.proofs.lemmas.Bool.Decides.{nat_tests}
+use Rattle.std.proofs.lemmas.Bool.{and_parts, eq-eqb, eqb-true}
 use Rattle.std.specs.Int.NonZero.{non_zero_u32_get}
 use Rattle.std.specs.Option.{option_cmp, option_eq}
 use Rattle.std.specs.Ordering.{ordering_then}
 use Rattle.std.specs.declared.cmp.Ordering.{Ordering}
-use Rattle.std.specs.declared.cmp.Ordering.TheVariants.{Less, Equal, Greater}
+use Rattle.std.specs.declared.cmp.Ordering.TheVariants.{Equal}
 use Rattle.std.specs.declared.num.NonZeroU32.{NonZeroU32}
 use Rattle.unit_results.specs.declared.stress.StressIndex.{StressIndex}
 
@@ -19,9 +19,8 @@ same-non_zero a b e =
     subst P e here b.ok
 
 both-equal : (o p : Ordering) → ordering_then o p ≡ Equal → (o ≡ Equal) × (p ≡ Equal)
-both-equal Less p e = cc
 both-equal Equal p e = (refl, e)
-both-equal Greater p e = cc
+both-equal _ p e = cc
 
 same-number : (m n : ℕ) → nat_cmp m n ≡ Equal → m ≡ n
 same-number m n e = grind arith
@@ -58,33 +57,23 @@ sub_run-equal a b e =
 abbrev is_number : NonZeroU32 → NonZeroU32 → Bool
 is_number m n = non_zero_u32_get m == non_zero_u32_get n
 
-tells-number : (m n : ℕ) → (m == n) ≡ true → m ≡ n
-tells-number m n e = grind (arith, nat_tests)
-
-is-itself : (n : ℕ) → (n == n) ≡ true
-is-itself n = grind (arith, nat_tests)
-
 tells-total : (a b : Option NonZeroU32) → option_eq is_number a b ≡ true → a ≡ b
 tells-total None None e = refl
 tells-total None (Some n) e = cc
 tells-total (Some m) None e = cc
-tells-total (Some m) (Some n) e = ap Some (same-non_zero m n (tells-number _ _ e))
+tells-total (Some m) (Some n) e = ap Some (same-non_zero m n (eqb-true _ _ e))
 
 total-itself : (a : Option NonZeroU32) → option_eq is_number a a ≡ true
 total-itself None = refl
-total-itself (Some n) = is-itself (non_zero_u32_get n)
-
-both-true : (a b : Bool) → (a && b) ≡ true → (a ≡ true) × (b ≡ true)
-both-true true b e = (refl, e)
-both-true false b e = cc
+total-itself (Some n) = eq-eqb (non_zero_u32_get n) _ refl
 
 pub tells-sub_run : (a b : StressIndex) → (a.current == b.current && option_eq is_number a.total b.total) ≡ true → a ≡ b
 tells-sub_run a b e =
-    let number : a.current ≡ b.current = tells-number _ _ (both-true _ _ e).0 in
-    let total : a.total ≡ b.total = tells-total _ _ (both-true _ _ e).1 in
+    let number : a.current ≡ b.current = eqb-true _ _ (and_parts _ _ e).0 in
+    let total : a.total ≡ b.total = tells-total _ _ (and_parts _ _ e).1 in
     ap (λ (n : ℕ). record { current = n; total = a.total }) number ∙ ap (λ t. record { current = b.current; total = t }) total
 
 pub sub_run-itself : (a b : StressIndex) → a ≡ b → (a.current == b.current && option_eq is_number a.total b.total) ≡ true
 sub_run-itself a b e =
     let P : StressIndex → Type 0 = λ x. (a.current == x.current && option_eq is_number a.total x.total) ≡ true in
-    subst P e (rw (is-itself a.current) (total-itself a.total))
+    subst P e (rw (eq-eqb a.current _ refl) (total-itself a.total))

@@ -1,6 +1,6 @@
 -- What is lent of finished units.
 use Rattle.std.proofs.Common.{◌≡◌, List, [], ◌∷◌, ◌++◌, map, ap, sym, ◌∙◌}
-use Rattle.std.proofs.lemmas.List.{append-nil, map-append}
+use Rattle.std.proofs.lemmas.List.{append-nil, map_push}
 use Rattle.std.specs.Prelude.{Option, None, Some, option_to_list}
 use Rattle.run_events.specs.Counters.{UnitView, unit_view}
 use Rattle.run_events.specs.declared.stats.FinishedUnit.{FinishedUnit}
@@ -9,7 +9,7 @@ use Rattle.run_events.specs.declared.stats.FinishedUnit.{FinishedUnit}
 pub lent_more : (lent : List FinishedUnit) (unit : FinishedUnit) (before all : List UnitView) (told : Option UnitView)
     → map unit_view lent ≡ before → Some (unit_view unit) ≡ told → all ≡ before ++ option_to_list told → map unit_view (lent ++ unit ∷ []) ≡ all
 lent_more lent unit before all told so_far some is =
-    map-append unit_view lent (unit ∷ [])
+    map_push unit_view lent unit
     ∙ ap (λ views. views ++ unit_view unit ∷ []) so_far
     ∙ ap (λ o. before ++ option_to_list o) some
     ∙ sym is

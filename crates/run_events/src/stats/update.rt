@@ -5,17 +5,13 @@ ghost use Rattle.test_attempts.specs.TestView.{view_of};
 ghost use Rattle.run_events.specs.Counters.{ScriptCountersFit, TestCountersFit, raised, with_script, with_test};
 
 use crate::stats::RunStats;
-use crate::stats::cases::{
-    is_exec_fail, is_fail, is_leak_fail, is_leak_pass, is_pass, is_timeout_fail, is_timeout_pass,
-};
+use crate::stats::cases::{is_exec_fail, is_leak_fail, is_leak_pass, is_timeout_fail};
 use crate::stats::verdict::{
     is_failed, is_failed_slow, is_flaky, is_passed, is_passed_slow, is_passed_timed_out,
-    last_result,
+    last_result, script_failed, script_passed, script_timed_out,
 };
 use test_attempts::attempts::{ExecutionStatuses, SetupScriptExecuteStatus};
 use unit_results::child::LiveSpec;
-use unit_results::config::LeakTimeoutResult;
-use unit_results::results::ExecutionResultDescription;
 
 impl RunStats {
     /// Counts one more finished test: each counter whose rule holds of it is raised by one, and
@@ -66,19 +62,12 @@ impl RunStats {
         requires { ScriptCountersFit (with_script self.old script.now.result) }
         ensures { self.new ≡ with_script self.old script.now.result }
     {
+        let result = &script.result;
         self.setup_scripts_finished_count += 1;
-        match script.result {
-            ExecutionResultDescription::Pass
-            | ExecutionResultDescription::Leak {
-                result: LeakTimeoutResult::Pass,
-            } => self.setup_scripts_passed += 1,
-            ExecutionResultDescription::Leak {
-                result: LeakTimeoutResult::Fail,
-            }
-            | ExecutionResultDescription::Fail { .. } => self.setup_scripts_failed += 1,
-            ExecutionResultDescription::ExecFail => self.setup_scripts_exec_failed += 1,
-            ExecutionResultDescription::Timeout { .. } => self.setup_scripts_timed_out += 1,
-        }
+        self.setup_scripts_passed += usize::from(script_passed(result));
+        self.setup_scripts_failed += usize::from(script_failed(result));
+        self.setup_scripts_exec_failed += usize::from(is_exec_fail(result));
+        self.setup_scripts_timed_out += usize::from(script_timed_out(result));
     }
 
     /// Whether one more finished setup script can be counted: every counter that it raises is
@@ -88,19 +77,10 @@ impl RunStats {
     {
         let result = &script.result;
         fits(self.setup_scripts_finished_count, true)
-            && fits(
-                self.setup_scripts_passed,
-                is_pass(result) || is_leak_pass(result),
-            )
-            && fits(
-                self.setup_scripts_failed,
-                is_fail(result) || is_leak_fail(result),
-            )
+            && fits(self.setup_scripts_passed, script_passed(result))
+            && fits(self.setup_scripts_failed, script_failed(result))
             && fits(self.setup_scripts_exec_failed, is_exec_fail(result))
-            && fits(
-                self.setup_scripts_timed_out,
-                is_timeout_pass(result) || is_timeout_fail(result),
-            )
+            && fits(self.setup_scripts_timed_out, script_timed_out(result))
     }
 }
 

@@ -1,10 +1,13 @@
-//! Which counters a finished test raises, by its last attempt.
+//! Which counters a finished unit raises: a test by its last attempt, a setup script by its result.
 
 ghost use Rattle.std.specs.Prelude.{◌≡◌};
 ghost use Rattle.test_attempts.specs.TestView.{view_of};
+ghost use Rattle.run_events.specs.ScriptCounters as script_spec;
 ghost use Rattle.run_events.specs.TestCounters as spec;
 
-use crate::stats::cases::{is_fail, is_leak_fail, is_leak_pass, is_pass, is_timeout_pass};
+use crate::stats::cases::{
+    is_fail, is_leak_fail, is_leak_pass, is_pass, is_timeout_fail, is_timeout_pass,
+};
 use test_attempts::attempts::ExecutionStatuses;
 use unit_results::child::LiveSpec;
 use unit_results::config::FlakyResult;
@@ -60,4 +63,22 @@ pub(super) fn is_failed_slow(test: &ExecutionStatuses<LiveSpec>) -> bool
     ensures { result ≡ spec.is_failed_slow (view_of test.now) }
 {
     is_failed(test) && test.last_status().is_slow
+}
+
+pub(super) fn script_passed(attempt: &ExecutionResultDescription) -> bool
+    ensures { result ≡ script_spec.script_passed attempt.now }
+{
+    is_pass(attempt) || is_leak_pass(attempt)
+}
+
+pub(super) fn script_failed(attempt: &ExecutionResultDescription) -> bool
+    ensures { result ≡ script_spec.script_failed attempt.now }
+{
+    is_fail(attempt) || is_leak_fail(attempt)
+}
+
+pub(super) fn script_timed_out(attempt: &ExecutionResultDescription) -> bool
+    ensures { result ≡ script_spec.script_timed_out attempt.now }
+{
+    is_timeout_pass(attempt) || is_timeout_fail(attempt)
 }

@@ -1,4 +1,3 @@
-use Rattle.output_slice.proofs.DivisionLemmas.{AreLines-lines_of}
 use Rattle.digest_engine.proofs.Answering.{answers}
 use Rattle.digest_engine.proofs.Readings.{one_reading}
 use Rattle.digest_engine.proofs.SpelledEntries.{one_entry}
@@ -8,9 +7,6 @@ use Rattle.digest_engine.proofs.count.count.Goals as goal
 
 pub returns-clause-answer : goal.returns-clause-answer
 returns-clause-answer g c = answers _ _ _ _ c.count_runs.ensures.answer
-
-pub returns-clause-lines : goal.returns-clause-lines
-returns-clause-lines g c = AreLines-lines_of
 
 pub returns-clause-one_start : goal.returns-clause-one_start
 returns-clause-one_start g c = one_start

@@ -11,14 +11,14 @@ returns-then-starts_with_str c =
     let first = error-first b (c.starts_with_str.ensures.0 c.if-starts_with_str.true) in
     (subst (IsFirst (IsErrorStart b) 0 (length b + 1)) (ap Some (sym c.trimmed.ensures.start)) first, c.trimmed.ensures.trimmed)
 
-pub returns-in_default : goal.returns-in_default
-returns-in_default c =
+pub returns-in_err-at : goal.returns-in_err-at
+returns-in_err-at c =
     let f = c.if-starts_with_str.false in
-    (error-none _ (λ h. let yes = c.starts_with_str.ensures.1 h in cc) c.in_default.ensures, tt)
+    rw c.from_residual.ensures (error-none _ (λ h. let yes = c.starts_with_str.ensures.1 h in cc) c.in_err-at.ensures, tt)
 
 pub returns : goal.returns
 returns c =
     let f = c.if-starts_with_str.false in
     let b = c.args.stderr.now in
-    let first = error-later b c.in-Some.at (λ h. let yes = c.starts_with_str.ensures.1 h in cc) c.in-Some.ensures in
+    let first = error-later b c.in_ok-at.at (λ h. let yes = c.starts_with_str.ensures.1 h in cc) c.in_ok-at.ensures in
     (subst (IsFirst (IsErrorStart b) 0 (length b + 1)) (ap Some (sym c.trimmed-2.ensures.start)) first, c.trimmed-2.ensures.trimmed)

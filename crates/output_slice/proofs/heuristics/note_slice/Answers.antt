@@ -1,6 +1,5 @@
-use Rattle.std.proofs.Common.{ℕ, ◌-◌, List, length, ap, ◌∙◌}
+use Rattle.std.proofs.Common.{ℕ, ◌-◌, List, length}
 use Rattle.std.specs.Prelude.{codes}
-use Rattle.std.specs.ControlFlow.{continue_value}
 use Rattle.output_slice.specs.Signs.{IsQuietFrom}
 use Rattle.output_slice.proofs.SignLemmas.{of-bytes}
 use Rattle.output_slice.proofs.heuristics.note_slice.Goals as goal
@@ -8,4 +7,4 @@ use Rattle.output_slice.proofs.heuristics.note_slice.Goals as goal
 pub should_panic_before-requires : goal.should_panic_before-requires
 should_panic_before-requires c =
     let Quiet : List ℕ → Type 0 = λ b. IsQuietFrom b (codes "note: test did not panic as expected") (length b - c.args.quiet) in
-    rw c.saturating_sub.ensures (of-bytes Quiet c.args.stdout c.in_ok-bytes.bytes (c.branch-bytes.ensures ∙ ap continue_value c.in_ok-bytes.is) c.requires)
+    rw c.saturating_sub.ensures (of-bytes Quiet c.args.stdout c.in_ok-bytes.bytes c.in_ok-bytes.was c.requires)

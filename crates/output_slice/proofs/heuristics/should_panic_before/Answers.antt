@@ -1,8 +1,8 @@
 use Rattle.output_slice.proofs.NoteLemmas.{note-none, note-line}
 use Rattle.output_slice.proofs.heuristics.should_panic_before.Goals as goal
 
-pub returns-in_default : goal.returns-in_default
-returns-in_default c = note-none c.args.stdout.now c.in_default.ensures
+pub returns-in_err-at : goal.returns-in_err-at
+returns-in_err-at c = rw c.from_residual.ensures (note-none c.args.stdout.now c.in_err-at.ensures)
 
 pub returns : goal.returns
 returns c =
@@ -10,4 +10,4 @@ returns c =
     let s = c.line_start-start in
     let e = c.line_end-stop in
     let text = c.without_end.ensures in
-    rw text (note-line b c.in-Some.at s.result e.result c.in-Some.ensures s.ensures.within s.ensures.first s.ensures.one_line e.ensures.low e.ensures.high e.ensures.last e.ensures.one_line)
+    rw text (note-line b c.in_ok-at.at s.result e.result c.in_ok-at.ensures s.ensures.within s.ensures.first s.ensures.one_line e.ensures.low e.ensures.high e.ensures.last e.ensures.one_line)
