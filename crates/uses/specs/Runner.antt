@@ -10,6 +10,7 @@ use Rattle.unit_results.specs.declared.child.LiveSpec.{LiveSpec}
 use Rattle.unit_results.specs.declared.child.output.ChildOutputDescription.{ChildOutputDescription}
 use Rattle.unit_results.specs.declared.child.output.ChildOutputDescription.TheVariants.{Combined, NotLoaded, Split}
 use Rattle.unit_results.specs.declared.config.FlakyResult.{FlakyResult}
+use Rattle.run_events.specs.declared.stats.RunStats.{RunStats}
 use Rattle.run_events.specs.declared.events.ReporterEvent.{ReporterEvent}
 use Rattle.run_events.specs.declared.events.ReporterEvent.TheVariants as told
 use Rattle.run_events.specs.declared.events.kind.TestEventKind.{TestEventKind}
@@ -55,3 +56,12 @@ name_of_kind _ = None
 abbrev pub told_name : ReporterEvent → Option (List ℕ)
 told_name told.Tick = None
 told_name (told.Test event) = name_of_kind event.value.kind
+
+-- the counters that an event tells at the end of a test
+abbrev pub stats_of_kind : TestEventKind → Option RunStats
+stats_of_kind (TestFinished index id success failure store_success store_failure flaky statuses stats running) = Some stats
+stats_of_kind _ = None
+
+abbrev pub told_stats : ReporterEvent → Option RunStats
+told_stats told.Tick = None
+told_stats (told.Test event) = stats_of_kind event.value.kind

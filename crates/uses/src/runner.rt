@@ -6,7 +6,7 @@ ghost use Rattle.std.specs.List.{filter_map};
 ghost use Rattle.run_events.specs.Counters.{TestUnit, stats_of, unit_view};
 ghost use Rattle.run_events.specs.Described.{described_result};
 ghost use Rattle.run_events.specs.TestView.{view_of};
-ghost use Rattle.uses.specs.Runner.{last_stderr, stderr_of, told_name, told_unit, view_of_attempts};
+ghost use Rattle.uses.specs.Runner.{last_stderr, stderr_of, told_name, told_stats, told_unit, view_of_attempts};
 
 use bytes::Bytes;
 use jiff::Timestamp;
@@ -46,6 +46,7 @@ fn status_of(
 ) -> Result<ExecuteStatus<LiveSpec>, AllocError>
     ensures result { IfOk result (λ status. status.result ≡ described_result attempt.entry.outcome None) }
     ensures slow { IfOk result (λ status. status.is_slow ≡ attempt.entry.is_slow) }
+    ensures retry { IfOk result (λ status. status.retry_data ≡ retry_data) }
     ensures stderr { IfOk result (λ status. stderr_of status.output ≡ Some attempt.entry.stderr.now) }
 {
     let left = ChildExecutionOutput::Output {
@@ -116,6 +117,7 @@ pub fn test_finished(
 ) -> Result<ReporterEvent<'_>, AllocError>
     ensures unit { IfOk result (λ event. told_unit event ≡ Some (TestUnit (view_of run_statuses))) }
     ensures name { IfOk result (λ event. told_name event ≡ Some test_name.entry.now) }
+    ensures stats { IfOk result (λ event. told_stats event ≡ Some current_stats) }
 {
     let kind = TestEventKind::TestFinished {
         stress_index: None,
