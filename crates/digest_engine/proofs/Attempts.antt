@@ -5,7 +5,7 @@ use Rattle.std.proofs.Common.{inl, inr}
 use Rattle.std.specs.Prelude.{◌==◌}
 use Rattle.std.specs.List.{slice_split}
 use Rattle.std.specs.Option.{option_map_or}
-use Rattle.std.proofs.lemmas.Option.{slice_get-map, slice_get_cases}
+use Rattle.std.proofs.lemmas.Option.{slice_get-map, slice_get_cases, slice_get_read}
 use Rattle.run_events.specs.TestView.{TestView, view_of, attempts_of, setting_of}
 use Rattle.test_attempts.specs.declared.attempts.ExecuteStatus.{ExecuteStatus}
 use Rattle.unit_results.specs.declared.child.output.ChildOutputDescription.{ChildOutputDescription}
@@ -15,7 +15,7 @@ use Rattle.test_attempts.specs.declared.attempts.statuses.ExecutionStatuses.{Exe
 use Rattle.unit_results.specs.declared.config.FlakyResult.{FlakyResult}
 use Rattle.unit_results.specs.declared.results.ExecutionResultDescription.TheVariants.{Pass}
 use Rattle.std.proofs.lemmas.Bool.{eq-eqb}
-use Rattle.std.proofs.lemmas.List.{at_drop_more, at_drop_all, append-nil, length-map}
+use Rattle.std.proofs.lemmas.List.{at_drop_more, at_drop_all, append-nil, get_or_push, length-map}
 use Rattle.digest_engine.specs.Reader.{result_of, all_results, results_of, flags_of, test_of_words, view_from}
 use Rattle.unit_results.specs.declared.results.ExecutionResultDescription.{ExecutionResultDescription}
 
@@ -72,15 +72,12 @@ placed_push P [] y all last (suc k) within = absurd (omega (arith, within))
 placed_push P (x ∷ xs) y all last zero within = all zero (omega arith)
 placed_push P (x ∷ xs) y all last (suc k) within = placed_push (λ n. P (suc n)) xs y (λ j short. all (suc j) (omega (arith, short))) last k (omega (arith, within))
 
-at_end : {X : Type 0} (xs : List X) (y : X) → slice_get (xs ++ y ∷ []) (length xs) ≡ Some y
-at_end [] y = refl
-at_end (x ∷ xs) y = at_end xs y
-
 -- what was pushed last
 pub last_pushed : {X : Type 0} (xs ys : List X) (y : X) → ys ≡ xs ++ y ∷ [] → slice_get ys (length ys - 1) ≡ Some y
 last_pushed xs ys y pushed =
-    let place : length ys - 1 ≡ length xs = omega (arith, ap length pushed, length-append xs (y ∷ [])) in
-    ap (slice_get ys) place ∙ ap (λ zs. slice_get zs (length xs)) pushed ∙ at_end xs y
+    let count : length ys ≡ length xs + 1 = ap length pushed ∙ length-append xs (y ∷ []) in
+    let last : get_or ys (length ys - 1) y ≡ y = ap (λ zs. get_or zs (length ys - 1) y) pushed ∙ get_or_push xs y y (length ys - 1) (omega (arith, count)) in
+    slice_get_read ys (length ys) (length ys - 1) y refl (omega (arith, count)) (sym last)
 
 -- the view of a test, by its attempts and its setting
 abbrev view_by : {S D : Type 0} → List (ExecuteStatus S D) → FlakyResult → TestView

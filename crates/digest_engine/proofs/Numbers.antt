@@ -1,13 +1,15 @@
 -- The reader of a number against what a number spells.
-use Rattle.std.proofs.Common.{◌≡◌, ℕ, zero, suc, ◌+◌, ◌-◌, ◌*◌, ◌^◌, ◌<◌, ◌≤◌, List, [], ◌∷◌, length, map, true, refl, ap, sym, ◌∙◌, arith, le-leb, leb-true, lt-ltb, ltb-true, add-mul, mul_assoc, inl, inr}
-use Rattle.std.specs.Prelude.{All, fold, nat_lt, nat_le, ◌&&◌, None, Some}
+use Rattle.std.proofs.Common.{◌≡◌, ℕ, suc, ◌+◌, ◌-◌, ◌*◌, ◌^◌, ◌<◌, ◌≤◌, List, [], ◌∷◌, length, map, true, refl, ap, sym, ◌∙◌, arith, le-leb, leb-true, lt-ltb, ltb-true, add-mul, mul_assoc}
+use Rattle.std.specs.Prelude.{All, fold, nat_lt, nat_le, ◌&&◌, Some}
 use Rattle.std.specs.Char.{is_ascii_digit}
 use Rattle.std.specs.List.{list_all}
 use Rattle.std.proofs.Math.Nat.{pow-suc}
+use Rattle.std.proofs.lemmas.Bool.{and_parts}
 use Rattle.std.proofs.lemmas.List.{length-map}
+use Rattle.std.proofs.lemmas.List.Elements.{All-cons, All-nil}
+use Rattle.std.proofs.lemmas.Option.{cond_some}
 use Rattle.digest_engine.specs.Number.{SpellsNumber, digits_value}
 use Rattle.digest_engine.specs.Reader.{number_of, value_of_digits}
-use Rattle.digest_engine.proofs.ResultWords.{both_true, chosen}
 
 -- the byte of a digit
 abbrev pub byte_of : ℕ → ℕ
@@ -46,10 +48,10 @@ record Digits (text : List ℕ) : Type 0 where
   written : text ≡ map byte_of digits
 
 digits_in : (text : List ℕ) → list_all is_ascii_digit text ≡ true → Digits text
-digits_in [] e = record { digits = []; each = λ k d within. absurd (omega (arith, within)); written = refl }
+digits_in [] e = record { digits = []; each = All-nil (λ d. d < 10); written = refl }
 digits_in (b ∷ bs) e =
-    let both = both_true (is_ascii_digit b) (list_all is_ascii_digit bs) e in
-    let range = both_true (nat_le 48 b) (nat_le b 57) both.0 in
+    let both = and_parts (is_ascii_digit b) (list_all is_ascii_digit bs) e in
+    let range = and_parts (nat_le 48 b) (nat_le b 57) both.0 in
     let low : 48 ≤ b = leb-true 48 b range.0 in
     let high : b ≤ 57 = leb-true b 57 range.1 in
     let rest = digits_in bs both.1 in
@@ -57,35 +59,27 @@ digits_in (b ∷ bs) e =
     let small : b - 48 < 10 = omega (arith, high) in
     record {
       digits = (b - 48) ∷ rest.digits;
-      each = each_of (b - 48) rest.digits small rest.each;
+      each = All-cons (λ d. d < 10) (b - 48) rest.digits small rest.each;
       written = ap (λ x. x ∷ bs) (sym first) ∙ ap (λ xs. (48 + (b - 48)) ∷ xs) rest.written;
     }
-  where
-    each_of : (d : ℕ) (ds : List ℕ) → d < 10 → All (λ x. x < 10) ds → All (λ x. x < 10) (d ∷ ds)
-    each_of d ds small all zero x within = small
-    each_of d ds small all (suc k) x within = all k x (omega (arith, within))
 
 -- what is read is spelled so
 pub number_spelled : (text : List ℕ) (n : ℕ) → number_of text ≡ Some n → SpellsNumber text n
 unfolding number_of
 number_spelled text n e =
-    elim (chosen (nat_lt 0 (length text) && (nat_le (length text) 7 && (list_all is_ascii_digit text && nat_le (value_of_digits text) 1000000))) (Some (value_of_digits text)) None (Some n) e) [
-      | inl held ↦
-          let first = both_true (nat_lt 0 (length text)) (nat_le (length text) 7 && (list_all is_ascii_digit text && nat_le (value_of_digits text) 1000000)) held.0 in
-          let second = both_true (nat_le (length text) 7) (list_all is_ascii_digit text && nat_le (value_of_digits text) 1000000) first.1 in
-          let third = both_true (list_all is_ascii_digit text) (nat_le (value_of_digits text) 1000000) second.1 in
-          let made = digits_in text third.0 in
-          let count : length text ≡ length made.digits = ap length made.written ∙ length-map made.digits byte_of in
-          let is : value_of_digits text ≡ n = cc in
-          let limit = leb-true (value_of_digits text) 1000000 third.1 in
-          record {
-            digits = made.digits;
-            each = made.each;
-            written = made.written;
-            some = omega (arith, count, ltb-true 0 (length text) first.0);
-            few = omega (arith, count, leb-true (length text) 7 second.0);
-            value = sym is ∙ ap value_of_digits made.written ∙ value_from made.digits 0 ∙ omega arith;
-            limit = omega (arith, limit, is);
-          }
-      | inr none ↦ absurd cc
-    ]
+    let held = cond_some (nat_lt 0 (length text) && (nat_le (length text) 7 && (list_all is_ascii_digit text && nat_le (value_of_digits text) 1000000))) (value_of_digits text) n e in
+    let first = and_parts (nat_lt 0 (length text)) (nat_le (length text) 7 && (list_all is_ascii_digit text && nat_le (value_of_digits text) 1000000)) held.0 in
+    let second = and_parts (nat_le (length text) 7) (list_all is_ascii_digit text && nat_le (value_of_digits text) 1000000) first.1 in
+    let third = and_parts (list_all is_ascii_digit text) (nat_le (value_of_digits text) 1000000) second.1 in
+    let made = digits_in text third.0 in
+    let count : length text ≡ length made.digits = ap length made.written ∙ length-map made.digits byte_of in
+    let limit = leb-true (value_of_digits text) 1000000 third.1 in
+    record {
+      digits = made.digits;
+      each = made.each;
+      written = made.written;
+      some = omega (arith, count, ltb-true 0 (length text) first.0);
+      few = omega (arith, count, leb-true (length text) 7 second.0);
+      value = sym held.1 ∙ ap value_of_digits made.written ∙ value_from made.digits 0 ∙ omega arith;
+      limit = omega (arith, limit, held.1);
+    }

@@ -3,9 +3,10 @@ use Rattle.std.proofs.Common.{◌≡◌, ℕ, ◌<◌, ◌≤◌, List, [], ◌�
 use Rattle.std.specs.Prelude.{◌==◌, ◌⊎◌, ◌&&◌, nat_le, Option, None, Some, option_and_then, codes, if◌then◌else◌}
 use Rattle.std.specs.List.{slice_split, join_with_byte}
 use Rattle.std.specs.Str.{bytes_eq}
+use Rattle.std.proofs.lemmas.Bool.{and_parts}
 use Rattle.std.proofs.lemmas.List.{append-nil, length-map}
 use Rattle.std.proofs.lemmas.List.Splits.{length-slice_split, join_with_byte-slice_split}
-use Rattle.std.proofs.lemmas.Option.{option_and_then_some}
+use Rattle.std.proofs.lemmas.Option.{cond_some, option_and_then_some}
 use Rattle.std.proofs.lemmas.Slice.Eq.{bytes_eq-Decides}
 use Rattle.unit_results.specs.declared.config.FlakyResult.{FlakyResult}
 use Rattle.unit_results.specs.declared.config.FlakyResult.TheVariants as setting
@@ -130,10 +131,6 @@ results_inverse (word ∷ words) rs e =
     let rest = results_inverse words later is_later in
     (first.0 ∷ rest.0, cc (first.1, rest.1), cc (is_all, first.2, rest.2))))
 
-pub both_true : (x y : Bool) → (x && y) ≡ true → (x ≡ true) × (y ≡ true)
-both_true true y e = (refl, e)
-both_true false y e = absurd cc
-
 -- flags that are read, after a first word
 pub flags_inverse : (first : List ℕ) (flags : List (List ℕ)) (f : Bool × FlakyResult) → flags_of flags ≡ Some f → (slow : Bool) × (fails : Bool) × (join_with_byte 32 (first ∷ flags) ≡ first ++ flag_words slow fails) × (f ≡ (slow, if fails then setting.Fail else setting.Pass))
 unfolding flags_of
@@ -141,19 +138,17 @@ flags_inverse first [] f e = (false, false, sym (append-nil first), cc)
 flags_inverse first (a ∷ []) f e =
     elim (chosen (bytes_eq a (codes "slow")) (Some (true, setting.Pass)) (if bytes_eq a (codes "flaky-fail") then Some (false, setting.Fail) else None) (Some f) e) [
       | inl held ↦ let same : a ≡ codes "slow" = (bytes_eq-Decides a (codes "slow")).0 held.0 in (true, false, ap (λ x. first ++ 32 ∷ x) same, cc)
-      | inr failed ↦ elim (chosen (bytes_eq a (codes "flaky-fail")) (Some (false, setting.Fail)) None (Some f) failed.1) [
-        | inl held ↦ let same : a ≡ codes "flaky-fail" = (bytes_eq-Decides a (codes "flaky-fail")).0 held.0 in (false, true, ap (λ x. first ++ 32 ∷ x) same, cc)
-        | inr none ↦ absurd cc
-      ]
+      | inr failed ↦
+          let held = cond_some (bytes_eq a (codes "flaky-fail")) (false, setting.Fail) f failed.1 in
+          let same : a ≡ codes "flaky-fail" = (bytes_eq-Decides a (codes "flaky-fail")).0 held.0 in
+          (false, true, ap (λ x. first ++ 32 ∷ x) same, sym held.1)
     ]
 flags_inverse first (a ∷ b ∷ []) f e =
-    elim (chosen (bytes_eq a (codes "slow") && bytes_eq b (codes "flaky-fail")) (Some (true, setting.Fail)) None (Some f) e) [
-      | inl held ↦ let both = both_true (bytes_eq a (codes "slow")) (bytes_eq b (codes "flaky-fail")) held.0 in
-          let first_is : a ≡ codes "slow" = (bytes_eq-Decides a (codes "slow")).0 both.0 in
-          let second_is : b ≡ codes "flaky-fail" = (bytes_eq-Decides b (codes "flaky-fail")).0 both.1 in
-          (true, true, ap (λ x. first ++ 32 ∷ (x ++ 32 ∷ b)) first_is ∙ ap (λ x. first ++ 32 ∷ (codes "slow" ++ 32 ∷ x)) second_is, cc)
-      | inr none ↦ absurd cc
-    ]
+    let held = cond_some (bytes_eq a (codes "slow") && bytes_eq b (codes "flaky-fail")) (true, setting.Fail) f e in
+    let both = and_parts (bytes_eq a (codes "slow")) (bytes_eq b (codes "flaky-fail")) held.0 in
+    let first_is : a ≡ codes "slow" = (bytes_eq-Decides a (codes "slow")).0 both.0 in
+    let second_is : b ≡ codes "flaky-fail" = (bytes_eq-Decides b (codes "flaky-fail")).0 both.1 in
+    (true, true, ap (λ x. first ++ 32 ∷ (x ++ 32 ∷ b)) first_is ∙ ap (λ x. first ++ 32 ∷ (codes "slow" ++ 32 ∷ x)) second_is, sym held.1)
 flags_inverse first (a ∷ b ∷ c ∷ flags) f e = absurd cc
 
 -- a list that is read as results is those results, joined

@@ -13,6 +13,9 @@ use run_events::output_slice::subslice::TestOutputErrorSlice;
 use std::alloc::{AllocError, Global};
 use std::num::NonZero;
 
+/// How many bytes of a slice are written at most.
+const MAX_SLICE: usize = 4_096;
+
 /// The first line for a slice.
 #[tactic(auto, unfolding(crate::specs::ExtractAnswer::heading))]
 fn heading_of(alloc: Global, kind: &str, start: usize, len: usize) -> Result<String, AllocError>
@@ -21,11 +24,11 @@ fn heading_of(alloc: Global, kind: &str, start: usize, len: usize) -> Result<Str
     format!(in alloc; "{kind} {start} {len}\n")
 }
 
-/// The part of combined output that says why a test failed, at most 4,096 bytes of it.
+/// The part of combined output that says why a test failed, at most [`MAX_SLICE`] bytes of it.
 fn extracted(output: &[u8]) -> Option<TestOutputErrorSlice<'_>>
     ensures { IsExtracted output.now (option_map extract_of result) }
 {
-    let limit = NonZero::<usize>::MIN.saturating_add(4_095);
+    let limit = NonZero::<usize>::MIN.saturating_add(MAX_SLICE - 1);
     TestOutputErrorSlice::heuristic_extract_capped(Some(output), Some(output), limit)
 }
 

@@ -14,6 +14,9 @@ use run_events::stats::RunStart;
 use std::alloc::Global;
 use std::mem;
 
+/// How many lines the input has at most.
+const MAX_LINES: usize = 10_000;
+
 /// What the input says of a run.
 #[derive(Drop)]
 pub(crate) struct RunInput {
@@ -37,7 +40,7 @@ impl RunInput {
 }
 
 /// The runs that the lines after line 1 say, where line 1 begins with this start. There are at most
-/// 10,000 lines.
+/// [`MAX_LINES`] lines.
 #[tactic(auto, unfolding(crate::specs::Reader::runs_from))]
 fn runs_after(alloc: Global, start: RunStart, mut lines: Lines<'_>) -> Result<Vec<RunInput>, Fault>
     ensures { Gives (λ v. map run_said v.items) result (runs_from 2 (begun start) lines.entry) }
@@ -46,7 +49,7 @@ fn runs_after(alloc: Global, start: RunStart, mut lines: Lines<'_>) -> Result<Ve
     let mut run = RunInput::begun(alloc, start);
     let mut number = 2;
     while let Some(line) = lines.next() {
-        if number > 10_000 {
+        if number > MAX_LINES {
             return Err(Fault::BadLine { number });
         }
         let Some(entry) = entry_in(alloc, line)? else {

@@ -19,6 +19,9 @@ use run_events::stats::FinishedUnit;
 use std::alloc::{AllocError, Global};
 use std::time::Duration;
 
+/// How many results a test has at most.
+const MAX_RESULTS: usize = 100;
+
 /// A finished unit, owned.
 #[derive(Drop)]
 pub(crate) enum OwnedUnit {
@@ -106,14 +109,14 @@ fn script_from(words: &[&[u8]]) -> Option<SetupScriptExecuteStatus<LiveSpec>>
     })
 }
 
-/// The attempts whose results words name, at most a hundred; the last of them is slow where that
-/// is said.
+/// The attempts whose results words name, at most [`MAX_RESULTS`]; the last of them is slow where
+/// that is said.
 fn attempts_from(
     alloc: Global,
     words: &[&[u8]],
     is_slow: bool,
 ) -> Result<Option<Vec<ExecuteStatus<LiveSpec>>>, AllocError>
-    requires { length words.now ≤ 100 }
+    requires { length words.now ≤ MAX_RESULTS }
     ensures results { IfOk result (λ found. option_map (λ v. map (λ s. s.result) v.items) found ≡ all_results (map (λ w. w.now) words.now)) }
     ensures attempts { IfOk result (λ found. IfSome found (λ v. AreAttempts v.items (length words.now) is_slow)) }
     ensures count { IfOk result (λ found. IfSome found (λ v. length v.items ≡ length words.now)) }
@@ -156,7 +159,7 @@ fn test_from(
         return Ok(None);
     };
     let results = parts_of(alloc, list)?;
-    if results.len() > 100 {
+    if results.len() > MAX_RESULTS {
         return Ok(None);
     }
     let Some(statuses) = attempts_from(alloc, results.as_slice(), is_slow)? else {

@@ -11,6 +11,12 @@ use run_events::results::{CancelReason, ExecutionResult, FailureStatus};
 use run_events::stats::RunStart;
 use std::alloc::{AllocError, Global};
 
+/// How many digits a number has at most.
+const MAX_DIGITS: usize = 7;
+
+/// The greatest number.
+const MAX_NUMBER: usize = 1_000_000;
+
 /// The parts of bytes, divided by one such byte.
 ///
 /// They are pushed one by one: `collect` would do without room that it is refused.
@@ -102,10 +108,10 @@ fn are_digits(word: &[u8]) -> bool
     word.iter().all(|b| b.is_ascii_digit())
 }
 
-/// The number that at most seven digits spell.
+/// The number that at most [`MAX_DIGITS`] digits spell.
 fn value_of(digits: &[u8]) -> usize
     requires digits { list_all is_ascii_digit digits.now ≡ true }
-    requires few { length digits.now ≤ 7 }
+    requires few { length digits.now ≤ MAX_DIGITS }
     ensures { result ≡ value_of_digits digits.now }
 {
     let mut value: usize = 0;
@@ -115,16 +121,16 @@ fn value_of(digits: &[u8]) -> usize
     value
 }
 
-/// The number that a word spells: one to seven digits, and at most a million.
+/// The number that a word spells: one to [`MAX_DIGITS`] digits, and at most [`MAX_NUMBER`].
 #[tactic(auto, unfolding(crate::specs::Reader::number_of))]
 fn named_number(word: &[u8]) -> Option<usize>
     ensures { result ≡ number_of word.now }
 {
-    if word.is_empty() || word.len() > 7 || !are_digits(word) {
+    if word.is_empty() || word.len() > MAX_DIGITS || !are_digits(word) {
         return None;
     }
     let value = value_of(word);
-    if value > 1_000_000 {
+    if value > MAX_NUMBER {
         return None;
     }
     Some(value)

@@ -1,5 +1,6 @@
 //! Devices over memory, and the engine over those that fail.
 
+use crate::given::{REPORT, RUN};
 use digest_devices::device::{DeviceFailed, Sink, Source};
 use digest_devices::fault::Fault;
 use digest_devices::memory_device::{MemorySink, MemorySource};
@@ -7,11 +8,6 @@ use digest_devices::transfer::{read_all, write_all};
 use digest_engine::count::count;
 use std::alloc::Global;
 use std::test::Fail;
-
-const RUN: &[u8] = b"run 2 0 -\ntest fail,pass\ntest fail slow\n";
-
-const REPORT: &[u8] =
-    b"tests 2 passed 1 failed 1 flaky 1\nscripts 0 failed 0\nsummary failed test 2 0\n";
 
 /// Counts an input, with devices that fail where they are told to.
 fn counted<'a>(

@@ -1,10 +1,17 @@
-//! What the program gives for an input, by the engine over memory.
+//! A run with its report, and what the program gives for an input, by the engine over memory.
 
 use digest_devices::fault::Fault;
 use digest_devices::memory_device::{MemorySink, MemorySource};
 use digest_engine::count::count;
 use std::alloc::Global;
 use std::test::Fail;
+
+/// A run of two tests, of which one is flaky and one fails.
+pub(crate) const RUN: &[u8] = b"run 2 0 -\ntest fail,pass\ntest fail slow\n";
+
+/// The report of [`RUN`].
+pub(crate) const REPORT: &[u8] =
+    b"tests 2 passed 1 failed 1 flaky 1\nscripts 0 failed 0\nsummary failed test 2 0\n";
 
 /// What the program gives: its exit status, and what stands on standard output and error.
 #[derive(Drop)]

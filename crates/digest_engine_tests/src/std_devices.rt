@@ -1,5 +1,6 @@
 //! What readers and writers of std are asked: fakes that keep a log of their calls.
 
+use crate::given::{REPORT, RUN};
 use digest_devices::device::{DeviceFailed, Sink, Source};
 use digest_devices::fault::Fault;
 use digest_devices::std_device::{StdSink, StdSource};
@@ -8,11 +9,6 @@ use digest_engine::extract::extract;
 use std::alloc::Global;
 use std::io::{self, Read, Write};
 use std::test::Fail;
-
-const RUN: &[u8] = b"run 2 0 -\ntest fail,pass\ntest fail slow\n";
-
-const REPORT: &[u8] =
-    b"tests 2 passed 1 failed 1 flaky 1\nscripts 0 failed 0\nsummary failed test 2 0\n";
 
 const OUTPUT: &[u8] = b"foobar\nthread 'main' panicked at 'foo', src/lib.rs:1\n\n";
 

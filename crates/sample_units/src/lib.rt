@@ -2,7 +2,8 @@
 //! captured output and errors to put into others.
 #![tactic(auto)]
 
-ghost use Rattle.std.specs.Prelude.{◌≡◌, ◌++◌, ◌∷◌, [], map, false, None, IfOk};
+ghost use Rattle.std.specs.Prelude.{◌≡◌, ◌+◌, ◌++◌, ◌∷◌, [], map, length, false, None, IfOk};
+ghost use Rattle.std.specs.List.{range_with_len};
 ghost use Rattle.test_attempts.specs.TestView.{attempts_of, setting_of};
 ghost use Rattle.unit_results.specs.Described.{described_result};
 
@@ -79,10 +80,10 @@ fn nothing_captured(outcome: ExecutionResult) -> ChildExecutionOutputDescription
     }
 }
 
-/// An attempt of this number, from 1, that ended so.
+/// An attempt of this number, from 1, of three that were allowed; it ended so.
 pub fn attempt(outcome: ExecutionResult, number: u32, is_slow: bool) -> ExecuteStatus<LiveSpec>
     ensures result { result.result ≡ described_result outcome None }
-    ensures number { result.retry_data.attempt ≡ number }
+    ensures number { result.retry_data ≡ record { attempt = number; total_attempts = 3 } }
     ensures slow { result.is_slow ≡ is_slow }
 {
     ExecuteStatus {
@@ -101,7 +102,8 @@ pub fn attempt(outcome: ExecutionResult, number: u32, is_slow: bool) -> ExecuteS
     }
 }
 
-/// A test whose attempts ended so, the last of them slow or not.
+/// A test whose attempts ended so, the last of them slow or not. They are numbered from 1, and each
+/// says that three were allowed. More attempts than a `u32` counts are refused as memory is.
 pub fn finished_test(
     alloc: Global,
     earlier: &[ExecutionResult],
@@ -111,13 +113,17 @@ pub fn finished_test(
 ) -> Result<ExecutionStatuses<LiveSpec>, AllocError>
     ensures results { IfOk result (λ t. map (λ s. s.result) (attempts_of t) ≡ map (λ o. described_result o None) (earlier.now ++ last ∷ [])) }
     ensures slow { IfOk result (λ t. map (λ s. s.is_slow) (attempts_of t) ≡ map (λ _. false) earlier.now ++ is_slow ∷ []) }
+    ensures numbers { IfOk result (λ t. map (λ s. s.retry_data) (attempts_of t) ≡ map (λ n. record { attempt = n; total_attempts = 3 }) (range_with_len 1 (length earlier.now + 1))) }
     ensures setting { IfOk result (λ t. setting_of t ≡ setting) }
 {
     let mut statuses = Vec::new(alloc);
     let mut number: u32 = 1;
     for outcome in earlier {
         statuses.push(attempt(*outcome, number, false))?;
-        number = number.saturating_add(1);
+        let Some(next) = number.checked_add(1) else {
+            return Err(AllocError);
+        };
+        number = next;
     }
     statuses.push(attempt(last, number, is_slow))?;
     Ok(ExecutionStatuses::new(statuses, setting))

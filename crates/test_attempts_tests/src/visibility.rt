@@ -42,6 +42,16 @@ const FINAL_LEVELS: [FinalStatusLevel; 8] = [
     FinalStatusLevel::All,
 ];
 
+/// It is stored, and its output is not shown at the end.
+const STORED: OutputStoreFinal = OutputStoreFinal::Yes {
+    display_output: false,
+};
+
+/// It is stored, and its output is shown at the end.
+const STORED_TO_BE_SHOWN: OutputStoreFinal = OutputStoreFinal::Yes {
+    display_output: true,
+};
+
 /// Of a failed test the line alone is written.
 const HIDDEN: OutputOnTestFinished = OutputOnTestFinished {
     write_status_line: true,
@@ -53,18 +63,14 @@ const HIDDEN: OutputOnTestFinished = OutputOnTestFinished {
 const SHOWN_TWICE: OutputOnTestFinished = OutputOnTestFinished {
     write_status_line: true,
     show_immediate: true,
-    store_final: OutputStoreFinal::Yes {
-        display_output: true,
-    },
+    store_final: STORED_TO_BE_SHOWN,
 };
 
 /// Its output is shown too, at once and not at the end.
 const SHOWN_ONCE: OutputOnTestFinished = OutputOnTestFinished {
     write_status_line: true,
     show_immediate: true,
-    store_final: OutputStoreFinal::Yes {
-        display_output: false,
-    },
+    store_final: STORED,
 };
 
 /// A failure by an abort, which left no handle open.
@@ -143,9 +149,7 @@ fn a_failed_test_is_shown_and_stored_as_asked(rt: HostRuntime) {
             TestOutputDisplay::Never,
             None,
             false,
-            OutputStoreFinal::Yes {
-                display_output: false,
-            },
+            STORED,
         ),
         (
             FinalStatusLevel::None,
@@ -159,18 +163,14 @@ fn a_failed_test_is_shown_and_stored_as_asked(rt: HostRuntime) {
             TestOutputDisplay::Final,
             Some(CancelReason::Signal),
             false,
-            OutputStoreFinal::Yes {
-                display_output: true,
-            },
+            STORED_TO_BE_SHOWN,
         ),
         (
             FinalStatusLevel::Fail,
             TestOutputDisplay::Immediate,
             Some(CancelReason::Signal),
             true,
-            OutputStoreFinal::Yes {
-                display_output: false,
-            },
+            STORED,
         ),
     ] {
         let shown = output(own, display, reason, FinalStatusLevel::Fail, &exited());

@@ -70,8 +70,14 @@ fn values_are_read(rt: HostRuntime) -> Result<(), Fail> {
     Ok(())
 }
 
+/// Why a JSON text is not read as an error, if it is not.
+fn refusal_of(alloc: Global, text: &str) -> Result<Option<FromValueError>, Fail> {
+    let value = Value::from_str(alloc, text)?;
+    Ok(SerializableError::from_value(alloc, &value).err())
+}
+
 #[test]
-fn values_are_refused(rt: HostRuntime) -> Result<(), Fail> {
+fn values_without_a_message_are_refused(rt: HostRuntime) -> Result<(), Fail> {
     for (text, refusal) in [
         ("[]", FromValueError::NotAnObject),
         ("null", FromValueError::NotAnObject),
@@ -87,6 +93,15 @@ fn values_are_refused(rt: HostRuntime) -> Result<(), Fail> {
             r#"{"message":1,"causes":[1]}"#,
             FromValueError::MessageNotText,
         ),
+    ] {
+        assert_eq!(rt; refusal_of(rt.alloc(), text)?, Some(refusal), "{text}");
+    }
+    Ok(())
+}
+
+#[test]
+fn values_with_wrong_causes_are_refused(rt: HostRuntime) -> Result<(), Fail> {
+    for (text, refusal) in [
         (
             r#"{"message":"m","causes":null}"#,
             FromValueError::CausesNotAList,
@@ -108,9 +123,7 @@ fn values_are_refused(rt: HostRuntime) -> Result<(), Fail> {
             FromValueError::CauseNotText { index: 0 },
         ),
     ] {
-        let value = Value::from_str(rt.alloc(), text)?;
-        let read = SerializableError::from_value(rt.alloc(), &value);
-        assert_eq!(rt; read, Err(refusal), "{text}");
+        assert_eq!(rt; refusal_of(rt.alloc(), text)?, Some(refusal), "{text}");
     }
     Ok(())
 }

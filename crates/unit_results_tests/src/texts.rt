@@ -81,7 +81,8 @@ fn failures(rt: HostRuntime) -> Result<(), Fail> {
 }
 
 #[test]
-fn endings_by_the_runner(rt: HostRuntime) {
+fn endings_by_signals(rt: HostRuntime) {
+    assert_eq!(rt; SIGTERM, 15);
     let by_signal = |signal| FailureStatus::Abort(AbortStatus::UnixSignal(signal));
     for (failure_status, ended_by_runner) in [
         (by_signal(15), true),
@@ -101,6 +102,10 @@ fn endings_by_the_runner(rt: HostRuntime) {
             );
         }
     }
+}
+
+#[test]
+fn endings_by_windows(rt: HostRuntime) {
     for (abort, ended_by_runner) in [
         (AbortDescription::WindowsJobObject, true),
         (
@@ -122,7 +127,6 @@ fn endings_by_the_runner(rt: HostRuntime) {
             "{described:?}"
         );
     }
-    assert_eq!(rt; SIGTERM, 15);
 }
 
 #[test]

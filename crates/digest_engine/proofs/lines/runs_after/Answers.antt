@@ -20,15 +20,15 @@ loop-line-preserved c =
       | in-Unit+in_ok-push-in-Unit w ↦
           let is_unit = rw (c.in-Some-2.is, w.in-Unit.is) at c.in_ok-entry.ensures in
           record {
-            few = omega (arith, c.if-number-gt10000.false);
+            few = omega (arith, c.if-number-gt-MAX_LINES.false);
             so_far = rw (w.runs-is, w.run-is, w.in_ok-push-in-Unit.ensures.items, map-append)
-                (unit_more number line rest (owned_view w.in-Unit.unit) front run _ (omega (arith, c.if-number-gt10000.false)) is_unit so_far);
+                (unit_more number line rest (owned_view w.in-Unit.unit) front run _ (omega (arith, c.if-number-gt-MAX_LINES.false)) is_unit so_far);
           }
       | in-SubRun+in_ok-push-in-SubRun w ↦
           let is_start = rw (c.in-Some-2.is, w.in-SubRun.is) at c.in_ok-entry.ensures in
           record {
-            few = omega (arith, c.if-number-gt10000.false);
+            few = omega (arith, c.if-number-gt-MAX_LINES.false);
             so_far = rw (w.runs-is, w.run-is, w.in_ok-push-in-SubRun.ensures.items, map-append, w.replace-before.ensures.value, w.replace-before.ensures.after, w.begun.ensures)
-                (start_more number line rest w.in-SubRun.start front run _ (omega (arith, c.if-number-gt10000.false)) is_start so_far);
+                (start_more number line rest w.in-SubRun.start front run _ (omega (arith, c.if-number-gt-MAX_LINES.false)) is_start so_far);
           }
     ]
