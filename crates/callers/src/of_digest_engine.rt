@@ -10,8 +10,8 @@ use digest_devices::fault::Fault;
 use digest_engine::count::count;
 use std::alloc::Global;
 
-/// Counts the runs that a source says, and answers the number of the first bad line, from 1, if a
-/// line is bad. A failed write is no fault here.
+/// Counts the runs that a source says, with their reports to the sink, and answers the number of the
+/// first bad line, from 1, if a line is bad. A failed write is no fault here.
 pub fn first_bad_line<R: Source, W: Sink>(
     alloc: Global,
     source: &mut R,

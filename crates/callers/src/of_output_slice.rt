@@ -1,6 +1,6 @@
 //! A caller of `output_slice`, as its page of calls has it.
 
-ghost use Rattle.std.specs.Prelude.{◌≡◌, ◌↔◌, ℕ, IsTrue, Some, option_map};
+ghost use Rattle.std.specs.Prelude.{◌↔◌, ℕ, IsTrue, Some, option_map};
 ghost use Rattle.output_slice.specs.Extraction.{IsExtract};
 ghost use Rattle.output_slice.specs.Head.{IsHead};
 ghost use Rattle.output_slice.specs.Shown.{extract_of};

@@ -1,3 +1,4 @@
+-- What a fault is to the caller of the program.
 use Rattle.std.specs.Prelude.{ℕ, List, ◌++◌, codes}
 use Rattle.std.specs.Fmt.{decimal}
 use Rattle.digest_devices.specs.declared.fault.Fault.{Fault}

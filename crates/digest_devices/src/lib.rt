@@ -1,4 +1,5 @@
-//! What `run-digest` reads from and writes to, and the faults that it ends with.
+//! What `run-digest` reads from and writes to, how all of it is read and written, and the faults
+//! that the program ends with.
 #![tactic(auto)]
 
 pub mod device;

@@ -56,8 +56,9 @@ impl Source for MemorySource<'_> {
         self.failed
     }
 
-    /// As [`Source::read`], with as many bytes as are left and fit the buffer. It fails exactly
-    /// where no read was to come before the one that fails, and then no byte is taken.
+    /// As [`Source::read`], with as many bytes as are left and fit the buffer; what the buffer holds
+    /// behind them is not said. It fails exactly where no read was to come before the one that
+    /// fails, and then no byte is taken.
     fn read(&mut self, buffer: &mut [u8]) -> Result<usize, DeviceFailed>
         requires { 0 < length buffer.old }
         ensures count { IfOk result (λ n. n ≤ length buffer.new) }

@@ -12,7 +12,9 @@ use std::alloc::Global;
 /// All the bytes that a source has left. It must not have failed before.
 ///
 /// - [`Fault::Read`] exactly where the source fails.
-/// - [`Fault::OutOfMemory`] where memory is refused. What the source has left is then not said.
+/// - [`Fault::OutOfMemory`] where memory is refused.
+///
+/// What the source has left after a fault is not said.
 pub fn read_all<R: Source>(alloc: Global, source: &mut R) -> Result<Vec<u8>, Fault>
     requires { R.failed source.old ≡ false }
     ensures bytes { IfOk result (λ bytes. IfSome (R.left source.old) (λ all. bytes.items ≡ all)) }

@@ -1,5 +1,5 @@
-//! What the program `run-digest` does, over any source and any sink of bytes: those of
-//! `digest_devices`, where its faults stand too.
+//! What the program `run-digest` does, over any source and any sink of bytes. The devices and the
+//! faults stand in `digest_devices`.
 #![tactic(auto)]
 
 pub mod command;

@@ -3,6 +3,7 @@ use Rattle.std.specs.Prelude.{ℕ, Bool, List, Option, None, Some, option_and_th
 use Rattle.run_events.specs.Counters.{ScriptUnit, TestUnit, UnitView}
 use Rattle.run_events.specs.Described.{described_result}
 use Rattle.run_events.specs.TestView.{TestView, attempts_of, last_of, view_of}
+use Rattle.test_attempts.specs.declared.attempts.RetryData.{RetryData}
 use Rattle.test_attempts.specs.declared.attempts.statuses.ExecutionStatuses.{ExecutionStatuses}
 use Rattle.unit_results.specs.declared.child.ChildExecutionOutputDescription.{ChildExecutionOutputDescription}
 use Rattle.unit_results.specs.declared.child.ChildExecutionOutputDescription.TheVariants as left
@@ -10,17 +11,21 @@ use Rattle.unit_results.specs.declared.child.LiveSpec.{LiveSpec}
 use Rattle.unit_results.specs.declared.child.output.ChildOutputDescription.{ChildOutputDescription}
 use Rattle.unit_results.specs.declared.child.output.ChildOutputDescription.TheVariants.{Combined, NotLoaded, Split}
 use Rattle.unit_results.specs.declared.config.FlakyResult.{FlakyResult}
-use Rattle.run_events.specs.declared.stats.RunStats.{RunStats}
 use Rattle.run_events.specs.declared.events.ReporterEvent.{ReporterEvent}
 use Rattle.run_events.specs.declared.events.ReporterEvent.TheVariants as told
 use Rattle.run_events.specs.declared.events.kind.TestEventKind.{TestEventKind}
 use Rattle.run_events.specs.declared.events.kind.TestEventKind.TheVariants.{SetupScriptFinished, TestFinished}
+use Rattle.run_events.specs.declared.stats.RunStats.{RunStats}
 use Rattle.unit_results.specs.declared.results.ExecutionResult.{ExecutionResult}
 
 -- the view of a test of so many attempts, of which the last ended so
 abbrev pub view_of_attempts : ℕ → ExecutionResult → Bool → FlakyResult → TestView
 view_of_attempts attempts outcome slow setting =
     record { result = described_result outcome None; attempts = attempts; is_slow = slow; setting = setting }
+
+-- the attempt of a number, from 1, of so many
+abbrev pub numbered_of : ℕ → ℕ → RetryData
+numbered_of total number = record { attempt = number; total_attempts = total }
 
 -- what was captured of standard error; both streams in one are taken as it
 abbrev pub stderr_in : ChildOutputDescription → Option (List ℕ)
@@ -48,20 +53,22 @@ abbrev pub told_unit : ReporterEvent → Option UnitView
 told_unit told.Tick = None
 told_unit (told.Test event) = unit_of_kind event.value.kind
 
--- the name of the test whose end an event tells
+-- the name of the test whose end a kind of event tells
 abbrev pub name_of_kind : TestEventKind → Option (List ℕ)
 name_of_kind (TestFinished index id success failure store_success store_failure flaky statuses stats running) = Some id.test_name.now
 name_of_kind _ = None
 
+-- the name of the test whose end an event tells
 abbrev pub told_name : ReporterEvent → Option (List ℕ)
 told_name told.Tick = None
 told_name (told.Test event) = name_of_kind event.value.kind
 
--- the counters that an event tells at the end of a test
+-- the counters that a kind of event tells at the end of a test
 abbrev pub stats_of_kind : TestEventKind → Option RunStats
 stats_of_kind (TestFinished index id success failure store_success store_failure flaky statuses stats running) = Some stats
 stats_of_kind _ = None
 
+-- the counters that an event tells at the end of a test
 abbrev pub told_stats : ReporterEvent → Option RunStats
 told_stats told.Tick = None
 told_stats (told.Test event) = stats_of_kind event.value.kind

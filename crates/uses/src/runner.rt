@@ -1,12 +1,12 @@
 //! A runner's side: makes the statuses of attempts and the events that tell of finished tests, and
 //! lends what finished to the counters.
 
-ghost use Rattle.std.specs.Prelude.{◌≡◌, ◌+◌, IfOk, None, Some, length, map, option_map};
-ghost use Rattle.std.specs.List.{filter_map};
+ghost use Rattle.std.specs.Prelude.{◌≡◌, ◌<◌, ◌+◌, ◌^◌, ◌++◌, ◌∷◌, [], IfOk, None, Some, length, map, option_map};
+ghost use Rattle.std.specs.List.{filter_map, range_with_len};
 ghost use Rattle.run_events.specs.Counters.{TestUnit, stats_of, unit_view};
 ghost use Rattle.run_events.specs.Described.{described_result};
-ghost use Rattle.run_events.specs.TestView.{view_of};
-ghost use Rattle.uses.specs.Runner.{last_stderr, stderr_of, told_name, told_stats, told_unit, view_of_attempts};
+ghost use Rattle.run_events.specs.TestView.{attempts_of, view_of};
+ghost use Rattle.uses.specs.Runner.{last_stderr, numbered_of, stderr_of, told_name, told_stats, told_unit, view_of_attempts};
 
 use bytes::Bytes;
 use jiff::Timestamp;
@@ -81,7 +81,8 @@ fn epoch() -> Moment {
     }
 }
 
-/// A test that finished with the last of these attempts, after the earlier ones.
+/// A test that finished with the last of these attempts, after the earlier ones. They are numbered
+/// from 1, and each tells how many there are, as far as a `u32` counts.
 #[tactic(auto, using(crate::proofs::Lists::last_pushed))]
 pub fn finished_test(
     alloc: Global,
@@ -91,6 +92,9 @@ pub fn finished_test(
 ) -> Result<ExecutionStatuses<LiveSpec>, AllocError>
     ensures view { IfOk result (λ test. view_of test ≡ view_of_attempts (length earlier.now + 1) last.entry.outcome last.entry.is_slow setting) }
     ensures stderr { IfOk result (λ test. last_stderr test ≡ Some last.entry.stderr.now) }
+    ensures results { IfOk result (λ test. map (λ s. s.result) (attempts_of test) ≡ map (λ a. described_result a.outcome None) (earlier.now ++ last.entry ∷ [])) }
+    ensures slow { IfOk result (λ test. map (λ s. s.is_slow) (attempts_of test) ≡ map (λ a. a.is_slow) (earlier.now ++ last.entry ∷ [])) }
+    ensures numbers { length earlier.now + 1 < 2 ^ 32 → IfOk result (λ test. map (λ s. s.retry_data) (attempts_of test) ≡ map (numbered_of (length earlier.now + 1)) (range_with_len 1 (length earlier.now + 1))) }
 {
     let total_attempts = u32::try_from(earlier.len())
         .unwrap_or(u32::MAX)

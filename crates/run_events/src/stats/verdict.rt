@@ -65,20 +65,20 @@ pub(super) fn is_failed_slow(test: &ExecutionStatuses<LiveSpec>) -> bool
     is_failed(test) && test.last_status().is_slow
 }
 
-pub(super) fn script_passed(attempt: &ExecutionResultDescription) -> bool
-    ensures { result ≡ script_spec.script_passed attempt.now }
+pub(super) fn script_passed(outcome: &ExecutionResultDescription) -> bool
+    ensures { result ≡ script_spec.script_passed outcome.now }
 {
-    is_pass(attempt) || is_leak_pass(attempt)
+    is_pass(outcome) || is_leak_pass(outcome)
 }
 
-pub(super) fn script_failed(attempt: &ExecutionResultDescription) -> bool
-    ensures { result ≡ script_spec.script_failed attempt.now }
+pub(super) fn script_failed(outcome: &ExecutionResultDescription) -> bool
+    ensures { result ≡ script_spec.script_failed outcome.now }
 {
-    is_fail(attempt) || is_leak_fail(attempt)
+    is_fail(outcome) || is_leak_fail(outcome)
 }
 
-pub(super) fn script_timed_out(attempt: &ExecutionResultDescription) -> bool
-    ensures { result ≡ script_spec.script_timed_out attempt.now }
+pub(super) fn script_timed_out(outcome: &ExecutionResultDescription) -> bool
+    ensures { result ≡ script_spec.script_timed_out outcome.now }
 {
-    is_timeout_pass(attempt) || is_timeout_fail(attempt)
+    is_timeout_pass(outcome) || is_timeout_fail(outcome)
 }
