@@ -1,19 +1,16 @@
 //! Makes calls that take memory, to see what they do where it is refused.
 //!
-//! `refusals all` makes each call once, and prints a line for each. `refusals WORD GROWTHS` makes
-//! the call of one word, after GROWTHS growths that nothing needs: where the growth of a fixed
-//! number is refused, as `rt try --fail-alloc` does, GROWTHS says which growth of the call that is.
-//! It prints one line, and what came of the call is
+//! `refusals all` makes each call once, and prints a line for each. `refusals WORD` makes the call of
+//! one word: it takes memory for the word, then for the arguments, then makes the call, and takes
+//! none behind it. It prints one line, and what came of the call is
 //!
-//! - `not reached`: the growth that was refused came before the call;
+//! - `not reached`: memory was refused before the call;
 //! - `was refused`: the call answered that memory was refused, and left what it was lent;
-//! - `went through, then a growth was refused`: it answered right, and that growth came after it;
-//! - `went through`: it answered right, and no growth after it was refused;
+//! - `went through`: it answered right;
 //! - `wrong answer: WHAT`: anything else. The exit status is then 1.
 #![tactic(auto)]
 
 use crate::call::Call;
-use crate::growths::{is_refused_later, spend};
 use crate::outcome::Outcome;
 use std::alloc::AllocError;
 use std::process::ExitCode;
@@ -24,7 +21,6 @@ mod call;
 mod chain;
 mod child;
 mod engines;
-mod growths;
 mod outcome;
 mod stress;
 mod unit_errors;
@@ -63,15 +59,9 @@ fn all<R: AllocGlobal + Print>(rt: &R) -> io::Result<ExitCode> {
     Ok(status(is_wrong))
 }
 
-/// Makes a call after so many growths, and prints what came of it.
-fn one<R: AllocGlobal + Print>(rt: &R, call: Call, growths: usize) -> io::Result<ExitCode> {
-    let outcome = match spend(rt.alloc(), growths) {
-        Ok(()) => match call.make(rt.alloc()) {
-            Outcome::WentThrough if is_refused_later(rt.alloc()) => Outcome::WentThroughBefore,
-            outcome => outcome,
-        },
-        Err(_) => Outcome::NotReached,
-    };
+/// Makes a call, and prints what came of it.
+fn one<R: AllocGlobal + Print>(rt: &R, call: Call) -> io::Result<ExitCode> {
+    let outcome = call.make(rt.alloc());
     println!(rt; "{}: {outcome}", call.word())?;
     Ok(status(outcome.is_wrong()))
 }
@@ -84,15 +74,14 @@ fn main(rt: HostRuntime) -> io::Result<ExitCode> {
             return Ok(ExitCode::SUCCESS);
         }
     };
-    match words.as_slice() {
-        [word] if word.as_str() == "all" => return all(&rt),
-        [word, growths] => {
-            if let (Some(call), Ok(growths)) = (Call::from_word(word.as_str()), growths.parse()) {
-                return one(&rt, call, growths);
-            }
+    if let [word] = words.as_slice() {
+        if word.as_str() == "all" {
+            return all(&rt);
         }
-        _ => {}
+        if let Some(call) = Call::from_word(word.as_str()) {
+            return one(&rt, call);
+        }
     }
-    eprintln!(rt; "usage: refusals all|WORD GROWTHS")?;
+    eprintln!(rt; "usage: refusals all|WORD")?;
     Ok(ExitCode::from(2))
 }

@@ -15,9 +15,6 @@ pub(crate) enum Outcome {
     /// It answered what it has to.
     WentThrough,
 
-    /// So it did, and a growth after it was refused.
-    WentThroughBefore,
-
     /// It answered that memory was refused, and left what it was lent as it was.
     WasRefused,
 
@@ -52,7 +49,6 @@ impl fmt::Display for Outcome {
         match self {
             Outcome::NotReached => f.write_str("not reached"),
             Outcome::WentThrough => f.write_str("went through"),
-            Outcome::WentThroughBefore => { f.write_str("went through, then a growth was refused") }
             Outcome::WasRefused => f.write_str("was refused"),
             Outcome::Wrong(what) => write!(f, "wrong answer: {what}"),
         }
