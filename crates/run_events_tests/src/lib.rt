@@ -1,20 +1,15 @@
-//! Tests of what `run_events` adds to the layers below it, but for its events, through its public
-//! calls alone: rows worked by hand, printed text, and that each public call succeeds once. They
-//! stand in a crate of their own, so that the check of the tests does not prove the library once
-//! more.
+//! Tests of `run_events` through its public calls alone, of what neither a clause nor a row of the
+//! replay says. They stand in a crate of their own, so that the check of the tests does not prove
+//! the library once more.
 #![tactic(auto)]
 
 #[cfg(test)]
-mod conditions;
+mod attempts;
 #[cfg(test)]
-mod counters;
+mod chain;
 #[cfg(test)]
 mod laws;
 #[cfg(test)]
-mod outcome;
+mod runs;
 #[cfg(test)]
-mod summary;
-#[cfg(test)]
-mod texts;
-#[cfg(test)]
-mod unit_errors;
+mod visibility;

@@ -1,9 +1,3 @@
-pub mod Count
+pub mod Engine
 pub mod Extracts
-pub mod Kind
-pub mod Levels
-pub mod Tally
 pub mod Units
-pub mod Verdict
-pub mod Visibilities
-pub mod Words

@@ -44,7 +44,7 @@ fn raises(unit: &Unit, counters: &RunStats) -> bool
 }
 
 /// The unit that words name.
-fn unit_in(alloc: Global, text: &str) -> Result<Option<Unit>, AllocError> {
+pub(crate) fn unit_in(alloc: Global, text: &str) -> Result<Option<Unit>, AllocError> {
     let words: Vec<&str> = text.split(' ').collect(alloc)?;
     match words.as_slice() {
         ["script", result] => Ok(named_result(result).map(|outcome| Unit::Script(script_of(
@@ -58,6 +58,9 @@ fn unit_in(alloc: Global, text: &str) -> Result<Option<Unit>, AllocError> {
 /// The counters, with a value for the one that a name stands for.
 fn with_counter(mut stats: RunStats, name: &str, value: usize) -> Option<RunStats> {
     let counter = match name {
+        "initial_run_count" => &mut stats.initial_run_count,
+        "setup_scripts_initial_count" => &mut stats.setup_scripts_initial_count,
+        "skipped" => &mut stats.skipped,
         "setup_scripts_finished_count" => &mut stats.setup_scripts_finished_count,
         "setup_scripts_passed" => &mut stats.setup_scripts_passed,
         "setup_scripts_failed" => &mut stats.setup_scripts_failed,
@@ -81,7 +84,7 @@ fn with_counter(mut stats: RunStats, name: &str, value: usize) -> Option<RunStat
 }
 
 /// The counters that a text names.
-fn counters_in(text: &str) -> Option<RunStats> {
+pub(crate) fn counters_in(text: &str) -> Option<RunStats> {
     let mut stats = RunStats::default();
     for part in text.split(", ") {
         let (name, value) = part.split_once(": ")?;

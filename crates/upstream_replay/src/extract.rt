@@ -5,7 +5,7 @@
 
 ghost use Rattle.upstream_replay.specs.Extracts.{FoundExtract};
 
-use crate::bytes::bytes_in;
+use crate::hexadecimal::bytes_in;
 use run_events::output_slice::subslice::TestOutputErrorSlice;
 use std::alloc::{AllocError, Global};
 

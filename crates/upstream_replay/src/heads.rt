@@ -7,7 +7,7 @@
 ghost use Rattle.std.specs.Prelude.{◌↔◌, IsTrue};
 ghost use Rattle.run_events.specs.Taken.{IsLastTaken};
 
-use crate::bytes::bytes_in;
+use crate::hexadecimal::bytes_in;
 use run_events::output_slice::byte_source::CountedBytes;
 use run_events::output_slice::last_head::last_head;
 use run_events::output_slice::panic_head::{HeadSpan, last_panic_head};

@@ -2,10 +2,9 @@
 //!
 //! A case is `RESULT ATTEMPTS SETTING SLOW LEVEL FINAL_LEVEL`.
 
-ghost use Rattle.std.specs.Prelude.{◌≡◌, ◌≢◌, MatchOption, Some};
+ghost use Rattle.std.specs.Prelude.{◌≡◌, Some};
 ghost use Rattle.run_events.specs.Level.{final_level_of, level_of};
 ghost use Rattle.run_events.specs.TestView.{view_of};
-ghost use Rattle.upstream_replay.specs.Levels.{final_level_word, level_word};
 
 use crate::unit::test_in;
 use run_events::attempts::ExecutionStatuses;
@@ -23,9 +22,7 @@ fn levels_of(test: &ExecutionStatuses<LiveSpec>) -> (StatusLevel, FinalStatusLev
 }
 
 /// The level that a word names.
-fn named_level(word: &str) -> Option<StatusLevel>
-    ensures { MatchOption result ((x : StatusLevel) → word.now ≢ level_word x) (λ x. word.now ≡ level_word x) }
-{
+pub(crate) fn named_level(word: &str) -> Option<StatusLevel> {
     match word {
         "None" => Some(StatusLevel::None),
         "Fail" => Some(StatusLevel::Fail),
@@ -40,9 +37,7 @@ fn named_level(word: &str) -> Option<StatusLevel>
 }
 
 /// The final level that a word names.
-fn named_final_level(word: &str) -> Option<FinalStatusLevel>
-    ensures { MatchOption result ((x : FinalStatusLevel) → word.now ≢ final_level_word x) (λ x. word.now ≡ final_level_word x) }
-{
+pub(crate) fn named_final_level(word: &str) -> Option<FinalStatusLevel> {
     match word {
         "None" => Some(FinalStatusLevel::None),
         "Fail" => Some(FinalStatusLevel::Fail),

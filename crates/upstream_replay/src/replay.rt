@@ -1,29 +1,34 @@
 //! One line of the list.
 
-use crate::kind::Kind;
-use crate::verdict::Verdict;
-use crate::{count, counter, extract, heads, level, visibility};
+use crate::{counter, engine, extract, heads, level, rows, visibility};
+use digest_engine::command::Command;
 use std::alloc::{AllocError, Global};
 
-/// What comes of a line of the list: the word of its kind, a space, and the case.
-pub(crate) fn judged(alloc: Global, line: &str) -> Result<Verdict, AllocError> {
-    let Some((word, case)) = line.split_once(' ') else {
-        return Ok(Verdict::Malformed);
+/// Whether the port agrees on a line, which is the word of its kind, a space, and the case; `None`
+/// for a line that is no case.
+fn agrees_as_it_is(alloc: Global, line: &str) -> Result<Option<bool>, AllocError> {
+    let Some((kind, case)) = line.split_once(' ') else {
+        return Ok(None);
     };
-    let Some(kind) = Kind::from_word(word) else {
-        return Ok(Verdict::Malformed);
-    };
-    let agrees = match kind {
-        Kind::Count => count::agrees(alloc, case)?,
-        Kind::Counter => counter::agrees(alloc, case)?,
-        Kind::Extract => extract::agrees(alloc, case)?,
-        Kind::Heads => heads::agrees(alloc, case)?,
-        Kind::Level => level::agrees(alloc, case)?,
-        Kind::Visibility => visibility::agrees(alloc, case)?,
-    };
-    Ok(match agrees {
-        Some(true) => Verdict::Agrees(kind),
-        Some(false) => Verdict::Disagrees(kind),
-        None => Verdict::Malformed,
-    })
+    match kind {
+        "count" => engine::agrees(alloc, Command::Count, case),
+        "counter" => counter::agrees(alloc, case),
+        "digest-extract" => engine::agrees(alloc, Command::Extract, case),
+        "extract" => extract::agrees(alloc, case),
+        "heads" => heads::agrees(alloc, case),
+        "level" => level::agrees(alloc, case),
+        "row" => rows::agrees(alloc, case),
+        "visibility" => visibility::agrees(alloc, case),
+        _ => Ok(None),
+    }
+}
+
+/// Whether the port agrees on a line; `None` for a line that is no case. Behind the word `changed`
+/// stands a line that must not agree: so it is seen that the replay tells what agrees from what does
+/// not.
+pub(crate) fn agrees(alloc: Global, line: &str) -> Result<Option<bool>, AllocError> {
+    match line.split_once(' ') {
+        Some(("changed", changed)) => { Ok(Some(agrees_as_it_is(alloc, changed)? != Some(true))) }
+        _ => agrees_as_it_is(alloc, line),
+    }
 }

@@ -60,7 +60,11 @@ fn output_of(outcome: ExecutionResult) -> ChildExecutionOutputDescription<LiveSp
 }
 
 /// The attempt of this number, which ended so.
-fn attempt_of(outcome: ExecutionResult, attempt: u32, is_slow: bool) -> ExecuteStatus<LiveSpec>
+pub(crate) fn attempt_of(
+    outcome: ExecutionResult,
+    attempt: u32,
+    is_slow: bool,
+) -> ExecuteStatus<LiveSpec>
     ensures result { result.result ≡ described_result outcome None }
     ensures slow { result.is_slow ≡ is_slow }
 {

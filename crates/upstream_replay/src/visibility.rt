@@ -8,10 +8,6 @@
 //! in order, the least first. The answer to every pair of a place in LINES and a place in OUTPUTS
 //! has to agree.
 
-ghost use Rattle.std.specs.Prelude.{◌≡◌, ◌≢◌, Option, MatchOption};
-ghost use Rattle.digest_engine.specs.Spelling.{reason_word};
-ghost use Rattle.upstream_replay.specs.Visibilities.{display_word, tested_word};
-
 use run_events::config::TestOutputDisplay;
 use run_events::levels::{
     FinalStatusLevel, OutputOnTestFinished, OutputStoreFinal, StatusLevel, StatusLevels,
@@ -74,9 +70,7 @@ impl Tested {
 }
 
 /// The display that a word names.
-fn named_display(word: &str) -> Option<TestOutputDisplay>
-    ensures { MatchOption result ((x : TestOutputDisplay) → word.now ≢ display_word x) (λ x. word.now ≡ display_word x) }
-{
+pub(crate) fn named_display(word: &str) -> Option<TestOutputDisplay> {
     match word {
         "Immediate" => Some(TestOutputDisplay::Immediate),
         "ImmediateFinal" => Some(TestOutputDisplay::ImmediateFinal),
@@ -87,9 +81,7 @@ fn named_display(word: &str) -> Option<TestOutputDisplay>
 }
 
 /// The reason to cancel that a word names, if any.
-fn named_reason(word: &str) -> Option<Option<CancelReason>>
-    ensures { MatchOption result ((x : Option CancelReason) → word.now ≢ reason_word x) (λ x. word.now ≡ reason_word x) }
-{
+pub(crate) fn named_reason(word: &str) -> Option<Option<CancelReason>> {
     match word {
         "-" => Some(None),
         "setup-script-failure" => Some(Some(CancelReason::SetupScriptFailure)),
@@ -106,9 +98,7 @@ fn named_reason(word: &str) -> Option<Option<CancelReason>>
 }
 
 /// The result that a word names.
-fn named_result(word: &str) -> Option<Tested>
-    ensures { MatchOption result ((x : Tested) → word.now ≢ tested_word x) (λ x. word.now ≡ tested_word x) }
-{
+fn named_result(word: &str) -> Option<Tested> {
     match word {
         "pass" => Some(Tested::Passed),
         "exit-1" => Some(Tested::Exited),

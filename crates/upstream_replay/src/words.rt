@@ -1,15 +1,10 @@
 //! Words that several kinds of cases share.
 
-ghost use Rattle.std.specs.Prelude.{◌≡◌, ◌≢◌, Bool, MatchOption};
-ghost use Rattle.upstream_replay.specs.Words.{attempts_word, result_word, setting_word, truth_word};
-
 use run_events::config::{FlakyResult, LeakTimeoutResult, SlowTimeoutResult};
 use run_events::results::{ExecutionResult, FailureStatus};
 
 /// The result that a word names.
-pub(crate) fn named_result(word: &str) -> Option<ExecutionResult>
-    ensures { MatchOption result ((x : ExecutionResult) → word.now ≢ result_word x) (λ x. word.now ≡ result_word x) }
-{
+pub(crate) fn named_result(word: &str) -> Option<ExecutionResult> {
     match word {
         "pass" => Some(ExecutionResult::Pass),
         "leak" => Some(ExecutionResult::Leak {
@@ -34,9 +29,7 @@ pub(crate) fn named_result(word: &str) -> Option<ExecutionResult>
 }
 
 /// The setting for flaky tests that a word names.
-pub(crate) fn named_setting(word: &str) -> Option<FlakyResult>
-    ensures { MatchOption result ((x : FlakyResult) → word.now ≢ setting_word x) (λ x. word.now ≡ setting_word x) }
-{
+pub(crate) fn named_setting(word: &str) -> Option<FlakyResult> {
     match word {
         "Pass" => Some(FlakyResult::Pass),
         "Fail" => Some(FlakyResult::Fail),
@@ -45,9 +38,7 @@ pub(crate) fn named_setting(word: &str) -> Option<FlakyResult>
 }
 
 /// Whether there was a second attempt, by the number of attempts, which is 1 or 2.
-pub(crate) fn named_retry(word: &str) -> Option<bool>
-    ensures { MatchOption result ((x : Bool) → word.now ≢ attempts_word x) (λ x. word.now ≡ attempts_word x) }
-{
+pub(crate) fn named_retry(word: &str) -> Option<bool> {
     match word {
         "1" => Some(false),
         "2" => Some(true),
@@ -56,9 +47,7 @@ pub(crate) fn named_retry(word: &str) -> Option<bool>
 }
 
 /// What `true` and `false` say.
-pub(crate) fn named_truth(word: &str) -> Option<bool>
-    ensures { MatchOption result ((x : Bool) → word.now ≢ truth_word x) (λ x. word.now ≡ truth_word x) }
-{
+pub(crate) fn named_truth(word: &str) -> Option<bool> {
     match word {
         "true" => Some(true),
         "false" => Some(false),

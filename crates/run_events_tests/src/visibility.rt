@@ -1,13 +1,13 @@
 //! What is shown of a finished test.
 
-use std::process::Abort;
-use test_attempts::levels::{
+use run_events::config::TestOutputDisplay;
+use run_events::levels::{
     FinalStatusLevel, OutputOnTestFinished, OutputStoreFinal, StatusLevel, StatusLevels,
 };
-use unit_results::config::TestOutputDisplay;
-use unit_results::results::{
+use run_events::results::{
     AbortDescription, CancelReason, ExecutionResultDescription, FailureDescription,
 };
+use std::process::Abort;
 
 /// No reason, and all reasons, the least first.
 const REASONS: [Option<CancelReason>; 10] = [
@@ -42,56 +42,18 @@ const FINAL_LEVELS: [FinalStatusLevel; 8] = [
     FinalStatusLevel::All,
 ];
 
-/// It is stored, and its output is not shown at the end.
-const STORED: OutputStoreFinal = OutputStoreFinal::Yes {
-    display_output: false,
-};
-
-/// It is stored, and its output is shown at the end.
-const STORED_TO_BE_SHOWN: OutputStoreFinal = OutputStoreFinal::Yes {
-    display_output: true,
-};
-
-/// Of a failed test the line alone is written.
-const HIDDEN: OutputOnTestFinished = OutputOnTestFinished {
-    write_status_line: true,
-    show_immediate: false,
-    store_final: OutputStoreFinal::No,
-};
-
-/// Its output is shown too, at once and at the end.
-const SHOWN_TWICE: OutputOnTestFinished = OutputOnTestFinished {
-    write_status_line: true,
-    show_immediate: true,
-    store_final: STORED_TO_BE_SHOWN,
-};
-
-/// Its output is shown too, at once and not at the end.
-const SHOWN_ONCE: OutputOnTestFinished = OutputOnTestFinished {
-    write_status_line: true,
-    show_immediate: true,
-    store_final: STORED,
-};
-
-/// A failure by an abort, which left no handle open.
-fn aborted(abort: AbortDescription) -> ExecutionResultDescription {
+/// A failure by this, which left no handle open.
+fn failed(failure: FailureDescription) -> ExecutionResultDescription {
     ExecutionResultDescription::Fail {
-        failure: FailureDescription::Abort { abort },
+        failure,
         leaked: false,
     }
 }
 
 /// A failure by a signal.
 fn signalled(signal: i32) -> ExecutionResultDescription {
-    aborted(AbortDescription::UnixSignal { signal, name: None })
-}
-
-/// A failure by exit code 1.
-fn exited() -> ExecutionResultDescription {
-    ExecutionResultDescription::Fail {
-        failure: FailureDescription::ExitCode { code: 1 },
-        leaked: false,
-    }
+    let abort = AbortDescription::UnixSignal { signal, name: None };
+    failed(FailureDescription::Abort { abort })
 }
 
 /// What is shown where a failed test has the final level `level`, and the own final level is
@@ -114,69 +76,6 @@ fn output(
         level,
         execution_result,
     )
-}
-
-#[test]
-fn a_terminated_test_is_hidden_as_the_run_stops(rt: HostRuntime) {
-    let by_signal = signalled(15);
-    let by_job_object = aborted(AbortDescription::WindowsJobObject);
-    let other = exited();
-    for (reason, execution_result, wanted) in [
-        (CancelReason::TestFailureImmediate, &by_signal, HIDDEN),
-        (CancelReason::TestFailureImmediate, &by_job_object, HIDDEN),
-        (CancelReason::TestFailureImmediate, &other, SHOWN_TWICE),
-        (CancelReason::OutputLimit, &by_signal, SHOWN_TWICE),
-        (CancelReason::GlobalTimeout, &by_signal, SHOWN_TWICE),
-        (CancelReason::Signal, &by_signal, SHOWN_ONCE),
-        (CancelReason::SecondSignal, &by_signal, HIDDEN),
-    ] {
-        let shown = output(
-            FinalStatusLevel::Fail,
-            TestOutputDisplay::ImmediateFinal,
-            Some(reason),
-            FinalStatusLevel::Fail,
-            execution_result,
-        );
-        assert_eq!(rt; shown, wanted, "{reason:?} {execution_result:?}");
-    }
-}
-
-#[test]
-fn a_failed_test_is_shown_and_stored_as_asked(rt: HostRuntime) {
-    for (own, display, reason, show_immediate, store_final) in [
-        (
-            FinalStatusLevel::Fail,
-            TestOutputDisplay::Never,
-            None,
-            false,
-            STORED,
-        ),
-        (
-            FinalStatusLevel::None,
-            TestOutputDisplay::Immediate,
-            None,
-            true,
-            OutputStoreFinal::No,
-        ),
-        (
-            FinalStatusLevel::Fail,
-            TestOutputDisplay::Final,
-            Some(CancelReason::Signal),
-            false,
-            STORED_TO_BE_SHOWN,
-        ),
-        (
-            FinalStatusLevel::Fail,
-            TestOutputDisplay::Immediate,
-            Some(CancelReason::Signal),
-            true,
-            STORED,
-        ),
-    ] {
-        let shown = output(own, display, reason, FinalStatusLevel::Fail, &exited());
-        assert_eq!(rt; shown.show_immediate, show_immediate, "{display:?}");
-        assert_eq!(rt; shown.store_final, store_final, "{display:?}");
-    }
 }
 
 /// How much is stored.
@@ -231,11 +130,12 @@ fn grows_only_by_the_exception(
 
 #[test]
 fn less_is_shown_under_a_greater_reason(rt: HostRuntime) {
+    let exited = failed(FailureDescription::ExitCode { code: 1 });
     for own in FINAL_LEVELS {
         for display in DISPLAYS {
             grows_only_by_the_exception(&rt, own, display, &signalled(15), true);
             grows_only_by_the_exception(&rt, own, display, &signalled(9), false);
-            grows_only_by_the_exception(&rt, own, display, &exited(), false);
+            grows_only_by_the_exception(&rt, own, display, &exited, false);
         }
     }
 }

@@ -1,0 +1,159 @@
+//! Tests by their attempts: descriptions, levels, and what is shown.
+
+use crate::level::{named_final_level, named_level};
+use crate::rows::words::result_in;
+use crate::unit::attempt_of;
+use crate::visibility::{named_display, named_reason};
+use crate::words::{named_setting, named_truth};
+use run_events::attempts::{EmptyStatuses, ExecutionDescription, ExecutionStatuses, RetryData};
+use run_events::child::LiveSpec;
+use run_events::config::FlakyResult;
+use run_events::levels::StatusLevels;
+use run_events::results::{AbortDescription, ExecutionResultDescription, FailureDescription};
+use std::alloc::{AllocError, Global};
+
+/// A test whose attempts ended so, the last of them slow or not; `none` for no attempt.
+fn test_in(
+    alloc: Global,
+    results: &str,
+    setting: FlakyResult,
+    is_slow: bool,
+) -> Result<Option<Result<ExecutionStatuses<LiveSpec>, EmptyStatuses>>, AllocError> {
+    let mut statuses = Vec::new(alloc);
+    if results != "none" {
+        let last = results.split(',').count();
+        for (number, word) in (1..u32::MAX).zip(results.split(',')) {
+            let Some(outcome) = result_in(word) else {
+                return Ok(None);
+            };
+            let is_last = number as usize == last;
+            statuses.push(attempt_of(outcome, number, is_slow && is_last))?;
+        }
+    }
+    Ok(Some(ExecutionStatuses::try_from_parts(statuses, setting)))
+}
+
+/// The case of a test's description, its number of attempts, its setting, both levels, and whether
+/// its output is that of a success.
+fn described(alloc: Global, test: &ExecutionStatuses<LiveSpec>) -> Result<String, AllocError> {
+    let description = test.describe();
+    let case = match description {
+        ExecutionDescription::Success { .. } => "success",
+        ExecutionDescription::Flaky { .. } => "flaky",
+        ExecutionDescription::Failure { .. } => "failure",
+    };
+    format!(in alloc;
+        "{case} after {}, {:?}, {:?}, {:?}, {}",
+        test.len(),
+        test.flaky_result(),
+        description.status_level(),
+        description.final_status_level(),
+        description.is_success_for_output()
+    )
+}
+
+fn of_test(
+    alloc: Global,
+    results: &str,
+    setting: &str,
+    is_slow: &str,
+) -> Result<Option<String>, AllocError> {
+    let (Some(setting), Some(is_slow)) = (named_setting(setting), named_truth(is_slow)) else {
+        return Ok(None);
+    };
+    match test_in(alloc, results, setting, is_slow)? {
+        None => Ok(None),
+        Some(Ok(test)) => Ok(Some(described(alloc, &test)?)),
+        Some(Err(refused)) => Ok(Some(format!(in alloc; "{refused:?}")?)),
+    }
+}
+
+/// Whether a description of a success is one, made of an attempt that ended so.
+fn of_success(alloc: Global, word: &str) -> Result<Option<String>, AllocError> {
+    let Some(outcome) = result_in(word) else {
+        return Ok(None);
+    };
+    let single_status = &attempt_of(outcome, 1, true);
+    let description = ExecutionDescription::Success { single_status };
+    Ok(Some(format!(in alloc; "{}", description.is_consistent())?))
+}
+
+fn of_attempt(alloc: Global, attempt: &str, total: &str) -> Result<Option<String>, AllocError> {
+    let (Ok(attempt), Ok(total_attempts)) = (attempt.parse(), total.parse()) else {
+        return Ok(None);
+    };
+    let data = RetryData {
+        attempt,
+        total_attempts,
+    };
+    Ok(Some(format!(in alloc; "{}", data.is_last_attempt())?))
+}
+
+/// How a test ended: `job object` for an end by that of Windows, and else a result.
+fn described_in(word: &str) -> Option<ExecutionResultDescription> {
+    if word == "job object" {
+        let abort = AbortDescription::WindowsJobObject;
+        return Some(ExecutionResultDescription::Fail {
+            failure: FailureDescription::Abort { abort },
+            leaked: false,
+        });
+    }
+    Some(ExecutionResultDescription::from_status(result_in(word)?, None))
+}
+
+/// What is shown of a test that ended so, by the levels and the display that are set.
+fn shown(
+    alloc: Global,
+    levels: &[&str],
+    reason: &str,
+    word: &str,
+) -> Result<Option<String>, AllocError> {
+    let [own, own_final, display, of_test, final_of_test] = levels else {
+        return Ok(None);
+    };
+    let (
+        Some(status_level),
+        Some(final_status_level),
+        Some(display),
+        Some(of_test),
+        Some(final_of_test),
+        Some(reason),
+        Some(described),
+    ) = (
+        named_level(own),
+        named_final_level(own_final),
+        named_display(display),
+        named_level(of_test),
+        named_final_level(final_of_test),
+        named_reason(reason),
+        described_in(word),
+    ) else {
+        return Ok(None);
+    };
+    let levels = StatusLevels {
+        status_level,
+        final_status_level,
+    };
+    let output = levels.compute_output_on_test_finished(
+        display,
+        reason,
+        of_test,
+        final_of_test,
+        &described,
+    );
+    Ok(Some(format!(in alloc;
+        "{} {} {:?}",
+        output.write_status_line, output.show_immediate, output.store_final
+    )?))
+}
+
+/// What the port answers to a question of this group; `None` for any other.
+pub(super) fn answer(alloc: Global, parts: &[&str]) -> Result<Option<String>, AllocError> {
+    match parts {
+        ["test", results, setting, is_slow] => of_test(alloc, results, setting, is_slow),
+        ["is a success", word] => of_success(alloc, word),
+        ["is the last attempt", attempt, total] => of_attempt(alloc, attempt, total),
+        ["shown", levels @ .., reason, word] => shown(alloc, levels, reason, word),
+        _ => Ok(None),
+    }
+}

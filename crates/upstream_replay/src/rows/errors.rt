@@ -1,0 +1,208 @@
+//! Errors with causes as JSON, and the errors of units.
+
+use crate::rows::slices::slice_text;
+use crate::rows::words::{bytes_in, result_in, text_in};
+use bytes::Bytes;
+use run_events::chain::SerializableError;
+use run_events::child::{
+    ChildError, ChildErrorDescription, ChildExecutionOutputDescription, ChildFdError,
+    ChildOutputDescription, ChildSingleOutput, ChildStartError, ChildStartErrorDescription,
+    ErrorList, LiveSpec,
+};
+use run_events::results::{ExecutionResultDescription, UnitKind};
+use run_events::unit_error::{UnitError, UnitErrorDescription};
+use serde_json::Value;
+use std::alloc::{AllocError, Global};
+
+/// The texts of an error that a JSON text is read as, and the JSON text of it again; or why it is
+/// read as none.
+fn of_json(alloc: Global, json: &str) -> Result<Option<String>, AllocError> {
+    let Ok(value) = Value::from_str(alloc, json) else {
+        return Ok(None);
+    };
+    match SerializableError::from_value(alloc, &value) {
+        Err(refusal) => Ok(Some(format!(in alloc; "{refusal:?}")?)),
+        Ok(error) => {
+            let mut text = format!(in alloc; "{error}")?;
+            for source in error.sources() {
+                text.push_str(", because ")?;
+                text.push_str(source.message())?;
+            }
+            let json = error.to_value(alloc)?.to_string(alloc)?;
+            Ok(Some(format!(in alloc; "{text}: {json}")?))
+        }
+    }
+}
+
+/// The text of an error around a process, and of what it comes from.
+fn of_process(alloc: Global, word: &str) -> Result<Option<String>, AllocError> {
+    let message = String::from_str(alloc, "cause")?;
+    let source = SerializableError::from_message_and_causes(alloc, message, Vec::new(alloc))?;
+    let error = match word {
+        "read stdout" => ChildError::Fd(ChildFdError::ReadStdout(source)),
+        "read stderr" => ChildError::Fd(ChildFdError::ReadStderr(source)),
+        "read combined" => ChildError::Fd(ChildFdError::ReadCombined(source)),
+        "wait" => ChildError::Fd(ChildFdError::Wait(source)),
+        "script output" => ChildError::SetupScriptOutput(source),
+        _ => return of_start(alloc, word, source),
+    };
+    let described = ChildErrorDescription::from(error);
+    let text = format!(in alloc; "{described}, because {}", described.source())?;
+    Ok(Some(text))
+}
+
+/// The text of an error in starting a process, and of what it comes from.
+fn of_start(
+    alloc: Global,
+    word: &str,
+    source: SerializableError,
+) -> Result<Option<String>, AllocError> {
+    let error = match word {
+        "temporary path" => ChildStartError::TempPath(source),
+        "spawn" => ChildStartError::Spawn(source),
+        _ => return Ok(None),
+    };
+    let described = ChildStartErrorDescription::from(error);
+    let text = format!(in alloc; "{described}, because {}", described.source())?;
+    Ok(Some(text))
+}
+
+/// The errors in a list, one behind the other, after its description and their number; `none` for
+/// no list.
+fn list_text(alloc: Global, list: Option<ErrorList<UnitError<'_>>>) -> Result<String, AllocError> {
+    let Some(list) = list else {
+        return String::from_str(alloc, "none");
+    };
+    let mut text = format!(in alloc; "{} ({})", list.description(), list.len())?;
+    for error in list.iter() {
+        let line = format!(in alloc; "; {error}")?;
+        text.push_str(line.as_str())?;
+    }
+    Ok(text)
+}
+
+/// Whether anything went wrong with a unit; the slice of its errors, all of them, those that keep it
+/// from being run, and those of its process.
+fn errors_text(
+    alloc: Global,
+    kind: UnitKind,
+    output: &ChildExecutionOutputDescription<LiveSpec>,
+) -> Result<String, AllocError> {
+    if !UnitErrorDescription::can_describe(kind, output) {
+        return String::from_str(alloc, "cannot be described");
+    }
+    let has_errors = output.has_errors();
+    let errors = UnitErrorDescription::new(kind, output);
+    let slice = slice_text(alloc, errors.output_slice())?;
+    let all = list_text(alloc, errors.all_error_list(alloc)?)?;
+    let exec_fail = list_text(alloc, errors.exec_fail_error_list(alloc)?)?;
+    let child_process = list_text(alloc, errors.child_process_error_list(alloc)?)?;
+    format!(in alloc; "{has_errors} | {slice} | {all} | {exec_fail} | {child_process}")
+}
+
+fn captured(alloc: Global, word: &str) -> Result<Option<ChildSingleOutput>, AllocError> {
+    match bytes_in(alloc, word)? {
+        None => Ok(None),
+        Some(bytes) => Ok(Some(ChildSingleOutput::from(Bytes::copy_from_slice(
+            alloc,
+            bytes.as_slice(),
+        )?))),
+    }
+}
+
+/// The output that words name: `not loaded`, both streams in one, or two streams.
+fn output_in(alloc: Global, words: &[&str]) -> Result<Option<ChildOutputDescription>, AllocError> {
+    match words {
+        ["not loaded"] => Ok(Some(ChildOutputDescription::NotLoaded)),
+        ["combined", both] => Ok(captured(alloc, both)?.map(|output| {
+            ChildOutputDescription::Combined { output }
+        })),
+        ["split", stdout, stderr] => Ok(Some(ChildOutputDescription::Split {
+            stdout: captured(alloc, stdout)?,
+            stderr: captured(alloc, stderr)?,
+        })),
+        _ => Ok(None),
+    }
+}
+
+/// The lengths of the streams of output, if it is loaded.
+fn lengths_of(alloc: Global, words: &[&str]) -> Result<Option<String>, AllocError> {
+    let Some(output) = output_in(alloc, words)? else {
+        return Ok(None);
+    };
+    if !output.is_loaded() {
+        return Ok(Some(String::from_str(alloc, "not loaded")?));
+    }
+    let (stdout, stderr) = output.stdout_stderr_len();
+    Ok(Some(format!(in alloc; "{stdout:?}, {stderr:?}")?))
+}
+
+/// An error in reading standard output, `-` for none.
+fn read_error(
+    alloc: Global,
+    message: &str,
+) -> Result<Option<ErrorList<ChildErrorDescription>>, AllocError> {
+    let Some(message) = text_in(alloc, message)? else {
+        return Ok(None);
+    };
+    let causes = Vec::new(alloc);
+    let source = SerializableError::from_message_and_causes(alloc, message, causes)?;
+    let mut errors = Vec::new(alloc);
+    errors.push(ChildErrorDescription::ReadStdout { source })?;
+    Ok(ErrorList::new("reading", errors))
+}
+
+/// The end that a word names with the name of a signal, `running` for none yet.
+fn end_in(
+    alloc: Global,
+    word: &str,
+    name: &str,
+) -> Result<Option<Option<ExecutionResultDescription>>, AllocError> {
+    if word == "running" {
+        return Ok(Some(None));
+    }
+    let Some(outcome) = result_in(word) else {
+        return Ok(None);
+    };
+    let name = text_in(alloc, name)?;
+    Ok(Some(Some(ExecutionResultDescription::from_status(outcome, name))))
+}
+
+/// The errors of a unit that left this.
+fn of_unit(alloc: Global, kind: UnitKind, words: &[&str]) -> Result<Option<String>, AllocError> {
+    let [end, name, error, output @ ..] = words else {
+        return Ok(None);
+    };
+    let (Some(end), Some(output)) = (end_in(alloc, end, name)?, output_in(alloc, output)?) else {
+        return Ok(None);
+    };
+    let left = ChildExecutionOutputDescription::Output {
+        result: end,
+        output,
+        errors: read_error(alloc, error)?,
+    };
+    Ok(Some(errors_text(alloc, kind, &left)?))
+}
+
+/// The errors of a unit that was not started.
+fn of_unit_not_started(alloc: Global, kind: UnitKind) -> Result<Option<String>, AllocError> {
+    let message = String::from_str(alloc, "not found")?;
+    let causes = Vec::new(alloc);
+    let source = SerializableError::from_message_and_causes(alloc, message, causes)?;
+    let error = ChildStartErrorDescription::Spawn { source };
+    let left = ChildExecutionOutputDescription::StartError(error);
+    Ok(Some(errors_text(alloc, kind, &left)?))
+}
+
+/// What the port answers to a question of this group; `None` for any other.
+pub(super) fn answer(alloc: Global, parts: &[&str]) -> Result<Option<String>, AllocError> {
+    match parts {
+        ["error", json] => of_json(alloc, json),
+        ["error of a process", word] => of_process(alloc, word),
+        ["lengths", output @ ..] => lengths_of(alloc, output),
+        ["errors of a test", "not started"] => of_unit_not_started(alloc, UnitKind::Test),
+        ["errors of a test", words @ ..] => of_unit(alloc, UnitKind::Test, words),
+        ["errors of a script", words @ ..] => of_unit(alloc, UnitKind::Script, words),
+        _ => Ok(None),
+    }
+}

@@ -1,0 +1,84 @@
+//! Repeated runs: what is left of them, and the ids of their sub-runs.
+
+use run_events::stress::{NonZeroDuration, StressCount, StressIndex, StressProgress};
+use std::alloc::{AllocError, Global};
+use std::num::NonZero;
+use std::time::Duration;
+use uuid::Uuid;
+
+/// A run that is repeated so many times, `infinite` for no end.
+fn counted_in(total: &str, completed: &str) -> Option<StressProgress> {
+    let total = match total {
+        "infinite" => StressCount::Infinite,
+        number => StressCount::Count {
+            count: NonZero::<u32>::new(number.parse().ok()?)?,
+        },
+    };
+    Some(StressProgress::Count {
+        total,
+        elapsed: Duration::from_secs(1),
+        completed: completed.parse().ok()?,
+    })
+}
+
+/// A run that is repeated for so many nanoseconds.
+fn timed_in(total: &str, elapsed: &str) -> Option<StressProgress> {
+    Some(StressProgress::Time {
+        total: Duration::from_nanos(total.parse().ok()?),
+        elapsed: Duration::from_nanos(elapsed.parse().ok()?),
+        completed: 7,
+    })
+}
+
+/// What is left of a run.
+fn left_of(alloc: Global, progress: Option<StressProgress>) -> Result<Option<String>, AllocError> {
+    match progress {
+        None => Ok(None),
+        Some(progress) => Ok(Some(format!(in alloc; "{:?}", progress.remaining())?)),
+    }
+}
+
+/// The id of a sub-run.
+fn id_of(
+    alloc: Global,
+    progress: Option<StressProgress>,
+    run: &str,
+) -> Result<Option<String>, AllocError> {
+    let (Some(progress), Ok(run)) = (progress, run.parse()) else {
+        return Ok(None);
+    };
+    Ok(Some(progress.unique_id(alloc, Uuid::from_u128(run))?))
+}
+
+/// A duration above zero, in nanoseconds.
+fn above_zero(alloc: Global, nanos: &str) -> Result<Option<String>, AllocError> {
+    let Ok(nanos) = nanos.parse() else {
+        return Ok(None);
+    };
+    let duration = NonZeroDuration::new(Duration::from_nanos(nanos));
+    let nanos = duration.map(|duration| duration.get().as_nanos());
+    Ok(Some(format!(in alloc; "{nanos:?}")?))
+}
+
+/// The total of a sub-run, `-` where it is not known.
+fn total_of(alloc: Global, total: &str) -> Result<Option<String>, AllocError> {
+    let total = match total {
+        "-" => None,
+        number => NonZero::<u32>::new(number.parse().unwrap_or(0)),
+    };
+    let index = StressIndex { current: 2, total };
+    Ok(Some(format!(in alloc; "{:?}", index.total_get())?))
+}
+
+/// What the port answers to a question of this group; `None` for any other.
+pub(super) fn answer(alloc: Global, parts: &[&str]) -> Result<Option<String>, AllocError> {
+    match parts {
+        ["left of a count", total, completed] => left_of(alloc, counted_in(total, completed)),
+        ["left of a time", total, elapsed] => left_of(alloc, timed_in(total, elapsed)),
+        ["id of a count", run, completed] => id_of(alloc, counted_in("infinite", completed), run),
+        ["id of a time", run] => id_of(alloc, timed_in("5", "3"), run),
+        ["duration above zero", nanos] => above_zero(alloc, nanos),
+        ["total of a sub-run", total] => total_of(alloc, total),
+        _ => Ok(None),
+    }
+}
