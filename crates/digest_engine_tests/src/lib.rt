@@ -1,23 +1,17 @@
-//! Tests of `digest_engine` and `digest_devices` through their public calls alone: rows worked by
-//! hand, and what readers and writers of std are asked. They stand in a crate of their own, so that
-//! the check of the tests does not prove the libraries once more.
+//! Tests of `digest_engine` and `digest_devices` through their public calls alone, of what whole
+//! inputs with their texts cannot say: those are data of `upstream_replay`. Here are devices that
+//! fail, runs of many lines, and what readers and writers of std are asked.
 #![tactic(auto)]
 
 #[cfg(test)]
-mod command;
+mod engine;
 #[cfg(test)]
-mod devices;
+mod failures;
 #[cfg(test)]
-mod extract;
+mod long_runs;
 #[cfg(test)]
-mod faults;
-#[cfg(test)]
-mod given;
-#[cfg(test)]
-mod line_limits;
-#[cfg(test)]
-mod reports;
+mod memory_devices;
 #[cfg(test)]
 mod std_devices;
 #[cfg(test)]
-mod sub_runs;
+mod words;

@@ -1,6 +1,6 @@
 //! What readers and writers of std are asked: fakes that keep a log of their calls.
 
-use crate::given::{REPORT, RUN};
+use crate::engine::{EXTRACT, OUTPUT, REPORT, RUN};
 use digest_devices::device::{DeviceFailed, Sink, Source};
 use digest_devices::fault::Fault;
 use digest_devices::std_device::{StdSink, StdSource};
@@ -8,11 +8,6 @@ use digest_engine::count::count;
 use digest_engine::extract::extract;
 use std::alloc::Global;
 use std::io::{self, Read, Write};
-use std::test::Fail;
-
-const OUTPUT: &[u8] = b"foobar\nthread 'main' panicked at 'foo', src/lib.rs:1\n\n";
-
-const EXTRACT: &[u8] = b"panic-message 7 45\nthread 'main' panicked at 'foo', src/lib.rs:1\n";
 
 /// Gives at most so many bytes a call, fails at one call, and then goes on.
 #[derive(Drop)]
@@ -38,7 +33,7 @@ impl Read for Pieces {
 }
 
 /// A call of a writer: how many bytes it was handed, or that it was flushed.
-#[derive(Clone, Copy, Debug, PartialEq, Eq)]
+#[derive(Clone, Copy, PartialEq, Eq)]
 enum Call {
     Write(usize),
     Flush,
@@ -86,6 +81,16 @@ impl Write for Log {
     }
 }
 
+/// A reader of bytes by at most so many a call.
+fn reader(bytes: &'static [u8], most: usize, fails_at: Option<usize>) -> Pieces {
+    Pieces {
+        bytes,
+        most,
+        fails_at,
+        calls: 0,
+    }
+}
+
 /// Counts the run, by a reader and a writer.
 fn counted(alloc: Global, reader: &mut Pieces, writer: &mut Log) -> Result<bool, Fault> {
     let mut source = StdSource::new(reader);
@@ -93,153 +98,113 @@ fn counted(alloc: Global, reader: &mut Pieces, writer: &mut Log) -> Result<bool,
     count(alloc, &mut source, &mut sink)
 }
 
-/// A reader of the run by seven bytes.
-fn reader(fails_at: Option<usize>) -> Pieces {
-    Pieces {
-        bytes: RUN,
-        most: 7,
-        fails_at,
-        calls: 0,
-    }
-}
-
-/// A reader of bytes by so many.
-fn reader_by(bytes: &'static [u8], most: usize) -> Pieces {
-    Pieces {
-        bytes,
-        most,
-        fails_at: None,
-        calls: 0,
-    }
-}
-
 #[test]
 fn new_devices_call_nothing(rt: HostRuntime) {
-    let mut pieces = reader(Some(0));
+    let mut pieces = reader(RUN, 7, Some(0));
     let source = StdSource::new(&mut pieces);
-    assert!(rt; !source.has_failed());
-    drop(source);
-    assert_eq!(rt; pieces.calls, 0);
-    assert_eq!(rt; pieces.bytes.len(), RUN.len());
     let mut log = Log::new(rt.alloc(), 9, Some(0));
     let sink = StdSink::new(&mut log);
-    assert!(rt; !sink.has_failed());
+    assert!(rt; !source.has_failed() && !sink.has_failed());
+    drop(source);
     drop(sink);
-    assert!(rt; log.calls.is_empty());
+    assert!(rt; pieces.calls == 0 && pieces.bytes == RUN && log.calls.is_empty());
 }
 
 #[test]
 fn a_failed_read_is_not_tried_again(rt: HostRuntime) {
+    // Six pieces, and one read that finds the end.
     for at in 0..8 {
-        let mut pieces = reader(Some(at));
+        let mut pieces = reader(RUN, 7, Some(at));
         let mut log = Log::new(rt.alloc(), 200, None);
         let answer = counted(rt.alloc(), &mut pieces, &mut log);
-        if pieces.calls <= at {
-            // All pieces, and one read that finds the end.
-            assert_eq!(rt; answer, Ok(false));
-            assert_eq!(rt; pieces.calls, 7);
+        let holds = if at < 7 {
+            answer == Err(Fault::Read) && pieces.calls == at + 1 && log.calls.is_empty()
         } else {
-            assert_eq!(rt; answer, Err(Fault::Read), "call {at}");
-            assert_eq!(rt; pieces.calls, at.saturating_add(1));
-            assert!(rt; log.calls.is_empty());
-        }
+            answer == Ok(false) && pieces.calls == 7
+        };
+        assert!(rt; holds, "call {at}");
     }
+}
+
+#[test]
+fn a_read_is_one_call_of_the_reader(rt: HostRuntime) {
+    let mut pieces = reader(RUN, 7, Some(1));
+    let mut source = StdSource::new(&mut pieces);
+    let mut buffer = [0; 9];
+    assert!(rt; source.read(&mut buffer) == Ok(7) && buffer.starts_with(b"run 2 0"));
+    assert!(rt; source.read(&mut buffer) == Err(DeviceFailed) && source.has_failed());
+    drop(source);
+    assert!(rt; pieces.calls == 2 && pieces.bytes == &RUN[7..]);
 }
 
 #[test]
 fn pieces_of_every_size_give_the_same_text(rt: HostRuntime) {
     for most in 1..RUN.len() + 2 {
         let mut log = Log::new(rt.alloc(), 200, None);
-        let answer = counted(rt.alloc(), &mut reader_by(RUN, most), &mut log);
-        assert_eq!(rt; answer, Ok(false), "{most} bytes");
-        assert_eq!(rt; log.taken.as_slice(), REPORT, "{most} bytes");
+        let answer = counted(rt.alloc(), &mut reader(RUN, most, None), &mut log);
+        assert!(rt;
+            answer == Ok(false) && log.taken.as_slice() == REPORT,
+            "{most} bytes"
+        );
     }
     for most in 1..OUTPUT.len() + 2 {
-        let mut reader = reader_by(OUTPUT, most);
+        let mut pieces = reader(OUTPUT, most, None);
+        let mut source = StdSource::new(&mut pieces);
         let mut log = Log::new(rt.alloc(), 200, None);
-        let mut source = StdSource::new(&mut reader);
         let mut sink = StdSink::new(&mut log);
         let answer = extract(rt.alloc(), &mut source, &mut sink);
-        drop(source);
         drop(sink);
-        assert_eq!(rt; answer, Ok(true), "{most} bytes");
-        assert_eq!(rt; log.taken.as_slice(), EXTRACT, "{most} bytes");
+        assert!(rt;
+            answer == Ok(true) && log.taken.as_slice() == EXTRACT,
+            "{most} bytes"
+        );
     }
 }
 
 #[test]
-fn a_read_is_one_call_of_the_reader(rt: HostRuntime) {
-    let mut pieces = reader(Some(1));
-    let mut source = StdSource::new(&mut pieces);
-    let mut buffer = [0; 9];
-    assert_eq!(rt; source.read(&mut buffer), Ok(7));
-    assert!(rt; buffer.starts_with(b"run 2 0"));
-    assert_eq!(rt; source.read(&mut buffer), Err(DeviceFailed));
-    assert!(rt; source.has_failed());
-    drop(source);
-    assert_eq!(rt; pieces.calls, 2);
-    assert_eq!(rt; pieces.bytes.len(), RUN.len().saturating_sub(7));
-}
-
-#[test]
-fn the_text_is_handed_on_whole_and_then_flushed(rt: HostRuntime) -> Result<(), Fail> {
-    let mut log = Log::new(rt.alloc(), 200, None);
-    assert_eq!(rt; counted(rt.alloc(), &mut reader(None), &mut log), Ok(false));
-    let wanted = [Call::Write(REPORT.len()), Call::Flush];
-    assert_eq!(rt; log.calls.as_slice(), wanted.as_slice());
-    assert_eq!(rt; log.taken.as_slice(), REPORT);
-    Ok(())
-}
-
-#[test]
-fn what_a_writer_left_is_handed_on_next(rt: HostRuntime) {
-    let mut log = Log::new(rt.alloc(), 30, None);
-    assert_eq!(rt; counted(rt.alloc(), &mut reader(None), &mut log), Ok(false));
+fn the_text_is_handed_on_and_then_flushed(rt: HostRuntime) {
     let whole = REPORT.len();
-    let wanted = [
+    let at_once = [Call::Write(whole), Call::Flush];
+    // What a writer left is handed on next.
+    let in_pieces = [
         Call::Write(whole),
         Call::Write(whole.saturating_sub(30)),
         Call::Write(whole.saturating_sub(60)),
         Call::Flush,
     ];
-    assert_eq!(rt; log.calls.as_slice(), wanted.as_slice());
-    assert_eq!(rt; log.taken.as_slice(), REPORT);
-}
-
-#[test]
-fn a_failed_write_or_flush_is_not_tried_again(rt: HostRuntime) {
-    for (at, taken) in [(0, 0), (1, 30), (2, 60), (3, REPORT.len())] {
-        let mut log = Log::new(rt.alloc(), 30, Some(at));
-        let answer = counted(rt.alloc(), &mut reader(None), &mut log);
-        assert_eq!(rt; answer, Err(Fault::Write), "call {at}");
-        assert_eq!(rt; log.calls.len(), at.saturating_add(1));
-        assert_eq!(rt; log.taken.len(), taken);
-        assert!(rt; REPORT.starts_with(log.taken.as_slice()));
+    for (most, fails_at, wanted, calls, taken) in [
+        (200, None, Ok(false), at_once.as_slice(), whole),
+        (30, None, Ok(false), &in_pieces, whole),
+        // A failed write or flush is not tried again.
+        (30, Some(0), Err(Fault::Write), &in_pieces[..1], 0),
+        (30, Some(1), Err(Fault::Write), &in_pieces[..2], 30),
+        (30, Some(2), Err(Fault::Write), &in_pieces[..3], 60),
+        (30, Some(3), Err(Fault::Write), &in_pieces, whole),
+        // A write that takes no byte is a failure.
+        (0, None, Err(Fault::Write), &in_pieces[..1], 0),
+    ] {
+        let mut log = Log::new(rt.alloc(), most, fails_at);
+        let answer = counted(rt.alloc(), &mut reader(RUN, 7, None), &mut log);
+        assert!(rt;
+            answer == wanted && log.calls.as_slice() == calls,
+            "{most} bytes, {fails_at:?} fails"
+        );
+        assert!(rt;
+            log.taken.len() == taken && REPORT.starts_with(log.taken.as_slice()),
+            "{most} bytes, {fails_at:?} fails"
+        );
     }
-}
-
-#[test]
-fn a_write_that_takes_no_byte_is_a_failure(rt: HostRuntime) {
-    let mut log = Log::new(rt.alloc(), 0, None);
-    let answer = counted(rt.alloc(), &mut reader(None), &mut log);
-    assert_eq!(rt; answer, Err(Fault::Write));
-    assert_eq!(rt;
-        log.calls.as_slice(),
-        [Call::Write(REPORT.len())].as_slice()
-    );
 }
 
 #[test]
 fn a_flush_is_one_call_of_the_writer(rt: HostRuntime) {
     let mut log = Log::new(rt.alloc(), 3, Some(1));
     let mut sink = StdSink::new(&mut log);
-    assert_eq!(rt; sink.write(b"hello"), Ok(3));
-    assert_eq!(rt; sink.flush(), Err(DeviceFailed));
-    assert!(rt; sink.has_failed());
-    assert_eq!(rt; sink.flush(), Ok(()));
-    assert!(rt; sink.has_failed());
+    assert!(rt; sink.write(b"hello") == Ok(3) && sink.flush() == Err(DeviceFailed));
+    assert!(rt; sink.has_failed() && sink.flush() == Ok(()) && sink.has_failed());
     drop(sink);
     let wanted = [Call::Write(5), Call::Flush, Call::Flush];
-    assert_eq!(rt; log.calls.as_slice(), wanted.as_slice());
-    assert_eq!(rt; log.taken.as_slice(), b"hel".as_slice());
+    assert!(rt;
+        log.calls.as_slice() == wanted.as_slice() && log.taken.as_slice() == b"hel".as_slice()
+    );
 }
