@@ -13,8 +13,6 @@ mod lines;
 pub mod panic_head;
 mod signs;
 pub mod subslice;
-#[cfg(test)]
-mod tests;
 
 pub use byte_source::{ByteSource, CountedBytes};
 pub use heuristics::{heuristic_error_str, heuristic_panic_message, heuristic_should_panic};

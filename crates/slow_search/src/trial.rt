@@ -1,13 +1,14 @@
 //! One input, searched by the slow functions and by those that are tested.
 
-use crate::slow::{list_heads, list_taken};
+use crate::slow::{list_heads, list_taken, widened};
 use output_slice::byte_source::{ByteSource, CountedBytes};
+use output_slice::heuristics::heuristic_panic_message;
 use output_slice::last_head::last_head;
 use output_slice::panic_head::{HeadSpan, last_panic_head};
 use std::alloc::{AllocError, Global};
 
 /// How many reads a search made, and of how many bytes.
-#[derive(Clone, Copy, Debug)]
+#[derive(Clone, Copy)]
 pub(crate) struct Reads {
     pub(crate) count: u128,
     pub(crate) bytes: usize,
@@ -47,31 +48,33 @@ impl Trial {
         }
     }
 
+    /// Takes these bytes as the input. Their heads are not listed yet.
+    pub(crate) fn take(&mut self, bytes: &[u8]) -> Result<(), AllocError> {
+        self.bytes.clear();
+        self.bytes.extend_from_slice(bytes)
+    }
+
     /// Lists the heads of the bytes.
     pub(crate) fn list(&mut self) -> Result<(), AllocError> {
         list_heads(self.bytes.as_slice(), &mut self.heads)?;
         list_taken(self.heads.as_slice(), &mut self.taken)
     }
 
-    /// Takes these bytes as the input.
-    pub(crate) fn take(&mut self, bytes: &[u8]) -> Result<(), AllocError> {
-        self.bytes.clear();
-        self.bytes.extend_from_slice(bytes)?;
-        self.list()
-    }
-
-    /// The reads of the counted search, if all searches find the last taken head, and it with few
-    /// reads: at most three a byte and eight more.
+    /// The reads of the counted search, if all searches find what the slow functions do: the last
+    /// taken head, found in at most three reads a byte and eight more, and where its slice begins.
     pub(crate) fn reads(&self) -> Option<Reads> {
+        let bytes = self.bytes.as_slice();
         let last = self.taken.last().copied();
-        let mut source = CountedBytes::new(self.bytes.as_slice());
+        let mut source = CountedBytes::new(bytes);
         let found = last_panic_head(&mut source);
         let reads = Reads {
             count: source.reads(),
-            bytes: self.bytes.len(),
+            bytes: bytes.len(),
         };
+        let slice = heuristic_panic_message(bytes);
         if found == last
-            && last_head(self.bytes.as_slice()) == last
+            && last_head(bytes) == last
+            && slice.map(|part| part.start) == self.slice_start()
             && reads.count <= 3 * reads.bytes as u128 + 8
         {
             Some(reads)
@@ -80,8 +83,27 @@ impl Trial {
         }
     }
 
-    /// Whether all searches find the last taken head, and the counted one with few reads.
-    pub(crate) fn agrees(&self) -> bool {
-        self.reads().is_some()
+    /// Where the slice of the last taken head begins.
+    fn slice_start(&self) -> Option<usize> {
+        let head = self.taken.last()?;
+        self.bytes.get(..head.start).map(widened)
+    }
+
+    /// Whether the slice of the last taken head begins before it.
+    pub(crate) fn is_widened(&self) -> bool {
+        self.slice_start() != self.taken.last().map(|head| head.start)
+    }
+
+    /// Whether a head begins within another one.
+    pub(crate) fn overlaps(&self) -> bool {
+        self.heads.len() > self.taken.len()
+    }
+
+    /// Whether a line feed stands in a head.
+    pub(crate) fn crosses_line(&self) -> bool {
+        self.heads.iter().any(|head| {
+            let text = self.bytes.get(head.start..head.stop);
+            text.map_or(false, |text| text.contains(&b'\n'))
+        })
     }
 }

@@ -1,7 +1,8 @@
 //! Every beginning of outputs.
 
+use crate::met::Met;
 use crate::trial::Trial;
-use std::alloc::AllocError;
+use std::io;
 
 /// Outputs with heads that cross, and with a number past ASCII that is one, or is none.
 const CUT: [&[u8]; 4] = [
@@ -11,14 +12,15 @@ const CUT: [&[u8]; 4] = [
     b"thread 'a' (\xc2\xb2) panicked at x",
 ];
 
-#[test]
-fn every_beginning(rt: HostRuntime) -> Result<(), AllocError> {
+/// Tries every beginning of the outputs, from none of their bytes to all.
+pub(crate) fn beginnings<R: AllocGlobal + Print>(rt: &R) -> io::Result<Met> {
     let mut trial = Trial::new(rt.alloc());
+    let mut met = Met::NONE;
     for output in CUT {
-        for length in 0..output.len() + 1 {
-            trial.take(&output[..length])?;
-            assert!(rt; trial.agrees(), "{length} bytes of {output:?}");
+        for size in 0..output.len() + 1 {
+            trial.take(&output[..size])?;
+            met.count(rt, &mut trial)?;
         }
     }
-    Ok(())
+    Ok(met)
 }

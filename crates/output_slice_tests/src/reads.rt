@@ -1,6 +1,6 @@
-//! What a source of bytes counts.
+//! The reads that a source of bytes counts.
 
-use crate::byte_source::{ByteSource, CountedBytes};
+use output_slice::byte_source::{ByteSource, CountedBytes};
 
 #[test]
 fn counted_reads(rt: HostRuntime) {

@@ -1,0 +1,4 @@
+use Rattle.slow_search.proofs.small_inputs.join.Given as goal
+
+abbrev pub decreases-loop-left : goal.decreases-loop-left
+decreases-loop-left l = l.left
