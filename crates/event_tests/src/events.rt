@@ -2,12 +2,13 @@
 
 use jiff::Timestamp;
 use jiff::tz::Offset;
+use run_events::child::{ChildExecutionOutputDescription, ChildOutputDescription, LiveSpec};
 use run_events::config::{Moment, ScriptId, TestInstanceId};
 use run_events::events::{ReporterEvent, TestEvent, TestEventKind};
+use run_events::results::{ExecutionResult, ExecutionResultDescription};
 use run_events::stats::RunStats;
 use run_events::stress::StressIndex;
 use std::alloc::{AllocError, Global};
-use std::test::Fail;
 use std::time::Duration;
 
 mod attempts;
@@ -48,6 +49,23 @@ const THIRD: Option<StressIndex> = Some(StressIndex {
     total: None,
 });
 
+/// The first moment there is, as the clock shows it that is farthest ahead of UTC.
+const FIRST: Moment = Moment {
+    timestamp: Timestamp::MIN,
+    offset: Offset::MAX,
+};
+
+/// The last moment there is, as the clock shows it that is farthest behind UTC.
+const LAST: Moment = Moment {
+    timestamp: Timestamp::MAX,
+    offset: Offset::MIN,
+};
+
+/// Whether the two moments and their offsets are the same.
+fn is_moment(found: &Moment, wanted: Moment) -> bool {
+    found.timestamp == wanted.timestamp && found.offset == wanted.offset
+}
+
 /// A test of the one binary there is.
 fn instance(test_name: &str) -> TestInstanceId<'_> {
     TestInstanceId {
@@ -75,27 +93,39 @@ fn owned(alloc: Global, texts: &[&str]) -> Result<Vec<String>, AllocError> {
     Ok(owned_texts)
 }
 
-/// So many seconds after the beginning of 1970, as a clock two hours ahead of UTC shows it.
-fn moment(second: i64) -> Result<Moment, Fail> {
-    Ok(Moment {
-        timestamp: Timestamp::from_second(second)?,
-        offset: Offset::from_hours(2)?,
-    })
+/// Whether the texts are these.
+fn are(found: &[String], wanted: &[&str]) -> bool {
+    found.len() == wanted.len() && found.iter().zip(wanted).all(|(a, b)| a.as_str() == *b)
 }
 
-/// An event as reporters are handed it.
-fn boxed(alloc: Global, event: TestEvent<'_>) -> Result<ReporterEvent<'_>, AllocError> {
-    Ok(ReporterEvent::Test(Box::new(alloc, event)?))
+/// Whether a process left this: it ended so, and nothing was captured of it.
+fn is_silent(output: &ChildExecutionOutputDescription<LiveSpec>, outcome: ExecutionResult) -> bool {
+    matches!(
+        output,
+        ChildExecutionOutputDescription::Output {
+            result: Some(result),
+            output: ChildOutputDescription::Split {
+                stdout: None,
+                stderr: None,
+            },
+            errors: None,
+        } if is_result(result, outcome)
+    )
+}
+
+/// Whether it is this result, with no name of a signal.
+fn is_result(found: &ExecutionResultDescription, outcome: ExecutionResult) -> bool {
+    *found == ExecutionResultDescription::from_status(outcome, None)
 }
 
 /// What happened, as a reporter is told of it one minute into a run.
-fn told(alloc: Global, kind: TestEventKind<'_>) -> Result<ReporterEvent<'_>, Fail> {
+fn told(alloc: Global, kind: TestEventKind<'_>) -> Result<ReporterEvent<'_>, AllocError> {
     let event = TestEvent {
-        timestamp: moment(1_000)?,
+        timestamp: LAST,
         elapsed: Duration::from_secs(60),
         kind,
     };
-    Ok(boxed(alloc, event)?)
+    Ok(ReporterEvent::Test(Box::new(alloc, event)?))
 }
 
 /// What happened, if anything did.
@@ -106,14 +136,19 @@ fn kind_of<'e, 'a>(event: &'e ReporterEvent<'a>) -> Option<&'e TestEventKind<'a>
     }
 }
 
+/// Whether the event was made when events here are.
+fn is_told_then(event: &ReporterEvent<'_>) -> bool {
+    match event {
+        ReporterEvent::Tick => false,
+        ReporterEvent::Test(event) => {
+            is_moment(&event.timestamp, LAST) && event.elapsed == Duration::from_secs(60)
+        }
+    }
+}
+
 #[test]
-fn an_event_says_when_it_was_made(rt: HostRuntime) -> Result<(), Fail> {
-    let kind = TestEventKind::InfoFinished { missing: 0 };
-    let ReporterEvent::Test(event) = told(rt.alloc(), kind)? else {
-        return Err(Fail::new("a tick"));
-    };
-    assert_eq!(rt; event.timestamp.timestamp, Timestamp::from_second(1_000)?);
-    assert_eq!(rt; event.timestamp.offset, Offset::from_hours(2)?);
-    assert_eq!(rt; event.elapsed, Duration::from_secs(60));
+fn an_event_says_when_it_was_made(rt: HostRuntime) -> Result<(), AllocError> {
+    let event = told(rt.alloc(), TestEventKind::InfoFinished { missing: 0 })?;
+    assert!(rt; is_told_then(&event));
     Ok(())
 }

@@ -9,15 +9,14 @@ use run_events::outcome::{FinalRunStats, RunStatsFailureKind};
 use run_events::results::CancelReason;
 use run_events::stats::{FinishedUnit, RunStart, RunStats};
 use sample_units::{EXIT_ONE, LEAK_FAIL, PASS, TIMEOUT_PASS, finished_script, finished_test};
-use std::alloc::Global;
-use std::test::Fail;
+use std::alloc::{AllocError, Global};
 
 /// The event of a test that finished so.
 fn test_finished(
     alloc: Global,
     test_name: &str,
     run_statuses: ExecutionStatuses<LiveSpec>,
-) -> Result<ReporterEvent<'_>, Fail> {
+) -> Result<ReporterEvent<'_>, AllocError> {
     let kind = TestEventKind::TestFinished {
         stress_index: None,
         test_instance: instance(test_name),
@@ -34,7 +33,7 @@ fn test_finished(
 }
 
 /// The event of the one setup script, which ran out of its time.
-fn script_finished(alloc: Global) -> Result<ReporterEvent<'static>, Fail> {
+fn script_finished(alloc: Global) -> Result<ReporterEvent<'static>, AllocError> {
     let kind = TestEventKind::SetupScriptFinished {
         stress_index: None,
         index: 0,
@@ -66,7 +65,7 @@ fn finished_unit<'e>(event: &'e ReporterEvent<'_>) -> Option<FinishedUnit<'e>> {
 
 /// What a reporter is told of a run: a script that timed out, a flaky test, a slow one that leaked,
 /// a slow one that was to time out.
-fn events_of_run(alloc: Global) -> Result<Vec<ReporterEvent<'static>>, Fail> {
+fn events_of_run(alloc: Global) -> Result<Vec<ReporterEvent<'static>>, AllocError> {
     let flaky = finished_test(alloc, &[EXIT_ONE], PASS, false, FlakyResult::Pass)?;
     let leaked = finished_test(alloc, &[], LEAK_FAIL, true, FlakyResult::Pass)?;
     let timed_out = finished_test(alloc, &[], TIMEOUT_PASS, true, FlakyResult::Pass)?;
@@ -81,7 +80,7 @@ fn events_of_run(alloc: Global) -> Result<Vec<ReporterEvent<'static>>, Fail> {
 }
 
 #[test]
-fn events_lend_their_units_to_the_counters(rt: HostRuntime) -> Result<(), Fail> {
+fn events_lend_their_units_to_the_counters(rt: HostRuntime) -> Result<(), AllocError> {
     let events = events_of_run(rt.alloc())?;
     let mut units = Vec::new(rt.alloc());
     for event in &events {

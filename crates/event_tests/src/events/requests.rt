@@ -1,141 +1,157 @@
 //! The user asks in the middle of a run.
 
-use super::states::{delayed, ending};
-use super::{SO_FAR, THIRD, instance, is_instance, kind_of, owned, script_id, told};
-use run_events::attempts::RetryData;
-use run_events::child::{ChildExecutionOutputDescription, LiveSpec};
-use run_events::events::{
-    InfoResponse, SetupScriptInfoResponse, TestEventKind, TestInfoResponse, UnitState,
+use super::states::{delayed, ending, is_as_made};
+use super::{
+    SO_FAR, THIRD, are, instance, is_instance, is_silent, kind_of, owned, script_id, told,
 };
-use run_events::results::ExecutionResultDescription;
-use sample_units::{EXIT_ONE, attempt};
-use std::test::Fail;
+use run_events::attempts::RetryData;
+use run_events::events::{
+    InfoResponse, ReporterEvent, SetupScriptInfoResponse, TestEventKind, TestInfoResponse,
+    UnitState,
+};
+use sample_units::{EXIT_ONE, LEAK_PASS, attempt};
+use std::alloc::{AllocError, Global};
 
-/// Whether the output is that of a process that failed, and of which nothing was captured.
-fn failed(output: &ChildExecutionOutputDescription<LiveSpec>) -> bool {
-    matches!(
-        output,
-        ChildExecutionOutputDescription::Output {
-            result: Some(ExecutionResultDescription::Fail { leaked: false, .. }),
-            errors: None,
-            ..
-        }
-    )
-}
+const FIRST_OF_THREE: RetryData = RetryData {
+    attempt: 1,
+    total_attempts: 3,
+};
 
-#[test]
-fn information_is_asked_for(rt: HostRuntime) -> Result<(), Fail> {
-    let kind = TestEventKind::InfoStarted {
-        total: 4,
-        run_stats: SO_FAR,
-    };
-    let event = told(rt.alloc(), kind)?;
-    let Some(TestEventKind::InfoStarted { total, run_stats }) = kind_of(&event) else {
-        return Err(Fail::new("another kind"));
-    };
-    assert_eq!(rt; *total, 4);
-    assert_eq!(rt; *run_stats, SO_FAR);
-
-    let event = told(rt.alloc(), TestEventKind::InfoFinished { missing: 2 })?;
-    let Some(TestEventKind::InfoFinished { missing }) = kind_of(&event) else {
-        return Err(Fail::new("another kind"));
-    };
-    assert_eq!(rt; *missing, 2);
-    Ok(())
-}
-
-#[test]
-fn a_script_answers(rt: HostRuntime) -> Result<(), Fail> {
-    let alloc = rt.alloc();
+/// The answer of a setup script that is being ended.
+fn answer_of_script(alloc: Global) -> Result<TestEventKind<'static>, AllocError> {
     let answer = SetupScriptInfoResponse {
         stress_index: THIRD,
         script_id: script_id(alloc)?,
         program: String::from_str(alloc, "sh")?,
         args: owned(alloc, &["-c", "make"])?,
         state: UnitState::Terminating(ending()),
-        output: attempt(EXIT_ONE, 1, false).output,
+        output: attempt(LEAK_PASS, 1, false).output,
     };
-    let kind = TestEventKind::InfoResponse {
+    Ok(TestEventKind::InfoResponse {
         index: 0,
         total: 2,
         response: InfoResponse::SetupScript(answer),
-    };
-    let event = told(alloc, kind)?;
-    let Some(
-        TestEventKind::InfoResponse {
-            index,
-            total,
-            response: InfoResponse::SetupScript(answer),
-        },
-    ) = kind_of(&event)
-    else {
-        return Err(Fail::new("another kind"));
-    };
-    assert_eq!(rt; (*index, *total), (0, 2));
-    assert_eq!(rt; answer.stress_index, THIRD);
-    assert_eq!(rt; answer.script_id.0.as_str(), "make-database");
-    assert_eq!(rt; answer.program.as_str(), "sh");
-    assert_eq!(rt; answer.args, owned(alloc, &["-c", "make"])?);
-    assert!(rt; answer.state.has_valid_output());
-    assert!(rt; failed(&answer.output));
-    Ok(())
+    })
 }
 
-#[test]
-fn a_test_answers(rt: HostRuntime) -> Result<(), Fail> {
-    let retry_data = RetryData {
-        attempt: 1,
-        total_attempts: 3,
-    };
+/// Whether it is that answer.
+fn is_script_that_ends(answer: &SetupScriptInfoResponse) -> bool {
+    answer.stress_index == THIRD
+        && answer.script_id.0.as_str() == "make-database"
+        && answer.program.as_str() == "sh"
+        && are(answer.args.as_slice(), &["-c", "make"])
+        && matches!(answer.state, UnitState::Terminating(_))
+        && is_as_made(&answer.state)
+        && is_silent(&answer.output, LEAK_PASS)
+}
+
+/// The answer of a test that waits for its second attempt.
+fn answer_of_test(alloc: Global) -> Result<TestEventKind<'static>, AllocError> {
     let answer = TestInfoResponse {
         stress_index: None,
         test_instance: instance("adds"),
-        retry_data,
+        retry_data: FIRST_OF_THREE,
         state: delayed(),
         output: attempt(EXIT_ONE, 1, false).output,
     };
-    let kind = TestEventKind::InfoResponse {
+    Ok(TestEventKind::InfoResponse {
         index: 1,
         total: 2,
         response: InfoResponse::Test(answer),
-    };
-    let event = told(rt.alloc(), kind)?;
-    let Some(
-        TestEventKind::InfoResponse {
-            index,
-            total,
-            response: InfoResponse::Test(answer),
-        },
-    ) = kind_of(&event)
-    else {
-        return Err(Fail::new("another kind"));
-    };
-    assert_eq!(rt; (*index, *total), (1, 2));
-    assert_eq!(rt; answer.stress_index, None);
-    assert!(rt; is_instance(&answer.test_instance, "adds"));
-    assert_eq!(rt; answer.retry_data, retry_data);
-    assert!(rt; !answer.state.has_valid_output());
-    assert!(rt; failed(&answer.output));
-    Ok(())
+    })
+}
+
+/// Whether it is that answer.
+fn is_test_that_waits(answer: &TestInfoResponse<'_>) -> bool {
+    answer.stress_index.is_none()
+        && is_instance(&answer.test_instance, "adds")
+        && answer.retry_data == FIRST_OF_THREE
+        && matches!(answer.state, UnitState::DelayBeforeNextAttempt { .. })
+        && is_as_made(&answer.state)
+        && is_silent(&answer.output, EXIT_ONE)
+}
+
+fn asked() -> TestEventKind<'static> {
+    TestEventKind::InfoStarted {
+        total: 4,
+        run_stats: SO_FAR,
+    }
+}
+
+fn answered() -> TestEventKind<'static> {
+    TestEventKind::InfoFinished { missing: 2 }
+}
+
+fn entered() -> TestEventKind<'static> {
+    TestEventKind::InputEnter {
+        current_stats: SO_FAR,
+        running: 8,
+    }
+}
+
+/// An event of each kind, and an answer of each.
+fn requests(alloc: Global) -> Result<Vec<ReporterEvent<'static>>, AllocError> {
+    let mut events = Vec::new(alloc);
+    events.push(told(alloc, asked())?)?;
+    events.push(told(alloc, answer_of_script(alloc)?)?)?;
+    events.push(told(alloc, answer_of_test(alloc)?)?)?;
+    events.push(told(alloc, answered())?)?;
+    events.push(told(alloc, entered())?)?;
+    Ok(events)
+}
+
+/// Its kind, and whether its fields are those that were put in.
+fn read_back(event: &ReporterEvent<'_>) -> (&'static str, bool) {
+    match kind_of(event) {
+        Some(TestEventKind::InfoStarted { total, run_stats }) => (
+            "InfoStarted",
+            *total == 4 && *run_stats == SO_FAR,
+        ),
+        Some(
+            TestEventKind::InfoResponse {
+                index,
+                total,
+                response: InfoResponse::SetupScript(answer),
+            },
+        ) => (
+            "InfoResponse of a script",
+            *index == 0 && *total == 2 && is_script_that_ends(answer),
+        ),
+        Some(
+            TestEventKind::InfoResponse {
+                index,
+                total,
+                response: InfoResponse::Test(answer),
+            },
+        ) => (
+            "InfoResponse of a test",
+            *index == 1 && *total == 2 && is_test_that_waits(answer),
+        ),
+        Some(TestEventKind::InfoFinished { missing }) => ("InfoFinished", *missing == 2),
+        Some(
+            TestEventKind::InputEnter {
+                current_stats,
+                running,
+            },
+        ) => ("InputEnter", *running == 8 && *current_stats == SO_FAR),
+        _ => ("another kind", false),
+    }
 }
 
 #[test]
-fn enter_is_pressed(rt: HostRuntime) -> Result<(), Fail> {
-    let kind = TestEventKind::InputEnter {
-        current_stats: SO_FAR,
-        running: 8,
-    };
-    let event = told(rt.alloc(), kind)?;
-    let Some(
-        TestEventKind::InputEnter {
-            current_stats,
-            running,
-        },
-    ) = kind_of(&event)
-    else {
-        return Err(Fail::new("another kind"));
-    };
-    assert_eq!(rt; *current_stats, SO_FAR);
-    assert_eq!(rt; *running, 8);
+fn requests_are_read_back(rt: HostRuntime) -> Result<(), AllocError> {
+    let events = requests(rt.alloc())?;
+    let kinds = [
+        "InfoStarted",
+        "InfoResponse of a script",
+        "InfoResponse of a test",
+        "InfoFinished",
+        "InputEnter",
+    ];
+    assert_eq!(rt; events.len(), kinds.len());
+    for (event, kind) in events.iter().zip(&kinds) {
+        let (found, is_same) = read_back(event);
+        assert!(rt; found == *kind && is_same, "{kind}");
+    }
     Ok(())
 }

@@ -1,11 +1,11 @@
 //! A run and its sub-runs begin and end.
 
-use super::{SO_FAR, THIRD, is_instance, kind_of, moment, owned, told};
+use super::{FIRST, LAST, SO_FAR, THIRD, are, is_instance, is_moment, kind_of, owned, told};
 use run_events::config::{OwnedTestInstanceId, StressCondition, TestInstanceId, TestList};
-use run_events::events::{TestEventKind, TestsNotSeen};
+use run_events::events::{ReporterEvent, TestEventKind, TestsNotSeen};
 use run_events::outcome::{FinalRunStats, RunFinishedStats, StressRunStats};
-use run_events::stress::StressProgress;
-use std::test::Fail;
+use run_events::stress::{StressIndex, StressProgress};
+use std::alloc::{AllocError, Global};
 use std::time::Duration;
 use uuid::Uuid;
 
@@ -24,6 +24,16 @@ static TESTS: TestList<'static> = TestList {
     run_count: 1,
 };
 
+/// Whether they are those two.
+fn are_tests(found: &TestList<'_>) -> bool {
+    match found.instances {
+        [adds, divides] => {
+            is_instance(adds, "adds") && is_instance(divides, "divides") && found.run_count == 1
+        }
+        _ => false,
+    }
+}
+
 /// A run that is repeated for an hour, of which so many sub-runs are done.
 fn an_hour(completed: u32) -> StressProgress {
     StressProgress::Time {
@@ -33,148 +43,188 @@ fn an_hour(completed: u32) -> StressProgress {
     }
 }
 
-#[test]
-fn a_run_begins(rt: HostRuntime) -> Result<(), Fail> {
-    let alloc = rt.alloc();
-    let kind = TestEventKind::RunStarted {
+/// Whether the run is repeated for an hour.
+fn is_for_an_hour(found: &Option<StressCondition>) -> bool {
+    let Some(condition) = found else {
+        return false;
+    };
+    match *condition {
+        StressCondition::Duration(duration) => duration == Duration::from_secs(3_600),
+        StressCondition::Count(_) => false,
+    }
+}
+
+/// What a repeated run comes to, one of whose three sub-runs failed.
+const ONE_FAILED: RunFinishedStats = RunFinishedStats::Stress(StressRunStats {
+    completed: StressIndex {
+        current: 2,
+        total: None,
+    },
+    success_count: 2,
+    failed_count: 1,
+    last_final_stats: FinalRunStats::Success,
+});
+
+fn begun(alloc: Global) -> Result<TestEventKind<'static>, AllocError> {
+    Ok(TestEventKind::RunStarted {
         test_list: &TESTS,
         run_id: Uuid::from_u128(7),
         profile_name: String::from_str(alloc, "ci")?,
         cli_args: owned(alloc, &["run", "--workspace"])?,
         stress_condition: Some(StressCondition::Duration(Duration::from_secs(3_600))),
-    };
-    let event = told(alloc, kind)?;
-    let Some(
-        TestEventKind::RunStarted {
-            test_list,
-            run_id,
-            profile_name,
-            cli_args,
-            stress_condition,
-        },
-    ) = kind_of(&event)
-    else {
-        return Err(Fail::new("another kind"));
-    };
-    assert_eq!(rt; test_list.instances.len(), 2);
-    assert!(rt; is_instance(&test_list.instances[1], "divides"));
-    assert_eq!(rt; test_list.run_count, 1);
-    assert_eq!(rt; *run_id, Uuid::from_u128(7));
-    assert_eq!(rt; profile_name.as_str(), "ci");
-    assert_eq!(rt; *cli_args, owned(alloc, &["run", "--workspace"])?);
-    let Some(condition) = stress_condition else {
-        return Err(Fail::new("no condition"));
-    };
-    let StressCondition::Duration(duration) = *condition else {
-        return Err(Fail::new("another condition"));
-    };
-    assert_eq!(rt; duration, Duration::from_secs(3_600));
-    Ok(())
+    })
 }
 
-#[test]
-fn sub_runs_begin_and_end(rt: HostRuntime) -> Result<(), Fail> {
-    let kind = TestEventKind::StressSubRunStarted {
-        progress: an_hour(2),
-    };
-    let event = told(rt.alloc(), kind)?;
-    let Some(TestEventKind::StressSubRunStarted { progress }) = kind_of(&event) else {
-        return Err(Fail::new("another kind"));
-    };
-    assert_eq!(rt; *progress, an_hour(2));
-
-    let kind = TestEventKind::StressSubRunFinished {
-        progress: an_hour(3),
-        sub_elapsed: Duration::from_millis(1_500),
-        sub_stats: SO_FAR,
-    };
-    let event = told(rt.alloc(), kind)?;
-    let Some(
-        TestEventKind::StressSubRunFinished {
-            progress,
-            sub_elapsed,
-            sub_stats,
-        },
-    ) = kind_of(&event)
-    else {
-        return Err(Fail::new("another kind"));
-    };
-    assert_eq!(rt; *progress, an_hour(3));
-    assert_eq!(rt; *sub_elapsed, Duration::from_millis(1_500));
-    assert_eq!(rt; *sub_stats, SO_FAR);
-    Ok(())
-}
-
-#[test]
-fn a_run_ends(rt: HostRuntime) -> Result<(), Fail> {
-    let kind = TestEventKind::RunFinished {
-        run_id: Uuid::from_u128(7),
-        start_time: moment(940)?,
-        elapsed: Duration::from_secs(59),
-        run_stats: RunFinishedStats::Single(SO_FAR),
-        outstanding_not_seen: None,
-    };
-    let event = told(rt.alloc(), kind)?;
-    let Some(
-        TestEventKind::RunFinished {
-            run_id,
-            start_time,
-            elapsed,
-            run_stats,
-            outstanding_not_seen,
-        },
-    ) = kind_of(&event)
-    else {
-        return Err(Fail::new("another kind"));
-    };
-    assert_eq!(rt; *run_id, Uuid::from_u128(7));
-    assert_eq!(rt; start_time.timestamp, moment(940)?.timestamp);
-    assert_eq!(rt; start_time.offset, moment(940)?.offset);
-    assert_eq!(rt; *elapsed, Duration::from_secs(59));
-    assert_eq!(rt; *run_stats, RunFinishedStats::Single(SO_FAR));
-    assert!(rt; outstanding_not_seen.is_none());
-    Ok(())
-}
-
-#[test]
-fn a_rerun_ends_without_some_of_its_tests(rt: HostRuntime) -> Result<(), Fail> {
-    let alloc = rt.alloc();
+/// The end of a rerun that did not meet some of its tests, of which it names one.
+fn rerun_over(alloc: Global) -> Result<TestEventKind<'static>, AllocError> {
     let mut not_seen = Vec::new(alloc);
     not_seen.push(OwnedTestInstanceId {
         binary_id: String::from_str(alloc, "app::bin/app")?,
         test_name: String::from_str(alloc, "was_renamed")?,
     })?;
-    let stress = RunFinishedStats::Stress(StressRunStats {
-        completed: THIRD.ok_or("no sub-run")?,
-        success_count: 2,
-        failed_count: 1,
-        last_final_stats: FinalRunStats::Success,
-    });
-    let kind = TestEventKind::RunFinished {
+    Ok(TestEventKind::RunFinished {
         run_id: Uuid::from_u128(8),
-        start_time: moment(0)?,
+        start_time: LAST,
         elapsed: Duration::ZERO,
-        run_stats: stress,
+        run_stats: ONE_FAILED,
         outstanding_not_seen: Some(TestsNotSeen {
             not_seen,
             total_not_seen: 12,
         }),
-    };
-    let event = told(alloc, kind)?;
-    let Some(
-        TestEventKind::RunFinished {
-            run_stats,
-            outstanding_not_seen: Some(tests),
-            ..
-        },
-    ) = kind_of(&event)
-    else {
-        return Err(Fail::new("another kind"));
-    };
-    assert_eq!(rt; *run_stats, stress);
-    assert_eq!(rt; tests.total_not_seen, 12);
-    assert_eq!(rt; tests.not_seen.len(), 1);
-    assert_eq!(rt; tests.not_seen[0].binary_id.as_str(), "app::bin/app");
-    assert_eq!(rt; tests.not_seen[0].test_name.as_str(), "was_renamed");
+    })
+}
+
+/// Whether it is that one of twelve.
+fn are_not_seen(found: &TestsNotSeen) -> bool {
+    match found.not_seen.as_slice() {
+        [test] => {
+            test.binary_id.as_str() == "app::bin/app"
+                && test.test_name.as_str() == "was_renamed"
+                && found.total_not_seen == 12
+        }
+        _ => false,
+    }
+}
+
+fn sub_run_begun() -> TestEventKind<'static> {
+    TestEventKind::StressSubRunStarted {
+        progress: an_hour(2),
+    }
+}
+
+fn sub_run_over() -> TestEventKind<'static> {
+    TestEventKind::StressSubRunFinished {
+        progress: an_hour(3),
+        sub_elapsed: Duration::from_millis(1_500),
+        sub_stats: SO_FAR,
+    }
+}
+
+fn over() -> TestEventKind<'static> {
+    TestEventKind::RunFinished {
+        run_id: Uuid::from_u128(7),
+        start_time: FIRST,
+        elapsed: Duration::from_secs(59),
+        run_stats: RunFinishedStats::Single(SO_FAR),
+        outstanding_not_seen: None,
+    }
+}
+
+/// An event of each kind, and the end of a rerun.
+fn runs(alloc: Global) -> Result<Vec<ReporterEvent<'static>>, AllocError> {
+    let mut events = Vec::new(alloc);
+    events.push(told(alloc, begun(alloc)?)?)?;
+    events.push(told(alloc, sub_run_begun())?)?;
+    events.push(told(alloc, sub_run_over())?)?;
+    events.push(told(alloc, over())?)?;
+    events.push(told(alloc, rerun_over(alloc)?)?)?;
+    Ok(events)
+}
+
+/// Its kind, and whether its fields are those that were put in.
+fn read_back(event: &ReporterEvent<'_>) -> (&'static str, bool) {
+    match kind_of(event) {
+        Some(
+            TestEventKind::RunStarted {
+                test_list,
+                run_id,
+                profile_name,
+                cli_args,
+                stress_condition,
+            },
+        ) => (
+            "RunStarted",
+            are_tests(test_list)
+                && *run_id == Uuid::from_u128(7)
+                && profile_name.as_str() == "ci"
+                && are(cli_args, &["run", "--workspace"])
+                && is_for_an_hour(stress_condition),
+        ),
+        Some(TestEventKind::StressSubRunStarted { progress }) => (
+            "StressSubRunStarted",
+            *progress == an_hour(2),
+        ),
+        Some(
+            TestEventKind::StressSubRunFinished {
+                progress,
+                sub_elapsed,
+                sub_stats,
+            },
+        ) => (
+            "StressSubRunFinished",
+            *progress == an_hour(3)
+                && *sub_elapsed == Duration::from_millis(1_500)
+                && *sub_stats == SO_FAR,
+        ),
+        Some(
+            TestEventKind::RunFinished {
+                run_id,
+                start_time,
+                elapsed,
+                run_stats,
+                outstanding_not_seen: None,
+            },
+        ) => (
+            "RunFinished",
+            *run_id == Uuid::from_u128(7)
+                && is_moment(start_time, FIRST)
+                && *elapsed == Duration::from_secs(59)
+                && *run_stats == RunFinishedStats::Single(SO_FAR),
+        ),
+        Some(
+            TestEventKind::RunFinished {
+                run_id,
+                start_time,
+                elapsed,
+                run_stats,
+                outstanding_not_seen: Some(tests),
+            },
+        ) => (
+            "RunFinished of a rerun",
+            *run_id == Uuid::from_u128(8)
+                && is_moment(start_time, LAST)
+                && elapsed.is_zero()
+                && *run_stats == ONE_FAILED
+                && are_not_seen(tests),
+        ),
+        _ => ("another kind", false),
+    }
+}
+
+#[test]
+fn runs_are_read_back(rt: HostRuntime) -> Result<(), AllocError> {
+    let events = runs(rt.alloc())?;
+    let kinds = [
+        "RunStarted",
+        "StressSubRunStarted",
+        "StressSubRunFinished",
+        "RunFinished",
+        "RunFinished of a rerun",
+    ];
+    assert_eq!(rt; events.len(), kinds.len());
+    for (event, kind) in events.iter().zip(&kinds) {
+        let (found, is_same) = read_back(event);
+        assert!(rt; found == *kind && is_same, "{kind}");
+    }
     Ok(())
 }
