@@ -8,6 +8,8 @@ mod attempts;
 #[cfg(test)]
 mod chain;
 #[cfg(test)]
+mod events;
+#[cfg(test)]
 mod laws;
 #[cfg(test)]
 mod runs;
