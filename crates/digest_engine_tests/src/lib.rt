@@ -1,6 +1,6 @@
 //! Tests of `digest_engine` and `digest_devices` through their public calls alone, of what whole
-//! inputs with their texts cannot say: those are data of `upstream_replay`. Here are devices that
-//! fail, runs of many lines, and what readers and writers of std are asked.
+//! inputs with their texts cannot say: those are data of `upstream_replay`. Here are words and
+//! faults, devices that fail, runs of many lines, and what readers and writers of std are asked.
 #![tactic(auto)]
 
 #[cfg(test)]

@@ -19,6 +19,7 @@ use run_events::stress::StressIndex;
 use sample_units::error;
 use std::cmp::Ordering;
 use std::hash::{DefaultHasher, Hasher};
+use std::num::NonZero;
 use std::test::Fail;
 
 /// Counters of which each is 0.
@@ -90,6 +91,11 @@ fn attempts_and_sub_runs_are_ordered_by_their_number(rt: HostRuntime) {
     });
     assert_eq!(rt; stress_index_order(second, first), Ordering::Greater);
     assert!(rt; stress_index_at_most(first, second));
+    let known = StressIndex {
+        total: NonZero::<u32>::new(1),
+        ..first
+    };
+    assert_eq!(rt; stress_index_order(first, known), Ordering::Less);
     let (mut one, mut other) = (DefaultHasher::new(), DefaultHasher::new());
     assert!(rt; stress_index_hashes(first, first, &mut one, &mut other));
     assert_eq!(rt; one.finish(), other.finish());

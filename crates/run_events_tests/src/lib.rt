@@ -1,6 +1,6 @@
-//! Tests of `run_events` through its public calls alone, of what neither a clause nor a row of the
-//! replay says. They stand in a crate of their own, so that the check of the tests does not prove
-//! the library once more.
+//! Tests of `run_events` through its public calls alone, of what a row of the replay cannot say. They
+//! stand in a crate of their own, so that the check of the tests does not prove the library once
+//! more.
 #![tactic(auto)]
 
 #[cfg(test)]

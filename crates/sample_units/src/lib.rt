@@ -20,9 +20,7 @@ use unit_results::child::{
     ChildExecutionOutputDescription, ChildOutputDescription, ChildSingleOutput, LiveSpec,
 };
 use unit_results::config::{FlakyResult, LeakTimeoutResult, Moment, SlowTimeoutResult};
-use unit_results::results::{
-    AbortStatus, ExecutionResult, ExecutionResultDescription, FailureStatus,
-};
+use unit_results::results::{ExecutionResult, ExecutionResultDescription, FailureStatus};
 
 /// It succeeded.
 pub const PASS: ExecutionResult = ExecutionResult::Pass;
@@ -41,12 +39,6 @@ pub const LEAK_FAIL: ExecutionResult = ExecutionResult::Leak {
 pub const EXIT_ONE: ExecutionResult = ExecutionResult::Fail {
     failure_status: FailureStatus::ExitCode(1),
     leaked: false,
-};
-
-/// It was ended by signal 15, and leaked.
-pub const SIGNAL_FIFTEEN: ExecutionResult = ExecutionResult::Fail {
-    failure_status: FailureStatus::Abort(AbortStatus::UnixSignal(15)),
-    leaked: true,
 };
 
 /// It could not be run.

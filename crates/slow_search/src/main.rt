@@ -10,7 +10,8 @@
 //!
 //! The wanted heads, in the file `stdout`, were worked out by hand. The wanted numbers of inputs are
 //! those that a search by the pattern of upstream with a regular expression engine gives, so that no
-//! kind can go missing unseen.
+//! kind can go missing unseen. The most reads are as they were measured: that they are few is tested
+//! of each input.
 #![tactic(auto)]
 
 use crate::beginnings::beginnings;

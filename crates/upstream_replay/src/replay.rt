@@ -23,12 +23,13 @@ fn agrees_as_it_is(alloc: Global, line: &str) -> Result<Option<bool>, AllocError
     }
 }
 
-/// Whether the port agrees on a line; `None` for a line that is no case. Behind the word `changed`
-/// stands a line that must not agree: so it is seen that the replay tells what agrees from what does
-/// not.
+/// Whether the port agrees on a line; `None` for a line that is no case. So that it is seen that the
+/// replay tells one from the other, behind the word `changed` stands a case on which the port must
+/// not agree, and behind `malformed` a line that must be no case.
 pub(crate) fn agrees(alloc: Global, line: &str) -> Result<Option<bool>, AllocError> {
     match line.split_once(' ') {
-        Some(("changed", changed)) => { Ok(Some(agrees_as_it_is(alloc, changed)? != Some(true))) }
+        Some(("changed", changed)) => Ok(Some(agrees_as_it_is(alloc, changed)? == Some(false))),
+        Some(("malformed", malformed)) => Ok(Some(agrees_as_it_is(alloc, malformed)?.is_none())),
         _ => agrees_as_it_is(alloc, line),
     }
 }

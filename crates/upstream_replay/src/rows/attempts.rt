@@ -33,8 +33,8 @@ fn test_in(
     Ok(Some(ExecutionStatuses::try_from_parts(statuses, setting)))
 }
 
-/// The case of a test's description, its number of attempts, its setting, both levels, and whether
-/// its output is that of a success.
+/// The case of a test's description, its number of attempts, its setting, both levels, whether its
+/// output is that of a success, the number of its last attempt, and whether it is consistent.
 fn described(alloc: Global, test: &ExecutionStatuses<LiveSpec>) -> Result<String, AllocError> {
     let description = test.describe();
     let case = match description {
@@ -43,12 +43,14 @@ fn described(alloc: Global, test: &ExecutionStatuses<LiveSpec>) -> Result<String
         ExecutionDescription::Failure { .. } => "failure",
     };
     format!(in alloc;
-        "{case} after {}, {:?}, {:?}, {:?}, {}",
+        "{case} after {}, {:?}, {:?}, {:?}, {}, {}, {}",
         test.len(),
         test.flaky_result(),
         description.status_level(),
         description.final_status_level(),
-        description.is_success_for_output()
+        description.is_success_for_output(),
+        description.last_status().retry_data.attempt,
+        description.is_consistent()
     )
 }
 
@@ -68,14 +70,19 @@ fn of_test(
     }
 }
 
-/// Whether a description of a success is one, made of an attempt that ended so.
+/// Whether a success that is made of an attempt which ended so is consistent, and whether its output
+/// is that of a success.
 fn of_success(alloc: Global, word: &str) -> Result<Option<String>, AllocError> {
     let Some(outcome) = result_in(word) else {
         return Ok(None);
     };
     let single_status = &attempt_of(outcome, 1, true);
     let description = ExecutionDescription::Success { single_status };
-    Ok(Some(format!(in alloc; "{}", description.is_consistent())?))
+    let (is_consistent, is_success) = (
+        description.is_consistent(),
+        description.is_success_for_output(),
+    );
+    Ok(Some(format!(in alloc; "{is_consistent}, {is_success}")?))
 }
 
 fn of_attempt(alloc: Global, attempt: &str, total: &str) -> Result<Option<String>, AllocError> {
@@ -150,10 +157,12 @@ fn shown(
 /// What the port answers to a question of this group; `None` for any other.
 pub(super) fn answer(alloc: Global, parts: &[&str]) -> Result<Option<String>, AllocError> {
     match parts {
-        ["test", results, setting, is_slow] => of_test(alloc, results, setting, is_slow),
-        ["is a success", word] => of_success(alloc, word),
-        ["is the last attempt", attempt, total] => of_attempt(alloc, attempt, total),
-        ["shown", levels @ .., reason, word] => shown(alloc, levels, reason, word),
+        ["describe", results, setting, is_slow] => of_test(alloc, results, setting, is_slow),
+        ["is_consistent", word] => of_success(alloc, word),
+        ["is_last_attempt", attempt, total] => of_attempt(alloc, attempt, total),
+        ["compute_output_on_test_finished", levels @ .., reason, word] => shown(
+            alloc, levels, reason, word,
+        ),
         _ => Ok(None),
     }
 }

@@ -5,11 +5,11 @@ use crate::rows::words::{bytes_in, result_in, text_in};
 use bytes::Bytes;
 use run_events::chain::SerializableError;
 use run_events::child::{
-    ChildError, ChildErrorDescription, ChildExecutionOutputDescription, ChildFdError,
-    ChildOutputDescription, ChildSingleOutput, ChildStartError, ChildStartErrorDescription,
-    ErrorList, LiveSpec,
+    ChildError, ChildErrorDescription, ChildExecutionOutput, ChildExecutionOutputDescription,
+    ChildFdError, ChildOutput, ChildOutputDescription, ChildSingleOutput, ChildSplitOutput,
+    ChildStartError, ChildStartErrorDescription, ErrorList, LiveSpec, Refused,
 };
-use run_events::results::{ExecutionResultDescription, UnitKind};
+use run_events::results::{ExecutionResult, ExecutionResultDescription, UnitKind};
 use run_events::unit_error::{UnitError, UnitErrorDescription};
 use serde_json::Value;
 use std::alloc::{AllocError, Global};
@@ -36,7 +36,7 @@ fn of_json(alloc: Global, json: &str) -> Result<Option<String>, AllocError> {
 
 /// The text of an error around a process, and of what it comes from.
 fn of_process(alloc: Global, word: &str) -> Result<Option<String>, AllocError> {
-    let message = String::from_str(alloc, "cause")?;
+    let message = format!(in alloc; "cause of {word}")?;
     let source = SerializableError::from_message_and_causes(alloc, message, Vec::new(alloc))?;
     let error = match word {
         "read stdout" => ChildError::Fd(ChildFdError::ReadStdout(source)),
@@ -110,26 +110,27 @@ fn captured(alloc: Global, word: &str) -> Result<Option<ChildSingleOutput>, Allo
     }
 }
 
-/// The output that words name: `not loaded`, both streams in one, or two streams.
-fn output_in(alloc: Global, words: &[&str]) -> Result<Option<ChildOutputDescription>, AllocError> {
+/// The output that words name: both streams in one, or two streams.
+fn output_in(alloc: Global, words: &[&str]) -> Result<Option<ChildOutput>, AllocError> {
     match words {
-        ["not loaded"] => Ok(Some(ChildOutputDescription::NotLoaded)),
-        ["combined", both] => Ok(captured(alloc, both)?.map(|output| {
-            ChildOutputDescription::Combined { output }
+        ["combined", both] => Ok(captured(alloc, both)?.map(|output| ChildOutput::Combined {
+            output,
         })),
-        ["split", stdout, stderr] => Ok(Some(ChildOutputDescription::Split {
-            stdout: captured(alloc, stdout)?,
-            stderr: captured(alloc, stderr)?,
-        })),
+        ["split", stdout, stderr] => {
+            let stdout = captured(alloc, stdout)?;
+            let stderr = captured(alloc, stderr)?;
+            Ok(Some(ChildOutput::Split(ChildSplitOutput { stdout, stderr })))
+        }
         _ => Ok(None),
     }
 }
 
-/// The lengths of the streams of output, if it is loaded.
+/// The lengths of the streams of output, which is loaded.
 fn lengths_of(alloc: Global, words: &[&str]) -> Result<Option<String>, AllocError> {
     let Some(output) = output_in(alloc, words)? else {
         return Ok(None);
     };
+    let output = ChildOutputDescription::from(output);
     if !output.is_loaded() {
         return Ok(Some(String::from_str(alloc, "not loaded")?));
     }
@@ -138,34 +139,35 @@ fn lengths_of(alloc: Global, words: &[&str]) -> Result<Option<String>, AllocErro
 }
 
 /// An error in reading standard output, `-` for none.
-fn read_error(
-    alloc: Global,
-    message: &str,
-) -> Result<Option<ErrorList<ChildErrorDescription>>, AllocError> {
+fn read_error(alloc: Global, message: &str) -> Result<Option<ErrorList<ChildError>>, AllocError> {
     let Some(message) = text_in(alloc, message)? else {
         return Ok(None);
     };
-    let causes = Vec::new(alloc);
-    let source = SerializableError::from_message_and_causes(alloc, message, causes)?;
+    let source = SerializableError::from_message_and_causes(alloc, message, Vec::new(alloc))?;
     let mut errors = Vec::new(alloc);
-    errors.push(ChildErrorDescription::ReadStdout { source })?;
+    errors.push(ChildError::Fd(ChildFdError::ReadStdout(source)))?;
     Ok(ErrorList::new("reading", errors))
 }
 
-/// The end that a word names with the name of a signal, `running` for none yet.
-fn end_in(
-    alloc: Global,
-    word: &str,
-    name: &str,
-) -> Result<Option<Option<ExecutionResultDescription>>, AllocError> {
-    if word == "running" {
-        return Ok(Some(None));
+/// The result that a word names, `running` for none yet.
+fn end_in(word: &str) -> Option<Option<ExecutionResult>> {
+    match word {
+        "running" => Some(None),
+        _ => result_in(word).map(Some),
     }
-    let Some(outcome) = result_in(word) else {
-        return Ok(None);
-    };
+}
+
+/// What a runner has of a unit, described with the name of a signal.
+fn described(
+    alloc: Global,
+    left: ChildExecutionOutput,
+    name: &str,
+) -> Result<ChildExecutionOutputDescription<LiveSpec>, AllocError> {
     let name = text_in(alloc, name)?;
-    Ok(Some(Some(ExecutionResultDescription::from_status(outcome, name))))
+    match ChildExecutionOutputDescription::from_output(alloc, left, name) {
+        Ok(described) => Ok(described),
+        Err(Refused { .. }) => Err(AllocError),
+    }
 }
 
 /// The errors of a unit that left this.
@@ -173,13 +175,30 @@ fn of_unit(alloc: Global, kind: UnitKind, words: &[&str]) -> Result<Option<Strin
     let [end, name, error, output @ ..] = words else {
         return Ok(None);
     };
-    let (Some(end), Some(output)) = (end_in(alloc, end, name)?, output_in(alloc, output)?) else {
+    let (Some(end), Some(output)) = (end_in(end), output_in(alloc, output)?) else {
         return Ok(None);
     };
-    let left = ChildExecutionOutputDescription::Output {
+    let left = ChildExecutionOutput::Output {
         result: end,
         output,
         errors: read_error(alloc, error)?,
+    };
+    Ok(Some(errors_text(alloc, kind, &described(alloc, left, name)?)?))
+}
+
+/// The errors of a unit that ended so, and whose output is not loaded.
+fn of_unit_not_loaded(
+    alloc: Global,
+    kind: UnitKind,
+    end: &str,
+) -> Result<Option<String>, AllocError> {
+    let Some(end) = end_in(end) else {
+        return Ok(None);
+    };
+    let left = ChildExecutionOutputDescription::Output {
+        result: end.map(|end| ExecutionResultDescription::from_status(end, None)),
+        output: ChildOutputDescription::NotLoaded,
+        errors: None,
     };
     Ok(Some(errors_text(alloc, kind, &left)?))
 }
@@ -187,20 +206,22 @@ fn of_unit(alloc: Global, kind: UnitKind, words: &[&str]) -> Result<Option<Strin
 /// The errors of a unit that was not started.
 fn of_unit_not_started(alloc: Global, kind: UnitKind) -> Result<Option<String>, AllocError> {
     let message = String::from_str(alloc, "not found")?;
-    let causes = Vec::new(alloc);
-    let source = SerializableError::from_message_and_causes(alloc, message, causes)?;
-    let error = ChildStartErrorDescription::Spawn { source };
-    let left = ChildExecutionOutputDescription::StartError(error);
-    Ok(Some(errors_text(alloc, kind, &left)?))
+    let source = SerializableError::from_message_and_causes(alloc, message, Vec::new(alloc))?;
+    let left = ChildExecutionOutput::StartError(ChildStartError::Spawn(source));
+    Ok(Some(errors_text(alloc, kind, &described(alloc, left, "TERM")?)?))
 }
 
 /// What the port answers to a question of this group; `None` for any other.
 pub(super) fn answer(alloc: Global, parts: &[&str]) -> Result<Option<String>, AllocError> {
     match parts {
-        ["error", json] => of_json(alloc, json),
+        ["SerializableError", json] => of_json(alloc, json),
         ["error of a process", word] => of_process(alloc, word),
-        ["lengths", output @ ..] => lengths_of(alloc, output),
+        ["stdout_stderr_len", output @ ..] => lengths_of(alloc, output),
         ["errors of a test", "not started"] => of_unit_not_started(alloc, UnitKind::Test),
+        ["errors of a test", "not loaded", end] => of_unit_not_loaded(alloc, UnitKind::Test, end),
+        ["errors of a script", "not loaded", end] => {
+            of_unit_not_loaded(alloc, UnitKind::Script, end)
+        }
         ["errors of a test", words @ ..] => of_unit(alloc, UnitKind::Test, words),
         ["errors of a script", words @ ..] => of_unit(alloc, UnitKind::Script, words),
         _ => Ok(None),

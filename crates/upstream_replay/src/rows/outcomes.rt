@@ -41,16 +41,24 @@ fn failures_of(alloc: Global, counters: &str) -> Result<Option<String>, AllocErr
     Ok(Some(format!(in alloc; "{failures} too many")?))
 }
 
-/// Whether a unit can be counted beside these counters.
-fn room_for(alloc: Global, unit: &str, counters: &str) -> Result<Option<String>, AllocError> {
+/// Whether a unit can be counted beside these counters, and how many units have finished after it.
+fn can_count(alloc: Global, unit: &str, counters: &str) -> Result<Option<String>, AllocError> {
     let (Some(unit), Some(stats)) = (unit_in(alloc, unit)?, counters_in(counters)) else {
         return Ok(None);
     };
-    let can_count = match &unit {
-        Unit::Script(script) => stats.can_count_script(script),
-        Unit::Test(test) => stats.can_count_test(test),
+    let mut counted = stats;
+    let finished = match &unit {
+        Unit::Script(script) if stats.can_count_script(script) => {
+            counted.on_setup_script_finished(script);
+            counted.setup_scripts_finished_count
+        }
+        Unit::Test(test) if stats.can_count_test(test) => {
+            counted.on_test_finished(test);
+            counted.finished_count
+        }
+        _ => return Ok(Some(String::from_str(alloc, "false")?)),
     };
-    Ok(Some(format!(in alloc; "{can_count}")?))
+    Ok(Some(format!(in alloc; "true, {finished}")?))
 }
 
 /// A summary by its words, with a reason and numbers that no outcome tells.
@@ -86,6 +94,16 @@ fn outcome_of(alloc: Global, words: &[&str]) -> Result<Option<String>, AllocErro
     }
     let outcome = RunOutcome::of_sub_runs(summaries.as_slice());
     Ok(Some(format!(in alloc; "{outcome:?}")?))
+}
+
+/// The step at which a run failed or was cancelled.
+fn step_of(alloc: Global, words: &str) -> Result<Option<String>, AllocError> {
+    match summary_in(words) {
+        Some(FinalRunStats::Failed { kind } | FinalRunStats::Cancelled { kind, .. }) => {
+            Ok(Some(format!(in alloc; "{:?}", kind.step())?))
+        }
+        _ => Ok(None),
+    }
 }
 
 /// Two outcomes combined.
@@ -125,12 +143,17 @@ fn repeated(alloc: Global, failed_count: &str, last: &str) -> Result<Option<Stri
 /// What the port answers to a question of this group; `None` for any other.
 pub(super) fn answer(alloc: Global, parts: &[&str]) -> Result<Option<String>, AllocError> {
     match parts {
-        ["summary", reason, counters] => summary_of(alloc, reason, counters),
-        ["failures", counters] => failures_of(alloc, counters),
-        ["room for", unit, counters] => room_for(alloc, unit, counters),
-        ["outcome of sub-runs", summaries @ ..] => outcome_of(alloc, summaries),
+        ["summarize_final", reason, counters] => summary_of(alloc, reason, counters),
+        ["has_failures", counters] => failures_of(alloc, counters),
+        ["can_count", unit, counters] => can_count(alloc, unit, counters),
+        ["of_sub_runs", summaries @ ..] => outcome_of(alloc, summaries),
+        ["step", summary] => step_of(alloc, summary),
         ["combine", first, second] => combined(alloc, first, second),
-        ["summary of a repeated run", failed_count, last] => repeated(alloc, failed_count, last),
+        ["summarize_final of a stress run", failed_count, last] => repeated(
+            alloc,
+            failed_count,
+            last,
+        ),
         _ => Ok(None),
     }
 }

@@ -5,8 +5,8 @@ use crate::visibility::{named_display, named_reason};
 use run_events::config::FlakyResult;
 use run_events::events::{UnitTerminateReason, UnitTerminateSignal};
 use run_events::results::{
-    AbortDescription, AbortStatus, ExecutionResultDescription, FailureDescription, SIGTERM,
-    UnitKind,
+    AbortDescription, AbortStatus, ExecutionResult, ExecutionResultDescription, FailureDescription,
+    SIGTERM, UnitKind,
 };
 use run_events::run_mode::NextestRunMode;
 use std::alloc::{AllocError, Global};
@@ -34,7 +34,8 @@ fn of_description(alloc: Global, word: &str, name: &str) -> Result<Option<String
         return Ok(None);
     };
     let described = ExecutionResultDescription::from_status(outcome, text_in(alloc, name)?);
-    if let ExecutionResultDescription::Fail { failure, .. } = &described {
+    if let ExecutionResult::Fail { failure_status, .. } = outcome {
+        let failure = FailureDescription::from_status(failure_status, text_in(alloc, name)?);
         return Ok(Some(format!(in alloc; "{described:?}: {failure}")?));
     }
     Ok(Some(format!(in alloc; "{described:?}")?))
@@ -61,8 +62,8 @@ fn of_code(alloc: Global, code: &str, message: &str) -> Result<Option<String>, A
 
 /// The text of an abort, and whether the runner seems to have ended the process by it.
 fn of_abort(alloc: Global, abort: AbortDescription) -> Result<Option<String>, AllocError> {
+    let text = format!(in alloc; "{abort}")?;
     let failure = FailureDescription::Abort { abort };
-    let text = format!(in alloc; "{failure}")?;
     let described = ExecutionResultDescription::Fail {
         failure,
         leaked: false,
@@ -147,7 +148,7 @@ fn of_termination_signal(alloc: Global, word: &str) -> Result<Option<String>, Al
 pub(super) fn answer(alloc: Global, parts: &[&str]) -> Result<Option<String>, AllocError> {
     match parts {
         ["result", word] => of_result(alloc, word),
-        ["description", word, name] => of_description(alloc, word, name),
+        ["from_status", word, name] => of_description(alloc, word, name),
         ["abort by signal", signal, name] => of_signal(alloc, signal, name),
         ["abort by code", code, message] => of_code(alloc, code, message),
         ["abort by job object"] => of_abort(alloc, AbortDescription::WindowsJobObject),
@@ -155,12 +156,10 @@ pub(super) fn answer(alloc: Global, parts: &[&str]) -> Result<Option<String>, Al
         ["kind", word] => of_kind(alloc, word),
         ["reason", word] => of_reason(alloc, word),
         ["display", word] => of_display(alloc, word),
-        ["reason to end a unit", word] => of_termination(alloc, word),
-        ["signal to end a unit", word] => of_termination_signal(alloc, word),
-        ["number of SIGTERM"] => Ok(Some(format!(in alloc; "{SIGTERM}")?)),
-        ["default setting for flaky tests"] => {
-            Ok(Some(format!(in alloc; "{:?}", FlakyResult::default())?))
-        }
+        ["UnitTerminateReason", word] => of_termination(alloc, word),
+        ["UnitTerminateSignal", word] => of_termination_signal(alloc, word),
+        ["SIGTERM"] => Ok(Some(format!(in alloc; "{SIGTERM}")?)),
+        ["default FlakyResult"] => { Ok(Some(format!(in alloc; "{:?}", FlakyResult::default())?)) }
         _ => Ok(None),
     }
 }

@@ -26,7 +26,8 @@ pub(super) fn slice_text(
     format!(in alloc; "{kind} {} {}", part.start, part.slice.len())
 }
 
-/// What is extracted of two streams, at most so many bytes of it where there is a limit.
+/// What is extracted of two streams. Where there is a limit at most so many bytes of it, and they
+/// follow in hex.
 fn extracted(
     alloc: Global,
     stdout: &str,
@@ -39,46 +40,50 @@ fn extracted(
         stdout.as_ref().map(|bytes| bytes.as_slice()),
         stderr.as_ref().map(|bytes| bytes.as_slice()),
     );
-    let found = match limit {
-        None => TestOutputErrorSlice::heuristic_extract(stdout, stderr),
-        Some(limit) => TestOutputErrorSlice::heuristic_extract_capped(stdout, stderr, limit),
+    let Some(limit) = limit else {
+        return slice_text(
+            alloc,
+            TestOutputErrorSlice::heuristic_extract(stdout, stderr),
+        );
     };
-    slice_text(alloc, found)
-}
-
-/// The start and the length of a part; `none` for none.
-fn part_text(alloc: Global, found: Option<ByteSubslice<'_>>) -> Result<String, AllocError> {
-    match found {
-        None => String::from_str(alloc, "none"),
-        Some(part) => format!(in alloc; "{} {}", part.start, part.slice.len()),
+    let found = TestOutputErrorSlice::heuristic_extract_capped(stdout, stderr, limit);
+    let text = slice_text(alloc, found)?;
+    match found.and_then(|found| found.combined_subslice()) {
+        None => Ok(text),
+        Some(part) => format!(in alloc; "{text} {}", hex::encode(alloc, part.slice)?),
     }
 }
 
-/// What one heuristic finds in its stream.
-fn alone(alloc: Global, heuristic: &str, stream: &str) -> Result<Option<String>, AllocError> {
-    let Some(bytes) = bytes_in(alloc, stream)? else {
-        return Ok(None);
-    };
-    let text = match heuristic {
-        "panic slice" => part_text(alloc, heuristic_panic_message(bytes.as_slice()))?,
-        "error slice" => part_text(alloc, heuristic_error_str(bytes.as_slice()))?,
-        "note line" => part_text(alloc, heuristic_should_panic(bytes.as_slice()))?,
-        _ => return Ok(None),
-    };
-    Ok(Some(text))
+/// The start of a part and its bytes in hex; `none` for none.
+fn part_text(alloc: Global, found: Option<ByteSubslice<'_>>) -> Result<String, AllocError> {
+    match found {
+        None => String::from_str(alloc, "none"),
+        Some(part) => format!(in alloc; "{} {}", part.start, hex::encode(alloc, part.slice)?),
+    }
 }
 
 /// What the port answers to a question of this group; `None` for any other.
 pub(super) fn answer(alloc: Global, parts: &[&str]) -> Result<Option<String>, AllocError> {
     match parts {
-        ["extract", stdout, stderr] => Ok(Some(extracted(alloc, stdout, stderr, None)?)),
-        ["extract at most", limit, stdout, stderr] => {
+        ["heuristic_extract", stdout, stderr] => Ok(Some(extracted(alloc, stdout, stderr, None)?)),
+        ["heuristic_extract_capped", limit, stdout, stderr] => {
             let Some(limit) = NonZero::<usize>::new(limit.parse().unwrap_or(0)) else {
                 return Ok(None);
             };
             Ok(Some(extracted(alloc, stdout, stderr, Some(limit))?))
         }
-        [heuristic, stream] => alone(alloc, heuristic, stream),
+        ["heuristic_panic_message", stderr] => {
+            let bytes = bytes_in(alloc, stderr)?.unwrap_or(Vec::new(alloc));
+            Ok(Some(part_text(alloc, heuristic_panic_message(bytes.as_slice()))?))
+        }
+        ["heuristic_error_str", stderr] => {
+            let bytes = bytes_in(alloc, stderr)?.unwrap_or(Vec::new(alloc));
+            Ok(Some(part_text(alloc, heuristic_error_str(bytes.as_slice()))?))
+        }
+        ["heuristic_should_panic", stdout] => {
+            let bytes = bytes_in(alloc, stdout)?.unwrap_or(Vec::new(alloc));
+            Ok(Some(part_text(alloc, heuristic_should_panic(bytes.as_slice()))?))
+        }
         _ => Ok(None),
     }
 }

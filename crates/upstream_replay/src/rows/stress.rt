@@ -62,9 +62,10 @@ fn above_zero(alloc: Global, nanos: &str) -> Result<Option<String>, AllocError> 
 
 /// The total of a sub-run, `-` where it is not known.
 fn total_of(alloc: Global, total: &str) -> Result<Option<String>, AllocError> {
-    let total = match total {
-        "-" => None,
-        number => NonZero::<u32>::new(number.parse().unwrap_or(0)),
+    let total = match (total, total.parse()) {
+        ("-", _) => None,
+        (_, Ok(number)) => NonZero::<u32>::new(number),
+        _ => return Ok(None),
     };
     let index = StressIndex { current: 2, total };
     Ok(Some(format!(in alloc; "{:?}", index.total_get())?))
@@ -73,12 +74,12 @@ fn total_of(alloc: Global, total: &str) -> Result<Option<String>, AllocError> {
 /// What the port answers to a question of this group; `None` for any other.
 pub(super) fn answer(alloc: Global, parts: &[&str]) -> Result<Option<String>, AllocError> {
     match parts {
-        ["left of a count", total, completed] => left_of(alloc, counted_in(total, completed)),
-        ["left of a time", total, elapsed] => left_of(alloc, timed_in(total, elapsed)),
-        ["id of a count", run, completed] => id_of(alloc, counted_in("infinite", completed), run),
-        ["id of a time", run] => id_of(alloc, timed_in("5", "3"), run),
-        ["duration above zero", nanos] => above_zero(alloc, nanos),
-        ["total of a sub-run", total] => total_of(alloc, total),
+        ["remaining count", total, completed] => left_of(alloc, counted_in(total, completed)),
+        ["remaining time", total, elapsed] => left_of(alloc, timed_in(total, elapsed)),
+        ["unique_id count", run, completed] => id_of(alloc, counted_in("infinite", completed), run),
+        ["unique_id time", run] => id_of(alloc, timed_in("5", "3"), run),
+        ["NonZeroDuration", nanos] => above_zero(alloc, nanos),
+        ["total_get", total] => total_of(alloc, total),
         _ => Ok(None),
     }
 }
