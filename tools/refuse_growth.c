@@ -1,7 +1,7 @@
 /*
  * Refuses one growth to a program that this is loaded before: the one whose number REFUSED_GROWTH
- * says, counted from 1. A growth is one request for memory, by malloc or realloc, as proved programs make them. Where there was a growth of that number
- * a line is written to descriptor 3.
+ * says, counted from 1. A growth is one request for memory, by malloc or realloc, as proved programs
+ * make them. Where there was a growth of that number a line is written to descriptor 3.
  */
 #include <errno.h>
 #include <stdlib.h>

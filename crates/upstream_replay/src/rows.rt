@@ -1,7 +1,8 @@
 //! Worked rows: a question, and the answer that is wanted.
 //!
 //! A case is `QUESTION => ANSWER`. The parts of a question are divided by ` | `, the first one says
-//! what is asked. Answers are compared as texts.
+//! what is asked, by the name of the call where it is one. Answers are compared as texts; what has no
+//! text of its own is shown as debugging output, which is promised to nobody.
 
 use std::alloc::{AllocError, Global};
 

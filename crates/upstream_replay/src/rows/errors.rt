@@ -125,12 +125,13 @@ fn output_in(alloc: Global, words: &[&str]) -> Result<Option<ChildOutput>, Alloc
     }
 }
 
-/// The lengths of the streams of output, which is loaded.
+/// The lengths of the streams of output, if it is loaded.
 fn lengths_of(alloc: Global, words: &[&str]) -> Result<Option<String>, AllocError> {
-    let Some(output) = output_in(alloc, words)? else {
-        return Ok(None);
+    let output = match (words, output_in(alloc, words)?) {
+        (["not loaded"], _) => ChildOutputDescription::NotLoaded,
+        (_, Some(output)) => ChildOutputDescription::from(output),
+        _ => return Ok(None),
     };
-    let output = ChildOutputDescription::from(output);
     if !output.is_loaded() {
         return Ok(Some(String::from_str(alloc, "not loaded")?));
     }
