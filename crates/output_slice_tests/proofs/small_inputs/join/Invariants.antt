@@ -1,4 +1,4 @@
-use Rattle.slow_search.proofs.small_inputs.join.Given as goal
+use Rattle.output_slice_tests.proofs.small_inputs.join.Given as goal
 
 abbrev pub decreases-loop-left : goal.decreases-loop-left
 decreases-loop-left l = l.left

@@ -1,5 +1,12 @@
-//! Compares the searches for the last taken head with slow functions that follow the rules to the
-//! letter: on worked inputs, of which it prints the heads that the slow functions list; on all
+//! What is tested of `output_slice`, through its public calls alone, so that a check of the tests does
+//! not prove the library once more. Worked inputs with their answers are rows that `upstream_replay`
+//! replays.
+//!
+//! The test functions are of what no such row can say: printed text, the parts by stream, the counted
+//! reads, and that long inputs take no long time.
+//!
+//! The program compares the searches for the last taken head with slow functions that follow the rules
+//! to the letter: on worked inputs, of which it prints the heads that the slow functions list; on all
 //! inputs of a few pieces; on every beginning of a few outputs; and on damaged outputs.
 //!
 //! Standard input is a list of outputs, one a line, in hex. Each is tried with every byte replaced
@@ -23,7 +30,13 @@ use std::process::ExitCode;
 
 mod beginnings;
 mod damage;
+#[cfg(test)]
+mod long_inputs;
 mod met;
+#[cfg(test)]
+mod parts;
+#[cfg(test)]
+mod reads;
 mod slow;
 mod small_inputs;
 mod trial;
