@@ -15,12 +15,14 @@ use Rattle.unicode.specs.Perl.{is_digit_char}
 use Rattle.output_slice.specs.declared.panic_head.HeadSpan.{HeadSpan}
 use Rattle.output_slice.specs.Head.{IsLineStart, IsName, IsDigit}
 use Rattle.output_slice.specs.Taken.{IsTaken}
-use Rattle.output_slice.specs.Steps.{IsCharAt, AreDigits, IsDigitRun, IsTailEnd, IsHeadStop, IsNextQuote, NoQuoteBetween}
-use Rattle.output_slice.proofs.CharLemmas.{length-part, IsCharAt-decoded, not_char-decoded, char-same}
+use Rattle.output_slice.specs.Steps.{IsTextEnd, IsCharAt, AreDigits, IsDigitRun, IsTailEnd, IsOpenedHeadEnd, IsNextQuote, NoQuoteBetween}
+use Rattle.output_slice.proofs.CharLemmas.{IsCharAt-decoded, not_char-decoded, char-same}
+use Rattle.output_slice.proofs.OccursLemmas.{length-part}
 use Rattle.output_slice.proofs.DigitLemmas.{digits-none, digits-more}
-use Rattle.output_slice.proofs.TailLemmas.{occurs-part, part-occurs, Found, IsTailEnd-plain, IsTailEnd-none, IsTailEnd-numbered}
+use Rattle.output_slice.proofs.TailLemmas.{IsTailEnd-plain, IsTailEnd-none, IsTailEnd-numbered}
+use Rattle.output_slice.proofs.OccursLemmas.{occurs-part, part-occurs}
 use Rattle.output_slice.proofs.SettledLemmas.{Settled, settled-first, settled-none, settled-head, settled-done}
-use Rattle.output_slice.proofs.StepLemmas.{name-from, IsHeadEnd-name, IsHeadStop-none, IsHeadStop-closed, IsHeadStop-opened, head_stop-order}
+use Rattle.output_slice.proofs.StepLemmas.{name-from, IsNamedHeadEnd-name, IsOpenedHeadEnd-none, IsOpenedHeadEnd-closed, IsOpenedHeadEnd-opened, opened-order}
 
 -- what a test decides holds or does not
 decided : {P : Type 0} (r : Bool) → Decides r P → P ⊎ (P → ⊥)
@@ -37,7 +39,7 @@ occurs-dec b xs at some = ⊎_elim
     (cases_lt (length b) (at + length xs))
 
 -- the same, with where it ends
-after-dec : (b xs : List ℕ) (at : ℕ) → 0 < length xs → (found : Option ℕ) × Found b xs at found
+after-dec : (b xs : List ℕ) (at : ℕ) → 0 < length xs → (found : Option ℕ) × IsTextEnd b xs at found
 after-dec b xs at some = ⊎_elim (λ h. (Some (at + length xs), (h, refl))) (λ n. (None, n)) (occurs-dec b xs at some)
 
 -- a character is a digit or not
@@ -51,7 +53,7 @@ char-dec : (b : List ℕ) (at : ℕ) → at < length b → ((c : ℕ) × IsCharA
 char-dec b at low = by_found (decoded (part at (length b) b)).char refl where
   by_found : (f : Option ℕ) → (decoded (part at (length b) b)).char ≡ f → ((c : ℕ) × IsCharAt b at (length b) c) ⊎ ((c : ℕ) → IsCharAt b at (length b) c → ⊥)
   by_found None e = inr (λ c. not_char-decoded b at (length b) c (omega arith) e)
-  by_found (Some c) e = inl (c, (IsCharAt-decoded b at (length b) c low (omega arith) e).0)
+  by_found (Some c) e = inl (c, (IsCharAt-decoded b at (length b) c (omega arith) e).0)
 
 -- digits end where the bytes do
 run-end : (b : List ℕ) (from at : ℕ) → AreDigits b from at → length b ≤ at → IsDigitRun b from at
@@ -130,14 +132,14 @@ name-dec b i j high quiet =
     (cases_lt i j)
 
 -- where the head ends that a quote opens
-head-stop : (b : List ℕ) (place q : ℕ) → get_or b q 0 ≡ 39 → q < length b → (close : Option ℕ) → IsNextQuote b (q + 1) close → (found : Option ℕ) × IsHeadStop b place q found
-head-stop b place q is high None n = (None, IsHeadStop-none b place q n)
+head-stop : (b : List ℕ) (place q : ℕ) → get_or b q 0 ≡ 39 → q < length b → (close : Option ℕ) → IsNextQuote b (q + 1) close → (found : Option ℕ) × IsOpenedHeadEnd b place q found
+head-stop b place q is high None n = (None, IsOpenedHeadEnd-none b place q n)
 head-stop b place q is high (Some c) n = ⊎_elim
     (λ opens. ⊎_elim
-    (λ name. let t = tail-end b (c + 1) in (t.0, IsHeadStop-opened b place q c t.0 opens is high n.1 n.0.low n.0.before (IsHeadEnd-name b q c t.0 name t.1)))
-    (λ none. (None, IsHeadStop-opened b place q c None opens is high n.1 n.0.low n.0.before (λ e l name tail. none name)))
+    (λ name. let t = tail-end b (c + 1) in (t.0, IsOpenedHeadEnd-opened b place q c opens is high n t.0 (IsNamedHeadEnd-name b q c t.0 name t.1)))
+    (λ none. (None, IsOpenedHeadEnd-opened b place q c opens is high n None (λ e l name tail. none name)))
     (name-dec b (q + 1) c (omega (arith, n.0.high)) n.0.before))
-    (λ closed. (None, IsHeadStop-closed b place q closed))
+    (λ closed. (None, IsOpenedHeadEnd-closed b place q closed))
     (opens-dec b place q)
 
 -- one step of the search: it ends, or goes on from a later place
@@ -147,12 +149,12 @@ Step b place = ((xs : List HeadSpan) × IsTaken b xs) ⊎ ((later : ℕ) × ((xs
 -- one step from a quote
 step : (b : List ℕ) (place : ℕ) (taken : List HeadSpan) → Settled b place taken → Step b place
 step b place taken h = let n = next-quote b place in by_next n.0 n.1 where
-  by_stop : (q : ℕ) → IsNextQuote b place (Some q) → (found : Option ℕ) → IsHeadStop b place q found → Step b place
+  by_stop : (q : ℕ) → IsNextQuote b place (Some q) → (found : Option ℕ) → IsOpenedHeadEnd b place q found → Step b place
   by_stop q n None s = let low = n.0.low in inr (q + 1, (taken, (omega arith, settled-none b place q taken h n.0.low n.1 n.0.before s)))
   by_stop q n (Some e) s =
       let far = s.0 in
       let x : HeadSpan = record { start = q - 7; stop = e } in
-      inr (e, (taken ++ x ∷ [], ((head_stop-order b place q e s).0, settled-head b place q taken x h n.0.low n.1 n.0.before (omega arith) (omega arith) s.1)))
+      inr (e, (taken ++ x ∷ [], ((opened-order b place q e s).0, settled-head b place q taken x h n.0.low n.1 n.0.before (omega arith) (omega arith) s.1)))
 
   by_next : (next : Option ℕ) → IsNextQuote b place next → Step b place
   by_next None n = inl (taken, settled-done b place taken h n)

@@ -10,7 +10,6 @@ mod SearchLemmas
 mod TakenLemmas
 mod TrimLemmas
 mod WideningLemmas
-mod ErrorLemmas
 mod DivisionLemmas
 mod NoteLemmas
 mod PartLemmas
@@ -20,5 +19,6 @@ mod ExistLemmas
 mod CutLemmas
 mod CrossLemmas
 mod OpeningLemmas
-mod LineLemmas
 mod SignLemmas
+mod ByteLemmas
+mod StartLemmas

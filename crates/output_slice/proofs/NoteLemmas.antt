@@ -1,9 +1,10 @@
 -- The line of the first note.
 use Rattle.std.proofs.Common.{◌≡◌, ℕ, ◌+◌, ◌-◌, ◌<◌, ◌≤◌, List, [], ◌∷◌, ◌++◌, length, get_or, take, drop, refl, sym, ap, subst, ◌∙◌, arith, ⊎_elim, inl, inr, length-append, length-drop, get_or-drop, take-append-drop, add_assoc}
-use Rattle.std.specs.Prelude.{sum_by, All, Some, None, codes}
+use Rattle.std.specs.Prelude.{not, ◌==◌, sum_by, All, Some, None, codes}
 use Rattle.std.specs.List.{concat}
 use Rattle.std.proofs.Math.ListN.{get_or-append}
 use Rattle.std.proofs.lemmas.Bool.{cases_lt, cases_eq}
+use Rattle.std.proofs.lemmas.Bool.Decides.{nat_tests}
 use Rattle.std.proofs.lemmas.List.{get_or-take, length-take-le, get_or-append-add}
 use Rattle.std.proofs.lemmas.List.Sums.{sum_by-cons}
 use Rattle.std.proofs.lemmas.List.Elements.{All-cons, All-nil}
@@ -15,9 +16,8 @@ use Rattle.output_slice.specs.Head.{IsLineStart}
 use Rattle.output_slice.specs.Steps.{NoFeedBetween}
 use Rattle.output_slice.specs.Slices.{IsNote, IsNoteLine}
 use Rattle.output_slice.proofs.DivisionLemmas.{AreLines-lines_of}
-use Rattle.output_slice.proofs.CharLemmas.{length-part, get_or-part}
-use Rattle.output_slice.proofs.OccursLemmas.{text-feed}
-use Rattle.output_slice.proofs.TailLemmas.{not-in}
+use Rattle.output_slice.proofs.OccursLemmas.{length-part, get_or-part}
+use Rattle.output_slice.proofs.ByteLemmas.{text-passes}
 
 -- the length of joined lines is the sum of their lengths
 pub length-concat : (xs : List (List ℕ)) → length (concat xs) ≡ sum_by length xs
@@ -75,11 +75,8 @@ module _ (b : List ℕ) (at s e : ℕ) (found : FindsNeedle b (codes "note: test
   inside : at + 36 ≤ e
   inside =
       let fits = here.fits in
-      ⊎_elim
-      (λ (short : e < at + 36). let feed = last (omega arith) in
-      absurd (text-feed b (codes "note: test did not panic as expected") at (e - 1) here (not-in 10 (codes "note: test did not panic as expected") (λ e. omega arith) refl) (omega (arith, feed.0)) (omega arith) feed.1))
-      (λ l. l)
-      (cases_lt e (at + 36))
+      let other = text-passes (λ x. not (x == 10)) b (codes "note: test did not panic as expected") at here refl (e - 1) in
+      grind (arith, nat_tests)
 
   size-of-line : line_len (drop s b) ≡ e - s
   size-of-line = let in' = inside in line-size b s e (omega arith) high

@@ -24,7 +24,7 @@ use Rattle.output_slice.specs.Slices.{Slice, IsPart, IsBlank, IsWidened, IsTrimm
 use Rattle.output_slice.specs.Extraction.{OfStream, IsExtract, IsPartOf, LiesIn}
 use Rattle.output_slice.specs.Shown.{slice_of, extract_of}
 use Rattle.output_slice.proofs.TakenLemmas.{IsLastTaken-head}
-use Rattle.output_slice.proofs.CharLemmas.{length-part, get_or-part}
+use Rattle.output_slice.proofs.OccursLemmas.{length-part, get_or-part}
 
 -- text that begins with an ASCII byte that is no white space is not blank
 not_blank : (bs : List ℕ) → 0 < length bs → get_or bs 0 0 < 128 → is_whitespace (get_or bs 0 0) ≡ false → IsBlank bs → ⊥

@@ -7,8 +7,8 @@ use Rattle.std.proofs.lemmas.Option.{slice_get_read}
 use Rattle.output_slice.specs.declared.panic_head.HeadSpan.{HeadSpan}
 use Rattle.output_slice.specs.Head.{IsLineStart}
 use Rattle.output_slice.specs.Taken.{last_of}
-use Rattle.output_slice.specs.Steps.{IsHeadStop, IsNextQuote, NoQuoteBetween, FewReads, HeadReads, NoFeedBetween}
-use Rattle.output_slice.proofs.StepLemmas.{IsHeadStop-none}
+use Rattle.output_slice.specs.Steps.{IsOpenedHeadEnd, IsNextQuote, ArePlain, FewReads, HeadReads}
+use Rattle.output_slice.proofs.StepLemmas.{IsOpenedHeadEnd-none}
 use Rattle.output_slice.proofs.SettledLemmas.{Settled, settled-first, settled-none, settled-head}
 
 -- the reads so far, the next quote q, and a place before which no quote follows q
@@ -16,8 +16,7 @@ pub record WithReads (b : List ℕ) (old new place q : ℕ) : Type 0 where
   pub seen : ℕ
   pub low : q < seen
   pub high : seen ≤ length b
-  pub quiet : NoQuoteBetween b (q + 1) seen
-  pub one_line : NoFeedBetween b (q + 1) seen
+  pub plain : ArePlain b (q + 1) seen
   -- how far the tail was read behind the quote before q
   pub before : ℕ
   pub from : place ≤ before
@@ -93,13 +92,13 @@ searched-first b old new next is fits reads = record {
 } where
   by_next : (n : Option ℕ) → IsNextQuote b 0 n → MatchOption n (new + 0 ≤ old + length b) (λ q. new + 0 ≤ old + (q + 1)) → MatchOption n (new ≤ old + (3 * length b + 8)) (λ q. WithReads b old new 0 q)
   by_next None i r = omega arith
-  by_next (Some q) i r = let high = i.0.high in record { seen = q + 1; low = omega arith; high = omega arith; quiet = λ k low up e. omega arith; one_line = λ k low up e. omega arith; before = 0; from = omega arith; to = omega arith; line = λ l. absurd (omega arith); tail = 0; far = omega arith; near = omega arith; few = inl (omega arith, omega arith) }
+  by_next (Some q) i r = let high = i.0.high in record { seen = q + 1; low = omega arith; high = omega arith; plain = λ k low up. absurd (omega arith); before = 0; from = omega arith; to = omega arith; line = λ l. absurd (omega arith); tail = 0; far = omega arith; near = omega arith; few = inl (omega arith, omega arith) }
 
 -- a step at a quote that opens no head
 pub searched-none : (b : List ℕ) (old new scanned tested place q : ℕ) (close : Option ℕ) (last : Option HeadSpan) → Searched b old new place (Some q) last
     → IsNextQuote b (q + 1) close → IfSome close (λ c. c + 1 < 2 ^ 64)
     → MatchOption close (scanned + (q + 1) ≤ new + length b) (λ c. scanned + (q + 1) ≤ new + (c + 1))
-    → IsHeadStop b place q None → (scanned < tested → place + 7 ≤ q) → (scanned + 1 < tested → IsLineStart b (q - 7)) → HeadReads b q scanned tested close None → Searched b old tested (q + 1) close last
+    → IsOpenedHeadEnd b place q None → (scanned < tested → place + 7 ≤ q) → (scanned + 1 < tested → IsLineStart b (q - 7)) → HeadReads b q scanned tested close None → Searched b old tested (q + 1) close last
 searched-none b old new scanned tested place q close last h is fits reads none opened line more =
     let i = h.is_next in
     let high = i.0.high in record {
@@ -127,15 +126,14 @@ searched-none b old new scanned tested place q close last h is fits reads none o
             seen = m.last;
             low = m.low;
             high = m.high;
-            quiet = m.quiet;
-            one_line = m.one_line;
+            plain = m.plain;
             before = w.seen;
             from = omega (arith, w.low);
-            to = ⊎_elim (λ (less : c < w.seen). absurd (w.quiet c i.0.low less i.1)) (λ l. l) (cases_lt c w.seen);
+            to = ⊎_elim (λ (less : c < w.seen). absurd ((w.plain c i.0.low less).0 i.1)) (λ l. l) (cases_lt c w.seen);
             line = λ l. (
               omega arith,
               λ k low up is. ⊎_elim
-                  (λ (past : q < k). w.one_line k (omega arith) up is)
+                  (λ (past : q < k). (w.plain k (omega arith) up).1 is)
                   (λ (at : k ≤ q). let same : k ≡ q = omega arith in omega (arith, ap (λ j. get_or b j 0) same, h.is_next.1))
                   (cases_lt q k),
             );
@@ -148,7 +146,7 @@ searched-none b old new scanned tested place q close last h is fits reads none o
 -- a step at a quote that opens a head
 pub searched-head : (b : List ℕ) (old new scanned tested ended place q c e : ℕ) (next : Option ℕ) (last : Option HeadSpan) → Searched b old new place (Some q) last
     → IsNextQuote b (q + 1) (Some c) → scanned + (q + 1) ≤ new + (c + 1)
-    → IsHeadStop b place q (Some e) → HeadReads b q scanned tested (Some c) (Some e)
+    → IsOpenedHeadEnd b place q (Some e) → HeadReads b q scanned tested (Some c) (Some e)
     → IsNextQuote b e next → IfSome next (λ x. x + 1 < 2 ^ 64)
     → MatchOption next (ended + e ≤ tested + length b) (λ x. ended + e ≤ tested + (x + 1))
     → Searched b old ended e next (Some (record { start = q - 7; stop = e }))
@@ -169,7 +167,7 @@ searched-head b old new scanned tested ended place q c e next last h is reads st
       paid =
           let w = h.reads in
           let p = few-paid b old new place q 8 w (omega arith) (λ some. stop.0) (λ some. stop.1.line_start) in
-          let seen : w.seen ≤ c = ⊎_elim (λ (less : c < w.seen). absurd (w.quiet c is.0.low less is.1)) (λ l. l) (cases_lt c w.seen) in
+          let seen : w.seen ≤ c = ⊎_elim (λ (less : c < w.seen). absurd ((w.plain c is.0.low less).0 is.1)) (λ l. l) (cases_lt c w.seen) in
           let name = is.0.low in let one = p.1 in let all = p.3 in let last = more.before.0 in let whole = more.before.1 in
           ⊎_elim (λ f. let far = f.0 in omega arith) (λ f. let exact = f.1 in omega arith) more.few
 
@@ -177,17 +175,17 @@ searched-head b old new scanned tested ended place q c e next last h is reads st
       by_next None i r = let ends = stop.1.ends in let few = paid in omega arith
       by_next (Some x) i r =
           let few = paid in let low = i.0.low in let high = i.0.high in
-          record { seen = x + 1; low = omega arith; high = omega arith; quiet = λ k low up is. omega arith; one_line = λ k low up is. omega arith; before = e; from = omega arith; to = omega arith; line = λ l. absurd (omega arith); tail = 0; far = omega arith; near = omega arith; few = inl (omega arith, omega arith) }
+          record { seen = x + 1; low = omega arith; high = omega arith; plain = λ k low up. absurd (omega arith); before = e; from = omega arith; to = omega arith; line = λ l. absurd (omega arith); tail = 0; far = omega arith; near = omega arith; few = inl (omega arith, omega arith) }
 
 -- the same, where it is not yet known that there is a next quote
 pub searched-found : (b : List ℕ) (old new scanned tested ended place q e : ℕ) (close next : Option ℕ) (last : Option HeadSpan) → Searched b old new place (Some q) last
     → IsNextQuote b (q + 1) close
     → MatchOption close (scanned + (q + 1) ≤ new + length b) (λ c. scanned + (q + 1) ≤ new + (c + 1))
-    → IsHeadStop b place q (Some e) → HeadReads b q scanned tested close (Some e)
+    → IsOpenedHeadEnd b place q (Some e) → HeadReads b q scanned tested close (Some e)
     → IsNextQuote b e next → IfSome next (λ x. x + 1 < 2 ^ 64)
     → MatchOption next (ended + e ≤ tested + length b) (λ x. ended + e ≤ tested + (x + 1))
     → Searched b old ended e next (Some (record { start = q - 7; stop = e }))
 searched-found b old new scanned tested ended place q e None next last h is reads stop more is' fits reads' =
-    let far = stop.0 in absurd (IsHeadStop-none b place q is (q - 7) e (omega arith) (omega arith) stop.1)
+    let far = stop.0 in absurd (IsOpenedHeadEnd-none b place q is (q - 7) e (omega arith) (omega arith) stop.1)
 searched-found b old new scanned tested ended place q e (Some c) next last h is reads stop more is' fits reads' =
     searched-head b old new scanned tested ended place q c e next last h is reads stop more is' fits reads'

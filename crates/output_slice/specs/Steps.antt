@@ -1,22 +1,47 @@
 -- What the steps of the counted search find, and how far they read.
-use Rattle.std.specs.Prelude.{◌≡◌, ◌≢◌, ℕ, ◌+◌, ◌-◌, ◌*◌, ◌<◌, ◌≤◌, ◌⊎◌, List, length, slice_index, All, Option, MatchOption, IfSome}
+use Rattle.std.specs.Prelude.{codes, ◌≡◌, ◌≢◌, ℕ, ◌+◌, ◌-◌, ◌*◌, ◌<◌, ◌≤◌, ◌⊎◌, List, length, slice_index, All, Option, MatchOption, IfSome}
 use Rattle.std.specs.Char.{encode_utf8, IsScalar}
 use Rattle.std.specs.Str.{encode_utf8_all}
 use Rattle.bstr.specs.Text.{part}
 use Rattle.bstr.specs.Find.{OccursAt, IsFirst}
-use Rattle.output_slice.specs.Head.{IsDigit, IsName, IsTail, IsHead}
+use Rattle.output_slice.specs.Head.{IsDigit, IsLineStart, IsName, IsTail, IsHead}
+use Rattle.output_slice.specs.Slices.{IsBreak}
 
--- No line feed stands in b from i up to j.
+-- The byte x stands nowhere in b from i up to j.
+abbrev pub NoByteBetween : ℕ → List ℕ → ℕ → ℕ → Type 0
+NoByteBetween x b i j = (k : ℕ) → i ≤ k → k < j → slice_index b k ≢ x
+
+-- No line feed does.
 abbrev pub NoFeedBetween : List ℕ → ℕ → ℕ → Type 0
-NoFeedBetween b i j = (k : ℕ) → i ≤ k → k < j → slice_index b k ≢ 10
+NoFeedBetween = NoByteBetween 10
 
--- No quote stands in b from i up to j.
+-- No quote does.
 abbrev pub NoQuoteBetween : List ℕ → ℕ → ℕ → Type 0
-NoQuoteBetween b i j = (k : ℕ) → i ≤ k → k < j → slice_index b k ≢ 39
+NoQuoteBetween = NoByteBetween 39
+
+-- Neither does.
+abbrev pub ArePlain : List ℕ → ℕ → ℕ → Type 0
+ArePlain b i j = (k : ℕ) → i ≤ k → k < j → (slice_index b k ≢ 39) × (slice_index b k ≢ 10)
+
+-- Each byte of b from i up to j is a line feed or a carriage return.
+abbrev pub AreBreaks : List ℕ → ℕ → ℕ → Type 0
+AreBreaks b i j = (k : ℕ) → i ≤ k → k < j → IsBreak (slice_index b k)
+
+-- The line of `at` ends at `end`: behind a line feed that is not before `at`, or with the bytes.
+abbrev pub IsLineEnd : List ℕ → ℕ → ℕ → Type 0
+IsLineEnd b at end = end < length b → (at < end) × (slice_index b (end - 1) ≡ 10)
 
 -- What is found is the first place at or after `from` where a quote stands.
 abbrev pub IsNextQuote : List ℕ → ℕ → Option ℕ → Type 0
 IsNextQuote b from found = IsFirst (λ k. slice_index b k ≡ 39) from (length b) found
+
+-- One read for each byte from `from` up to the quote that is found and for the quote, or up to the end.
+abbrev pub QuoteReads : List ℕ → ℕ → ℕ → ℕ → Option ℕ → Type 0
+QuoteReads b from old new found = MatchOption found (new + from ≤ old + length b) (λ q. new + from ≤ old + (q + 1))
+
+-- `thread ` stands before the quote at a line start that is not before `place`.
+abbrev pub IsOpened : List ℕ → ℕ → ℕ → Type 0
+IsOpened b place quote = (place + 7 ≤ quote) × IsLineStart b (quote - 7) × OccursAt b (codes "thread ") (quote - 7)
 
 -- The first k bytes of text stand in b at `at`.
 pub record AgreesFor (b text : List ℕ) (at k : ℕ) : Type 0 where
@@ -24,11 +49,34 @@ pub record AgreesFor (b text : List ℕ) (at k : ℕ) : Type 0 where
   pub reads : (j : ℕ) → j < k → slice_index b (at + j) ≡ slice_index text j
   pub fits : at + k ≤ length b
 
+-- What is found is where the text ends that stands in b at `at`, and none where it does not stand there.
+abbrev pub IsTextEnd : List ℕ → List ℕ → ℕ → Option ℕ → Type 0
+IsTextEnd b text at found = MatchOption found (¬ OccursAt b text at) (λ e. OccursAt b text at × (e ≡ at + length text))
+
+-- One read for each byte of the text, up to the first that differs.
+abbrev pub TextReads : List ℕ → List ℕ → ℕ → ℕ → ℕ → Option ℕ → Type 0
+TextReads b text at old new found = MatchOption found
+    ((k : ℕ) × (k < length text) × AgreesFor b text at k × (new ≤ old + k + 1))
+    (λ e. new ≤ old + length text)
+
 -- The character c stands in b at `at` and ends by `stop`.
 pub record IsCharAt (b : List ℕ) (at stop c : ℕ) : Type 0 where
   pub scalar : IsScalar c
   pub stands : OccursAt b (encode_utf8 c) at
   pub ends : at + length (encode_utf8 c) ≤ stop
+
+-- What is found is the character that stands in b at `at` and ends by `stop`, and how many bytes it has.
+abbrev pub IsSizedChar : List ℕ → ℕ → ℕ → Option (ℕ × ℕ) → Type 0
+IsSizedChar b at stop found = MatchOption found ((c : ℕ) → ¬ IsCharAt b at stop c)
+    (λ r. IsCharAt b at stop r.0 × (r.1 ≡ length (encode_utf8 r.0)) × (0 < r.1))
+
+-- One read for each byte of the character that is found, or up to `stop`.
+abbrev pub CharReads : ℕ → ℕ → ℕ → ℕ → Option (ℕ × ℕ) → Type 0
+CharReads at stop old new found = MatchOption found (new + at ≤ old + stop) (λ r. new ≤ old + r.1)
+
+-- Where an ASCII byte stands at `to`, it is read once, and each byte before it from `from` on.
+abbrev pub ReadsAsciiEnd : List ℕ → ℕ → ℕ → ℕ → ℕ → Type 0
+ReadsAsciiEnd b from to old new = slice_index b to < 128 → new + from ≤ old + to + 1
 
 -- No digit stands in b at `at`.
 abbrev pub NoDigitAt : List ℕ → ℕ → Type 0
@@ -55,8 +103,7 @@ pub record ReadsUpTo (b : List ℕ) (at old new : ℕ) (found : Option ℕ) : Ty
   pub last : ℕ
   pub low : at ≤ last
   pub high : last ≤ length b
-  pub quiet : NoQuoteBetween b at last
-  pub one_line : NoFeedBetween b at last
+  pub plain : ArePlain b at last
   pub far : new + at ≤ old + last + 5
   pub near : new + 2 * at ≤ old + 2 * last + 2
   pub before : IfSome found (λ e. (last ≤ e) × (at + 13 ≤ last) × (new + at ≤ old + last + 1))
@@ -67,14 +114,14 @@ FewReads name at last old new = ((new + at ≤ old + last + 5) × (new + 2 * at 
     ⊎ ((at + 13 ≤ last) × (new + at ≤ old + last + name + 1))
 
 -- What is found is where the head ends whose name stands between the quotes at `quote` and `close`.
-abbrev pub IsHeadEnd : List ℕ → ℕ → ℕ → Option ℕ → Type 0
-IsHeadEnd b quote close found = MatchOption found
+abbrev pub IsNamedHeadEnd : List ℕ → ℕ → ℕ → Option ℕ → Type 0
+IsNamedHeadEnd b quote close found = MatchOption found
     ((e : ℕ) → e ≤ length b → IsName (part (quote + 1) close b) → ¬ IsTail (part (close + 1) e b))
     (λ e. (e ≤ length b) × IsName (part (quote + 1) close b) × IsTail (part (close + 1) e b))
 
 -- What is found is where the head ends that the quote opens, at `place` or after it.
-abbrev pub IsHeadStop : List ℕ → ℕ → ℕ → Option ℕ → Type 0
-IsHeadStop b place quote found = MatchOption found
+abbrev pub IsOpenedHeadEnd : List ℕ → ℕ → ℕ → Option ℕ → Type 0
+IsOpenedHeadEnd b place quote found = MatchOption found
     ((s e : ℕ) → place ≤ s → s + 7 ≡ quote → ¬ IsHead b s e)
     (λ e. (place + 7 ≤ quote) × IsHead b (quote - 7) e)
 
@@ -83,8 +130,7 @@ pub record HeadReadsTo (b : List ℕ) (quote old new close : ℕ) (found : Optio
   pub last : ℕ
   pub low : close < last
   pub high : last ≤ length b
-  pub quiet : NoQuoteBetween b (close + 1) last
-  pub one_line : NoFeedBetween b (close + 1) last
+  pub plain : ArePlain b (close + 1) last
   pub few : FewReads (close - (quote + 1)) (close + 1) last old new
   pub before : IfSome found (λ e. (last ≤ e) × (close + 14 ≤ last))
 

@@ -1,22 +1,21 @@
 //! The three heuristics, and which of them is used.
-ghost use Rattle.std.specs.Prelude.{codes, ◌≡◌, ◌≤◌, ◌<◌, ℕ, ◌-◌, length, slice_index, Option, option_map, IfSome};
+ghost use Rattle.std.specs.Prelude.{codes, ◌≡◌, ◌≤◌, ◌<◌, ℕ, ◌+◌, ◌-◌, length, slice_index, Option, option_map, IfSome};
 ghost use Rattle.std.specs.Option.{option_copied};
 ghost use Rattle.bstr.specs.Text.{without_terminator};
-ghost use Rattle.output_slice.specs.Slices.{Slice, IsErrorSlice, IsNoteLine, IsPart, IsPanicSlice, IsTrimmedSlice, IsWidened, IsBreak};
+ghost use Rattle.bstr.specs.Find.{IsFirst};
+ghost use Rattle.output_slice.specs.Slices.{Slice, IsErrorSlice, IsErrorStart, IsNoteLine, IsPart, IsPanicSlice, IsTrimmedSlice, IsWidened, IsBreak};
+ghost use Rattle.output_slice.specs.Steps.{AreBreaks};
 ghost use Rattle.output_slice.specs.Extraction.{Extract, IsCappedExtract, IsExtract, LiesIn};
 ghost use Rattle.output_slice.specs.Shown.{slice_of, extract_of, part_of};
-ghost use Rattle.output_slice.specs.Signs.{IsQuietFrom};
+ghost use Rattle.output_slice.specs.Signs.{IsNoteQuiet, IsQuietFrom};
 ghost use Rattle.std.specs.Int.NonZero.{non_zero_usize_get};
 
 use crate::last_head::last_head_before;
 use crate::lines::{line_end, line_start};
-use crate::signs::{ERROR_SIGN, first_sign, quiet_size};
+use crate::signs::{ERROR_SIGN, NOTE, first_sign, quiet_ends};
 use crate::subslice::{ByteSubslice, TestOutputErrorSlice};
 use bstr::ByteSlice;
 use std::num::NonZero;
-
-/// The note that a test did not panic.
-const NOTE: &[u8] = b"note: test did not panic as expected";
 
 impl<'a> TestOutputErrorSlice<'a> {
     /// The part of a test's output that says why it failed: the panic slice of standard error, else
@@ -61,32 +60,29 @@ fn first_slice<'a>(
 ) -> Option<TestOutputErrorSlice<'a>>
     ensures { IsExtract (option_copied stdout.entry) (option_copied stderr.entry) (option_map extract_of result) }
 {
-    let quiet = quiet_size(stdout.unwrap_or(b""), stderr.unwrap_or(b""));
+    let quiet = quiet_ends(stdout.unwrap_or(b""), stderr.unwrap_or(b""));
     let Some(bytes) = stderr else {
-        return note_slice(stdout, quiet);
+        return note_slice(stdout, quiet.stdout);
     };
-    let end = bytes.len().saturating_sub(quiet);
-    match panic_message_before(bytes, end) {
+    match panic_message_before(bytes, quiet.stderr) {
         Some(part) => Some(TestOutputErrorSlice::PanicMessage {
             stderr_subslice: part,
         }),
-        None => match error_str_before(bytes, end) {
+        None => match error_str_before(bytes, quiet.stderr) {
             Some(part) => Some(TestOutputErrorSlice::ErrorStr {
                 stderr_subslice: part,
             }),
-            None => note_slice(stdout, quiet),
+            None => note_slice(stdout, quiet.stdout),
         },
     }
 }
 
-/// The note line of standard output, where it was captured; no note begins in its last `quiet`
-/// bytes.
-fn note_slice(stdout: Option<&[u8]>, quiet: usize) -> Option<TestOutputErrorSlice<'_>>
-    requires { IfSome stdout (λ b. IsQuietFrom b.now (codes "note: test did not panic as expected") (length b.now - quiet)) }
+/// The note line of standard output, where it was captured; no note begins at `end` or behind it.
+fn note_slice(stdout: Option<&[u8]>, end: usize) -> Option<TestOutputErrorSlice<'_>>
+    requires { IsNoteQuiet stdout end }
     ensures { IsExtract (option_copied stdout.entry) None (option_map extract_of result) }
 {
-    let bytes = stdout?;
-    let part = should_panic_before(bytes, bytes.len().saturating_sub(quiet))?;
+    let part = should_panic_before(stdout?, end)?;
     Some(TestOutputErrorSlice::ShouldPanic {
         stdout_subslice: part,
     })
@@ -106,7 +102,8 @@ pub fn heuristic_panic_message(stderr: &[u8]) -> Option<ByteSubslice<'_>>
     panic_message_before(stderr, stderr.len())
 }
 
-/// The same, where no sign of a panic begins at `end` or behind it.
+/// The same, where no sign of a panic begins at `end` or behind it. An extraction has looked for the
+/// signs of all three slices at once, so each heuristic has such a twin, which passes the end over.
 fn panic_message_before(stderr: &[u8], end: usize) -> Option<ByteSubslice<'_>>
     requires { IsQuietFrom stderr.now (codes "\nthread '") end }
     ensures { IsPanicSlice stderr.now (option_map slice_of result) }
@@ -133,11 +130,22 @@ fn error_str_before(stderr: &[u8], end: usize) -> Option<ByteSubslice<'_>>
     requires { IsQuietFrom stderr.now (codes "\nError: ") end }
     ensures { IsErrorSlice stderr.now (option_map slice_of result) }
 {
-    if stderr.starts_with_str(b"Error: ") {
-        return Some(trimmed(stderr, 0));
+    let start = error_start(stderr, end)?;
+    Some(trimmed(stderr, start))
+}
+
+/// The first line start at which an error stands, where no sign of one begins at `end` or behind it.
+fn error_start(stderr: &[u8], end: usize) -> Option<usize>
+    requires { IsQuietFrom stderr.now (codes "\nError: ") end }
+    ensures { IsFirst (IsErrorStart stderr.now) 0 (length stderr.now + 1) result }
+{
+    if stderr.starts_with_str(&ERROR_SIGN[1..]) {
+        return Some(0);
     }
-    let at = first_sign(stderr, ERROR_SIGN, end)?;
-    Some(trimmed(stderr, at + 1))
+    let Some(feed) = first_sign(stderr, ERROR_SIGN, end) else {
+        return None;
+    };
+    Some(feed + 1)
 }
 
 /// The note line: the first line of `stdout` that holds `note: test did not panic as expected`,
@@ -183,7 +191,7 @@ fn widened(stderr: &[u8], start: usize) -> usize
     ensures value { IsWidened stderr.now start result }
     ensures within { result ≤ length stderr.now }
 {
-    let front = &stderr[..text_end(stderr, start)];
+    let front = &stderr[..breaks_start(stderr, start)];
     let Some(at) = front.rfind_byte(b'\n') else {
         return start;
     };
@@ -195,10 +203,10 @@ fn widened(stderr: &[u8], start: usize) -> usize
 }
 
 /// Where the line ends begin that stand before `start`.
-fn text_end(stderr: &[u8], start: usize) -> usize
+fn breaks_start(stderr: &[u8], start: usize) -> usize
     requires { start ≤ length stderr.now }
     ensures within { result ≤ start }
-    ensures breaks { (i : ℕ) → result ≤ i → i < start → IsBreak (slice_index stderr.now i) }
+    ensures breaks { AreBreaks stderr.now result start }
     ensures text { 0 < result → ¬ IsBreak (slice_index stderr.now (result - 1)) }
 {
     (&stderr[..start])

@@ -1,40 +1,40 @@
 //! The search for the last taken head, from the back.
-ghost use Rattle.std.specs.Prelude.{codes, ◌≡◌, ◌≤◌, ◌<◌, ◌↔◌, ℕ, List, length, take, MatchOption, IsSome, Option, Some};
+ghost use Rattle.std.specs.Prelude.{codes, ◌≡◌, ◌≤◌, ◌<◌, ◌↔◌, ℕ, List, length, MatchOption, IsSome, IsTrue, Some};
 ghost use Rattle.output_slice.specs.declared.panic_head.HeadSpan.{HeadSpan};
 ghost use Rattle.output_slice.specs.Head.{IsLineStart, IsHead};
 ghost use Rattle.output_slice.specs.Taken.{IsLastTaken, IsTaken, last_of};
 ghost use Rattle.output_slice.specs.Cut.{IsCut};
-ghost use Rattle.output_slice.specs.Search.{IsLastOpening, MayCross};
+ghost use Rattle.output_slice.specs.Search.{AllHeadsEndBy, IsLastFrom, IsLastOpening, IsOpening, MayAllBeCrossed, MayCross};
 ghost use Rattle.output_slice.specs.Signs.{IsQuietFrom};
 
 use crate::byte_source::CountedBytes;
-use crate::lines::line_end;
-use crate::panic_head::quotes::{OPENING_SIZE, WORD_SIZE, opens};
+use crate::lines::{is_line_start, line_end};
+use crate::panic_head::quotes::{OPENING_SIZE, WORD_SIZE};
 use crate::panic_head::{HeadSpan, last_panic_head};
 use crate::signs::{PANIC_SIGN, last_sign};
 use bstr::ByteSlice;
 
-/// The last line start at which a head may stand, where no sign of a panic begins at `end` or
+/// The last line start at which `thread '` stands, where no sign of a panic begins at `end` or
 /// behind it.
 fn last_opening(bytes: &[u8], end: usize) -> Option<usize>
     requires { IsQuietFrom bytes.now (codes "\nthread '") end }
-    ensures { MatchOption result ((s : ℕ) → (e : ℕ) → ¬ IsHead bytes.now s e) (λ s. IsLastOpening bytes.now s) }
+    ensures { IsLastOpening bytes.now result }
 {
     if let Some(feed) = last_sign(bytes, PANIC_SIGN, end) {
         return Some(feed + 1);
     }
-    if bytes.starts_with_str(b"thread '") {
+    if bytes.starts_with_str(&PANIC_SIGN[1..]) {
         return Some(0);
     }
     None
 }
 
 /// A place by which every head ends, where the last opening is at `at`.
-fn heads_end(bytes: &[u8], at: usize) -> usize
-    requires { IsLastOpening bytes.now at }
+fn window_end(bytes: &[u8], at: usize) -> usize
+    requires { IsLastOpening bytes.now (Some at) }
     ensures low { at < result }
     ensures high { result ≤ length bytes.now }
-    ensures ends { (s : ℕ) → (e : ℕ) → IsHead bytes.now s e → e ≤ result }
+    ensures ends { AllHeadsEndBy bytes.now result }
 {
     let name = at + OPENING_SIZE;
     match (&bytes[name..]).find_byte(b'\'') {
@@ -49,13 +49,26 @@ fn crossing(bytes: &[u8], at: usize) -> Option<usize>
     requires line_start { IsLineStart bytes.now at }
     ensures { MatchOption result (IsCut bytes.now at) (λ s. MayCross bytes.now s at) }
 {
-    let quote = (&bytes[..at]).rfind_byte(b'\'')?;
-    let mut source = CountedBytes::new(bytes);
-    if opens(&mut source, 0, quote) {
-        Some(quote - WORD_SIZE)
+    let Some(quote) = (&bytes[..at]).rfind_byte(b'\'') else {
+        return None;
+    };
+    if quote < WORD_SIZE {
+        return None;
+    }
+    let start = quote - WORD_SIZE;
+    if is_opening(bytes, start) {
+        Some(start)
     } else {
         None
     }
+}
+
+/// Whether `thread '` stands at the line start `at`.
+fn is_opening(bytes: &[u8], at: usize) -> bool
+    requires { at ≤ length bytes.now }
+    ensures { IsTrue result ↔ IsOpening bytes.now at }
+{
+    is_line_start(bytes, at) && (&bytes[at..]).starts_with_str(&PANIC_SIGN[1..])
 }
 
 /// The last line start at or before `at` that no head may cross, by what stands before it.
@@ -64,7 +77,7 @@ fn cut_before(bytes: &[u8], at: usize) -> usize
     requires line_start { IsLineStart bytes.now at }
     ensures cut { IsCut bytes.now result }
     ensures within { result ≤ at }
-    ensures last { (c : ℕ) → result < c → c ≤ at → (s : ℕ) × MayCross bytes.now s c }
+    ensures last { MayAllBeCrossed bytes.now result at }
 {
     let mut cut = at;
     while let Some(start) = crossing(bytes, cut) {
@@ -76,7 +89,7 @@ fn cut_before(bytes: &[u8], at: usize) -> usize
 /// The last taken head, if one begins at the cut or after it.
 fn last_from(bytes: &[u8], cut: usize) -> Option<HeadSpan>
     requires { IsCut bytes.now cut }
-    ensures { MatchOption result ((found : Option HeadSpan) → IsLastTaken (take cut bytes.now) found → IsLastTaken bytes.now found) (λ h. IsLastTaken bytes.now (Some h)) }
+    ensures { IsLastFrom bytes.now cut result }
 {
     let mut source = CountedBytes::new(&bytes[cut..]);
     let head = last_panic_head(&mut source)?;
@@ -101,14 +114,15 @@ pub fn last_head(bytes: &[u8]) -> Option<HeadSpan>
     last_head_before(bytes, bytes.len())
 }
 
-/// The same, where no sign of a panic begins at `end` or behind it.
+/// The same, where no sign of a panic begins at `end` or behind it: an extraction has looked for the
+/// signs of all slices at once.
 pub(crate) fn last_head_before(bytes: &[u8], end: usize) -> Option<HeadSpan>
     requires { IsQuietFrom bytes.now (codes "\nthread '") end }
     ensures { IsLastTaken bytes.now result }
 {
     let mut rest = bytes;
     while let Some(at) = last_opening(rest, end) {
-        let front = &rest[..heads_end(rest, at)];
+        let front = &rest[..window_end(rest, at)];
         let cut = cut_before(front, at);
         if let Some(head) = last_from(front, cut) {
             return Some(head);

@@ -1,9 +1,17 @@
 //! Where lines begin and end.
-ghost use Rattle.std.specs.Prelude.{◌≡◌, ◌≤◌, ◌<◌, ◌-◌, length, slice_index};
+ghost use Rattle.std.specs.Prelude.{◌≤◌, ◌↔◌, ◌-◌, length, IsTrue};
 ghost use Rattle.output_slice.specs.Head.{IsLineStart};
-ghost use Rattle.output_slice.specs.Steps.{NoFeedBetween};
+ghost use Rattle.output_slice.specs.Steps.{IsLineEnd, NoFeedBetween};
 
 use bstr::ByteSlice;
+
+/// Whether `at` is a line start.
+pub(crate) fn is_line_start(bytes: &[u8], at: usize) -> bool
+    requires { at ≤ length bytes.now }
+    ensures { IsTrue result ↔ IsLineStart bytes.now at }
+{
+    at == 0 || bytes[at - 1] == b'\n'
+}
 
 /// The start of the line that `at` lies in.
 pub(crate) fn line_start(bytes: &[u8], at: usize) -> usize
@@ -23,7 +31,7 @@ pub(crate) fn line_end(bytes: &[u8], at: usize) -> usize
     requires { at ≤ length bytes.now }
     ensures low { at ≤ result }
     ensures high { result ≤ length bytes.now }
-    ensures last { result < length bytes.now → (at < result) × (slice_index bytes.now (result - 1) ≡ 10) }
+    ensures last { IsLineEnd bytes.now at result }
     ensures one_line { NoFeedBetween bytes.now at (result - 1) }
 {
     match (&bytes[at..]).find_byte(b'\n') {

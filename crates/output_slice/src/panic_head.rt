@@ -9,7 +9,7 @@ mod ends;
 pub(crate) mod quotes;
 
 use crate::byte_source::ByteSource;
-use crate::panic_head::ends::head_stop;
+use crate::panic_head::ends::opened_head_end;
 use crate::panic_head::quotes::{WORD_SIZE, next_quote};
 
 /// Where a head stands: the front of a panic message, as `thread 'main' panicked at `.
@@ -48,7 +48,7 @@ pub fn last_panic_head<S: ByteSource>(source: &mut S) -> Option<HeadSpan>
     let mut next = next_quote(source, 0);
     while let Some(quote) = next {
         let close = next_quote(source, quote + 1);
-        match head_stop(source, place, quote, close) {
+        match opened_head_end(source, place, quote, close) {
             Some(stop) => {
                 last = Some(HeadSpan {
                     start: quote - WORD_SIZE,

@@ -1,9 +1,8 @@
-//! The signs of a slice: texts without which there is none, and how much of the end of output has
-//! none of them.
+//! The signs of a slice: texts without which there is none, and from where on output has none of them.
 //!
 //! In most output there is no sign at all, and then each is looked for in all of it. So they are
 //! looked for side by side, block by block, while the block is at hand in the processor's cache.
-ghost use Rattle.std.specs.Prelude.{◌≡◌, ◌≤◌, ◌+◌, ◌-◌, length, min, IsTrue};
+ghost use Rattle.std.specs.Prelude.{◌≡◌, ◌≤◌, ◌+◌, length, min, IsTrue};
 ghost use Rattle.bstr.specs.Find.{FindsLastNeedle, FindsNeedle};
 ghost use Rattle.output_slice.specs.Signs.{AreQuiet, IsQuietFrom};
 
@@ -19,48 +18,62 @@ pub(crate) const PANIC_SIGN: &[u8] = b"\nthread '";
 /// The start of an error, behind a line feed.
 pub(crate) const ERROR_SIGN: &[u8] = b"\nError: ";
 
-/// The first words of the note that a test did not panic: a text of at most 32 bytes is found
+/// The note that a test did not panic.
+pub(crate) const NOTE: &[u8] = b"note: test did not panic as expected";
+
+/// How many bytes of the note are its sign, its first words: a text of at most 32 bytes is found
 /// faster than a longer one.
-const NOTE_SIGN: &[u8] = b"note: test did not panic";
+const NOTE_SIGN_SIZE: usize = 24;
 
-/// At how many bytes at the end of both streams no sign begins, in whole blocks. The search goes
-/// from the back and ends with the first block that has a sign.
-pub(crate) fn quiet_size(stdout: &[u8], stderr: &[u8]) -> usize
-    ensures { AreQuiet stdout.now stderr.now result }
+/// From where on no sign begins, in each stream.
+#[derive(Clone, Copy)]
+pub(crate) struct QuietEnds {
+    pub(crate) stdout: usize,
+    pub(crate) stderr: usize,
+}
+
+/// From where on no sign begins: the search goes from the back of both streams, a block of each at a
+/// time, and ends with the first block that has a sign.
+pub(crate) fn quiet_ends(stdout: &[u8], stderr: &[u8]) -> QuietEnds
+    ensures { AreQuiet stdout.now stderr.now result.stdout result.stderr }
 {
-    let most = stdout.len().max(stderr.len());
-    let mut quiet = 0;
-    while quiet < most {
-        let more = quiet.saturating_add(BLOCK_SIZE);
-        if !are_quiet_before(stdout, stderr, quiet, more) {
-            return quiet;
+    let mut ends = QuietEnds {
+        stdout: stdout.len(),
+        stderr: stderr.len(),
+    };
+    while ends.stdout.max(ends.stderr) > 0 {
+        let starts = QuietEnds {
+            stdout: ends.stdout.saturating_sub(BLOCK_SIZE),
+            stderr: ends.stderr.saturating_sub(BLOCK_SIZE),
+        };
+        if !are_quiet_between(stdout, stderr, starts, ends) {
+            return ends;
         }
-        quiet = more;
+        ends = starts;
     }
-    quiet
+    ends
 }
 
-/// Whether no sign begins in the last `more` bytes of its stream, where it is known of the last
-/// `quiet` ones.
-fn are_quiet_before(stdout: &[u8], stderr: &[u8], quiet: usize, more: usize) -> bool
-    requires quiet { AreQuiet stdout.now stderr.now quiet }
-    requires order { quiet ≤ more }
-    ensures { IsTrue result → AreQuiet stdout.now stderr.now more }
+/// Whether no sign begins at `starts` or behind it, where it is known of `ends`.
+fn are_quiet_between(stdout: &[u8], stderr: &[u8], starts: QuietEnds, ends: QuietEnds) -> bool
+    requires quiet { AreQuiet stdout.now stderr.now ends.stdout ends.stderr }
+    requires stdout { starts.stdout ≤ ends.stdout }
+    requires stderr { starts.stderr ≤ ends.stderr }
+    ensures { IsTrue result → AreQuiet stdout.now stderr.now starts.stdout starts.stderr }
 {
-    is_quiet_before(stderr, PANIC_SIGN, quiet, more)
-        && is_quiet_before(stderr, ERROR_SIGN, quiet, more)
-        && is_quiet_before(stdout, NOTE_SIGN, quiet, more)
+    is_quiet_between(stderr, PANIC_SIGN, starts.stderr, ends.stderr)
+        && is_quiet_between(stderr, ERROR_SIGN, starts.stderr, ends.stderr)
+        && is_quiet_between(stdout, &NOTE[..NOTE_SIGN_SIZE], starts.stdout, ends.stdout)
 }
 
-/// Whether the sign does not begin in the last `more` bytes, where it is known of the last `quiet`
-/// ones.
-fn is_quiet_before(bytes: &[u8], sign: &[u8], quiet: usize, more: usize) -> bool
-    requires quiet { IsQuietFrom bytes.now sign.now (length bytes.now - quiet) }
-    requires order { quiet ≤ more }
-    ensures { IsTrue result → IsQuietFrom bytes.now sign.now (length bytes.now - more) }
+/// Whether the sign does not begin at `start` or behind it, where it is known of `end`.
+fn is_quiet_between(bytes: &[u8], sign: &[u8], start: usize, end: usize) -> bool
+    requires quiet { IsQuietFrom bytes.now sign.now end }
+    requires order { start ≤ end }
+    requires within { end ≤ length bytes.now }
+    ensures { IsTrue result → IsQuietFrom bytes.now sign.now start }
 {
-    let end = bytes.len().saturating_sub(quiet);
-    let block = &bytes[bytes.len().saturating_sub(more)..reach(bytes, sign, end)];
+    let block = &bytes[start..reach(bytes, sign, end)];
     !block.contains_str(sign)
 }
 

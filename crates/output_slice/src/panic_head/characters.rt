@@ -1,10 +1,9 @@
 //! Characters of names and of numbers.
-ghost use Rattle.std.specs.Prelude.{◌≡◌, ◌≤◌, ◌↔◌, ◌+◌, ◌-◌, ◌*◌, ◌<◌, ◌^◌, ℕ, length, slice_index, IsTrue, MatchOption};
-ghost use Rattle.std.specs.Char.{encode_utf8};
+ghost use Rattle.std.specs.Prelude.{◌≡◌, ◌≤◌, ◌↔◌, ◌+◌, ◌-◌, ◌*◌, ◌<◌, ◌^◌, length, slice_index, IsTrue};
 ghost use Rattle.std.specs.Str.{IsUtf8};
 ghost use Rattle.bstr.specs.Text.{part};
 ghost use Rattle.output_slice.specs.Head.{IsDigit};
-ghost use Rattle.output_slice.specs.Steps.{IsCharAt, IsDigitRun};
+ghost use Rattle.output_slice.specs.Steps.{CharReads, IsDigitRun, IsSizedChar, ReadsAsciiEnd};
 
 use crate::byte_source::ByteSource;
 use unicode::properties::GeneralCategory;
@@ -14,8 +13,8 @@ fn char_at<S: ByteSource>(source: &mut S, at: usize, stop: usize) -> Option<(cha
     requires low { at < stop }
     requires high { stop ≤ length (S.bytes source.old) }
     requires room { S.count source.old + stop < 2 ^ 128 + at }
-    ensures value { MatchOption result ((c : ℕ) → ¬ IsCharAt (S.bytes source.old) at stop c) (λ r. IsCharAt (S.bytes source.old) at stop r.0 × (r.1 ≡ length (encode_utf8 r.0)) × (0 < r.1)) }
-    ensures reads { MatchOption result (S.count source.new + at ≤ S.count source.old + stop) (λ r. S.count source.new ≤ S.count source.old + r.1) }
+    ensures value { IsSizedChar (S.bytes source.old) at stop result }
+    ensures reads { CharReads at stop (S.count source.old) (S.count source.new) result }
     ensures few { S.count source.new ≤ S.count source.old + 4 }
     ensures ascii { slice_index (S.bytes source.old) at < 128 → S.count source.new ≤ S.count source.old + 1 }
     ensures same { S.bytes source.new ≡ S.bytes source.old }
@@ -69,7 +68,7 @@ pub(crate) fn digits_end<S: ByteSource>(source: &mut S, from: usize) -> usize
     requires room { S.count source.old + 2 * length (S.bytes source.old) < 2 ^ 128 + 2 * from }
     ensures run { IsDigitRun (S.bytes source.old) from result }
     ensures reads { S.count source.new + from ≤ S.count source.old + result + 4 }
-    ensures ascii { slice_index (S.bytes source.old) result < 128 → S.count source.new + from ≤ S.count source.old + result + 1 }
+    ensures ascii { ReadsAsciiEnd (S.bytes source.old) from result (S.count source.old) (S.count source.new) }
     ensures within { result ≤ length (S.bytes source.old) }
     ensures same { S.bytes source.new ≡ S.bytes source.old }
 {

@@ -1,19 +1,18 @@
 //! Where texts, tails and heads end.
-ghost use Rattle.std.specs.Prelude.{◌≡◌, ◌≤◌, ◌+◌, ◌-◌, ◌*◌, ◌<◌, ◌^◌, ℕ, length, slice_index, IfSome, MatchOption};
-ghost use Rattle.bstr.specs.Find.{OccursAt};
+ghost use Rattle.std.specs.Prelude.{◌≡◌, ◌≤◌, ◌+◌, ◌-◌, ◌*◌, ◌<◌, ◌^◌, length, slice_index, IfSome};
 ghost use Rattle.output_slice.specs.Head.{IsLineStart};
-ghost use Rattle.output_slice.specs.Steps.{IsNextQuote, AgreesFor, IsTailEnd, ReadsUpTo, NoQuoteBetween, IsHeadEnd, IsHeadStop, HeadReadsTo, HeadReads};
+ghost use Rattle.output_slice.specs.Steps.{IsNextQuote, IsTextEnd, TextReads, IsTailEnd, ReadsUpTo, NoQuoteBetween, IsNamedHeadEnd, IsOpenedHeadEnd, HeadReadsTo, HeadReads};
 
 use crate::byte_source::ByteSource;
 use crate::panic_head::characters::{digits_end, is_utf8_between};
 use crate::panic_head::quotes::opens;
 
 /// Where `text` ends, if it stands at `at`.
-fn end_of_text<S: ByteSource>(source: &mut S, at: usize, text: &[u8]) -> Option<usize>
+fn after_text<S: ByteSource>(source: &mut S, at: usize, text: &[u8]) -> Option<usize>
     requires room { S.count source.old + length (S.bytes source.old) < 2 ^ 128 + at }
     requires within { at ≤ length (S.bytes source.old) }
-    ensures value { MatchOption result (¬ (OccursAt (S.bytes source.old) text.now at)) (λ e. OccursAt (S.bytes source.old) text.now at × (e ≡ at + length text.now)) }
-    ensures reads { MatchOption result ((k : ℕ) × (k < length text.now) × AgreesFor (S.bytes source.old) text.now at k × (S.count source.new ≤ S.count source.old + k + 1)) (λ e. S.count source.new ≤ S.count source.old + length text.now) }
+    ensures value { IsTextEnd (S.bytes source.old) text.now at result }
+    ensures reads { TextReads (S.bytes source.old) text.now at (S.count source.old) (S.count source.new) result }
     ensures same { S.bytes source.new ≡ S.bytes source.old }
 {
     let end = source.len();
@@ -36,27 +35,27 @@ fn tail_end<S: ByteSource>(source: &mut S, at: usize) -> Option<usize>
     ensures reads { ReadsUpTo (S.bytes source.old) at (S.count source.old) (S.count source.new) result }
     ensures same { S.bytes source.new ≡ S.bytes source.old }
 {
-    let Some(space) = end_of_text(source, at, b" ") else {
+    let Some(space) = after_text(source, at, b" ") else {
         return None;
     };
-    let Some(number) = end_of_text(source, space, b"(") else {
-        return end_of_text(source, space, b"panicked at ");
+    let Some(number) = after_text(source, space, b"(") else {
+        return after_text(source, space, b"panicked at ");
     };
     let close = digits_end(source, number);
     if close == number {
         return None;
     }
-    end_of_text(source, close, b") panicked at ")
+    after_text(source, close, b") panicked at ")
 }
 
 /// Where the head ends whose name stands between the quotes at `quote` and `close`.
-fn head_end<S: ByteSource>(source: &mut S, quote: usize, close: usize) -> Option<usize>
+fn named_head_end<S: ByteSource>(source: &mut S, quote: usize, close: usize) -> Option<usize>
     requires low { quote < close }
     requires high { close < length (S.bytes source.old) }
     requires fits { close + 1 < 2 ^ 64 }
     requires quiet { NoQuoteBetween (S.bytes source.old) (quote + 1) close }
     requires room { S.count source.old + 2 * length (S.bytes source.old) + 6 < 2 ^ 128 + 2 * quote }
-    ensures value { IsHeadEnd (S.bytes source.old) quote close result }
+    ensures value { IsNamedHeadEnd (S.bytes source.old) quote close result }
     ensures reads { HeadReadsTo (S.bytes source.old) quote (S.count source.old) (S.count source.new) close result }
     ensures same { S.bytes source.new ≡ S.bytes source.old }
 {
@@ -74,7 +73,7 @@ fn head_end<S: ByteSource>(source: &mut S, quote: usize, close: usize) -> Option
 }
 
 /// Where the head ends that `quote` opens, at `place` or after it. The next quote is at `close`.
-pub(crate) fn head_stop<S: ByteSource>(
+pub(crate) fn opened_head_end<S: ByteSource>(
     source: &mut S,
     place: usize,
     quote: usize,
@@ -86,7 +85,7 @@ pub(crate) fn head_stop<S: ByteSource>(
     requires next { IsNextQuote (S.bytes source.old) (quote + 1) close }
     requires fits { IfSome close (λ c. c + 1 < 2 ^ 64) }
     requires room { S.count source.old + 2 * length (S.bytes source.old) < 2 ^ 128 + 2 * place }
-    ensures value { IsHeadStop (S.bytes source.old) place quote result }
+    ensures value { IsOpenedHeadEnd (S.bytes source.old) place quote result }
     ensures opened { S.count source.old < S.count source.new → place + 7 ≤ quote }
     ensures line { S.count source.old + 1 < S.count source.new → IsLineStart (S.bytes source.old) (quote - 7) }
     ensures reads { HeadReads (S.bytes source.old) quote (S.count source.old) (S.count source.new) close result }
@@ -98,5 +97,5 @@ pub(crate) fn head_stop<S: ByteSource>(
     if !opens(source, place, quote) {
         return None;
     }
-    head_end(source, quote, close)
+    named_head_end(source, quote, close)
 }

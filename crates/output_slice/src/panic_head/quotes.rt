@@ -1,8 +1,7 @@
 //! Quotes, and what stands before them.
-ghost use Rattle.std.specs.Prelude.{◌≡◌, ◌≤◌, ◌↔◌, ◌+◌, ◌-◌, ◌<◌, ◌^◌, codes, length, IsTrue, IfSome, MatchOption};
-ghost use Rattle.bstr.specs.Find.{OccursAt};
+ghost use Rattle.std.specs.Prelude.{◌≡◌, ◌≤◌, ◌↔◌, ◌+◌, ◌-◌, ◌<◌, ◌^◌, length, IsTrue, IfSome};
 ghost use Rattle.output_slice.specs.Head.{IsLineStart};
-ghost use Rattle.output_slice.specs.Steps.{IsNextQuote};
+ghost use Rattle.output_slice.specs.Steps.{IsNextQuote, IsOpened, QuoteReads};
 
 use crate::byte_source::ByteSource;
 
@@ -18,7 +17,7 @@ pub(crate) fn next_quote<S: ByteSource>(source: &mut S, from: usize) -> Option<u
     requires room { S.count source.old + length (S.bytes source.old) < 2 ^ 128 + from }
     ensures found { IsNextQuote (S.bytes source.old) from result }
     ensures fits { IfSome result (λ q. q + 1 < 2 ^ 64) }
-    ensures reads { MatchOption result (S.count source.new + from ≤ S.count source.old + length (S.bytes source.old)) (λ q. S.count source.new + from ≤ S.count source.old + (q + 1)) }
+    ensures reads { QuoteReads (S.bytes source.old) from (S.count source.old) (S.count source.new) result }
     ensures same { S.bytes source.new ≡ S.bytes source.old }
 {
     let end = source.len();
@@ -34,7 +33,7 @@ pub(crate) fn next_quote<S: ByteSource>(source: &mut S, from: usize) -> Option<u
 pub(crate) fn opens<S: ByteSource>(source: &mut S, place: usize, quote: usize) -> bool
     requires within { quote < length (S.bytes source.old) }
     requires room { place + 7 ≤ quote → S.count source.old + 8 < 2 ^ 128 }
-    ensures value { IsTrue result ↔ ((place + 7 ≤ quote) × IsLineStart (S.bytes source.old) (quote - 7) × OccursAt (S.bytes source.old) (codes "thread ") (quote - 7)) }
+    ensures value { IsTrue result ↔ IsOpened (S.bytes source.old) place quote }
     ensures few { S.count source.new ≤ S.count source.old + 8 }
     ensures line { S.count source.old + 1 < S.count source.new → IsLineStart (S.bytes source.old) (quote - 7) }
     ensures none { quote < place + 7 → S.count source.new ≡ S.count source.old }

@@ -1,25 +1,25 @@
-use Rattle.std.proofs.Common.{ℕ, ◌-◌, List, length}
-use Rattle.std.specs.Prelude.{codes}
-use Rattle.output_slice.specs.Signs.{IsQuietFrom}
-use Rattle.output_slice.proofs.SignLemmas.{of-bytes, of-stream, quiet-longer}
+use Rattle.std.proofs.Common.{◌≡◌, ℕ, List, Bor}
+use Rattle.std.specs.Prelude.{codes, Option, None, Some}
+use Rattle.std.specs.Option.{unwrap_or}
+use Rattle.output_slice.specs.Signs.{IsNoteQuiet, IsQuietFrom}
+use Rattle.output_slice.proofs.OccursLemmas.{occurs-front}
 use Rattle.output_slice.proofs.heuristics.first_slice.Goals as goal
 
+-- where the first words of the note do not begin, the note does not
+note-quiet : (stream : Option (Bor (List ℕ))) (none taken : Bor (List ℕ)) (end : ℕ) → taken ≡ unwrap_or stream none
+    → IsQuietFrom taken.now (codes "note: test did not panic") end → IsNoteQuiet stream end
+note-quiet None none taken end is quiet = tt
+note-quiet (Some b) none taken end is quiet = λ i low h.
+    (rw is at quiet) i low (occurs-front b.now (codes "note: test did not panic") (codes " as expected") i h)
+
 pub note_slice-requires : goal.note_slice-requires
-note_slice-requires c =
-    let Quiet : List ℕ → Type 0 = λ b. IsQuietFrom b (codes "note: test did not panic as expected") (length b - c.quiet_size-quiet.result) in
-    of-stream Quiet c.args.stdout _ _ c.unwrap_or.ensures (quiet-longer _ (codes "note: test did not panic") (codes " as expected") _ c.quiet_size-quiet.ensures.note)
+note_slice-requires c = note-quiet c.args.stdout _ _ _ c.unwrap_or.ensures c.quiet_ends-quiet.ensures.note
 
 pub note_slice-requires-in-None-error_str_before : goal.note_slice-requires-in-None-error_str_before
-note_slice-requires-in-None-error_str_before c =
-    let Quiet : List ℕ → Type 0 = λ b. IsQuietFrom b (codes "note: test did not panic as expected") (length b - c.quiet_size-quiet.result) in
-    of-stream Quiet c.args.stdout _ _ c.unwrap_or.ensures (quiet-longer _ (codes "note: test did not panic") (codes " as expected") _ c.quiet_size-quiet.ensures.note)
+note_slice-requires-in-None-error_str_before c = note-quiet c.args.stdout _ _ _ c.unwrap_or.ensures c.quiet_ends-quiet.ensures.note
 
 pub panic_message_before-requires : goal.panic_message_before-requires
-panic_message_before-requires c =
-    let Quiet : List ℕ → Type 0 = λ b. IsQuietFrom b (codes "\nthread '") (length b - c.quiet_size-quiet.result) in
-    rw c.saturating_sub-end.ensures (of-bytes Quiet c.args.stderr _ c.in-Some.is (of-stream Quiet c.args.stderr _ _ c.unwrap_or-2.ensures c.quiet_size-quiet.ensures.panic))
+panic_message_before-requires c = rw (rw c.in-Some.is at c.unwrap_or-2.ensures) at c.quiet_ends-quiet.ensures.panic
 
 pub error_str_before-requires : goal.error_str_before-requires
-error_str_before-requires c =
-    let Quiet : List ℕ → Type 0 = λ b. IsQuietFrom b (codes "\nError: ") (length b - c.quiet_size-quiet.result) in
-    rw c.saturating_sub-end.ensures (of-bytes Quiet c.args.stderr _ c.in-Some.is (of-stream Quiet c.args.stderr _ _ c.unwrap_or-2.ensures c.quiet_size-quiet.ensures.error))
+error_str_before-requires c = rw (rw c.in-Some.is at c.unwrap_or-2.ensures) at c.quiet_ends-quiet.ensures.error

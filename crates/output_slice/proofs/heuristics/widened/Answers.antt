@@ -1,17 +1,16 @@
-use Rattle.std.proofs.Common.{refl}
 use Rattle.std.proofs.lemmas.List.{take_rest}
 use Rattle.output_slice.proofs.WideningLemmas.{widened-some, widened-other}
 use Rattle.output_slice.proofs.heuristics.widened.Goals as goal
 
 pub returns-then-starts_with_str-clause-value : goal.returns-then-starts_with_str-clause-value
 returns-then-starts_with_str-clause-value c =
-    let e = c.text_end.ensures in
-    widened-some c.args.stderr.now c.args.start c.text_end.result e.within c.requires e.breaks e.text c.in-Some.at _ c.in-Some.ensures
-    (rw take_rest at (c.starts_with_str.ensures.0 c.if-starts_with_str.true)) refl
+    let e = c.breaks_start.ensures in
+    widened-some c.args.stderr.now c.args.start c.breaks_start.result e.within c.requires e.breaks e.text c.in-Some.at c.in-Some.ensures
+    (rw take_rest at (c.starts_with_str.ensures.0 c.if-starts_with_str.true))
 
 pub returns-else-starts_with_str-clause-value : goal.returns-else-starts_with_str-clause-value
 returns-else-starts_with_str-clause-value c =
-    let e = c.text_end.ensures in
+    let e = c.breaks_start.ensures in
     let f = c.if-starts_with_str.false in
-    widened-other c.args.stderr.now c.args.start c.text_end.result e.within c.requires e.breaks e.text c.in-Some.at c.in-Some.ensures
+    widened-other c.args.stderr.now c.args.start c.breaks_start.result e.within c.requires e.breaks e.text c.in-Some.at c.in-Some.ensures
     (λ h. let yes = c.starts_with_str.ensures.1 (rw take_rest h) in cc)

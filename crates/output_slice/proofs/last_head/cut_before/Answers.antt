@@ -7,4 +7,4 @@ loop-start-preserved c =
     let i = c.loop-start.invariant in
     let crosses = c.in-Some.ensures in
     let low = crosses.low in
-    (omega arith, crosses.line_start, crossed-more c.args.bytes.now c.in-Some.start c.loop-start.cut c.args.at crosses i.2)
+    (omega arith, crosses.opening.0, crossed-more c.args.bytes.now c.in-Some.start c.loop-start.cut c.args.at crosses i.2)

@@ -1,27 +1,29 @@
 use Rattle.std.proofs.Common.{take}
 use Rattle.std.specs.Prelude.{Some, None}
 use Rattle.output_slice.proofs.CutLemmas.{last-within-front}
-use Rattle.output_slice.proofs.SignLemmas.{quiet-front}
+use Rattle.output_slice.proofs.OccursLemmas.{occurs-front-take}
+use Rattle.output_slice.proofs.OpeningLemmas.{opening-none}
 use Rattle.output_slice.proofs.TakenLemmas.{IsLastTaken-none}
 use Rattle.output_slice.proofs.last_head.last_head_before.Goals as goal
 
 pub returns-in-Some-last_from : goal.returns-in-Some-last_from
 returns-in-Some-last_from c =
-    let e = c.heads_end.ensures in
-    c.loop-at.invariant.0 (Some c.in-Some-last_from.head) (last-within-front c.loop-at.rest.now c.heads_end.result (Some c.in-Some-last_from.head) e.high e.ends c.in-Some-last_from.ensures)
+    let e = c.window_end.ensures in
+    c.loop-at.invariant.0 (Some c.in-Some-last_from.head) (last-within-front c.loop-at.rest.now c.window_end.result (Some c.in-Some-last_from.head) e.high e.ends c.in-Some-last_from.ensures)
 
 pub loop-at-preserved : goal.loop-at-preserved
 loop-at-preserved c =
-    let e = c.heads_end.ensures in
+    let e = c.window_end.ensures in
     let rest = c.loop-at.rest.now in
-    let end = c.heads_end.result in
+    let end = c.window_end.result in
     let cut = c.cut_before-cut.ensures.cut in (
       λ found last. c.loop-at.invariant.0 found (last-within-front rest end found e.high e.ends (c.in_default-last_from.ensures found last)),
-      quiet-front (take end rest) _ _ c.args.end cut.within (quiet-front rest _ end c.args.end e.high c.loop-at.invariant.1),
+      λ i low h. c.loop-at.invariant.1 i low
+          (occurs-front-take rest _ i end e.high (occurs-front-take (take end rest) _ i c.cut_before-cut.result cut.within h)),
     )
 
 pub last_opening-requires : goal.last_opening-requires
 last_opening-requires c = c.loop-at.invariant.1
 
 pub returns : goal.returns
-returns c = c.loop-at.invariant.0 None (IsLastTaken-none c.loop-at.rest.now c.in_default.ensures)
+returns c = c.loop-at.invariant.0 None (IsLastTaken-none c.loop-at.rest.now (opening-none c.loop-at.rest.now c.in_default.ensures))

@@ -5,7 +5,7 @@ use Rattle.output_slice.specs.Taken.{IsTaken, last_of}
 use Rattle.output_slice.specs.Steps.{IsNextQuote}
 use Rattle.output_slice.proofs.SearchLemmas.{Searched, searched-first, searched-none, searched-found}
 use Rattle.output_slice.proofs.SettledLemmas.{settled-done}
-use Rattle.output_slice.proofs.StepLemmas.{head_stop-order}
+use Rattle.output_slice.proofs.StepLemmas.{opened-order}
 use Rattle.output_slice.proofs.TakenLemmas.{IsTaken-same, IsTaken-some}
 use Rattle.output_slice.proofs.panic_head.last_panic_head.Goals as goal
 
@@ -14,26 +14,26 @@ loop-next-init g c =
     let e = c.next_quote-next.ensures in
     (e.same, searched-first _ _ _ c.next_quote-next.result e.found e.fits e.reads)
 
-pub loop-next-smaller-in-Some-head_stop : goal.loop-next-smaller-in-Some-head_stop
-loop-next-smaller-in-Some-head_stop g c =
+pub loop-next-smaller-in-Some-opened_head_end : goal.loop-next-smaller-in-Some-opened_head_end
+loop-next-smaller-in-Some-opened_head_end g c =
     let same = c.next_quote-close.ensures.same ∙ c.loop-next.invariant.0 in
-    let v = rw same at c.in-Some-head_stop.ensures.value in
-    let order = head_stop-order _ c.loop-next.place c.in-Some.quote c.in-Some-head_stop.stop v in
+    let v = rw same at c.in-Some-opened_head_end.ensures.value in
+    let order = opened-order _ c.loop-next.place c.in-Some.quote c.in-Some-opened_head_end.stop v in
     omega arith
 
-pub loop-next-preserved-in-Some-head_stop : goal.loop-next-preserved-in-Some-head_stop
-loop-next-preserved-in-Some-head_stop g c =
+pub loop-next-preserved-in-Some-opened_head_end : goal.loop-next-preserved-in-Some-opened_head_end
+loop-next-preserved-in-Some-opened_head_end g c =
     let b = g.S.ByteSource.bytes c.args.source.now in
     let one = c.loop-next.invariant.0 in
     let two = c.next_quote-close.ensures.same ∙ one in
-    let three = c.head_stop.ensures.same ∙ two in
+    let three = c.opened_head_end.ensures.same ∙ two in
     let h = subst (λ n. Searched b (g.S.ByteSource.count c.args.source.now) (g.S.ByteSource.count c.loop-next.source) c.loop-next.place n c.loop-next.last) c.in-Some.is c.loop-next.invariant.1 in
     let n = c.next_quote-close.ensures in
-    let v = rw two at c.in-Some-head_stop.ensures.value in
-    let r = rw two at c.in-Some-head_stop.ensures.reads in
-    let m = c.next_quote-next-in-Some-head_stop.ensures in (
+    let v = rw two at c.in-Some-opened_head_end.ensures.value in
+    let r = rw two at c.in-Some-opened_head_end.ensures.reads in
+    let m = c.next_quote-next-in-Some-opened_head_end.ensures in (
       m.same ∙ three,
-      searched-found b _ _ _ _ _ c.loop-next.place c.in-Some.quote c.in-Some-head_stop.stop c.next_quote-close.result c.next_quote-next-in-Some-head_stop.result c.loop-next.last
+      searched-found b _ _ _ _ _ c.loop-next.place c.in-Some.quote c.in-Some-opened_head_end.stop c.next_quote-close.result c.next_quote-next-in-Some-opened_head_end.result c.loop-next.last
           h (rw one at n.found) (rw one at n.reads) v r (rw three at m.found) m.fits (rw three at m.reads),
     )
 
@@ -42,14 +42,14 @@ loop-next-preserved g c =
     let b = g.S.ByteSource.bytes c.args.source.now in
     let one = c.loop-next.invariant.0 in
     let two = c.next_quote-close.ensures.same ∙ one in
-    let three = c.head_stop.ensures.same ∙ two in
+    let three = c.opened_head_end.ensures.same ∙ two in
     let h = subst (λ n. Searched b (g.S.ByteSource.count c.args.source.now) (g.S.ByteSource.count c.loop-next.source) c.loop-next.place n c.loop-next.last) c.in-Some.is c.loop-next.invariant.1 in
     let n = c.next_quote-close.ensures in
     let v = rw two at c.in-None.ensures.value in
     let r = rw two at c.in-None.ensures.reads in (
       three,
       searched-none b _ _ _ _ c.loop-next.place c.in-Some.quote c.next_quote-close.result c.loop-next.last
-          h (rw one at n.found) n.fits (rw one at n.reads) v c.head_stop.ensures.opened (rw two at c.head_stop.ensures.line) r,
+          h (rw one at n.found) n.fits (rw one at n.reads) v c.opened_head_end.ensures.opened (rw two at c.opened_head_end.ensures.line) r,
     )
 
 done : (b : List ℕ) (old new place : ℕ) (next : Option ℕ) (last : Option HeadSpan) → next ≡ None → (h : Searched b old new place next last) → IsTaken b h.taken

@@ -1,18 +1,18 @@
 use Rattle.std.proofs.Common.{◌+◌, subst}
 use Rattle.output_slice.specs.Steps.{IsNextQuote}
-use Rattle.output_slice.proofs.StepLemmas.{IsHeadStop-closed, IsHeadStop-opened}
-use Rattle.output_slice.proofs.panic_head.ends.head_stop.Goals as goal
+use Rattle.output_slice.proofs.StepLemmas.{IsOpenedHeadEnd-closed, IsOpenedHeadEnd-opened}
+use Rattle.output_slice.proofs.panic_head.ends.opened_head_end.Goals as goal
 
 pub returns-then-not-opens-clause-value : goal.returns-then-not-opens-clause-value
 returns-then-not-opens-clause-value g c =
     let v = c.opens.ensures.value in
     let f = c.if-not-opens.true in
-    IsHeadStop-closed _ c.args.place c.args.quote (λ h. let yes = v.1 h in cc)
+    IsOpenedHeadEnd-closed _ c.args.place c.args.quote (λ h. let yes = v.1 h in cc)
 
 pub returns-clause-value : goal.returns-clause-value
 returns-clause-value g c =
     let v = c.opens.ensures.value in
     let f = c.if-not-opens.false in
-    let e = rw c.opens.ensures.same at c.head_end.ensures.value in
+    let e = rw c.opens.ensures.same at c.named_head_end.ensures.value in
     let n = subst (IsNextQuote (g.S.ByteSource.bytes c.args.source.now) (c.args.quote + 1)) c.in-Some.is c.requires.next in
-    IsHeadStop-opened _ c.args.place c.args.quote c.in-Some.close c.head_end.result (v.0 f) c.requires.is_quote c.requires.high n.1 n.0.low n.0.before e
+    IsOpenedHeadEnd-opened _ c.args.place c.args.quote c.in-Some.close (v.0 f) c.requires.is_quote c.requires.high n c.named_head_end.result e

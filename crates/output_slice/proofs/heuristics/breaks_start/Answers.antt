@@ -1,7 +1,7 @@
 use Rattle.std.proofs.Common.{ap, length, arith}
 use Rattle.std.proofs.lemmas.Grind.{common_steps}
 use Rattle.output_slice.proofs.TrimLemmas.{breaks-trimmed, is_break}
-use Rattle.output_slice.proofs.heuristics.text_end.Goals as goal
+use Rattle.output_slice.proofs.heuristics.breaks_start.Goals as goal
 
 pub returns-clause-breaks : goal.returns-clause-breaks
 returns-clause-breaks c =

@@ -1,5 +1,5 @@
 use Rattle.std.proofs.Common.{◌≡◌, ◌+◌, ◌<◌, ℕ, get_or}
-use Rattle.output_slice.proofs.panic_head.ends.end_of_text.Given as goal
+use Rattle.output_slice.proofs.panic_head.ends.after_text.Given as goal
 
 abbrev pub invariant-loop-i : goal.invariant-loop-i
 invariant-loop-i g l =

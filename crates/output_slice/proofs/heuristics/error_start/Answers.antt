@@ -1,0 +1,17 @@
+use Rattle.std.specs.Prelude.{codes}
+use Rattle.output_slice.proofs.StartLemmas.{first-front, first-none, first-later}
+use Rattle.output_slice.proofs.heuristics.error_start.Goals as goal
+
+pub returns-then-starts_with_str : goal.returns-then-starts_with_str
+returns-then-starts_with_str c =
+    first-front c.args.stderr.now (codes "Error: ") (c.starts_with_str.ensures.0 c.if-starts_with_str.true)
+
+pub returns-in_default : goal.returns-in_default
+returns-in_default c =
+    let f = c.if-starts_with_str.false in
+    first-none c.args.stderr.now (codes "Error: ") (λ h. let yes = c.starts_with_str.ensures.1 h in cc) c.in_default.ensures
+
+pub returns : goal.returns
+returns c =
+    let f = c.if-starts_with_str.false in
+    first-later c.args.stderr.now (codes "Error: ") c.in-Some.feed (λ h. let yes = c.starts_with_str.ensures.1 h in cc) c.in-Some.ensures
