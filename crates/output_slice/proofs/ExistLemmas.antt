@@ -154,7 +154,7 @@ step b place taken h = let n = next-quote b place in by_next n.0 n.1 where
   by_stop q n (Some e) s =
       let far = s.0 in
       let x : HeadSpan = record { start = q - 7; stop = e } in
-      inr (e, (taken ++ x ∷ [], ((opened-order b place q e s).0, settled-head b place q taken x h n.0.low n.1 n.0.before (omega arith) (omega arith) s.1)))
+      inr (e, (taken ++ x ∷ [], ((opened-order b place q e s).0, settled-head b place q taken x h n.0.low n.0.before (omega arith) (omega arith) s.1)))
 
   by_next : (next : Option ℕ) → IsNextQuote b place next → Step b place
   by_next None n = inl (taken, settled-done b place taken h n)

@@ -18,16 +18,13 @@ IsFirst-same : (P : ℕ → Type 0) (i j : ℕ) (x y : Option ℕ) → IsFirst P
 IsFirst-same P i j None None g h = refl
 IsFirst-same P i j None (Some k) g h = absurd (g k h.0.low h.0.high h.1)
 IsFirst-same P i j (Some k) None g h = absurd (h k g.0.low g.0.high g.1)
-IsFirst-same P i j (Some k) (Some l) g h = ap Some (⊎_elim
-    (λ (less : k < l). absurd (h.0.before k g.0.low less g.1))
-    (λ (more : l ≤ k). ⊎_elim (λ (less : l < k). absurd (g.0.before l h.0.low less h.1)) (λ (same : k ≤ l). omega arith) (cases_lt l k))
-    (cases_lt k l))
+IsFirst-same P i j (Some k) (Some l) g h = ap Some (places k l g h) where
+  places : (k l : ℕ) → IsFirst P i j (Some k) → IsFirst P i j (Some l) → k ≡ l
+  places k l g h = grind arith
 
 -- a slice is its start and its bytes
 slice-same : (x y : Slice) → x.start ≡ y.start → x.bytes ≡ y.bytes → x ≡ y
-slice-same x y p q = ap (λ s. slice s x.bytes) p ∙ ap (slice y.start) q where
-  slice : ℕ → List ℕ → Slice
-  slice s bytes = record { start = s; bytes = bytes }
+slice-same x y p q = grind arith
 
 -- trimming gives one slice
 IsTrimmedSlice-same : (b : List ℕ) (x y : Slice) → x.start ≡ y.start → IsTrimmedSlice b x → IsTrimmedSlice b y → x ≡ y
@@ -106,27 +103,21 @@ module _ (out err : Option (List ℕ)) where
   notes : (f g : Option Slice) → OfStream IsNoteLine out f → OfStream IsNoteLine out g → f ≡ g
   notes = OfStream-same IsNoteLine IsNoteLine-same out
 
-  of_kind : (kind : Slice → Extract) (x y : Slice) → Some x ≡ Some y → Some (kind x) ≡ Some (kind y)
-  of_kind kind x y e = ap (λ z. Some (kind z)) (same_Some x y e)
-
-  apart : {A : Type 0} (x : Slice) → Some x ≡ None → A
-  apart x e = absurd (cc)
-
   -- there is one extraction
   pub IsExtract-same : (f g : Option Extract) → IsExtract out err f → IsExtract out err g → f ≡ g
   IsExtract-same None None p q = refl
-  IsExtract-same None (Some (panic_slice y)) p q = apart y (panics (Some y) None q p.0)
-  IsExtract-same None (Some (error_slice y)) p q = apart y (errors (Some y) None q.1 p.1)
-  IsExtract-same None (Some (note_line y)) p q = apart y (notes (Some y) None q.2 p.2)
-  IsExtract-same (Some (panic_slice x)) None p q = apart x (panics (Some x) None p q.0)
-  IsExtract-same (Some (panic_slice x)) (Some (panic_slice y)) p q = of_kind panic_slice x y (panics (Some x) (Some y) p q)
-  IsExtract-same (Some (panic_slice x)) (Some (error_slice y)) p q = apart x (panics (Some x) None p q.0)
-  IsExtract-same (Some (panic_slice x)) (Some (note_line y)) p q = apart x (panics (Some x) None p q.0)
-  IsExtract-same (Some (error_slice x)) None p q = apart x (errors (Some x) None p.1 q.1)
-  IsExtract-same (Some (error_slice x)) (Some (panic_slice y)) p q = apart y (panics (Some y) None q p.0)
-  IsExtract-same (Some (error_slice x)) (Some (error_slice y)) p q = of_kind error_slice x y (errors (Some x) (Some y) p.1 q.1)
-  IsExtract-same (Some (error_slice x)) (Some (note_line y)) p q = apart x (errors (Some x) None p.1 q.1)
-  IsExtract-same (Some (note_line x)) None p q = apart x (notes (Some x) None p.2 q.2)
-  IsExtract-same (Some (note_line x)) (Some (panic_slice y)) p q = apart y (panics (Some y) None q p.0)
-  IsExtract-same (Some (note_line x)) (Some (error_slice y)) p q = apart y (errors (Some y) None q.1 p.1)
-  IsExtract-same (Some (note_line x)) (Some (note_line y)) p q = of_kind note_line x y (notes (Some x) (Some y) p.2 q.2)
+  IsExtract-same None (Some (panic_slice y)) p q = cc (panics (Some y) None q p.0)
+  IsExtract-same None (Some (error_slice y)) p q = cc (errors (Some y) None q.1 p.1)
+  IsExtract-same None (Some (note_line y)) p q = cc (notes (Some y) None q.2 p.2)
+  IsExtract-same (Some (panic_slice x)) None p q = cc (panics (Some x) None p q.0)
+  IsExtract-same (Some (panic_slice x)) (Some (panic_slice y)) p q = cc (panics (Some x) (Some y) p q)
+  IsExtract-same (Some (panic_slice x)) (Some (error_slice y)) p q = cc (panics (Some x) None p q.0)
+  IsExtract-same (Some (panic_slice x)) (Some (note_line y)) p q = cc (panics (Some x) None p q.0)
+  IsExtract-same (Some (error_slice x)) None p q = cc (errors (Some x) None p.1 q.1)
+  IsExtract-same (Some (error_slice x)) (Some (panic_slice y)) p q = cc (panics (Some y) None q p.0)
+  IsExtract-same (Some (error_slice x)) (Some (error_slice y)) p q = cc (errors (Some x) (Some y) p.1 q.1)
+  IsExtract-same (Some (error_slice x)) (Some (note_line y)) p q = cc (errors (Some x) None p.1 q.1)
+  IsExtract-same (Some (note_line x)) None p q = cc (notes (Some x) None p.2 q.2)
+  IsExtract-same (Some (note_line x)) (Some (panic_slice y)) p q = cc (panics (Some y) None q p.0)
+  IsExtract-same (Some (note_line x)) (Some (error_slice y)) p q = cc (errors (Some y) None q.1 p.1)
+  IsExtract-same (Some (note_line x)) (Some (note_line y)) p q = cc (notes (Some x) (Some y) p.2 q.2)

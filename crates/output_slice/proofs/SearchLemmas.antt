@@ -156,7 +156,7 @@ searched-head b old new scanned tested ended place q c e next last h is reads st
     let ends = stop.1.ends in
     let x : HeadSpan = record { start = q - 7; stop = e } in record {
       taken = h.taken ++ x ∷ [];
-      settled = settled-head b place q h.taken x h.settled i.0.low i.1 i.0.before (omega arith) (omega arith) stop.1;
+      settled = settled-head b place q h.taken x h.settled i.0.low i.0.before (omega arith) (omega arith) stop.1;
       is_last = sym (last_of-push h.taken x);
       is_next = is';
       fits = fits;

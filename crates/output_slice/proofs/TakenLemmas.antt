@@ -22,10 +22,7 @@ contains-later x y xs h = (suc h.0, omega (arith, h.1), h.2)
 
 -- what a list with one more in front has
 contains-cases : (x y : HeadSpan) (xs : List HeadSpan) → Contains (x ∷ xs) y → (x ≡ y) ⊎ Contains xs y
-contains-cases x y xs h = by_index h.0 h.1 h.2 where
-  by_index : (k : ℕ) → k < length (x ∷ xs) → get_or (x ∷ xs) k y ≡ y → (x ≡ y) ⊎ Contains xs y
-  by_index zero l e = inl e
-  by_index (suc k) l e = inr (k, omega (arith, l), e)
+contains-cases x y xs h = grind arith
 
 module _ (b : List ℕ) (from : ℕ) (x : HeadSpan) (xs : List HeadSpan) (h : TakenFrom b from (x ∷ xs)) where
   later_starts : All (λ g. x.start < g.start) xs
@@ -67,9 +64,7 @@ module _ (b : List ℕ) (from : ℕ) (x : HeadSpan) (xs : List HeadSpan) (h : Ta
 
 -- no heads and some heads are not both taken
 none-rest : (b : List ℕ) (from : ℕ) (x : HeadSpan) (xs : List HeadSpan) → TakenFrom b from [] → TakenFrom b from (x ∷ xs) → ⊥
-none-rest b from x xs h k =
-    let none = (h.rule x (All-head (λ g. from ≤ g.start) x xs k.low) (All-head (λ g. IsHead b g.start g.stop) x xs k.heads)).1 (All-nil _) in
-    omega (arith, none.1)
+none-rest b from x xs h k = grind (arith, All-head, All-nil)
 
 -- from each place on one list is taken
 from-same : (b : List ℕ) (from : ℕ) (xs ys : List HeadSpan) → TakenFrom b from xs → TakenFrom b from ys → xs ≡ ys
@@ -123,9 +118,12 @@ pub IsLastTaken-some : (b : List ℕ) (found : Option HeadSpan) → IsLastTaken 
 IsLastTaken-some b found last = rw last.2 (IsTaken-some b last.0 last.1)
 
 -- where there is no head, none is taken
+pub IsTaken-nil : (b : List ℕ) → ((s e : ℕ) → ¬ IsHead b s e) → IsTaken b []
+IsTaken-nil b none = record {
+  heads = All-nil _;
+  rising = λ i j d low high. absurd (omega arith);
+  rule = λ h is. absurd (none h.start h.stop is);
+}
+
 pub IsLastTaken-none : (b : List ℕ) → ((s e : ℕ) → IsHead b s e → ⊥) → IsLastTaken b None
-IsLastTaken-none b none = (
-  [],
-  record { heads = All-nil _; rising = λ i j d low high. absurd (omega arith); rule = λ h is. absurd (none h.start h.stop is) },
-  refl,
-)
+IsLastTaken-none b none = ([], IsTaken-nil b none, refl)
