@@ -1,5 +1,5 @@
 -- There is one list of taken heads.
-use Rattle.std.proofs.Common.{◌≡◌, ℕ, zero, suc, ◌-◌, ◌<◌, ◌≤◌, ◌⊎◌, ◌↔◌, List, [], ◌∷◌, length, get_or, refl, sym, ap, subst, ◌∙◌, arith, ⊎_elim, inl, inr}
+use Rattle.std.proofs.Common.{◌≡◌, ℕ, zero, suc, ◌-◌, ◌<◌, ◌≤◌, ◌⊎◌, ◌↔◌, List, [], ◌∷◌, length, get_or, refl, sym, ap, subst, ◌∙◌, arith, inl, inr}
 use Rattle.std.specs.Prelude.{All, AllPairs, Contains, Option, Some, None, IsSome, is_some}
 use Rattle.std.proofs.lemmas.Bool.{cases_lt}
 use Rattle.std.proofs.lemmas.List.Elements.{All-cons, All-head, All-tail, All-nil, All-contains, Contains-get_or}
@@ -33,12 +33,12 @@ module _ (b : List ℕ) (from : ℕ) (x : HeadSpan) (xs : List HeadSpan) (h : Ta
 
   -- the first of them is the first head there
   first_least : (y : HeadSpan) → from ≤ y.start → IsHead b y.start y.stop → x.start ≤ y.start
-  first_least y low head = ⊎_elim
-      (λ (less : y.start < x.start).
-      let none : All (λ g. g.start < y.start → g.stop ≤ y.start) (x ∷ xs) = λ k d l before. absurd (omega (arith, starts k d l)) in
-      All-contains (λ g. x.start ≤ g.start) (x ∷ xs) y starts ((h.rule y low head).1 none))
-      (λ more. more)
-      (cases_lt y.start x.start)
+  first_least y low head = elim (cases_lt y.start x.start) [
+    | inl less ↦
+        let none : All (λ g. g.start < y.start → g.stop ≤ y.start) (x ∷ xs) = λ k d l before. absurd (omega (arith, starts k d l)) in
+        All-contains (λ g. x.start ≤ g.start) (x ∷ xs) y starts ((h.rule y low head).1 none)
+    | inr more ↦ more
+  ]
 
   rest : TakenFrom b x.stop xs
   rest =
@@ -57,8 +57,10 @@ module _ (b : List ℕ) (from : ℕ) (x : HeadSpan) (xs : List HeadSpan) (h : Ta
             let P = λ (g : HeadSpan). g.start < y.start → g.stop ≤ y.start in
             let r = h.rule y (omega arith) y_head in (
               λ among. All-tail P x xs (r.0 (contains-later x y xs among)),
-              λ all. ⊎_elim (λ same. absurd (let starts_same : x.start ≡ y.start = ap (λ (g : HeadSpan). g.start) same in omega arith)) (λ among. among)
-                  (contains-cases x y xs (r.1 (All-cons P x xs (λ before. low) all))),
+              λ all. elim (contains-cases x y xs (r.1 (All-cons P x xs (λ before. low) all))) [
+                | inl same ↦ let starts_same = ap (λ (g : HeadSpan). g.start) same in absurd (omega arith)
+                | inr among ↦ among
+              ],
             );
       }
 

@@ -1,11 +1,9 @@
-use Rattle.std.proofs.Common.{[], ◌∷◌, ◌≡◌, ◌+◌, ◌<◌, ℕ, List, get_or, set, sym, ap, ◌∙◌, arith, refl, length-set, add-zero}
+use Rattle.std.proofs.Common.{[], ◌∷◌, ◌≡◌, ◌+◌, ◌<◌, ℕ, List, get_or, set, sym, ◌∙◌, arith, refl, length-set}
 use Rattle.output_slice.proofs.CharLemmas.{one-byte, buffer-more, char-some, char-none, char-short}
 use Rattle.output_slice.proofs.panic_head.characters.char_at.Goals as goal
 
 first-read : (b : List ℕ) (at v : ℕ) → v ≡ get_or b at 0 → (k : ℕ) → k < 1 → get_or (v ∷ 0 ∷ 0 ∷ 0 ∷ []) k 0 ≡ get_or b (at + k) 0
-first-read b at v is = λ k l.
-    let place : k ≡ 0 = omega arith in
-    ap (λ j. get_or (v ∷ 0 ∷ 0 ∷ 0 ∷ []) j 0) place ∙ is ∙ ap (λ j. get_or b j 0) (sym (add-zero at)) ∙ ap (λ j. get_or b (at + j) 0) (sym place)
+first-read b at v is k low = grind arith
 
 pub loop-i-init : goal.loop-i-init
 loop-i-init g c =
@@ -13,29 +11,23 @@ loop-i-init g c =
     let e = c.byte-first.ensures in
     (e.same, omega arith, refl, λ x. one-byte b c.args.at x (omega arith), first-read b c.args.at c.byte-first.result e.value)
 
-pub returns-in-Some-clause-value : goal.returns-in-Some-clause-value
-returns-in-Some-clause-value g c =
-    let b = g.S.ByteSource.bytes c.args.source.now in
+pub returns-in-Some : goal.returns-in-Some
+returns-in-Some g c =
     let i = c.loop-i.invariant in
     let e = rw i.0 at c.byte.ensures.value in
     let size = length-set c.loop-i.buffer c.loop-i.i c.byte.result in
-    let reads = buffer-more b c.loop-i.buffer c.args.at c.loop-i.i c.byte.result (omega arith) i.4 e in
+    let reads = buffer-more _ c.loop-i.buffer c.args.at c.loop-i.i c.byte.result (omega arith) i.4 e in
     let char = sym c.decode-found.ensures.char ∙ c.in-Some.is in
-    let h = char-some b (set c.loop-i.buffer c.loop-i.i c.byte.result) c.args.at c.args.stop c.loop-i.i (omega arith) (omega arith) (omega arith) c.requires.high reads c.in-Some.c i.3 char in
-    let long = h.2 in
-    (h.0, c.decode-found.ensures.size ∙ sym h.1, omega (arith, c.decode-found.ensures.size, h.1))
-
-pub returns-in-Some-clause-reads : goal.returns-in-Some-clause-reads
-returns-in-Some-clause-reads g c =
-    let b = g.S.ByteSource.bytes c.args.source.now in
-    let i = c.loop-i.invariant in
-    let e = rw i.0 at c.byte.ensures.value in
-    let size = length-set c.loop-i.buffer c.loop-i.i c.byte.result in
-    let reads = buffer-more b c.loop-i.buffer c.args.at c.loop-i.i c.byte.result (omega arith) i.4 e in
-    let char = sym c.decode-found.ensures.char ∙ c.in-Some.is in
-    let h = char-some b (set c.loop-i.buffer c.loop-i.i c.byte.result) c.args.at c.args.stop c.loop-i.i (omega arith) (omega arith) (omega arith) c.requires.high reads c.in-Some.c i.3 char in
-    let long = h.2 in
-    omega (arith, c.decode-found.ensures.size, h.1)
+    let h = char-some _ (set c.loop-i.buffer c.loop-i.i c.byte.result) c.args.at c.args.stop c.loop-i.i (omega arith) (omega arith)
+    (omega arith) c.requires.high reads c.in-Some.c i.3 char in
+    let width = c.decode-found.ensures.size in
+    let long = h.2 in record {
+      value = (h.0, width ∙ sym h.1, omega (arith, h.1));
+      reads = omega (arith, h.1);
+      few = omega arith;
+      ascii = λ low. omega arith;
+      same = c.byte.ensures.same ∙ i.0;
+    }
 
 pub loop-i-preserved : goal.loop-i-preserved
 loop-i-preserved g c =
@@ -48,7 +40,8 @@ loop-i-preserved g c =
       c.byte.ensures.same ∙ i.0,
       omega arith,
       omega arith,
-      char-none b (set c.loop-i.buffer c.loop-i.i c.byte.result) c.args.at c.args.stop c.loop-i.i (omega arith) (omega arith) (omega arith) c.requires.high reads char,
+      char-none b (set c.loop-i.buffer c.loop-i.i c.byte.result) c.args.at c.args.stop c.loop-i.i (omega arith) (omega arith)
+          (omega arith) c.requires.high reads char,
       reads,
     )
 
