@@ -1,5 +1,5 @@
 -- The taken heads on either side of a cut.
-use Rattle.std.proofs.Common.{refl, true, false, ◌≡◌, ℕ, ◌+◌, ◌-◌, ◌<◌, ◌≤◌, ◌↔◌, List, [], ◌++◌, length, get_or, take, drop, sym, ap, subst, ◌∙◌, ◌⊎◌, inl, inr, arith, length-append, length-drop, append-nil}
+use Rattle.std.proofs.Common.{refl, true, false, ◌≡◌, ℕ, ◌+◌, ◌-◌, ◌<◌, ◌≤◌, ◌↔◌, List, [], ◌∷◌, ◌++◌, length, get_or, take, drop, sym, ap, subst, ◌∙◌, ◌⊎◌, inl, inr, arith, length-append, length-drop, append-nil, add-zero}
 use Rattle.std.specs.Prelude.{option_map, slice_get, IsSome, Option, Some, None, All, AllPairs, Contains, map}
 use Rattle.std.proofs.lemmas.Bool.{cases_lt}
 use Rattle.std.proofs.lemmas.Grind.{common_steps}
@@ -13,107 +13,63 @@ use Rattle.output_slice.specs.Head.{IsHead}
 use Rattle.output_slice.specs.Taken.{IsTaken, IsLastTaken, last_of}
 use Rattle.output_slice.specs.Cut.{IsCut, shifted}
 use Rattle.output_slice.specs.Search.{AllHeadsEndBy}
-use Rattle.output_slice.proofs.ListLemmas.{All-left, All-right}
 use Rattle.output_slice.proofs.HeadLemmas.{head-order, span-same}
 use Rattle.output_slice.proofs.MoveLemmas.{head-of-back, back-of-head, head-of-front, front-of-head}
 use Rattle.output_slice.proofs.ExistLemmas.{IsTaken-exists}
-use Rattle.output_slice.proofs.TakenLemmas.{IsLastTaken-head, IsTaken-nil}
+use Rattle.output_slice.proofs.TakenLemmas.{IsLastTaken-head, IsTaken-leftmost, IsTaken-nil, Leftmost, leftmost-before}
 
--- pairs within two lists, and across
-pairs-append : (R : HeadSpan → HeadSpan → Type 0) (xs ys : List HeadSpan) → AllPairs R xs → AllPairs R ys
-    → ((i j : ℕ) (d : HeadSpan) → i < length xs → j < length ys → R (get_or xs i d) (get_or ys j d)) → AllPairs R (xs ++ ys)
-pairs-append R xs ys h k across = grind (arith, get_or-append, get_or-append_right, length-append)
+module _ (b : List ℕ) (c : ℕ) (cut : IsCut b c) where
+  -- a head behind the cut is one of what stands there
+  behind : (s e k : ℕ) → c + k ≤ s → IsHead b s e → IsHead (drop c b) (s - c) (e - c)
+  behind s e k low head =
+      let order = head-order b s e head in
+      let start : s ≡ c + (s - c) = omega arith in
+      let stop : e ≡ c + (e - c) = omega arith in
+      back-of-head b c (s - c) (e - c) cut.within (subst (λ i. IsHead b i (c + (e - c))) start (subst (IsHead b s) stop head))
 
--- what holds of each shifted head, said of the heads themselves
-All-unmap : (P : HeadSpan → Type 0) (c : ℕ) (ys : List HeadSpan) → All P (map (shifted c) ys) → All (λ h. P (shifted c h)) ys
-All-unmap P c ys h k d l = subst P (get_or-map (shifted c) ys k d (shifted c d) l) (h k (shifted c d) (omega (arith, length-map ys (shifted c))))
+  -- the taken heads behind the cut, shifted
+  leftmost-shifted : (ys : List HeadSpan) (k : ℕ) → Leftmost (drop c b) k ys → Leftmost b (c + k) (map (shifted c) ys)
+  leftmost-shifted [] k h = λ s e low head. h (s - c) (e - c) (omega arith) (behind s e k low head)
+  leftmost-shifted (y ∷ ys) k h = (
+    record {
+      head = head-of-back b c y.start y.stop cut.within cut.line_start h.0.head;
+      low = omega (arith, h.0.low);
+      least = λ s e low head. let least = h.0.least (s - c) (e - c) (omega arith) (behind s e k low head) in omega arith;
+    },
+    leftmost-shifted ys y.stop h.1,
+  )
 
--- a list has a head exactly where the shifted list has the shifted head
-contains-map : (c : ℕ) (ys : List HeadSpan) (h : HeadSpan) → Contains ys h → Contains (map (shifted c) ys) (shifted c h)
-contains-map c ys h k = grind (arith, get_or-map, length-map)
-
--- and back
-contains-unmap : (c : ℕ) (ys : List HeadSpan) (h : HeadSpan) → Contains (map (shifted c) ys) (shifted c h) → Contains ys h
-contains-unmap c ys h k = grind (arith, get_or-map, length-map, span-same)
-
-module _ (b : List ℕ) (c : ℕ) (xs ys : List HeadSpan) (cut : IsCut b c) (front : IsTaken (take c b) xs) (back : IsTaken (drop c b) ys) where
-  abbrev zs : List HeadSpan
-  zs = map (shifted c) ys
-
-  -- a head on either side of the cut
-  abbrev Front : HeadSpan → Type 0
-  Front h = IsHead b h.start h.stop × (h.start < c) × (h.stop ≤ c)
-
-  abbrev Back : HeadSpan → Type 0
-  Back h = IsHead b h.start h.stop × (c ≤ h.start)
-
-  heads-front : All Front xs
-  heads-front = All-weaker (λ h. IsHead (take c b) h.start h.stop) Front (λ h is.
-      let whole = head-of-front b c h.start h.stop cut.within is in
-      let order = head-order b h.start h.stop whole.0 in
-      let early : h.start < c = omega arith in
-      (whole.0, early, whole.1)) xs front.heads
-
-  heads-back : All Back zs
-  heads-back = All-map Back (shifted c) ys (All-weaker (λ h. IsHead (drop c b) h.start h.stop) (λ h. Back (shifted c h))
-      (λ h is. let late : c ≤ c + h.start = omega arith in (head-of-back b c h.start h.stop cut.within cut.line_start is, late)) ys back.heads)
-
-  rising-back : AllPairs (λ g h. g.start < h.start) zs
-  rising-back i j d low high =
-      let size = length-map ys (shifted c) in
-      let less = back.rising i j d low (omega arith) in
-      grind (arith, get_or-map)
-
-  abbrev Before : HeadSpan → HeadSpan → Type 0
-  Before h g = g.start < h.start → g.stop ≤ h.start
-
-  -- the rule for a head before the cut
-  rule-front : (h : HeadSpan) → IsHead b h.start h.stop → h.start < c → Contains (xs ++ zs) h ↔ All (Before h) (xs ++ zs)
-  rule-front h head low =
-      let r = front.rule h (front-of-head b c h.start h.stop cut.within head (cut.uncrossed h.start h.stop head low)) in (
-        λ among. All-append (Before h) xs zs
-            (r.0 (elim (Contains-append_cases xs zs h among) [
-              | inl inside ↦ inside
-              | inr outside ↦ let late = (All-contains Back zs h heads-back outside).1 in absurd (omega arith)
-            ]))
-            (All-weaker Back (Before h) (λ g far less. absurd (let late = far.1 in omega arith)) zs heads-back),
-        λ whole. Contains-append_left xs zs h (r.1 (All-left (Before h) xs zs whole)),
+  -- the taken heads before the cut, then those
+  leftmost-joined : (xs ys : List HeadSpan) (from : ℕ) → from ≤ c → Leftmost (take c b) from xs → Leftmost (drop c b) 0 ys
+      → Leftmost b from (xs ++ map (shifted c) ys)
+  leftmost-joined [] ys from low h k =
+      leftmost-before b from c (map (shifted c) ys) low past (subst (λ i. Leftmost b i (map (shifted c) ys)) (add-zero c) (leftmost-shifted ys 0 k)) where
+        past : (s e : ℕ) → from ≤ s → IsHead b s e → c ≤ s
+        past s e near head = elim (cases_lt s c) [
+          | inl early ↦ absurd (h s e near (front-of-head b c s e cut.within head (cut.uncrossed s e head early)))
+          | inr late ↦ late
+        ]
+  leftmost-joined (x ∷ xs) ys from low h k =
+      let whole = head-of-front b c x.start x.stop cut.within h.0.head in
+      let order = head-order b x.start x.stop whole.0 in (
+        record { head = whole.0; low = h.0.low; least = λ s e near head. least s e near head (cases_lt s c) },
+        leftmost-joined xs ys x.stop whole.1 h.1 k,
       )
+    where
+      least : (s e : ℕ) → from ≤ s → IsHead b s e → (s < c) ⊎ (c ≤ s) → x.start ≤ s
+      least s e near head (inl early) = h.0.least s e near (front-of-head b c s e cut.within head (cut.uncrossed s e head early))
+      least s e near head (inr late) =
+          let whole = head-of-front b c x.start x.stop cut.within h.0.head in
+          let order = head-order b x.start x.stop whole.0 in
+          let high = whole.1 in
+          omega arith
 
-  -- and for one behind it
-  rule-back : (k : HeadSpan) → IsHead b (c + k.start) (c + k.stop) → Contains (xs ++ zs) (shifted c k) ↔ All (Before (shifted c k)) (xs ++ zs)
-  rule-back k head =
-      let r = back.rule k (back-of-head b c k.start k.stop cut.within head) in (
-        λ among. All-append (Before (shifted c k)) xs zs
-            (All-weaker Front (Before (shifted c k)) (λ g near less. let high = near.2 in omega arith) xs heads-front)
-            (All-map (Before (shifted c k)) (shifted c) ys
-            (All-weaker (Before k) (λ g. Before (shifted c k) (shifted c g)) (λ g done less. let past = done (omega arith) in omega arith) ys
-            (r.0 (contains-unmap c ys k (elim (Contains-append_cases xs zs (shifted c k) among) [
-              | inl inside ↦ let early = (All-contains Front xs (shifted c k) heads-front inside).1 in absurd (omega arith)
-              | inr outside ↦ outside
-            ]))))),
-        λ whole. Contains-append_right xs zs (shifted c k) (contains-map c ys k
-            (r.1 (All-weaker (λ g. Before (shifted c k) (shifted c g)) (Before k) (λ g done less. let past = done (omega arith) in omega arith) ys
-            (All-unmap (Before (shifted c k)) c ys (All-right (Before (shifted c k)) xs zs whole))))),
-      )
-
-  -- the taken heads before the cut, then those behind it, shifted
-  pub divides : IsTaken b (xs ++ map (shifted c) ys)
-  divides = record {
-    heads = All-append (λ h. IsHead b h.start h.stop) xs zs
-        (All-weaker Front (λ h. IsHead b h.start h.stop) (λ h is. is.0) xs heads-front)
-        (All-weaker Back (λ h. IsHead b h.start h.stop) (λ h is. is.0) zs heads-back);
-    rising = pairs-append (λ g h. g.start < h.start) xs zs front.rising rising-back
-        (λ i j d low high. let early = (heads-front i d low).1 in let late = (heads-back j d high).1 in omega arith);
-    rule = λ h head. elim (cases_lt h.start c) [
-      | inl low ↦ rule-front h head low
-      | inr high ↦
-          let order = head-order b h.start h.stop head in
-          let k : HeadSpan = record { start = h.start - c; stop = h.stop - c } in
-          let same : h ≡ shifted c k = span-same h (shifted c k) (omega arith) (omega arith) in
-          rw same (rule-back k (subst (λ (g : HeadSpan). IsHead b g.start g.stop) same head))
-    ];
-  }
+-- the taken heads before a cut, then those behind it, shifted
+pub divides : (b : List ℕ) (c : ℕ) (xs ys : List HeadSpan) → IsCut b c → IsTaken (take c b) xs → IsTaken (drop c b) ys
+    → IsTaken b (xs ++ map (shifted c) ys)
+divides b c xs ys cut front back =
+    let joined = leftmost-joined b c cut xs ys 0 (omega arith) ((IsTaken-leftmost (take c b) xs).0 front) ((IsTaken-leftmost (drop c b) ys).0 back) in
+    (IsTaken-leftmost b (xs ++ map (shifted c) ys)).1 joined
 
 -- the last of two lists is the last of the second, if that has one
 last_of-append : (xs ys : List HeadSpan) (h : HeadSpan) → Some h ≡ last_of ys → Some h ≡ last_of (xs ++ ys)

@@ -154,7 +154,7 @@ step b place taken h go = let n = next-quote b place in by_next n.0 n.1 where
   by_end q n (Some e) s =
       let far = s.0 in
       let x : HeadSpan = record { start = q - 7; stop = e } in
-      let settled = settled-head b place q taken x h n.0.low n.0.before (omega arith) (omega arith) s.1 in
+      let settled = settled-head b place q taken x h n.0.before (omega arith) (omega arith) s.1 in
       go e (taken ++ x ∷ []) settled (opened-order b place q e s).0
 
   by_next : (next : Option ℕ) → IsNextQuote b place next → (xs : List HeadSpan) × IsTaken b xs

@@ -2,7 +2,6 @@ mod OccursLemmas
 mod CharLemmas
 mod DigitLemmas
 mod TailLemmas
-mod ListLemmas
 mod HeadLemmas
 mod StepLemmas
 mod SettledLemmas

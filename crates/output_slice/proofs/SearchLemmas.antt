@@ -177,7 +177,7 @@ searched-found b old new scanned tested ended place q e close next last h is rea
     let far = stop.0 in
     let x : HeadSpan = record { start = q - 7; stop = e } in record {
       taken = h.taken ++ x ∷ [];
-      settled = settled-head b place q h.taken x h.settled i.0.low i.0.before (omega arith) (omega arith) stop.1;
+      settled = settled-head b place q h.taken x h.settled i.0.before (omega arith) (omega arith) stop.1;
       is_last = sym (last_of-push h.taken x);
       is_next = is';
       fits = fits;

@@ -2,7 +2,8 @@
 use Rattle.std.proofs.Common.{◌≡◌, ℕ, zero, suc, ◌-◌, ◌<◌, ◌≤◌, ◌⊎◌, ◌↔◌, List, [], ◌∷◌, length, get_or, refl, sym, ap, subst, ◌∙◌, arith, inl, inr}
 use Rattle.std.specs.Prelude.{All, AllPairs, Contains, Option, Some, None, IsSome, is_some}
 use Rattle.std.proofs.lemmas.Bool.{cases_lt}
-use Rattle.std.proofs.lemmas.List.Elements.{All-cons, All-head, All-tail, All-nil, All-contains, Contains-get_or}
+use Rattle.std.proofs.lemmas.List.Elements.{All-cons, All-head, All-tail, All-nil, All-contains, All-weaker, Contains-get_or}
+use Rattle.std.proofs.lemmas.List.Kept.{AllPairs-cons}
 use Rattle.std.proofs.lemmas.Option.{slice_get-get_or, slice_get_within, get_or_from_slice_get}
 use Rattle.output_slice.specs.declared.panic_head.HeadSpan.{HeadSpan}
 use Rattle.output_slice.specs.Head.{IsHead}
@@ -64,35 +65,114 @@ module _ (b : List ℕ) (from : ℕ) (x : HeadSpan) (xs : List HeadSpan) (h : Ta
             );
       }
 
--- no heads and some heads are not both taken
-none-rest : (b : List ℕ) (from : ℕ) (x : HeadSpan) (xs : List HeadSpan) → TakenFrom b from [] → TakenFrom b from (x ∷ xs) → ⊥
-none-rest b from x xs h k = grind (arith, All-head, All-nil)
+-- x is the first head that starts at `from` or after it
+pub record IsFirstHead (b : List ℕ) (from : ℕ) (x : HeadSpan) : Type 0 where
+  pub head : IsHead b x.start x.stop
+  pub low : from ≤ x.start
+  pub least : (s e : ℕ) → from ≤ s → IsHead b s e → x.start ≤ s
 
--- from each place on one list is taken
-from-same : (b : List ℕ) (from : ℕ) (xs ys : List HeadSpan) → TakenFrom b from xs → TakenFrom b from ys → xs ≡ ys
-from-same b from [] [] h k = refl
-from-same b from [] (y ∷ ys) h k = absurd (none-rest b from y ys h k)
-from-same b from (x ∷ xs) [] h k = absurd (none-rest b from x xs k h)
-from-same b from (x ∷ xs) (y ∷ ys) h k =
-    let x_head = All-head (λ g. IsHead b g.start g.stop) x xs h.heads in
-    let y_head = All-head (λ g. IsHead b g.start g.stop) y ys k.heads in
-    let x_low = All-head (λ g. from ≤ g.start) x xs h.low in
-    let y_low = All-head (λ g. from ≤ g.start) y ys k.low in
-    let one = first_least b from x xs h y y_low y_head in
-    let two = first_least b from y ys k x x_low x_head in
-    let at : x.start ≡ y.start = omega arith in
-    let ends : x.stop ≡ y.stop = head-same b x.start x.stop y.stop x_head (subst (λ s. IsHead b s y.stop) (sym at) y_head) in
-    let same = span-same x y at ends in
-    let later = from-same b x.stop xs ys (rest b from x xs h) (subst (λ s. TakenFrom b s ys) (sym ends) (rest b from y ys k)) in
-    ap (λ z. z ∷ xs) same ∙ ap (λ zs. y ∷ zs) later
+-- leftmost first: the list has the first head from `from` on, then the first from its stop on, until there is none
+abbrev pub Leftmost : List ℕ → ℕ → List HeadSpan → Type 0
+Leftmost b from [] = (s e : ℕ) → from ≤ s → ¬ IsHead b s e
+Leftmost b from (x ∷ xs) = IsFirstHead b from x × Leftmost b x.stop xs
 
--- the taken heads are those from the front on
-whole : (b : List ℕ) (xs : List HeadSpan) → IsTaken b xs → TakenFrom b 0 xs
-whole b xs h = record { heads = h.heads; rising = h.rising; low = λ k d l. omega arith; rule = λ y low head. h.rule y head }
+-- there is one such list
+leftmost-same : (b : List ℕ) (from : ℕ) (xs ys : List HeadSpan) → Leftmost b from xs → Leftmost b from ys → xs ≡ ys
+leftmost-same b from [] [] h k = refl
+leftmost-same b from [] (y ∷ ys) h k = absurd (h y.start y.stop k.0.low k.0.head)
+leftmost-same b from (x ∷ xs) [] h k = absurd (k x.start x.stop h.0.low h.0.head)
+leftmost-same b from (x ∷ xs) (y ∷ ys) h k =
+    let one = h.0.least y.start y.stop k.0.low k.0.head in
+    let two = k.0.least x.start x.stop h.0.low h.0.head in
+    let at : y.start ≡ x.start = omega arith in
+    let ends = head-same b x.start x.stop y.stop h.0.head (subst (λ s. IsHead b s y.stop) at k.0.head) in
+    let same = span-same x y (sym at) ends in
+    let later = leftmost-same b x.stop xs ys h.1 (subst (λ s. Leftmost b s ys) (sym ends) k.1) in
+    cc
+
+-- heads that start between two places do not matter where there are none
+pub leftmost-before : (b : List ℕ) (place later : ℕ) (xs : List HeadSpan) → place ≤ later
+    → ((s e : ℕ) → place ≤ s → IsHead b s e → later ≤ s) → Leftmost b later xs → Leftmost b place xs
+leftmost-before b place later [] order none h = λ s e low head. h s e (none s e low head) head
+leftmost-before b place later (x ∷ xs) order none h = (
+  record { head = h.0.head; low = omega (arith, h.0.low); least = λ s e low head. h.0.least s e (none s e low head) head },
+  h.1,
+)
+
+-- the taken heads are taken leftmost first
+leftmost-taken : (b : List ℕ) (from : ℕ) (xs : List HeadSpan) → TakenFrom b from xs → Leftmost b from xs
+leftmost-taken b from [] h = λ s e low head.
+    let among = (h.rule (record { start = s; stop = e }) low head).1 (All-nil _) in
+    omega (arith, among.1)
+leftmost-taken b from (x ∷ xs) h = (
+  record {
+    head = All-head (λ g. IsHead b g.start g.stop) x xs h.heads;
+    low = All-head (λ g. from ≤ g.start) x xs h.low;
+    least = λ s e low head. first_least b from x xs h (record { start = s; stop = e }) low head;
+  },
+  leftmost-taken b x.stop xs (rest b from x xs h),
+)
+
+-- and those that are, are the taken ones
+module _ (b : List ℕ) (from : ℕ) (x : HeadSpan) (xs : List HeadSpan) (first : IsFirstHead b from x) (h : TakenFrom b x.stop xs) where
+  more-starts : All (λ g. x.start < g.start) xs
+  more-starts =
+      let order = head-order b x.start x.stop first.head in
+      All-weaker (λ g. x.stop ≤ g.start) (λ g. x.start < g.start) (λ g l. omega arith) xs h.low
+
+  abbrev Before : HeadSpan → HeadSpan → Type 0
+  Before y g = g.start < y.start → g.stop ≤ y.start
+
+  more-rule : (y : HeadSpan) → from ≤ y.start → IsHead b y.start y.stop → Contains (x ∷ xs) y ↔ All (Before y) (x ∷ xs)
+  more-rule y low head = (
+    λ among. elim (contains-cases x y xs among) [
+      | inl same ↦
+          let starts = ap (λ (g : HeadSpan). g.start) same in
+          All-cons (Before y) x xs (λ l. absurd (omega arith)) (λ k d l before. absurd (omega (arith, more-starts k d l)))
+      | inr later ↦
+          let past = All-contains (λ g. x.stop ≤ g.start) xs y h.low later in
+          All-cons (Before y) x xs (λ l. past) ((h.rule y past head).0 later)
+    ],
+    λ all. elim (cases_lt x.start y.start) [
+      | inl l ↦
+          let past = All-head (Before y) x xs all l in
+          contains-later x y xs ((h.rule y past head).1 (All-tail (Before y) x xs all))
+      | inr early ↦
+          let least = first.least y.start y.stop low head in
+          let at : y.start ≡ x.start = omega arith in
+          let ends = head-same b x.start x.stop y.stop first.head (subst (λ s. IsHead b s y.stop) at head) in
+          (0, omega arith, span-same x y (sym at) ends)
+    ],
+  )
+
+  taken-more : TakenFrom b from (x ∷ xs)
+  taken-more =
+      let order = head-order b x.start x.stop first.head in
+      let low = first.low in record {
+        heads = All-cons (λ g. IsHead b g.start g.stop) x xs first.head h.heads;
+        rising = AllPairs-cons (λ g k. g.start < k.start) x xs more-starts h.rising;
+        low = All-cons (λ g. from ≤ g.start) x xs low (All-weaker (λ g. x.start < g.start) (λ g. from ≤ g.start) (λ g l. omega arith) xs more-starts);
+        rule = more-rule;
+      }
+
+taken-leftmost : (b : List ℕ) (from : ℕ) (xs : List HeadSpan) → Leftmost b from xs → TakenFrom b from xs
+taken-leftmost b from [] h = record {
+  heads = All-nil _;
+  rising = λ i j d low high. absurd (omega arith);
+  low = All-nil _;
+  rule = λ y low head. absurd (h y.start y.stop low head);
+}
+taken-leftmost b from (x ∷ xs) h = taken-more b from x xs h.0 (taken-leftmost b x.stop xs h.1)
+
+pub IsTaken-leftmost : (b : List ℕ) (xs : List HeadSpan) → IsTaken b xs ↔ Leftmost b 0 xs
+IsTaken-leftmost b xs = (
+  λ h. leftmost-taken b 0 xs (record { heads = h.heads; rising = h.rising; low = λ k d l. omega arith; rule = λ y low head. h.rule y head }),
+  λ h. let t = taken-leftmost b 0 xs h in record { heads = t.heads; rising = t.rising; rule = λ y head. t.rule y (omega arith) head },
+)
 
 -- there is one list of taken heads
 pub IsTaken-same : (b : List ℕ) (xs ys : List HeadSpan) → IsTaken b xs → IsTaken b ys → xs ≡ ys
-IsTaken-same b xs ys h k = from-same b 0 xs ys (whole b xs h) (whole b ys k)
+IsTaken-same b xs ys h k = leftmost-same b 0 xs ys ((IsTaken-leftmost b xs).0 h) ((IsTaken-leftmost b ys).0 k)
 
 -- there is one last taken head
 pub IsLastTaken-same : (b : List ℕ) (f g : Option HeadSpan) → IsLastTaken b f → IsLastTaken b g → f ≡ g
@@ -121,11 +201,7 @@ IsLastTaken-some b found last = rw last.2 (IsTaken-some b last.0 last.1)
 
 -- where there is no head, none is taken
 pub IsTaken-nil : (b : List ℕ) → ((s e : ℕ) → ¬ IsHead b s e) → IsTaken b []
-IsTaken-nil b none = record {
-  heads = All-nil _;
-  rising = λ i j d low high. absurd (omega arith);
-  rule = λ h is. absurd (none h.start h.stop is);
-}
+IsTaken-nil b none = (IsTaken-leftmost b []).1 (λ s e low. none s e)
 
-pub IsLastTaken-none : (b : List ℕ) → ((s e : ℕ) → IsHead b s e → ⊥) → IsLastTaken b None
+pub IsLastTaken-none : (b : List ℕ) → ((s e : ℕ) → ¬ IsHead b s e) → IsLastTaken b None
 IsLastTaken-none b none = ([], IsTaken-nil b none, refl)
