@@ -1,16 +1,15 @@
 -- The character that stands at a place.
-use Rattle.std.proofs.Common.{set, get_or-set_other, get_or-set_same, true, ◌↔◌, ◌≡◌, ℕ, ◌+◌, ◌-◌, ◌<◌, ◌≤◌, ◌⊎◌, inl, inr, min, List, [], ◌∷◌, ◌++◌, length, get_or, take, drop, sym, ap, subst, ◌∙◌, arith, length-append}
+use Rattle.std.proofs.Common.{set, get_or-set_other, get_or-set_same, true, ◌↔◌, ◌≡◌, ℕ, ◌+◌, ◌-◌, ◌<◌, ◌≤◌, min, List, [], ◌∷◌, ◌++◌, length, get_or, take, drop, sym, ap, ◌∙◌, arith, length-append}
 use Rattle.std.specs.Prelude.{Some, None}
-use Rattle.std.specs.Char.{encode_utf8, IsScalar, len_utf8}
+use Rattle.std.specs.Char.{encode_utf8, IsScalar}
 use Rattle.std.specs.Str.{IsUtf8, encode_utf8_all}
 use Rattle.std.proofs.Math.Seq.{take-append-add}
-use Rattle.std.proofs.lemmas.Bool.{and_parts, cases_lt}
-use Rattle.std.proofs.lemmas.Bool.Decides.{nat_tests}
+use Rattle.std.proofs.lemmas.Bool.{and_parts}
 use Rattle.std.proofs.lemmas.List.{get_or-take, length-take-le}
 use Rattle.std.proofs.lemmas.List.Prefix.{front_from_reads, front_reads}
 use Rattle.std.proofs.lemmas.Str.{encode_ascii, encode_same, length-encode, len_utf8_bounds, IsUtf8-append, IsUtf8-encode, IsUtf8-past_char}
 use Rattle.bstr.specs.Text.{part}
-use Rattle.bstr.specs.Utf8.{Decoded, decoded, decoded_by, good}
+use Rattle.bstr.specs.Utf8.{Decoded, decoded}
 use Rattle.bstr.proofs.lemmas.EncodeLemmas.{decoded-encode}
 use Rattle.bstr.proofs.lemmas.PieceLemmas.{piece-bounds, decoded_by-cut}
 use Rattle.bstr.proofs.lemmas.SoundLemmas.{SpellsChar-decoded}

@@ -1,5 +1,5 @@
 -- Which line starts a head crosses.
-use Rattle.std.proofs.Common.{◌≡◌, ℕ, ◌+◌, ◌-◌, ◌<◌, ◌≤◌, Bool, ◌⊎◌, inl, inr, List, length, get_or, take, refl, arith}
+use Rattle.std.proofs.Common.{◌≡◌, ℕ, ◌+◌, ◌-◌, ◌<◌, ◌≤◌, Bool, inl, inr, List, length, get_or, take, refl, arith}
 use Rattle.std.specs.Prelude.{codes, not, ◌==◌, Some, None}
 use Rattle.std.proofs.lemmas.Bool.{cases_lt}
 use Rattle.std.proofs.lemmas.Bool.Decides.{nat_tests}
@@ -9,7 +9,7 @@ use Rattle.output_slice.specs.Steps.{NoQuoteBetween}
 use Rattle.output_slice.specs.Cut.{IsCut}
 use Rattle.output_slice.specs.Search.{IsOpening, MayAllBeCrossed, MayCross}
 use Rattle.output_slice.proofs.ByteLemmas.{last-byte, no-last-byte, text-passes}
-use Rattle.output_slice.proofs.HeadLemmas.{name-quiet, head-quote, head-order}
+use Rattle.output_slice.proofs.HeadLemmas.{name-quiet, head-order}
 use Rattle.output_slice.proofs.TailLemmas.{tail-plain}
 
 -- the byte is no line feed

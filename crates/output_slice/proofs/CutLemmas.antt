@@ -1,19 +1,16 @@
 -- The taken heads on either side of a cut.
-use Rattle.std.proofs.Common.{refl, true, false, ◌≡◌, ℕ, ◌+◌, ◌-◌, ◌<◌, ◌≤◌, ◌↔◌, List, [], ◌∷◌, ◌++◌, length, get_or, take, drop, sym, ap, subst, ◌∙◌, ◌⊎◌, inl, inr, arith, length-append, length-drop, append-nil, add-zero}
-use Rattle.std.specs.Prelude.{option_map, slice_get, IsSome, Option, Some, None, All, AllPairs, Contains, map}
+use Rattle.std.proofs.Common.{refl, ◌≡◌, ℕ, ◌+◌, ◌-◌, ◌<◌, ◌≤◌, ◌↔◌, List, [], ◌∷◌, ◌++◌, length, take, drop, sym, subst, ◌∙◌, ◌⊎◌, inl, inr, arith, length-append, length-drop, append-nil, add-zero}
+use Rattle.std.specs.Prelude.{IsSome, Option, Some, None, map}
 use Rattle.std.proofs.lemmas.Bool.{cases_lt}
-use Rattle.std.proofs.lemmas.Grind.{common_steps}
-use Rattle.std.proofs.lemmas.List.{get_or-map, length-map, get_or-append-add}
-use Rattle.std.proofs.Math.ListN.{get_or-append}
-use Rattle.std.proofs.Math.Seq.{get_or-append_right}
-use Rattle.std.proofs.lemmas.List.Elements.{All-nil, All-append, All-map, All-weaker, All-contains, Contains-append_left, Contains-append_right, Contains-append_cases}
+use Rattle.std.proofs.lemmas.List.{length-map, get_or-append-add}
+use Rattle.std.proofs.lemmas.List.Elements.{All-weaker}
 use Rattle.std.proofs.lemmas.Option.{slice_get_read, slice_get-map, slice_get_within, get_or_from_slice_get}
 use Rattle.output_slice.specs.declared.panic_head.HeadSpan.{HeadSpan}
 use Rattle.output_slice.specs.Head.{IsHead}
 use Rattle.output_slice.specs.Taken.{IsTaken, IsLastTaken, last_of}
 use Rattle.output_slice.specs.Cut.{IsCut, shifted}
 use Rattle.output_slice.specs.Search.{AllHeadsEndBy}
-use Rattle.output_slice.proofs.HeadLemmas.{head-order, span-same}
+use Rattle.output_slice.proofs.HeadLemmas.{head-order}
 use Rattle.output_slice.proofs.MoveLemmas.{head-of-back, back-of-head, head-of-front, front-of-head}
 use Rattle.output_slice.proofs.ExistLemmas.{IsTaken-exists}
 use Rattle.output_slice.proofs.TakenLemmas.{IsLastTaken-head, IsTaken-leftmost, IsTaken-nil, Leftmost, leftmost-before}

@@ -1,13 +1,12 @@
 -- Digits that stand one after the other.
-use Rattle.std.proofs.Common.{◌≡◌, ℕ, ◌+◌, ◌≤◌, List, [], ◌∷◌, ◌++◌, length, drop, refl, sym, ap, subst, ◌∙◌, arith, append_assoc, length-append, append-nil}
+use Rattle.std.proofs.Common.{◌≡◌, ℕ, ◌+◌, ◌≤◌, List, [], ◌∷◌, ◌++◌, length, drop, refl, sym, ap, ◌∙◌, arith, append_assoc, length-append, append-nil}
 use Rattle.std.specs.Prelude.{All}
 use Rattle.std.specs.Char.{encode_utf8, IsScalar}
 use Rattle.std.specs.Str.{encode_utf8_all}
 use Rattle.std.proofs.lemmas.Str.{encode_same, encodes-append, length-encode, len_utf8_bounds}
 use Rattle.std.proofs.lemmas.List.Elements.{All-push, All-nil, All-head, All-tail}
-use Rattle.bstr.specs.Find.{OccursAt}
 use Rattle.output_slice.specs.Head.{IsDigit}
-use Rattle.output_slice.specs.Steps.{IsCharAt, AreDigits, IsDigitRun, NoDigitAt}
+use Rattle.output_slice.specs.Steps.{IsCharAt, AreDigits, IsDigitRun}
 use Rattle.output_slice.proofs.OccursLemmas.{occurs-both, occurs-drop, drop-occurs}
 
 -- no digits stand from a place to itself

@@ -1,5 +1,5 @@
 -- Bytes divide into lines in one way.
-use Rattle.std.proofs.Common.{◌≡◌, ◌≢◌, ◌⊎◌, inl, inr, ℕ, suc, zero, ◌+◌, ◌-◌, ◌<◌, ◌≤◌, List, [], ◌∷◌, ◌++◌, length, get_or, refl, sym, ap, ◌∙◌, arith, append-nil}
+use Rattle.std.proofs.Common.{◌≡◌, ◌≢◌, inl, inr, ℕ, suc, zero, ◌+◌, ◌-◌, ◌<◌, List, [], ◌∷◌, ◌++◌, length, get_or, refl, sym, ap, ◌∙◌, arith, append-nil}
 use Rattle.std.specs.Prelude.{All, AllPairs}
 use Rattle.std.specs.List.{concat}
 use Rattle.std.proofs.lemmas.Bool.{cases_eq}
@@ -35,11 +35,14 @@ AreLines-same b lines h = lines-same lines h.each h.ends ∙ ap lines_of h.joine
 -- one more byte before a division
 more-lines : (x : ℕ) (b : List ℕ) (ls : List (List ℕ)) → AreLines b ls → (lines : List (List ℕ)) × AreLines (x ∷ b) lines
 more-lines x b ls h = elim (cases_eq x 10) [
-  | inl feed ↦ ((x ∷ []) ∷ ls, record {
-    joined = ap (λ t. x ∷ t) h.joined;
-    each = All-cons IsLine (x ∷ []) ls (record { some = omega arith; feed = λ k is. one k is }) h.each;
-    ends = AllPairs-cons Ended (x ∷ []) ls (λ k d low. feed) h.ends;
-  })
+  | inl feed ↦ (
+    (x ∷ []) ∷ ls,
+    record {
+      joined = ap (λ t. x ∷ t) h.joined;
+      each = All-cons IsLine (x ∷ []) ls (record { some = omega arith; feed = λ k is. one k is }) h.each;
+      ends = AllPairs-cons Ended (x ∷ []) ls (λ k d low. feed) h.ends;
+    },
+  )
   | inr other ↦ before ls h other
 ] where
   one : (k : ℕ) → get_or (x ∷ []) k 0 ≡ 10 → k + 1 ≡ 1
@@ -47,19 +50,25 @@ more-lines x b ls h = elim (cases_eq x 10) [
   one (suc k) is = absurd (omega arith)
 
   before : (ls : List (List ℕ)) → AreLines b ls → x ≢ 10 → (lines : List (List ℕ)) × AreLines (x ∷ b) lines
-  before [] h other = ((x ∷ []) ∷ [], record {
-    joined = ap (λ t. x ∷ t) h.joined;
-    each = All-cons IsLine (x ∷ []) [] (record { some = omega arith; feed = one }) (All-nil _);
-    ends = λ i j d low high. absurd (omega arith);
-  })
+  before [] h other = (
+    (x ∷ []) ∷ [],
+    record {
+      joined = ap (λ t. x ∷ t) h.joined;
+      each = All-cons IsLine (x ∷ []) [] (record { some = omega arith; feed = one }) (All-nil _);
+      ends = λ i j d low high. absurd (omega arith);
+    },
+  )
   before (l ∷ ls) h other =
       let line = All-head IsLine l ls h.each in
-      let some = line.some in ((x ∷ l) ∷ ls, record {
-        joined = ap (λ t. x ∷ t) h.joined;
-        each = All-cons IsLine (x ∷ l) ls (record { some = omega arith; feed = longer l line other }) (All-tail IsLine l ls h.each);
-        ends = AllPairs-cons Ended (x ∷ l) ls (λ k d low. last l some (h.ends 0 (suc k) d (omega arith) (omega arith)))
-            (λ i j d low high. h.ends (suc i) (suc j) d (omega arith) (omega arith));
-      })
+      let some = line.some in (
+        (x ∷ l) ∷ ls,
+        record {
+          joined = ap (λ t. x ∷ t) h.joined;
+          each = All-cons IsLine (x ∷ l) ls (record { some = omega arith; feed = longer l line other }) (All-tail IsLine l ls h.each);
+          ends = AllPairs-cons Ended (x ∷ l) ls (λ k d low. last l some (h.ends 0 (suc k) d (omega arith) (omega arith)))
+              (λ i j d low high. h.ends (suc i) (suc j) d (omega arith) (omega arith));
+        },
+      )
     where
       longer : (l : List ℕ) → IsLine l → x ≢ 10 → (k : ℕ) → get_or (x ∷ l) k 0 ≡ 10 → k + 1 ≡ length (x ∷ l)
       longer l line other zero is = absurd (other is)

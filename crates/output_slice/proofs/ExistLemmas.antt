@@ -1,5 +1,5 @@
 -- There is always a list of taken heads.
-use Rattle.std.proofs.Common.{true, false, ◌≡◌, ◌≢◌, ℕ, zero, suc, ◌+◌, ◌-◌, ◌<◌, ◌≤◌, ◌⊎◌, List, [], ◌∷◌, ◌++◌, length, get_or, refl, subst, arith, inl, inr}
+use Rattle.std.proofs.Common.{◌≡◌, ◌≢◌, ℕ, zero, suc, ◌+◌, ◌-◌, ◌<◌, ◌≤◌, ◌⊎◌, List, [], ◌∷◌, ◌++◌, length, get_or, refl, subst, arith, inl, inr}
 use Rattle.std.specs.Prelude.{Bool, nat_le, ◌&&◌, codes, Option, Some, None}
 use Rattle.std.proofs.lemmas.Bool.{cases_lt, cases_eq, cases_Bool, le-leb, leb-true}
 use Rattle.std.proofs.lemmas.Bool.Decides.{Decides-and, Decides-or, not_from_Decides}
@@ -29,7 +29,7 @@ abbrev Known : Type 0 → Type 0
 Known P = P ⊎ ¬ P
 
 decided : {P : Type 0} (r : Bool) → Decides r P → Known P
-decided r d = elim (cases_Bool r) [ | inl t ↦ inl (d.0 t) | inr f ↦ inr (not_from_Decides r d f) ]
+decided r d = elim (cases_Bool r) [ inl t ↦ inl (d.0 t) | inr f ↦ inr (not_from_Decides r d f) ]
 
 -- whether a text stands at a place, and where it ends
 occurs-dec : (b xs : List ℕ) (at : ℕ) → 0 < length xs → Known (OccursAt b xs at)
@@ -42,7 +42,7 @@ occurs-dec b xs at some = elim (cases_lt (length b) (at + length xs)) [
 ]
 
 text-end : (b xs : List ℕ) (at : ℕ) → 0 < length xs → (found : Option ℕ) × IsTextEnd b xs at found
-text-end b xs at some = elim (occurs-dec b xs at some) [ | inl h ↦ (Some (at + length xs), (h, refl)) | inr n ↦ (None, n) ]
+text-end b xs at some = elim (occurs-dec b xs at some) [ inl h ↦ (Some (at + length xs), (h, refl)) | inr n ↦ (None, n) ]
 
 -- whether a character is a digit
 digit-dec : (c : ℕ) → Known (IsDigit c)

@@ -7,7 +7,7 @@ use Rattle.output_slice.specs.Steps.{IsLineEnd, NoQuoteBetween}
 use Rattle.output_slice.specs.Search.{AllHeadsEndBy, IsLastOpening, IsOpening}
 use Rattle.output_slice.proofs.ByteLemmas.{first-byte, no-byte}
 use Rattle.output_slice.proofs.CrossLemmas.{head-feed}
-use Rattle.output_slice.proofs.HeadLemmas.{name-quiet, head-order, head-quote}
+use Rattle.output_slice.proofs.HeadLemmas.{name-quiet, head-order}
 use Rattle.output_slice.proofs.TailLemmas.{tail-plain}
 
 -- where no head is opened there is none

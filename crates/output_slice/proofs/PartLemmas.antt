@@ -1,6 +1,6 @@
 -- The slices are parts of their parents, and not empty.
-use Rattle.std.proofs.Common.{◌≡◌, ℕ, ◌+◌, ◌-◌, ◌<◌, ◌≤◌, true, false, List, [], ◌∷◌, ◌++◌, length, get_or, take, drop, sym, ap, subst, ◌∙◌, arith, length-append, length-drop, get_or-drop, length-take, ◌⊎◌, inl, inr}
-use Rattle.std.specs.Prelude.{codes, Option, Some, None, IfSome, All, IsTrue, sum_by, option_map}
+use Rattle.std.proofs.Common.{◌≡◌, ℕ, ◌+◌, ◌-◌, ◌<◌, ◌≤◌, List, [], ◌∷◌, ◌++◌, length, get_or, take, drop, sym, ap, ◌∙◌, arith, length-append, get_or-drop, length-take, ◌⊎◌, inl, inr}
+use Rattle.std.specs.Prelude.{Option, Some, None, IfSome, All, IsTrue, sum_by, option_map}
 use Rattle.std.specs.Char.{IsScalar, is_whitespace}
 use Rattle.std.specs.Str.{encode_utf8_all}
 use Rattle.std.specs.List.{concat}
@@ -14,7 +14,6 @@ use Rattle.std.specs.Prelude.{nat_lt, ◌==◌, ◌&&◌, cond}
 use Rattle.std.proofs.lemmas.Str.{char_from_byte}
 use Rattle.std.proofs.lemmas.List.Elements.{All-head}
 use Rattle.std.proofs.lemmas.List.{get_or-take, length-take-le, get_or_past}
-use Rattle.bstr.specs.Find.{OccursAt}
 use Rattle.bstr.specs.Text.{without_terminator, no_cr}
 use Rattle.output_slice.specs.declared.subslice.ByteSubslice.{ByteSubslice}
 use Rattle.output_slice.specs.declared.subslice.TestOutputErrorSlice.{TestOutputErrorSlice}
@@ -34,7 +33,7 @@ IsLetterAt b s = (get_or b s 0 ≡ 69) ⊎ (get_or b s 0 ≡ 116)
 not_blank : (bs : List ℕ) → IsLetterAt bs 0 → ¬ IsBlank bs
 not_blank bs letter h = by_chars h.0 h.1 h.2 where
   by_chars : (cs : List ℕ) → All (λ c. IsScalar c × IsTrue (is_whitespace c)) cs → bs ≡ encode_utf8_all cs → ⊥
-  by_chars [] all e = elim (rw e at letter) [ | inl one ↦ omega arith | inr two ↦ omega arith ]
+  by_chars [] all e = elim (rw e at letter) [ inl one ↦ omega arith | inr two ↦ omega arith ]
   by_chars (c ∷ cs) all e =
       let space = (All-head (λ x. IsScalar x × IsTrue (is_whitespace x)) c cs all).1 in
       let past : length bs ≤ 0 → get_or bs 0 0 ≡ 0 = get_or_past bs 0 0 in

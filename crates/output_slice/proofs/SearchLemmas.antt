@@ -194,4 +194,4 @@ searched-found b old new scanned tested ended place q e close next last h is rea
           let seen : w.seen ≤ c = grind arith in
           let name = i.0.low in
           let whole = m.before in
-          elim m.few [ | inl f ↦ omega arith | inr f ↦ omega arith ]
+          elim m.few [ inl f ↦ omega arith | inr f ↦ omega arith ]

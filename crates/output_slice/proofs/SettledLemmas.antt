@@ -1,10 +1,10 @@
 -- The taken heads so far, as the search goes from one quote to the next.
-use Rattle.std.proofs.Common.{◌≡◌, ℕ, ◌+◌, ◌<◌, ◌≤◌, List, [], ◌∷◌, ◌++◌, length, get_or, arith, append_assoc, append-nil}
+use Rattle.std.proofs.Common.{◌≡◌, ℕ, ◌+◌, ◌≤◌, List, [], ◌∷◌, ◌++◌, length, get_or, arith, append_assoc, append-nil}
 use Rattle.output_slice.specs.declared.panic_head.HeadSpan.{HeadSpan}
 use Rattle.output_slice.specs.Head.{IsHead}
 use Rattle.output_slice.specs.Taken.{IsTaken}
 use Rattle.output_slice.specs.Steps.{NoQuoteBetween}
-use Rattle.output_slice.proofs.HeadLemmas.{head-quote, head-letters, head-order}
+use Rattle.output_slice.proofs.HeadLemmas.{head-quote, head-letters}
 use Rattle.output_slice.proofs.TakenLemmas.{IsTaken-leftmost, Leftmost, leftmost-before}
 
 -- with those taken from `place` on they are those of all bytes

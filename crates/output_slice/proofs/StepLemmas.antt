@@ -5,7 +5,7 @@ use Rattle.std.specs.Str.{IsUtf8}
 use Rattle.std.proofs.lemmas.List.Elements.{All-from_get_or}
 use Rattle.bstr.specs.Find.{OccursAt}
 use Rattle.bstr.specs.Text.{part}
-use Rattle.output_slice.specs.Head.{IsLineStart, IsName, IsTail, IsHead}
+use Rattle.output_slice.specs.Head.{IsLineStart, IsName, IsHead}
 use Rattle.output_slice.specs.Steps.{IsTailEnd, IsNamedHeadEnd, IsOpened, IsOpenedHeadEnd, IsNextQuote, NoQuoteBetween}
 use Rattle.output_slice.proofs.HeadLemmas.{name-quiet, head-order}
 use Rattle.output_slice.proofs.OccursLemmas.{get_or-part, length-part, occurs-both, occurs-byte, occurs-front}

@@ -84,15 +84,24 @@ module _ (t : ℕ → Bool) (other : t 65533 ≡ false) where
       let s = (decoded bs).size in
       let bounds = piece-bounds bs some in
       let size = length-drop s bs in
-      inr (s + n, (omega arith, omega arith, omega arith, rw drop-drop at blank, λ i low h. elim (cases_lt i s) [
-        | inl inside ↦ elim (cases_lt 0 i) [
-          | inl pos ↦ pass-inside bs i some pos inside h
-          | inr front ↦ let at : i ≡ 0 = omega arith in whole (rw at at h)
-        ]
-        | inr past ↦
-            let at : i ≡ s + (i - s) = omega arith in
-            least (i - s) (omega arith) (rw drop-drop (subst (λ k. AllPass t (drop k bs)) at h))
-      ]))
+      inr (
+        s + n,
+        (
+          omega arith,
+          omega arith,
+          omega arith,
+          rw drop-drop at blank,
+          λ i low h. elim (cases_lt i s) [
+            | inl inside ↦ elim (cases_lt 0 i) [
+              | inl pos ↦ pass-inside bs i some pos inside h
+              | inr front ↦ let at : i ≡ 0 = omega arith in whole (rw at at h)
+            ]
+            | inr past ↦
+                let at : i ≡ s + (i - s) = omega arith in
+                least (i - s) (omega arith) (rw drop-drop (subst (λ k. AllPass t (drop k bs)) at h))
+          ],
+        ),
+      )
 
   kept : (f : ℕ) (bs : List ℕ) → length bs ≤ f → (off end : ℕ) → Kept bs off end (kept_end t end (spans_from off (pieces bs)))
   unfolding spans_from kept_end
@@ -163,7 +172,7 @@ is_break-holds c h = grind (arith, nat_tests)
 
 -- such a character is one byte
 break-byte : (c : ℕ) → IsBreak c → encode_utf8 c ≡ c ∷ []
-break-byte c h = encode_ascii c (elim h [ | inl feed ↦ omega arith | inr carriage ↦ omega arith ])
+break-byte c h = encode_ascii c (elim h [ inl feed ↦ omega arith | inr carriage ↦ omega arith ])
 
 -- where all characters are breaks, all bytes are
 break-bytes : (cs : List ℕ) → All (λ c. IsScalar c × IsTrue (is_break c)) cs → All IsBreak (encode_utf8_all cs)
@@ -205,7 +214,7 @@ module _ (b : List ℕ) (s r : ℕ) (low : s ≤ length b) (is : r ≡ length (t
       let front : drop (h.0 - 1) xs ≡ encode_utf8 last ++ drop h.0 xs = cons ∙ ap (λ x. x ++ drop h.0 xs) (sym (break-byte last break)) in
       h.4 (h.0 - 1) (omega arith) (pass-step is_break refl (drop (h.0 - 1) xs) last (drop h.0 xs) (scalar last break) (passes last break) front h.3) where
         scalar : (c : ℕ) → IsBreak c → IsScalar c
-        scalar c h = elim h [ | inl feed ↦ rw feed refl | inr carriage ↦ rw carriage refl ]
+        scalar c h = elim h [ inl feed ↦ rw feed refl | inr carriage ↦ rw carriage refl ]
 
         passes : (c : ℕ) → IsBreak c → is_break c ≡ true
-        passes c h = elim h [ | inl feed ↦ ap is_break feed | inr carriage ↦ ap is_break carriage ]
+        passes c h = elim h [ inl feed ↦ ap is_break feed | inr carriage ↦ ap is_break carriage ]

@@ -1,4 +1,3 @@
-use Rattle.std.proofs.Common.{◌+◌}
 use Rattle.std.proofs.lemmas.List.{take_rest}
 use Rattle.output_slice.proofs.OpeningLemmas.{window-end-some, window-end-none}
 use Rattle.output_slice.proofs.last_head.window_end.Goals as goal

@@ -27,14 +27,14 @@ loop-next-preserved-in-Some-opened_head_end g c =
     let one = c.loop-next.invariant.0 in
     let two = c.next_quote-close.ensures.same ∙ one in
     let three = c.opened_head_end.ensures.same ∙ two in
-    let h = subst (λ n. Searched b (g.S.ByteSource.count c.args.source.now) (g.S.ByteSource.count c.loop-next.source) c.loop-next.place n c.loop-next.last) c.in-Some.is c.loop-next.invariant.1 in
+    let h = rw c.in-Some.is at c.loop-next.invariant.1 in
     let n = c.next_quote-close.ensures in
     let v = rw two at c.in-Some-opened_head_end.ensures.value in
     let r = rw two at c.in-Some-opened_head_end.ensures.reads in
     let m = c.next_quote-next-in-Some-opened_head_end.ensures in (
       m.same ∙ three,
-      searched-found b _ _ _ _ _ c.loop-next.place c.in-Some.quote c.in-Some-opened_head_end.stop c.next_quote-close.result c.next_quote-next-in-Some-opened_head_end.result c.loop-next.last
-          h (rw one at n.found) (rw one at n.reads) v r (rw three at m.found) m.fits (rw three at m.reads),
+      searched-found b _ _ _ _ _ c.loop-next.place c.in-Some.quote c.in-Some-opened_head_end.stop c.next_quote-close.result
+          c.next_quote-next-in-Some-opened_head_end.result c.loop-next.last h (rw one at n.found) (rw one at n.reads) v r (rw three at m.found) m.fits (rw three at m.reads),
     )
 
 pub loop-next-preserved : goal.loop-next-preserved
@@ -43,7 +43,7 @@ loop-next-preserved g c =
     let one = c.loop-next.invariant.0 in
     let two = c.next_quote-close.ensures.same ∙ one in
     let three = c.opened_head_end.ensures.same ∙ two in
-    let h = subst (λ n. Searched b (g.S.ByteSource.count c.args.source.now) (g.S.ByteSource.count c.loop-next.source) c.loop-next.place n c.loop-next.last) c.in-Some.is c.loop-next.invariant.1 in
+    let h = rw c.in-Some.is at c.loop-next.invariant.1 in
     let n = c.next_quote-close.ensures in
     let v = rw two at c.in-None.ensures.value in
     let r = rw two at c.in-None.ensures.reads in (
