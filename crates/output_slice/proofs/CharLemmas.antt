@@ -22,7 +22,8 @@ part-front : (b rest : List ℕ) (at stop c : ℕ) → IsScalar c → part at st
     → IsCharAt b at stop c
 part-front b rest at stop c scalar e high =
     let size = length-part b at stop high in
-    let lens : length (part at stop b) ≡ length (encode_utf8 c) + length rest = ap length e ∙ length-append (encode_utf8 c) rest in
+    let lens : length (part at stop b) ≡ length (encode_utf8 c) + length rest =
+    ap length e ∙ length-append (encode_utf8 c) rest in
     let len = length-encode c in
     let some = len_utf8_bounds c in record {
       scalar = scalar;
@@ -41,12 +42,14 @@ IsCharAt-decoded b at stop c high found =
     (part-front b _ at stop c h.scalar h.bytes high, h.width)
 
 -- nothing stands there if nothing decodes
-pub not_char-decoded : (b : List ℕ) (at stop c : ℕ) → stop ≤ length b → (decoded (part at stop b)).char ≡ None → ¬ IsCharAt b at stop c
+pub not_char-decoded : (b : List ℕ) (at stop c : ℕ) → stop ≤ length b → (decoded (part at stop b)).char ≡ None
+    → ¬ IsCharAt b at stop c
 not_char-decoded b at stop c high none h =
     let rest = part at stop b in
     let size = length-part b at stop high in
     let ends = h.ends in
-    let reads = λ (j : ℕ) (l : j < length (encode_utf8 c)). get_or-part b at stop j (omega arith) ∙ h.stands.reads j l in
+    let reads =
+    λ (j : ℕ) (l : j < length (encode_utf8 c)). get_or-part b at stop j (omega arith) ∙ h.stands.reads j l in
     let begins = front_from_reads 0 rest (encode_utf8 c) (omega arith) reads in
     let read = ap decoded begins ∙ decoded-encode c (drop (length (encode_utf8 c)) rest) h.scalar in
     let char : (decoded rest).char ≡ Some c = ap (λ (p : Decoded). p.char) read in
@@ -63,7 +66,8 @@ decoded-four xs ys size some reads =
     (omega arith) (omega arith) (omega arith) (λ h. reads 1 h) (λ h. reads 2 h) (λ h. reads 3 h))
 
 -- the same of a buffer that holds the first four bytes, or all
-decoded-buffer : (b : List ℕ) (at stop size : ℕ) (buffer : List ℕ) → at < stop → stop ≤ length b → size ≡ min (stop - at) 4
+decoded-buffer : (b : List ℕ) (at stop size : ℕ) (buffer : List ℕ) → at < stop → stop ≤ length b
+    → size ≡ min (stop - at) 4
     → length buffer ≡ 4 → ((k : ℕ) → k < size → get_or buffer k 0 ≡ get_or b (at + k) 0)
     → decoded (take size buffer) ≡ decoded (part at stop b)
 decoded-buffer b at stop size buffer low high is four reads =
@@ -74,7 +78,8 @@ wide_char : (b : List ℕ) (at stop c : ℕ) → IsCharAt b at stop c → 128 �
 wide_char b at stop c h past = grind (arith, encode_ascii, length-encode)
 
 -- UTF-8 is empty or begins with a character
-first-utf8 : (bs : List ℕ) → IsUtf8 bs → 0 < length bs → (c : ℕ) × ((rest : List ℕ) × (IsScalar c × (bs ≡ encode_utf8 c ++ rest)))
+first-utf8 : (bs : List ℕ) → IsUtf8 bs → 0 < length bs
+    → (c : ℕ) × ((rest : List ℕ) × (IsScalar c × (bs ≡ encode_utf8 c ++ rest)))
 first-utf8 bs h some = by_chars h.0 h.1.0 h.1.1 where
   by_chars : (cs : List ℕ) → scalars cs ≡ true → encode_utf8_all cs ≡ bs
       → (c : ℕ) × ((rest : List ℕ) × (IsScalar c × (bs ≡ encode_utf8 c ++ rest)))
@@ -97,7 +102,8 @@ utf8-char b at to c n h size =
     )
 
 -- UTF-8 that is not empty begins with a character
-pub char-utf8 : (b : List ℕ) (at to : ℕ) → at < to → to ≤ length b → IsUtf8 (part at to b) → (c : ℕ) × IsCharAt b at to c
+pub char-utf8 : (b : List ℕ) (at to : ℕ) → at < to → to ≤ length b → IsUtf8 (part at to b)
+    → (c : ℕ) × IsCharAt b at to c
 char-utf8 b at to low high h =
     let size = length-part b at to high in
     let first = first-utf8 (part at to b) h (omega arith) in
@@ -140,8 +146,10 @@ module _ (b buffer : List ℕ) (at stop i : ℕ) (four : length buffer ≡ 4) (s
 
   -- where nothing is decoded, no character ends there
   pub char-none : (decoded (take (i + 1) buffer)).char ≡ None → (c : ℕ) → ¬ IsCharAt b at (at + (i + 1)) c
-  char-none none c = not_char-decoded b at (at + (i + 1)) c (omega arith) (ap (λ (p : Decoded). p.char) (sym same) ∙ none)
+  char-none none c =
+      not_char-decoded b at (at + (i + 1)) c (omega arith) (ap (λ (p : Decoded). p.char) (sym same) ∙ none)
 
 -- a character has four bytes at most
-pub char-short : (b : List ℕ) (at stop i c : ℕ) → min (stop - at) 4 ≤ i → IsCharAt b at stop c → IsCharAt b at (at + i) c
+pub char-short : (b : List ℕ) (at stop i c : ℕ) → min (stop - at) 4 ≤ i → IsCharAt b at stop c
+    → IsCharAt b at (at + i) c
 char-short b at stop i c far h = grind (arith, len_utf8_bounds, length-encode)

@@ -61,7 +61,8 @@ module _ (b : List ℕ) (c : ℕ) (within : c ≤ length b) (line : IsLineStart 
         closed (grind arith) (rw at at opening)
 
   -- the last quote before c opens
-  pub cut-crossed : (q : ℕ) → IsLastByte (is_byte 39) (take c b) (Some q) → 7 ≤ q → IsOpening b (q - 7) → MayCross b (q - 7) c
+  pub cut-crossed : (q : ℕ) → IsLastByte (is_byte 39) (take c b) (Some q) → 7 ≤ q → IsOpening b (q - 7)
+      → MayCross b (q - 7) c
   cut-crossed q h far opening =
       let last = last-byte 39 b c within q h in
       record { low = omega arith; opening = opening; quiet = λ k low. last.2 k (omega arith) }

@@ -31,16 +31,19 @@ module _ (b : List ℕ) (c : ℕ) (cut : IsCut b c) where
     record {
       head = head-of-back b c y.start y.stop cut.within cut.line_start h.0.head;
       low = omega (arith, h.0.low);
-      least = λ s e low head. let least = h.0.least (s - c) (e - c) (omega arith) (behind s e k low head) in omega arith;
+      least =
+          λ s e low head. let least = h.0.least (s - c) (e - c) (omega arith) (behind s e k low head) in omega arith;
     },
     leftmost-shifted ys y.stop h.1,
   )
 
   -- the taken heads before the cut, then those
-  leftmost-joined : (xs ys : List HeadSpan) (from : ℕ) → from ≤ c → Leftmost (take c b) from xs → Leftmost (drop c b) 0 ys
+  leftmost-joined : (xs ys : List HeadSpan) (from : ℕ) → from ≤ c → Leftmost (take c b) from xs
+      → Leftmost (drop c b) 0 ys
       → Leftmost b from (xs ++ map (shifted c) ys)
   leftmost-joined [] ys from low h k =
-      leftmost-before b from c (map (shifted c) ys) low past (subst (λ i. Leftmost b i (map (shifted c) ys)) (add-zero c) (leftmost-shifted ys 0 k)) where
+      let later = subst (λ i. Leftmost b i (map (shifted c) ys)) (add-zero c) (leftmost-shifted ys 0 k) in
+      leftmost-before b from c (map (shifted c) ys) low past later where
         past : (s e : ℕ) → from ≤ s → IsHead b s e → c ≤ s
         past s e near head = elim (cases_lt s c) [
           | inl early ↦ absurd (h s e near (front-of-head b c s e cut.within head (cut.uncrossed s e head early)))
@@ -54,7 +57,8 @@ module _ (b : List ℕ) (c : ℕ) (cut : IsCut b c) where
       )
     where
       least : (s e : ℕ) → from ≤ s → IsHead b s e → (s < c) ⊎ (c ≤ s) → x.start ≤ s
-      least s e near head (inl early) = h.0.least s e near (front-of-head b c s e cut.within head (cut.uncrossed s e head early))
+      least s e near head (inl early) =
+          h.0.least s e near (front-of-head b c s e cut.within head (cut.uncrossed s e head early))
       least s e near head (inr late) =
           let whole = head-of-front b c x.start x.stop cut.within h.0.head in
           let order = head-order b x.start x.stop whole.0 in
@@ -65,8 +69,9 @@ module _ (b : List ℕ) (c : ℕ) (cut : IsCut b c) where
 pub divides : (b : List ℕ) (c : ℕ) (xs ys : List HeadSpan) → IsCut b c → IsTaken (take c b) xs → IsTaken (drop c b) ys
     → IsTaken b (xs ++ map (shifted c) ys)
 divides b c xs ys cut front back =
-    let joined = leftmost-joined b c cut xs ys 0 (omega arith) ((IsTaken-leftmost (take c b) xs).0 front) ((IsTaken-leftmost (drop c b) ys).0 back) in
-    (IsTaken-leftmost b (xs ++ map (shifted c) ys)).1 joined
+    let before = (IsTaken-leftmost (take c b) xs).0 front in
+    let behind = (IsTaken-leftmost (drop c b) ys).0 back in
+    (IsTaken-leftmost b (xs ++ map (shifted c) ys)).1 (leftmost-joined b c cut xs ys 0 (omega arith) before behind)
 
 -- the last of two lists is the last of the second, if that has one
 last_of-append : (xs ys : List HeadSpan) (h : HeadSpan) → Some h ≡ last_of ys → Some h ≡ last_of (xs ++ ys)
@@ -78,11 +83,13 @@ last_of-append xs ys h e =
     sym (slice_get_read (xs ++ ys) _ _ h refl (omega arith) (sym (rw place (get_or-append-add xs ys (length ys - 1) h ∙ read))))
 
 -- the last of a shifted list
-last_of-map : (c : ℕ) (ys : List HeadSpan) (h : HeadSpan) → Some h ≡ last_of ys → Some (shifted c h) ≡ last_of (map (shifted c) ys)
+last_of-map : (c : ℕ) (ys : List HeadSpan) (h : HeadSpan) → Some h ≡ last_of ys
+    → Some (shifted c h) ≡ last_of (map (shifted c) ys)
 last_of-map c ys h e = grind (arith, length-map, slice_get-map)
 
 -- the last behind a cut is the last of all
-pub last-behind : (b : List ℕ) (c : ℕ) (h : HeadSpan) → IsCut b c → IsLastTaken (drop c b) (Some h) → IsLastTaken b (Some (shifted c h))
+pub last-behind : (b : List ℕ) (c : ℕ) (h : HeadSpan) → IsCut b c → IsLastTaken (drop c b) (Some h)
+    → IsLastTaken b (Some (shifted c h))
 last-behind b c h cut last =
     let front = IsTaken-exists (take c b) in (
       front.0 ++ map (shifted c) last.0,
@@ -93,7 +100,8 @@ last-behind b c h cut last =
 -- where there is none behind a cut, the last before it is the last of all
 pub last-before : (b : List ℕ) (c : ℕ) (found : Option HeadSpan) → IsCut b c → ((s e : ℕ) → ¬ IsHead (drop c b) s e)
     → IsLastTaken (take c b) found → IsLastTaken b found
-last-before b c found cut none last = (last.0, rw append-nil at (divides b c last.0 [] cut last.1 (IsTaken-nil (drop c b) none)), last.2)
+last-before b c found cut none last =
+    (last.0, rw append-nil at (divides b c last.0 [] cut last.1 (IsTaken-nil (drop c b) none)), last.2)
 
 -- it ends within the bytes
 pub last-within : (b : List ℕ) (c : ℕ) (h : HeadSpan) → c ≤ length b → IsLastTaken (drop c b) (Some h)
@@ -115,7 +123,8 @@ last-within-front b e found high ends last =
     let h = last.1 in (
       last.0,
       record {
-        heads = All-weaker (λ h. IsHead (take e b) h.start h.stop) (λ h. IsHead b h.start h.stop) (λ h is. (head-of-front b e h.start h.stop high is).0) last.0 h.heads;
+        heads = All-weaker (λ h. IsHead (take e b) h.start h.stop) (λ h. IsHead b h.start h.stop)
+            (λ h is. (head-of-front b e h.start h.stop high is).0) last.0 h.heads;
         rising = h.rising;
         rule = λ x is. h.rule x (front-of-head b e x.start x.stop high is (ends x.start x.stop is));
       },

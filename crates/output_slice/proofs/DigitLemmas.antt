@@ -55,11 +55,13 @@ runs-same (c ∷ cs) (d ∷ ds) r q ac ad nr nq e =
 -- so a run of digits ends at one place
 pub IsDigitRun-same : (b : List ℕ) (from to to' : ℕ) → IsDigitRun b from to → IsDigitRun b from to' → to ≡ to'
 IsDigitRun-same b from to to' h k =
-    let split = λ (at : ℕ) (run : IsDigitRun b from at). occurs-drop b (encode_utf8_all run.digits.chars) from run.digits.stands in
+    let split =
+    λ (at : ℕ) (run : IsDigitRun b from at). occurs-drop b (encode_utf8_all run.digits.chars) from run.digits.stands in
     let same = runs-same h.digits.chars k.digits.chars _ _ h.digits.digits k.digits.digits
     (stops h) (stops k) (sym (split to h) ∙ split to' k) in
     h.digits.ends ∙ ap (λ cs. from + length (encode_utf8_all cs)) same ∙ sym k.digits.ends where
-      stops : {at : ℕ} → (run : IsDigitRun b from at) → Stops (drop (from + length (encode_utf8_all run.digits.chars)) b)
+      stops : {at : ℕ} → (run : IsDigitRun b from at)
+          → Stops (drop (from + length (encode_utf8_all run.digits.chars)) b)
       stops {at} run c rest scalar digit e =
           let here : drop at b ≡ encode_utf8 c ++ rest = ap (λ i. drop i b) run.digits.ends ∙ e in
           let len = length-encode c in

@@ -22,9 +22,11 @@ lines-same : (ls : List (List ℕ)) → All IsLine ls → AllPairs Ended ls → 
 lines-same [] each ends = sym lines-nil
 lines-same (l ∷ ls) each ends =
     let line = All-head IsLine l ls each in
-    let rest = lines-same ls (All-tail IsLine l ls each) (λ i j d low high. ends (suc i) (suc j) d (omega arith) (omega arith)) in
+    let rest =
+    lines-same ls (All-tail IsLine l ls each) (λ i j d low high. ends (suc i) (suc j) d (omega arith) (omega arith)) in
     ap (λ xs. l ∷ xs) rest ∙ ap (λ xs. xs ++ lines_of (concat ls)) (sym (line-alone l line)) ∙ sym (split ls ends) where
-      split : (ms : List (List ℕ)) → AllPairs Ended (l ∷ ms) → lines_of (l ++ concat ms) ≡ lines_of l ++ lines_of (concat ms)
+      split : (ms : List (List ℕ)) → AllPairs Ended (l ∷ ms)
+          → lines_of (l ++ concat ms) ≡ lines_of l ++ lines_of (concat ms)
       split [] ends = rw (append-nil l) (rw lines-nil (rw (append-nil (lines_of l)) refl))
       split (m ∷ ms) ends = lines-append (length l) l _ (omega arith) (inr (ends 0 1 [] (omega arith) (omega arith)))
 
@@ -33,7 +35,8 @@ pub AreLines-same : (b : List ℕ) (lines : List (List ℕ)) → AreLines b line
 AreLines-same b lines h = lines-same lines h.each h.ends ∙ ap lines_of h.joined
 
 -- one more byte before a division
-more-lines : (x : ℕ) (b : List ℕ) (ls : List (List ℕ)) → AreLines b ls → (lines : List (List ℕ)) × AreLines (x ∷ b) lines
+more-lines : (x : ℕ) (b : List ℕ) (ls : List (List ℕ)) → AreLines b ls
+    → (lines : List (List ℕ)) × AreLines (x ∷ b) lines
 more-lines x b ls h = elim (cases_eq x 10) [
   | inl feed ↦ (
     (x ∷ []) ∷ ls,
@@ -65,7 +68,8 @@ more-lines x b ls h = elim (cases_eq x 10) [
         record {
           joined = ap (λ t. x ∷ t) h.joined;
           each = All-cons IsLine (x ∷ l) ls (record { some = omega arith; feed = longer l line other }) (All-tail IsLine l ls h.each);
-          ends = AllPairs-cons Ended (x ∷ l) ls (λ k d low. last l some (h.ends 0 (suc k) d (omega arith) (omega arith)))
+          ends =
+              AllPairs-cons Ended (x ∷ l) ls (λ k d low. last l some (h.ends 0 (suc k) d (omega arith) (omega arith)))
               (λ i j d low high. h.ends (suc i) (suc j) d (omega arith) (omega arith));
         },
       )
@@ -85,5 +89,6 @@ AreLines-lines_of b = let some = divided b in rw (AreLines-same b some.0 some.1)
   divided (x ∷ b) = let rest = divided b in more-lines x b rest.0 rest.1
 
 -- there is one division into lines
-pub lines-exist : (b : List ℕ) → (lines : List (List ℕ)) × AreLines b lines × ((other : List (List ℕ)) → AreLines b other → other ≡ lines)
+pub lines-exist : (b : List ℕ)
+    → (lines : List (List ℕ)) × AreLines b lines × ((other : List (List ℕ)) → AreLines b other → other ≡ lines)
 lines-exist b = (lines_of b, AreLines-lines_of b, AreLines-same b)

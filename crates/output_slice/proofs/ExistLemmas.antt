@@ -42,7 +42,8 @@ occurs-dec b xs at some = elim (cases_lt (length b) (at + length xs)) [
 ]
 
 text-end : (b xs : List ℕ) (at : ℕ) → 0 < length xs → (found : Option ℕ) × IsTextEnd b xs at found
-text-end b xs at some = elim (occurs-dec b xs at some) [ inl h ↦ (Some (at + length xs), (h, refl)) | inr n ↦ (None, n) ]
+text-end b xs at some =
+    elim (occurs-dec b xs at some) [ inl h ↦ (Some (at + length xs), (h, refl)) | inr n ↦ (None, n) ]
 
 -- whether a character is a digit
 digit-dec : (c : ℕ) → Known (IsDigit c)
@@ -64,7 +65,8 @@ digit-at b at = by_found (decoded (part at (length b) b)).char refl where
       ]
 
 -- where the digits end, by the number of bytes left
-digit-run : (fuel : ℕ) (b : List ℕ) (from at : ℕ) → AreDigits b from at → length b < at + fuel → (to : ℕ) × IsDigitRun b from to
+digit-run : (fuel : ℕ) (b : List ℕ) (from at : ℕ) → AreDigits b from at → length b < at + fuel
+    → (to : ℕ) × IsDigitRun b from to
 digit-run zero b from at h done = absurd (let fits = h.stands.fits in let ends = h.ends in omega arith)
 digit-run (suc fuel) b from at h done = elim (digit-at b at) [
   | inl more ↦
@@ -101,7 +103,8 @@ quote-from (suc fuel) b from at low quiet done = elim (cases_eq (get_or b at 0) 
   ]
   | inr other ↦ quote-from fuel b from (at + 1) (omega arith) (Nowhere-next b from at quiet other) (omega arith)
 ] where
-  Nowhere-next : (b : List ℕ) (from at : ℕ) → NoQuoteBetween b from at → get_or b at 0 ≢ 39 → NoQuoteBetween b from (at + 1)
+  Nowhere-next : (b : List ℕ) (from at : ℕ) → NoQuoteBetween b from at → get_or b at 0 ≢ 39
+      → NoQuoteBetween b from (at + 1)
   Nowhere-next b from at quiet other k l u = let before = quiet k l in grind arith
 
 next-quote : (b : List ℕ) (from : ℕ) → (found : Option ℕ) × IsNextQuote b from found
@@ -129,7 +132,8 @@ name-dec b i j high quiet =
     ]
 
 -- where the head ends that a quote opens
-head-end : (b : List ℕ) (place q : ℕ) → get_or b q 0 ≡ 39 → q < length b → (close : Option ℕ) → IsNextQuote b (q + 1) close
+head-end : (b : List ℕ) (place q : ℕ) → get_or b q 0 ≡ 39 → q < length b → (close : Option ℕ)
+    → IsNextQuote b (q + 1) close
     → (found : Option ℕ) × IsOpenedHeadEnd b place q found
 head-end b place q is high None n = (None, IsOpenedHeadEnd-none b place q n)
 head-end b place q is high (Some c) n = elim (opened-dec b place q) [
@@ -144,13 +148,17 @@ head-end b place q is high (Some c) n = elim (opened-dec b place q) [
 
 -- the search goes on from a later place
 abbrev GoesOn : List ℕ → ℕ → Type 0
-GoesOn b place = (later : ℕ) (taken : List HeadSpan) → Settled b later taken → place < later → (xs : List HeadSpan) × IsTaken b xs
+GoesOn b place =
+    (later : ℕ) (taken : List HeadSpan) → Settled b later taken → place < later → (xs : List HeadSpan) × IsTaken b xs
 
 -- one step of the search
-step : (b : List ℕ) (place : ℕ) (taken : List HeadSpan) → Settled b place taken → GoesOn b place → (xs : List HeadSpan) × IsTaken b xs
+step : (b : List ℕ) (place : ℕ) (taken : List HeadSpan) → Settled b place taken → GoesOn b place
+    → (xs : List HeadSpan) × IsTaken b xs
 step b place taken h go = let n = next-quote b place in by_next n.0 n.1 where
-  by_end : (q : ℕ) → IsNextQuote b place (Some q) → (found : Option ℕ) → IsOpenedHeadEnd b place q found → (xs : List HeadSpan) × IsTaken b xs
-  by_end q n None s = let low = n.0.low in go (q + 1) taken (settled-none b place q taken h low n.1 n.0.before s) (omega arith)
+  by_end : (q : ℕ) → IsNextQuote b place (Some q) → (found : Option ℕ) → IsOpenedHeadEnd b place q found
+      → (xs : List HeadSpan) × IsTaken b xs
+  by_end q n None s =
+      let low = n.0.low in go (q + 1) taken (settled-none b place q taken h low n.1 n.0.before s) (omega arith)
   by_end q n (Some e) s =
       let far = s.0 in
       let x : HeadSpan = record { start = q - 7; stop = e } in
@@ -165,10 +173,12 @@ step b place taken h go = let n = next-quote b place in by_next n.0 n.1 where
       by_end q n end.0 end.1
 
 -- the search from a place, by the number of bytes left
-search-from : (fuel : ℕ) (b : List ℕ) (place : ℕ) (taken : List HeadSpan) → Settled b place taken → length b ≤ place + fuel
+search-from : (fuel : ℕ) (b : List ℕ) (place : ℕ) (taken : List HeadSpan) → Settled b place taken
+    → length b ≤ place + fuel
     → (xs : List HeadSpan) × IsTaken b xs
 search-from zero b place taken h done = (taken, settled-done b place taken h (λ k l u is. omega arith))
-search-from (suc fuel) b place taken h done = step b place taken h (λ later ts s more. search-from fuel b later ts s (omega arith))
+search-from (suc fuel) b place taken h done =
+    step b place taken h (λ later ts s more. search-from fuel b later ts s (omega arith))
 
 -- there is a list of taken heads
 pub IsTaken-exists : (b : List ℕ) → (taken : List HeadSpan) × IsTaken b taken

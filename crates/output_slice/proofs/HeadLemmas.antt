@@ -31,7 +31,8 @@ head-letters b s e q h low is =
     grind (arith, nat_tests)
 
 -- a name is not empty, so the closing quote is behind the opening one
-pub head-order : (b : List ℕ) (s e : ℕ) → (h : IsHead b s e) → (s + 8 < h.quote) × (h.quote < length b) × (h.quote + 1 < e)
+pub head-order : (b : List ℕ) (s e : ℕ) → (h : IsHead b s e)
+    → (s + 8 < h.quote) × (h.quote < length b) × (h.quote + 1 < e)
 head-order b s e h = grind (arith, get_or_past, length-append, length-part)
 
 -- one start has one head

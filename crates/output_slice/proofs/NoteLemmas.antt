@@ -23,7 +23,8 @@ use Rattle.output_slice.proofs.OccursLemmas.{get_or-part, length-part, occurs-fr
 -- the length of joined lines is the sum of their lengths
 pub length-concat : (xs : List (List ℕ)) → length (concat xs) ≡ sum_by length xs
 length-concat [] = refl
-length-concat (x ∷ xs) = length-append x (concat xs) ∙ ap (λ n. length x + n) (length-concat xs) ∙ sym (sum_by-cons length x xs)
+length-concat (x ∷ xs) =
+    length-append x (concat xs) ∙ ap (λ n. length x + n) (length-concat xs) ∙ sym (sum_by-cons length x xs)
 
 -- a text that stands in one of two joined parts stands in the whole
 contains-left : (t xs ys : List ℕ) → Contains xs t → Contains (xs ++ ys) t
@@ -47,7 +48,8 @@ none-in : (t b : List ℕ) → ¬ Contains b t → All (λ line. ¬ Contains lin
 none-in t b none = none-in-lines t (lines_of b) (λ h. none (subst (λ xs. Contains xs t) (concat-lines_of b) h))
 
 -- the line from a line start s up to a line end e, between the lines before it and those behind it
-lines-round : (b : List ℕ) (s e : ℕ) → s < e → e ≤ length b → IsLineStart b s → NoFeedBetween b s (e - 1) → IsLineEnd b s e
+lines-round : (b : List ℕ) (s e : ℕ) → s < e → e ≤ length b → IsLineStart b s → NoFeedBetween b s (e - 1)
+    → IsLineEnd b s e
     → lines_of b ≡ lines_of (take s b) ++ part s e b ∷ lines_of (drop (e - s) (drop s b))
 lines-round b s e low high line quiet last =
     let front = length-take s b in
@@ -56,9 +58,13 @@ lines-round b s e low high line quiet last =
     let rest = drop (e - s) (drop s b) in
     let before : EndsLine (take s b) = grind (arith, get_or-take) in
     let is_line : IsLine (part s e b) = record { some = omega arith; feed = λ k is. feed-last k is } in
-    lines-cut s b before ∙ ap (λ ls. lines_of (take s b) ++ ls) (split (cases_lt e (length b)) ∙ ap (λ ls. ls ++ lines_of rest) (line-alone _ is_line)) where
-      lines-cut : (n : ℕ) (xs : List ℕ) → EndsLine (take n xs) → lines_of xs ≡ lines_of (take n xs) ++ lines_of (drop n xs)
-      lines-cut n xs ends = ap lines_of (sym (take-append-drop n xs)) ∙ lines-append (length (take n xs)) (take n xs) (drop n xs) (omega arith) ends
+    let behind = split (cases_lt e (length b)) ∙ ap (λ ls. ls ++ lines_of rest) (line-alone _ is_line) in
+    lines-cut s b before ∙ ap (λ ls. lines_of (take s b) ++ ls) behind where
+      lines-cut : (n : ℕ) (xs : List ℕ) → EndsLine (take n xs)
+          → lines_of xs ≡ lines_of (take n xs) ++ lines_of (drop n xs)
+      lines-cut n xs ends =
+          ap lines_of (sym (take-append-drop n xs))
+          ∙ lines-append (length (take n xs)) (take n xs) (drop n xs) (omega arith) ends
 
       feed-last : (k : ℕ) → get_or (part s e b) k 0 ≡ 10 → k + 1 ≡ length (part s e b)
       feed-last k is =
@@ -67,7 +73,8 @@ lines-round b s e low high line quiet last =
           let other = quiet (s + k) in
           grind (arith, get_or-part)
 
-      split : (e < length b) ⊎ (length b ≤ e) → lines_of (drop s b) ≡ lines_of (part s e b) ++ lines_of (drop (e - s) (drop s b))
+      split : (e < length b) ⊎ (length b ≤ e)
+          → lines_of (drop s b) ≡ lines_of (part s e b) ++ lines_of (drop (e - s) (drop s b))
       split (inl more) =
           let size = length-part b s e high in
           let feed = last more in
@@ -86,7 +93,8 @@ module _ (b : List ℕ) (at s e : ℕ) (found : FindsNeedle b (codes "note: test
   inside : at + 36 ≤ e
   inside =
       let fits = here.fits in
-      let other = text-passes (λ x. not (x == 10)) b (codes "note: test did not panic as expected") at here refl (e - 1) in
+      let other =
+      text-passes (λ x. not (x == 10)) b (codes "note: test did not panic as expected") at here refl (e - 1) in
       grind (arith, nat_tests)
 
   lines-are : lines_of b ≡ lines_of (take s b) ++ part s e b ∷ lines_of (drop (e - s) (drop s b))
@@ -117,4 +125,7 @@ module _ (b : List ℕ) (at s e : ℕ) (found : FindsNeedle b (codes "note: test
 
 -- without a note there is no note line
 pub note-none : (b : List ℕ) → FindsNeedle b (codes "note: test did not panic as expected") 0 None → IsNoteLine b None
-note-none b none = (lines_of b, AreLines-lines_of b, none-in (codes "note: test did not panic as expected") b (λ h. let fits = h.1.fits in none h.0 (omega arith) (omega arith) h.1))
+note-none b none =
+    let nowhere = λ (h : Contains b (codes "note: test did not panic as expected")).
+    let fits = h.1.fits in none h.0 (omega arith) (omega arith) h.1 in
+    (lines_of b, AreLines-lines_of b, none-in (codes "note: test did not panic as expected") b nowhere)

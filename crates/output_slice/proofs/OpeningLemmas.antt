@@ -33,7 +33,8 @@ head-line-end b s e q end h low up last =
 
 module _ (b : List ℕ) (at : ℕ) (o : IsLastOpening b (Some at)) where
   -- the closing quote of a head that ends behind the last opening
-  opening-quote : (q s e : ℕ) → at + 8 ≤ q → (get_or b q 0 ≡ 39) ⊎ NoQuoteBetween b (at + 8) (length b) → (h : IsHead b s e)
+  opening-quote : (q s e : ℕ) → at + 8 ≤ q → (get_or b q 0 ≡ 39) ⊎ NoQuoteBetween b (at + 8) (length b)
+      → (h : IsHead b s e)
       → at < e → h.quote ≤ q
   opening-quote q s e far next h past =
       let order = head-order b s e h in
@@ -62,6 +63,8 @@ module _ (b : List ℕ) (at : ℕ) (o : IsLastOpening b (Some at)) where
       let quote = first-byte 39 b (at + 8) o.1.1.fits gap h in
       window-end (at + 8 + gap) end (omega arith) (inl quote.1) up last
 
-  pub window-end-none : (end : ℕ) → IsFirstByte (is_byte 39) (drop (at + 8) b) None → at + 8 ≤ end → IsLineEnd b (at + 8) end
+  pub window-end-none : (end : ℕ) → IsFirstByte (is_byte 39) (drop (at + 8) b) None → at + 8 ≤ end
+      → IsLineEnd b (at + 8) end
       → AllHeadsEndBy b end
-  window-end-none end h up last = window-end (at + 8) end (omega arith) (inr (no-byte 39 b (at + 8) o.1.1.fits h)) up last
+  window-end-none end h up last =
+      window-end (at + 8) end (omega arith) (inr (no-byte 39 b (at + 8) o.1.1.fits h)) up last

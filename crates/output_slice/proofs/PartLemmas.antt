@@ -37,7 +37,8 @@ not_blank bs letter h = by_chars h.0 h.1 h.2 where
   by_chars (c ∷ cs) all e =
       let space = (All-head (λ x. IsScalar x × IsTrue (is_whitespace x)) c cs all).1 in
       let past : length bs ≤ 0 → get_or bs 0 0 ≡ 0 = get_or_past bs 0 0 in
-      let same = λ (low : get_or bs 0 0 < 128) (some : 0 < length bs). char_from_byte bs (encode_utf8_all cs) c e low some in
+      let same =
+      λ (low : get_or bs 0 0 < 128) (some : 0 < length bs). char_from_byte bs (encode_utf8_all cs) c e low some in
       elim letter [
         | inl one ↦ let is : c ≡ 69 = same (omega arith) (grind arith) ∙ one in absurd (cc (ap is_whitespace is))
         | inr two ↦ let is : c ≡ 116 = same (omega arith) (grind arith) ∙ two in absurd (cc (ap is_whitespace is))
@@ -65,7 +66,8 @@ widened-letter b s e t head wide = elim wide [
 ]
 
 -- a line without its end is its front, and lacks two bytes at most
-line-front : (line : List ℕ) → (m : ℕ) × ((m ≤ length line) × (length line ≤ m + 2) × (without_terminator line ≡ take m line))
+line-front : (line : List ℕ)
+    → (m : ℕ) × ((m ≤ length line) × (length line ≤ m + 2) × (without_terminator line ≡ take m line))
 line-front line =
     let n = length line in
     let feed = nat_lt 0 n && get_or line (n - 1) 0 == 10 in
@@ -77,7 +79,8 @@ line-front line =
           let one : without_terminator line ≡ no_cr short = ap (λ t. cond t (no_cr short) line) feeds in
           elim (cases_Bool cr) [
             | inl returns ↦
-                let cut = ap (λ t. cond t (take (length short - 1) short) short) returns ∙ ap (λ k. take (k - 1) short) size in
+                let cut =
+                ap (λ t. cond t (take (length short - 1) short) short) returns ∙ ap (λ k. take (k - 1) short) size in
                 (n - 1 - 1, (omega arith, omega arith, one ∙ cut ∙ take-take (n - 1 - 1) (n - 1) line (omega arith)))
             | inr other ↦ (n - 1, (omega arith, omega arith, one ∙ ap (λ t. cond t (take (length short - 1) short) short) other))
           ]
@@ -85,14 +88,16 @@ line-front line =
     ]
 
 -- a line that holds the note is a part, without its end too
-note-part : (b : List ℕ) (before : List (List ℕ)) (line : List ℕ) (rest : List (List ℕ)) (x : Slice) → concat (before ++ line ∷ rest) ≡ b → IsNote line
+note-part : (b : List ℕ) (before : List (List ℕ)) (line : List ℕ) (rest : List (List ℕ)) (x : Slice)
+    → concat (before ++ line ∷ rest) ≡ b → IsNote line
     → x.start ≡ sum_by length before → x.bytes ≡ without_terminator line → IsPart b x
 note-part b before line rest x joined note is text =
     grind (arith, concat-append, get_or-append, get_or-append-add, get_or-take, length-append, length-concat, length-take-le, line-front)
 
 -- a panic slice is a part
 pub IsPanicSlice-part : (b : List ℕ) (x : Slice) → IsPanicSlice b (Some x) → IsPart b x
-IsPanicSlice-part b x p = trimmed-part b x p.3 (widened-letter b p.0.start p.0.stop x.start (IsLastTaken-head b p.0 p.1) p.2)
+IsPanicSlice-part b x p =
+    trimmed-part b x p.3 (widened-letter b p.0.start p.0.stop x.start (IsLastTaken-head b p.0 p.1) p.2)
 
 -- an error slice is a part
 pub IsErrorSlice-part : (b : List ℕ) (x : Slice) → IsErrorSlice b (Some x) → IsPart b x
@@ -104,7 +109,8 @@ IsNoteLine-part b x p = let h = p.2 in note-part b h.0 h.1 h.2 x (ap concat (sym
 
 -- what holds of each slice holds of what is found
 pub found-part : (Is : List ℕ → Option Slice → Type 0) → ((b : List ℕ) (x : Slice) → Is b (Some x) → IsPart b x)
-    → (b : List ℕ) (found : Option ByteSubslice) → Is b (option_map slice_of found) → IfSome found (λ x. IsPart b (slice_of x))
+    → (b : List ℕ) (found : Option ByteSubslice) → Is b (option_map slice_of found)
+    → IfSome found (λ x. IsPart b (slice_of x))
 found-part Is part b None p = tt
 found-part Is part b (Some x) p = part b (slice_of x) p
 
@@ -115,7 +121,8 @@ OfStream-part Is part None x p = absurd (cc)
 OfStream-part Is part (Some b) x p = part b x p
 
 -- what is extracted lies in its parent
-pub IsExtract-part : (out err : Option (List ℕ)) (found : Option TestOutputErrorSlice) → IsExtract out err (option_map extract_of found) → IfSome found (λ x. LiesIn out err (extract_of x))
+pub IsExtract-part : (out err : Option (List ℕ)) (found : Option TestOutputErrorSlice)
+    → IsExtract out err (option_map extract_of found) → IfSome found (λ x. LiesIn out err (extract_of x))
 IsExtract-part out err None p = tt
 IsExtract-part out err (Some (PanicMessage x)) p = OfStream-part IsPanicSlice IsPanicSlice-part err (slice_of x) p
 IsExtract-part out err (Some (ErrorStr x)) p = OfStream-part IsErrorSlice IsErrorSlice-part err (slice_of x) p.1

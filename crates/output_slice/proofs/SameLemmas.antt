@@ -28,7 +28,8 @@ slice-same x y p q = grind arith
 -- trimming gives one slice
 IsTrimmedSlice-same : (b : List ℕ) (x y : Slice) → x.start ≡ y.start → IsTrimmedSlice b x → IsTrimmedSlice b y → x ≡ y
 IsTrimmedSlice-same b x y p g h =
-    let ends : g.0 ≡ h.0 = same_Some g.0 h.0 (IsFirst-same _ _ _ (Some g.0) (Some h.0) (subst (λ s. IsTrimmed b s g.0) p g.1) h.1) in
+    let ends : g.0 ≡ h.0 =
+    same_Some g.0 h.0 (IsFirst-same _ _ _ (Some g.0) (Some h.0) (subst (λ s. IsTrimmed b s g.0) p g.1) h.1) in
     slice-same x y p (g.2 ∙ ap (λ s. part s g.0 b) p ∙ ap (λ e. part y.start e b) ends ∙ sym h.2)
 
 -- there is one panic slice
@@ -38,41 +39,52 @@ IsPanicSlice-same b None (Some y) p q = let heads = IsLastTaken-same b None (Som
 IsPanicSlice-same b (Some x) None p q = let heads = IsLastTaken-same b None (Some p.0) q p.1 in absurd (cc)
 IsPanicSlice-same b (Some x) (Some y) p q =
     let heads : p.0 ≡ q.0 = same_Some p.0 q.0 (IsLastTaken-same b (Some p.0) (Some q.0) p.1 q.1) in
-    let starts = IsWidened-same b q.0.start x.start y.start (subst (λ (h : HeadSpan). IsWidened b h.start x.start) heads p.2) q.2 in
+    let starts =
+    IsWidened-same b q.0.start x.start y.start (subst (λ (h : HeadSpan). IsWidened b h.start x.start) heads p.2) q.2 in
     ap Some (IsTrimmedSlice-same b x y starts p.3 q.3)
 
 -- there is one error slice
 pub IsErrorSlice-same : (b : List ℕ) (f g : Option Slice) → IsErrorSlice b f → IsErrorSlice b g → f ≡ g
-IsErrorSlice-same b f g p q = by_found f g (IsFirst-same (IsErrorStart b) 0 (length b + 1) (option_map start f) (option_map start g) p.0 q.0) p.1 q.1 where
+IsErrorSlice-same b f g p q =
+    let starts = IsFirst-same (IsErrorStart b) 0 (length b + 1) (option_map start f) (option_map start g) p.0 q.0 in
+    by_found f g starts p.1 q.1 where
   start : Slice → ℕ
   start x = x.start
 
-  by_found : (x y : Option Slice) → option_map start x ≡ option_map start y → IfSome x (IsTrimmedSlice b) → IfSome y (IsTrimmedSlice b) → x ≡ y
+  by_found : (x y : Option Slice) → option_map start x ≡ option_map start y → IfSome x (IsTrimmedSlice b)
+      → IfSome y (IsTrimmedSlice b) → x ≡ y
   by_found None None e one two = refl
   by_found None (Some y) e one two = absurd (cc)
   by_found (Some x) None e one two = absurd (cc)
   by_found (Some x) (Some y) e one two = ap Some (IsTrimmedSlice-same b x y (same_Some x.start y.start e) one two)
 
 -- there is one first element for which P holds
-first-same : (P : List ℕ → Type 0) (xs ys : List (List ℕ)) (x y : List ℕ) (us vs : List (List ℕ)) → xs ++ x ∷ us ≡ ys ++ y ∷ vs
+first-same : (P : List ℕ → Type 0) (xs ys : List (List ℕ)) (x y : List ℕ) (us vs : List (List ℕ))
+    → xs ++ x ∷ us ≡ ys ++ y ∷ vs
     → All (λ z. ¬ P z) xs → All (λ z. ¬ P z) ys → P x → P y → (xs ≡ ys) × (x ≡ y)
 first-same P [] [] x y us vs e none one p q = (refl, cc)
-first-same P [] (z ∷ zs) x y us vs e none one p q = let same : x ≡ z = cc in absurd (All-head (λ w. ¬ P w) z zs one (subst P same p))
-first-same P (z ∷ zs) [] x y us vs e none one p q = let same : y ≡ z = cc in absurd (All-head (λ w. ¬ P w) z zs none (subst P same q))
+first-same P [] (z ∷ zs) x y us vs e none one p q =
+    let same : x ≡ z = cc in absurd (All-head (λ w. ¬ P w) z zs one (subst P same p))
+first-same P (z ∷ zs) [] x y us vs e none one p q =
+    let same : y ≡ z = cc in absurd (All-head (λ w. ¬ P w) z zs none (subst P same q))
 first-same P (z ∷ zs) (w ∷ ws) x y us vs e none one p q =
     let heads : z ≡ w = cc in
     let tails : zs ++ x ∷ us ≡ ws ++ y ∷ vs = cc in
-    let rest = first-same P zs ws x y us vs tails (All-tail (λ v. ¬ P v) z zs none) (All-tail (λ v. ¬ P v) w ws one) p q in
+    let rest =
+    first-same P zs ws x y us vs tails (All-tail (λ v. ¬ P v) z zs none) (All-tail (λ v. ¬ P v) w ws one) p q in
     (ap (λ v. v ∷ zs) heads ∙ ap (λ vs. w ∷ vs) rest.0, rest.1)
 
 -- where P holds for none, it holds for no first one
-none-first : (P : List ℕ → Type 0) (all xs : List (List ℕ)) (x : List ℕ) (us : List (List ℕ)) → all ≡ xs ++ x ∷ us → All (λ z. ¬ P z) all → P x → ⊥
+none-first : (P : List ℕ → Type 0) (all xs : List (List ℕ)) (x : List ℕ) (us : List (List ℕ)) → all ≡ xs ++ x ∷ us
+    → All (λ z. ¬ P z) all → P x → ⊥
 none-first P all xs x us e none p =
-    All-contains (λ z. ¬ P z) (xs ++ x ∷ us) x (subst (All (λ z. ¬ P z)) e none) (Contains-append_right xs (x ∷ us) x (0, omega arith, refl)) p
+    let among = Contains-append_right xs (x ∷ us) x (0, omega arith, refl) in
+    All-contains (λ z. ¬ P z) (xs ++ x ∷ us) x (rw e at none) among p
 
 -- there is one note line
 pub IsNoteLine-same : (b : List ℕ) (f g : Option Slice) → IsNoteLine b f → IsNoteLine b g → f ≡ g
-IsNoteLine-same b f g p q = by_found f g (subst (Is f) (AreLines-same b p.0 p.1) p.2) (subst (Is g) (AreLines-same b q.0 q.1) q.2) where
+IsNoteLine-same b f g p q =
+    by_found f g (subst (Is f) (AreLines-same b p.0 p.1) p.2) (subst (Is g) (AreLines-same b q.0 q.1) q.2) where
   Is : Option Slice → List (List ℕ) → Type 0
   Is found lines = MatchOption found (All (λ line. ¬ IsNote line) lines)
       (λ x. (before : List (List ℕ)) × (line : List ℕ) × (after : List (List ℕ)) × (lines ≡ before ++ line ∷ after)

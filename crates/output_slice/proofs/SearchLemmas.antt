@@ -30,7 +30,8 @@ pub record WithReads (b : List ℕ) (old new place q : ℕ) : Type 0 where
   pub few : FewReads (q - place) (q + 1) seen (old + ((q + 1) + 2 * place + tail)) new
 
 -- an opening lies behind the tail that was read before it
-before-opening : (b : List ℕ) (old new place q : ℕ) → (w : WithReads b old new place q) → place + 7 ≤ q → IsLineStart b (q - 7)
+before-opening : (b : List ℕ) (old new place q : ℕ) → (w : WithReads b old new place q) → place + 7 ≤ q
+    → IsLineStart b (q - 7)
     → w.before + 7 ≤ q
 before-opening b old new place q w far line = grind arith
 
@@ -39,7 +40,8 @@ few-more : (name at last old old' new : ℕ) → old ≤ old' → FewReads name 
 few-more name at last old old' new more few = grind arith
 
 -- three reads for each byte up to q pay for all but the tail behind q, the word before q included
-few-paid : (b : List ℕ) (old new place q word : ℕ) → (w : WithReads b old new place q) → word ≤ 8 → (0 < word → place + 7 ≤ q)
+few-paid : (b : List ℕ) (old new place q word : ℕ) → (w : WithReads b old new place q) → word ≤ 8
+    → (0 < word → place + 7 ≤ q)
     → (1 < word → IsLineStart b (q - 7))
     → (tail : ℕ) × (tail + (q + 1) ≤ w.seen + 5) × (tail + 2 * (q + 1) ≤ 2 * w.seen + 2) × (new + word ≤ old + (3 * (q + 1) + tail))
 few-paid b old new place q word w short opened line =
@@ -98,7 +100,8 @@ last_of-push xs x =
     slice_get_read (xs ++ x ∷ []) _ _ x refl (omega arith) (sym (get_or_push xs x x _ (omega arith)))
 
 -- the start of the search
-pub searched-first : (b : List ℕ) (old new : ℕ) (next : Option ℕ) → IsNextQuote b 0 next → IfSome next (λ q. q + 1 < 2 ^ 64)
+pub searched-first : (b : List ℕ) (old new : ℕ) (next : Option ℕ) → IsNextQuote b 0 next
+    → IfSome next (λ q. q + 1 < 2 ^ 64)
     → QuoteReads b 0 old new next → Searched b old new 0 next None
 searched-first b old new next is fits reads = record {
   taken = [];
@@ -114,7 +117,8 @@ searched-first b old new next is fits reads = record {
 pub searched-none : (b : List ℕ) (old new scanned tested place q : ℕ) (close : Option ℕ) (last : Option HeadSpan)
     → Searched b old new place (Some q) last → IsNextQuote b (q + 1) close → IfSome close (λ c. c + 1 < 2 ^ 64)
     → QuoteReads b (q + 1) new scanned close → IsOpenedHeadEnd b place q None → (scanned < tested → place + 7 ≤ q)
-    → (scanned + 1 < tested → IsLineStart b (q - 7)) → HeadReads b q scanned tested close None → Searched b old tested (q + 1) close last
+    → (scanned + 1 < tested → IsLineStart b (q - 7)) → HeadReads b q scanned tested close None
+    → Searched b old tested (q + 1) close last
 searched-none b old new scanned tested place q close last h is fits reads none opened line more =
     let i = h.is_next in
     let high = i.0.high in record {
@@ -137,10 +141,12 @@ searched-none b old new scanned tested place q close last h is fits reads none o
         | inr short ↦ (tested - scanned, omega arith, λ some. opened (omega arith), λ more. absurd (omega arith), inl (omega arith, omega arith))
       ]
 
-      by_close : (n : Option ℕ) → IsNextQuote b (q + 1) n → QuoteReads b (q + 1) new scanned n → HeadReads b q scanned tested n None
+      by_close : (n : Option ℕ) → IsNextQuote b (q + 1) n → QuoteReads b (q + 1) new scanned n
+          → HeadReads b q scanned tested n None
           → NextReads b old tested (q + 1) n
       by_close None i r m =
-          let p = few-paid b old new place q 0 w (omega arith) (λ some. absurd (omega arith)) (λ some. absurd (omega arith)) in
+          let p =
+          few-paid b old new place q 0 w (omega arith) (λ some. absurd (omega arith)) (λ some. absurd (omega arith)) in
           let high = w.high in
           omega arith
       by_close (Some c) i r m =
@@ -184,9 +190,11 @@ searched-found b old new scanned tested ended place q e close next last h is rea
       within = stop.1.ends;
       reads = next-reads b old tested ended e next stop.1.ends (paid close is reads more) is' reads';
     } where
-      paid : (n : Option ℕ) → IsNextQuote b (q + 1) n → QuoteReads b (q + 1) new scanned n → HeadReads b q scanned tested n (Some e)
+      paid : (n : Option ℕ) → IsNextQuote b (q + 1) n → QuoteReads b (q + 1) new scanned n
+          → HeadReads b q scanned tested n (Some e)
           → tested ≤ old + 3 * e
-      paid None i r m = let far = stop.0 in absurd (IsOpenedHeadEnd-none b place q i (q - 7) e (omega arith) (omega arith) stop.1)
+      paid None i r m =
+          let far = stop.0 in absurd (IsOpenedHeadEnd-none b place q i (q - 7) e (omega arith) (omega arith) stop.1)
       paid (Some c) i r m =
           let w = h.reads in
           let p = few-paid b old new place q 8 w (omega arith) (λ some. stop.0) (λ some. stop.1.line_start) in

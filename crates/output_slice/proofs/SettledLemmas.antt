@@ -23,9 +23,11 @@ starts-late b place q s e quiet late head =
     grind arith
 
 -- a quote that opens no head
-pub settled-none : (b : List ℕ) (place q : ℕ) (taken : List HeadSpan) → Settled b place taken → place ≤ q → get_or b q 0 ≡ 39
+pub settled-none : (b : List ℕ) (place q : ℕ) (taken : List HeadSpan) → Settled b place taken → place ≤ q
+    → get_or b q 0 ≡ 39
     → NoQuoteBetween b place q → ((s e : ℕ) → place ≤ s → s + 7 ≡ q → ¬ IsHead b s e) → Settled b (q + 1) taken
-settled-none b place q taken h low is quiet none rest r = h rest (leftmost-before b place (q + 1) rest (omega arith) later r) where
+settled-none b place q taken h low is quiet none rest r =
+    h rest (leftmost-before b place (q + 1) rest (omega arith) later r) where
   later : (s e : ℕ) → place ≤ s → IsHead b s e → q + 1 ≤ s
   later s e from head =
       let late = starts-late b place q s e quiet from head in
@@ -34,15 +36,18 @@ settled-none b place q taken h low is quiet none rest r = h rest (leftmost-befor
       grind arith
 
 -- a quote that opens a head
-pub settled-head : (b : List ℕ) (place q : ℕ) (taken : List HeadSpan) (x : HeadSpan) → Settled b place taken → NoQuoteBetween b place q
+pub settled-head : (b : List ℕ) (place q : ℕ) (taken : List HeadSpan) (x : HeadSpan) → Settled b place taken
+    → NoQuoteBetween b place q
     → place ≤ x.start → x.start + 7 ≡ q → IsHead b x.start x.stop → Settled b x.stop (taken ++ x ∷ [])
 settled-head b place q taken x h quiet new here head rest r =
     let least = λ (s e : ℕ) (low : place ≤ s) (other : IsHead b s e). starts-late b place q s e quiet low other in
-    let first : Leftmost b place (x ∷ rest) = (record { head = head; low = new; least = λ s e low other. omega (arith, least s e low other) }, r) in
+    let first : Leftmost b place (x ∷ rest) =
+    (record { head = head; low = new; least = λ s e low other. omega (arith, least s e low other) }, r) in
     rw append_assoc (h (x ∷ rest) first)
 
 -- no quote is left
-pub settled-done : (b : List ℕ) (place : ℕ) (taken : List HeadSpan) → Settled b place taken → NoQuoteBetween b place (length b) → IsTaken b taken
+pub settled-done : (b : List ℕ) (place : ℕ) (taken : List HeadSpan) → Settled b place taken
+    → NoQuoteBetween b place (length b) → IsTaken b taken
 settled-done b place taken h quiet = (IsTaken-leftmost b taken).1 (rw append-nil at (h [] none)) where
   none : (s e : ℕ) → place ≤ s → ¬ IsHead b s e
   none s e low head = let late = starts-late b place (length b) s e quiet low head in omega (arith, head.opening.fits)

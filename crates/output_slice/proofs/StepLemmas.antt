@@ -11,7 +11,8 @@ use Rattle.output_slice.proofs.HeadLemmas.{name-quiet, head-order}
 use Rattle.output_slice.proofs.OccursLemmas.{get_or-part, length-part, occurs-both, occurs-byte, occurs-front}
 
 -- bytes of UTF-8 without a quote, at least one, are a name
-pub name-from : (b : List ℕ) (i j : ℕ) → i < j → j ≤ length b → IsUtf8 (part i j b) → NoQuoteBetween b i j → IsName (part i j b)
+pub name-from : (b : List ℕ) (i j : ℕ) → i < j → j ≤ length b → IsUtf8 (part i j b) → NoQuoteBetween b i j
+    → IsName (part i j b)
 name-from b i j low high utf8 quiet =
     let size = length-part b i j high in record {
       some = omega arith;
@@ -27,13 +28,15 @@ IsNamedHeadEnd-name b quote close None name h = λ e high n. h e high
 IsNamedHeadEnd-name b quote close (Some e) name h = (h.0, name, h.1)
 
 -- where no quote follows, the quote opens no head
-pub IsOpenedHeadEnd-none : (b : List ℕ) (place quote : ℕ) → IsNextQuote b (quote + 1) None → IsOpenedHeadEnd b place quote None
+pub IsOpenedHeadEnd-none : (b : List ℕ) (place quote : ℕ) → IsNextQuote b (quote + 1) None
+    → IsOpenedHeadEnd b place quote None
 IsOpenedHeadEnd-none b place quote h s e low here head =
     let order = head-order b s e head in
     h head.quote (omega arith) (omega arith) head.closing
 
 -- a quote with another text before it opens no head
-pub IsOpenedHeadEnd-closed : (b : List ℕ) (place quote : ℕ) → ¬ IsOpened b place quote → IsOpenedHeadEnd b place quote None
+pub IsOpenedHeadEnd-closed : (b : List ℕ) (place quote : ℕ) → ¬ IsOpened b place quote
+    → IsOpenedHeadEnd b place quote None
 IsOpenedHeadEnd-closed b place quote none s e low here head =
     let at : s ≡ quote - 7 = omega arith in
     let word = occurs-front b (codes "thread ") (codes "'") s head.opening in
@@ -53,7 +56,8 @@ module _ (b : List ℕ) (place quote close : ℕ) (opened : IsOpened b place quo
       grind arith
 
   -- a quote that opens has a head where one ends behind the next quote
-  pub IsOpenedHeadEnd-opened : (found : Option ℕ) → IsNamedHeadEnd b quote close found → IsOpenedHeadEnd b place quote found
+  pub IsOpenedHeadEnd-opened : (found : Option ℕ) → IsNamedHeadEnd b quote close found
+      → IsOpenedHeadEnd b place quote found
   IsOpenedHeadEnd-opened None h = λ s e start here head.
       let same = closing-same s e here head in
       let at : s + 8 ≡ quote + 1 = omega arith in

@@ -57,7 +57,8 @@ tail-plain b at e high h k low up =
     grind (arith, nat_tests)
 
 -- nor in bytes that agree with such a text
-agrees-plain : (b text : List ℕ) (at n : ℕ) → AgreesFor b text at n → list_all is_plain text ≡ true → ArePlain b at (at + n)
+agrees-plain : (b text : List ℕ) (at n : ℕ) → AgreesFor b text at n → list_all is_plain text ≡ true
+    → ArePlain b at (at + n)
 agrees-plain b text at n h all k low high =
     let test = agrees-passes is_plain b text at n h all k low high in
     grind (arith, nat_tests)
@@ -121,7 +122,8 @@ tail_cases b at e high h = elim h [
 ]
 
 -- what is plain, and what is numbered, is a tail
-pub IsTail-plain : (b : List ℕ) (at : ℕ) → OccursAt b (codes " panicked at ") at → (at + 13 ≤ length b) × IsTail (part at (at + 13) b)
+pub IsTail-plain : (b : List ℕ) (at : ℕ) → OccursAt b (codes " panicked at ") at
+    → (at + 13 ≤ length b) × IsTail (part at (at + 13) b)
 IsTail-plain b at h = (h.fits, inl (occurs-part b (codes " panicked at ") at (at + 13) h refl))
 
 pub IsTail-numbered : (b : List ℕ) (at e : ℕ) → IsNumbered b at e → (e ≤ length b) × IsTail (part at e b)
@@ -147,7 +149,8 @@ apart : (b : List ℕ) (at : ℕ) → OccursAt b (codes " panicked at ") at → 
 apart b at p q = omega (arith, p.reads 1 (omega arith), q.reads 1 (omega arith))
 
 -- one place has one tail
-pub tail-same : (b : List ℕ) (at e e' : ℕ) → e ≤ length b → e' ≤ length b → IsTail (part at e b) → IsTail (part at e' b) → e ≡ e'
+pub tail-same : (b : List ℕ) (at e e' : ℕ) → e ≤ length b → e' ≤ length b → IsTail (part at e b) → IsTail (part at e' b)
+    → e ≡ e'
 tail-same b at e e' high high' h k =
     elim (tail_cases b at e high h) [
       | inl p ↦ elim (tail_cases b at e' high' k) [
@@ -167,7 +170,8 @@ IsTailEnd-plain b at None none h = λ e high tail. let cases = tail_cases b at e
 IsTailEnd-plain b at (Some e) none h = rw h.1 (IsTail-plain b at h.0)
 
 -- a plain tail in two parts
-pub IsTailEnd-split : (b : List ℕ) (at : ℕ) (found : Option ℕ) → OccursAt b (codes " ") at → ¬ OccursAt b (codes "(") (at + 1)
+pub IsTailEnd-split : (b : List ℕ) (at : ℕ) (found : Option ℕ) → OccursAt b (codes " ") at
+    → ¬ OccursAt b (codes "(") (at + 1)
     → IsTextEnd b (codes "panicked at ") (at + 1) found → IsTailEnd b at found
 IsTailEnd-split b at found space none f =
     IsTailEnd-plain b at found (λ h. none (occurs-back b (codes " ") (codes "(") at h)) (joined found f) where
@@ -176,7 +180,8 @@ IsTailEnd-split b at found space none f =
       joined (Some e) f = (occurs-both b (codes " ") (codes "panicked at ") at space f.0, omega (arith, f.1))
 
 -- no tail stands where no digit stands between the parentheses
-pub IsTailEnd-none : (b : List ℕ) (at close : ℕ) → OccursAt b (codes " (") at → IsDigitRun b (at + 2) close → close ≡ at + 2
+pub IsTailEnd-none : (b : List ℕ) (at close : ℕ)
+    → OccursAt b (codes " (") at → IsDigitRun b (at + 2) close → close ≡ at + 2
     → IsTailEnd b at None
 IsTailEnd-none b at close opens run is e high tail = elim (tail_cases b at e high tail) [
   | inl p ↦ apart b at p.0 opens
@@ -184,7 +189,8 @@ IsTailEnd-none b at close opens run is e high tail = elim (tail_cases b at e hig
 ]
 
 -- where a numbered tail ends
-pub IsTailEnd-numbered : (b : List ℕ) (at close : ℕ) (found : Option ℕ) → OccursAt b (codes " (") at → IsDigitRun b (at + 2) close
+pub IsTailEnd-numbered : (b : List ℕ) (at close : ℕ) (found : Option ℕ)
+    → OccursAt b (codes " (") at → IsDigitRun b (at + 2) close
     → (close ≡ at + 2 → ⊥) → IsTextEnd b (codes ") panicked at ") close found → IsTailEnd b at found
 IsTailEnd-numbered b at close None opens run is h = λ e high tail. elim (tail_cases b at e high tail) [
   | inl p ↦ apart b at p.0 opens
@@ -195,13 +201,15 @@ IsTailEnd-numbered b at close (Some e) opens run is h =
     IsTail-numbered b at e (record { close = close; opens = opens; run = run; some = omega arith; closes = h.0; ends = h.1 })
 
 -- how far a text is read that is found, or is not
-text-read : (b text : List ℕ) (at old new : ℕ) (found : Option ℕ) → TextReads b text at old new found → IsTextEnd b text at found
+text-read : (b text : List ℕ) (at old new : ℕ) (found : Option ℕ) → TextReads b text at old new found
+    → IsTextEnd b text at found
     → (k : ℕ) × AgreesFor b text at k × (new ≤ old + k + 1) × IfSome found (λ e. (e ≡ at + k) × (k ≡ length text) × (new ≤ old + k))
 text-read b text at old new None r f = (r.0, r.2, r.3, tt)
 text-read b text at old new (Some e) r f = (length text, agrees b text at f.0, omega (arith, r), (f.1, refl, r))
 
 -- how far a plain tail is read
-pub ReadsUpTo-plain : (b : List ℕ) (at k old one two new : ℕ) (found : Option ℕ) → OccursAt b (codes " ") at → one ≤ old + 1
+pub ReadsUpTo-plain : (b : List ℕ) (at k old one two new : ℕ) (found : Option ℕ) → OccursAt b (codes " ") at
+    → one ≤ old + 1
     → k < 1 → two ≤ one + k + 1 → TextReads b (codes "panicked at ") (at + 1) two new found
     → IsTextEnd b (codes "panicked at ") (at + 1) found → ReadsUpTo b at old new found
 ReadsUpTo-plain b at k old one two new found space few none few' r f =
@@ -210,7 +218,8 @@ ReadsUpTo-plain b at k old one two new found space few none few' r f =
       last = at + 1 + t.0;
       low = omega arith;
       high = t.1.fits;
-      plain = plain-join b at (at + 1) (at + 1 + t.0) (agrees-plain b (codes " ") at 1 (agrees b (codes " ") at space) refl)
+      plain =
+          plain-join b at (at + 1) (at + 1 + t.0) (agrees-plain b (codes " ") at 1 (agrees b (codes " ") at space) refl)
           (agrees-plain b (codes "panicked at ") (at + 1) t.0 t.1 refl);
       far = omega arith;
       near = omega arith;
@@ -219,9 +228,11 @@ ReadsUpTo-plain b at k old one two new found space few none few' r f =
     }
 
 -- how far a numbered tail is read
-pub ReadsUpTo-numbered : (b : List ℕ) (at close old mid mid' new : ℕ) (found : Option ℕ) → OccursAt b (codes " (") at → mid ≤ old + 2
+pub ReadsUpTo-numbered : (b : List ℕ) (at close old mid mid' new : ℕ) (found : Option ℕ)
+    → OccursAt b (codes " (") at → mid ≤ old + 2
     → AreDigits b (at + 2) close → (close ≡ at + 2 → ⊥) → mid' + (at + 2) ≤ mid + close + 4
-    → (get_or b close 0 < 128 → mid' + (at + 2) ≤ mid + close + 1) → TextReads b (codes ") panicked at ") close mid' new found
+    → (get_or b close 0 < 128 → mid' + (at + 2) ≤ mid + close + 1)
+    → TextReads b (codes ") panicked at ") close mid' new found
     → IsTextEnd b (codes ") panicked at ") close found → ReadsUpTo b at old new found
 ReadsUpTo-numbered b at close old mid mid' new found opens few digits some few' ascii r f =
     let t = text-read b (codes ") panicked at ") close mid' new found r f in

@@ -15,7 +15,8 @@ record TakenFrom (b : List ℕ) (from : ℕ) (taken : List HeadSpan) : Type 0 wh
   heads : All (λ h. IsHead b h.start h.stop) taken
   rising : AllPairs (λ g h. g.start < h.start) taken
   low : All (λ h. from ≤ h.start) taken
-  rule : (h : HeadSpan) → from ≤ h.start → IsHead b h.start h.stop → (Contains taken h ↔ All (λ g. g.start < h.start → g.stop ≤ h.start) taken)
+  rule : (h : HeadSpan) → from ≤ h.start → IsHead b h.start h.stop
+      → (Contains taken h ↔ All (λ g. g.start < h.start → g.stop ≤ h.start) taken)
 
 -- what a list has it has behind one more
 contains-later : (x y : HeadSpan) (xs : List HeadSpan) → Contains xs y → Contains (x ∷ xs) y
@@ -36,7 +37,8 @@ module _ (b : List ℕ) (from : ℕ) (x : HeadSpan) (xs : List HeadSpan) (h : Ta
   first_least : (y : HeadSpan) → from ≤ y.start → IsHead b y.start y.stop → x.start ≤ y.start
   first_least y low head = elim (cases_lt y.start x.start) [
     | inl less ↦
-        let none : All (λ g. g.start < y.start → g.stop ≤ y.start) (x ∷ xs) = λ k d l before. absurd (omega (arith, starts k d l)) in
+        let none : All (λ g. g.start < y.start → g.stop ≤ y.start) (x ∷ xs) =
+        λ k d l before. absurd (omega (arith, starts k d l)) in
         All-contains (λ g. x.start ≤ g.start) (x ∷ xs) y starts ((h.rule y low head).1 none)
     | inr more ↦ more
   ]
@@ -151,7 +153,8 @@ module _ (b : List ℕ) (from : ℕ) (x : HeadSpan) (xs : List HeadSpan) (first 
       let low = first.low in record {
         heads = All-cons (λ g. IsHead b g.start g.stop) x xs first.head h.heads;
         rising = AllPairs-cons (λ g k. g.start < k.start) x xs more-starts h.rising;
-        low = All-cons (λ g. from ≤ g.start) x xs low (All-weaker (λ g. x.start < g.start) (λ g. from ≤ g.start) (λ g l. omega arith) xs more-starts);
+        low = All-cons (λ g. from ≤ g.start) x xs low
+            (All-weaker (λ g. x.start < g.start) (λ g. from ≤ g.start) (λ g l. omega arith) xs more-starts);
         rule = more-rule;
       }
 
@@ -166,8 +169,10 @@ taken-leftmost b from (x ∷ xs) h = taken-more b from x xs h.0 (taken-leftmost 
 
 pub IsTaken-leftmost : (b : List ℕ) (xs : List HeadSpan) → IsTaken b xs ↔ Leftmost b 0 xs
 IsTaken-leftmost b xs = (
-  λ h. leftmost-taken b 0 xs (record { heads = h.heads; rising = h.rising; low = λ k d l. omega arith; rule = λ y low head. h.rule y head }),
-  λ h. let t = taken-leftmost b 0 xs h in record { heads = t.heads; rising = t.rising; rule = λ y head. t.rule y (omega arith) head },
+  λ h. leftmost-taken b 0 xs
+      (record { heads = h.heads; rising = h.rising; low = λ k d l. omega arith; rule = λ y low head. h.rule y head }),
+  λ h. let t = taken-leftmost b 0 xs h in
+      record { heads = t.heads; rising = t.rising; rule = λ y head. t.rule y (omega arith) head },
 )
 
 -- there is one list of taken heads
@@ -187,16 +192,25 @@ IsLastTaken-head b h l =
     subst (λ (g : HeadSpan). IsHead b g.start g.stop) (get_or_from_slice_get taken at h h (sym l.2)) (l.1.heads at h within)
 
 -- there is a last one exactly where there is a head
-pub IsTaken-some : (b : List ℕ) (xs : List HeadSpan) → IsTaken b xs → IsSome (last_of xs) ↔ ((s : ℕ) × (e : ℕ) × IsHead b s e)
-IsTaken-some b [] h = (λ none. cc, λ head. let x : HeadSpan = record { start = head.0; stop = head.1 } in let among = (h.rule x head.2).1 (All-nil _) in absurd (omega (arith, among.1)))
-IsTaken-some b (x ∷ xs) h = (λ some. (x.start, x.stop, All-head (λ g. IsHead b g.start g.stop) x xs h.heads), λ head. ap is_some (slice_get-get_or (x ∷ xs) (length (x ∷ xs) - 1) x (omega arith)))
+pub IsTaken-some : (b : List ℕ) (xs : List HeadSpan) → IsTaken b xs
+    → IsSome (last_of xs) ↔ ((s : ℕ) × (e : ℕ) × IsHead b s e)
+IsTaken-some b [] h = (
+  λ none. cc,
+  λ head. let among = (h.rule (record { start = head.0; stop = head.1 }) head.2).1 (All-nil _) in absurd (omega (arith, among.1)),
+)
+IsTaken-some b (x ∷ xs) h = (
+  λ some. (x.start, x.stop, All-head (λ g. IsHead b g.start g.stop) x xs h.heads),
+  λ head. ap is_some (slice_get-get_or (x ∷ xs) (length (x ∷ xs) - 1) x (omega arith)),
+)
 
 -- what is the last of one list by the rule is the last of each
-pub IsLastTaken-only : (b : List ℕ) (found : Option HeadSpan) (taken : List HeadSpan) → IsLastTaken b found → IsTaken b taken → found ≡ last_of taken
+pub IsLastTaken-only : (b : List ℕ) (found : Option HeadSpan) (taken : List HeadSpan) → IsLastTaken b found
+    → IsTaken b taken → found ≡ last_of taken
 IsLastTaken-only b found taken last is = last.2 ∙ ap last_of (IsTaken-same b last.0 taken last.1 is)
 
 -- so there is a last taken head exactly where there is a head
-pub IsLastTaken-some : (b : List ℕ) (found : Option HeadSpan) → IsLastTaken b found → IsSome found ↔ ((s : ℕ) × (e : ℕ) × IsHead b s e)
+pub IsLastTaken-some : (b : List ℕ) (found : Option HeadSpan) → IsLastTaken b found
+    → IsSome found ↔ ((s : ℕ) × (e : ℕ) × IsHead b s e)
 IsLastTaken-some b found last = rw last.2 (IsTaken-some b last.0 last.1)
 
 -- where there is no head, none is taken

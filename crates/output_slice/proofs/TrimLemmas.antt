@@ -13,7 +13,7 @@ use Rattle.bstr.proofs.lemmas.PieceLemmas.{piece-bounds, pieces-nil, pieces-step
 use Rattle.std.proofs.lemmas.Bool.Decides.{nat_tests}
 use Rattle.std.proofs.lemmas.List.{get_or-take, length-take-le}
 use Rattle.std.proofs.lemmas.Str.{encode_ascii}
-use Rattle.output_slice.specs.Slices.{IsBlank, IsBreak, IsTrimmedSlice}
+use Rattle.output_slice.specs.Slices.{IsBlank, IsBreak, IsTrimmed, IsTrimmedSlice}
 use Rattle.output_slice.specs.Steps.{AreBreaks}
 
 -- text whose characters all pass the test
@@ -35,13 +35,15 @@ tail-at bs k some pos below =
 
 module _ (t : ℕ → Bool) (other : t 65533 ≡ false) where
   -- a character that passes in front of such text
-  pass-step : (bs : List ℕ) (c : ℕ) (rest : List ℕ) → IsScalar c → t c ≡ true → bs ≡ encode_utf8 c ++ rest → AllPass t rest → AllPass t bs
+  pass-step : (bs : List ℕ) (c : ℕ) (rest : List ℕ) → IsScalar c → t c ≡ true → bs ≡ encode_utf8 c ++ rest
+      → AllPass t rest → AllPass t bs
   pass-step bs c rest scalar passes e h =
       let all = All-cons (λ x. IsScalar x × IsTrue (t x)) c h.0 (scalar, passes) h.1 in
       (c ∷ h.0, all, e ∙ ap (λ text. encode_utf8 c ++ text) h.2)
 
   -- the first character of such text, and the rest
-  pass-rest : (bs : List ℕ) → 0 < length bs → AllPass t bs → ((c : ℕ) × ((decoded bs).char ≡ Some c) × (t c ≡ true)) × AllPass t (drop (decoded bs).size bs)
+  pass-rest : (bs : List ℕ) → 0 < length bs → AllPass t bs
+      → ((c : ℕ) × ((decoded bs).char ≡ Some c) × (t c ≡ true)) × AllPass t (drop (decoded bs).size bs)
   pass-rest bs some h = by_chars h.0 h.1 h.2 where
     by_chars : (cs : List ℕ) → All (λ c. IsScalar c × IsTrue (t c)) cs → bs ≡ encode_utf8_all cs
         → ((c : ℕ) × ((decoded bs).char ≡ Some c) × (t c ≡ true)) × AllPass t (drop (decoded bs).size bs)
@@ -49,8 +51,11 @@ module _ (t : ℕ → Bool) (other : t 65533 ≡ false) where
     by_chars (c ∷ cs) all e =
         let P = λ (x : ℕ). IsScalar x × IsTrue (t x) in
         let first = All-head P c cs all in
-        let read : decoded bs ≡ good c (length (encode_utf8 c)) = ap decoded e ∙ decoded-encode c (encode_utf8_all cs) first.0 in
-        let rest : drop (decoded bs).size bs ≡ encode_utf8_all cs = ap (λ (p : Decoded). drop p.size bs) read ∙ ap (drop (length (encode_utf8 c))) e ∙ drop_at (encode_utf8 c) (encode_utf8_all cs) (length (encode_utf8 c)) refl in
+        let read : decoded bs ≡ good c (length (encode_utf8 c)) =
+        ap decoded e ∙ decoded-encode c (encode_utf8_all cs) first.0 in
+        let rest : drop (decoded bs).size bs ≡ encode_utf8_all cs =
+        ap (λ (p : Decoded). drop p.size bs) read ∙ ap (drop (length (encode_utf8 c))) e
+        ∙ drop_at (encode_utf8 c) (encode_utf8_all cs) (length (encode_utf8 c)) refl in
         ((c, ap (λ (p : Decoded). p.char) read, first.1), (cs, All-tail P c cs all, rest))
 
   -- no such text begins inside a piece
@@ -62,7 +67,8 @@ module _ (t : ℕ → Bool) (other : t 65533 ≡ false) where
       let more : 0 < length xs = omega arith in
       let first : get_or xs 0 0 ≡ get_or bs i 0 = get_or-drop i bs 0 0 ∙ ap (λ k. get_or bs k 0) (add-zero i) in
       let continued : continues (get_or xs 0 0) ≡ true = ap continues first ∙ tail-at bs i some pos below in
-      let alone : decoded xs ≡ bad 1 = continuation-alone (length xs) (get_or xs 0 0) (get_or xs 1 0) (get_or xs 2 0) (get_or xs 3 0) more continued in
+      let alone : decoded xs ≡ bad 1 =
+      continuation-alone (length xs) (get_or xs 0 0) (get_or xs 1 0) (get_or xs 2 0) (get_or xs 3 0) more continued in
       let found = (pass-rest xs more h).0.1 in
       let none : (decoded xs).char ≡ None = ap (λ (p : Decoded). p.char) alone in
       absurd (cc)
@@ -77,8 +83,10 @@ module _ (t : ℕ → Bool) (other : t 65533 ≡ false) where
   space-some (Some c) h = (c, (refl, h))
 
   -- a front of a piece and the rest
-  kept-join : (bs : List ℕ) (off end r n : ℕ) → 0 < length bs → r ≡ off + (decoded bs).size + n → n ≤ length (drop (decoded bs).size bs)
-      → AllPass t (drop n (drop (decoded bs).size bs)) → ((i : ℕ) → i < n → ¬ AllPass t (drop i (drop (decoded bs).size bs)))
+  kept-join : (bs : List ℕ) (off end r n : ℕ) → 0 < length bs → r ≡ off + (decoded bs).size + n
+      → n ≤ length (drop (decoded bs).size bs)
+      → AllPass t (drop n (drop (decoded bs).size bs))
+      → ((i : ℕ) → i < n → ¬ AllPass t (drop i (drop (decoded bs).size bs)))
       → ¬ AllPass t bs → Kept bs off end r
   kept-join bs off end r n some is high blank least whole =
       let s = (decoded bs).size in
@@ -103,7 +111,8 @@ module _ (t : ℕ → Bool) (other : t 65533 ≡ false) where
         ),
       )
 
-  kept : (f : ℕ) (bs : List ℕ) → length bs ≤ f → (off end : ℕ) → Kept bs off end (kept_end t end (spans_from off (pieces bs)))
+  kept : (f : ℕ) (bs : List ℕ) → length bs ≤ f → (off end : ℕ)
+      → Kept bs off end (kept_end t end (spans_from off (pieces bs)))
   unfolding spans_from kept_end
   kept f [] le off end = inl (([], All-nil _, refl), ap (λ ps. kept_end t end (spans_from off ps)) pieces-nil)
   kept zero (x ∷ xs) le off end = absurd (omega arith)
@@ -122,14 +131,16 @@ module _ (t : ℕ → Bool) (other : t 65533 ≡ false) where
         | inl space ↦
             let some = space-some p.char space in
             let spelled = SpellsChar-decoded bs some.0 some.1.0 in
-            let e : kept_end t end (spans_from off (pieces bs)) ≡ more end = step ∙ ap (λ x. more (cond x end (off + s))) space in
+            let e : kept_end t end (spans_from off (pieces bs)) ≡ more end =
+            step ∙ ap (λ x. more (cond x end (off + s))) space in
             rw e (elim (kept f rest (omega arith) (off + s) end) [
               | inl blank ↦ inl (pass-step bs some.0 rest spelled.scalar some.1.1 spelled.bytes blank.0, blank.1)
               | inr at ↦ kept-join bs off end (more end) at.0 (omega arith) at.1.2 at.1.1 at.1.3 at.1.4
                   (λ whole. at.1.4 0 at.1.0 (pass-rest bs (omega arith) whole).1)
             ])
         | inr other ↦
-            let e : kept_end t end (spans_from off (pieces bs)) ≡ more (off + s) = step ∙ ap (λ x. more (cond x end (off + s))) other in
+            let e : kept_end t end (spans_from off (pieces bs)) ≡ more (off + s) =
+            step ∙ ap (λ x. more (cond x end (off + s))) other in
             let apart : ¬ AllPass t bs = λ whole.
             let first = (pass-rest bs (omega arith) whole).0 in
             let space : test ≡ true = ap (λ o. t (or_replacement o)) first.1 ∙ first.2 in
@@ -142,7 +153,8 @@ module _ (t : ℕ → Bool) (other : t 65533 ≡ false) where
       ]
 
   -- what is left is the front up to the least place behind which all characters pass
-  pub trim_end_by-least : (bs : List ℕ) → (n : ℕ) × (n ≤ length bs) × (trim_end_by t bs ≡ take n bs) × AllPass t (drop n bs) × ((i : ℕ) → i < n → AllPass t (drop i bs) → ⊥)
+  pub trim_end_by-least : (bs : List ℕ)
+      → (n : ℕ) × (n ≤ length bs) × (trim_end_by t bs ≡ take n bs) × AllPass t (drop n bs) × ((i : ℕ) → i < n → AllPass t (drop i bs) → ⊥)
   trim_end_by-least bs = elim (kept (length bs) bs (omega arith) 0 0) [
     | inl all ↦ (0, omega arith, ap (λ k. take k bs) all.1, all.0, λ i l h. omega arith)
     | inr at ↦ (at.0, at.1.1, ap (λ k. take k bs) (at.1.2 ∙ zero-add at.0), at.1.3, at.1.4)
@@ -160,7 +172,8 @@ IsTrimmedSlice-trim_end b s low =
     let before : (i : ℕ) → s ≤ i → i < s + left.0 → ¬ IsBlank (drop i b) = λ i l h blank.
     let place : i ≡ s + (i - s) = omega arith in
     left.4 (i - s) (omega arith) (rw drop-drop (subst (λ k. IsBlank (drop k b)) place blank)) in
-    (s + left.0, (record { low = omega arith; high = omega arith; before = before }, rw drop-drop at left.3), left.2 ∙ ap (λ k. take k bs) count)
+    let first : IsTrimmed b s (s + left.0) = (record { low = omega arith; high = omega arith; before = before }, rw drop-drop at left.3) in
+    (s + left.0, first, left.2 ∙ ap (λ k. take k bs) count)
 
 -- the test of a line feed or a carriage return
 abbrev pub is_break : ℕ → Bool
@@ -207,12 +220,15 @@ module _ (b : List ℕ) (s r : ℕ) (low : s ≤ length b) (is : r ≡ length (t
       let count = size in
       let xs = take s b in
       let last = get_or b (r - 1) 0 in
-      let same : get_or xs (h.0 - 1) 0 ≡ last = get_or-take s b (h.0 - 1) 0 (omega arith) ∙ ap (λ k. get_or b (k - 1) 0) (sym count.0) in
+      let same : get_or xs (h.0 - 1) 0 ≡ last =
+      get_or-take s b (h.0 - 1) 0 (omega arith) ∙ ap (λ k. get_or b (k - 1) 0) (sym count.0) in
       let next : suc (h.0 - 1) ≡ h.0 = omega arith in
       let cons : drop (h.0 - 1) xs ≡ last ∷ drop h.0 xs =
       drop-cons xs (h.0 - 1) 0 (omega arith) ∙ ap (λ k. get_or xs (h.0 - 1) 0 ∷ drop k xs) next ∙ ap (λ x. x ∷ drop h.0 xs) same in
-      let front : drop (h.0 - 1) xs ≡ encode_utf8 last ++ drop h.0 xs = cons ∙ ap (λ x. x ++ drop h.0 xs) (sym (break-byte last break)) in
-      h.4 (h.0 - 1) (omega arith) (pass-step is_break refl (drop (h.0 - 1) xs) last (drop h.0 xs) (scalar last break) (passes last break) front h.3) where
+      let front : drop (h.0 - 1) xs ≡ encode_utf8 last ++ drop h.0 xs =
+      cons ∙ ap (λ x. x ++ drop h.0 xs) (sym (break-byte last break)) in
+      h.4 (h.0 - 1) (omega arith)
+      (pass-step is_break refl (drop (h.0 - 1) xs) last (drop h.0 xs) (scalar last break) (passes last break) front h.3) where
         scalar : (c : ℕ) → IsBreak c → IsScalar c
         scalar c h = elim h [ inl feed ↦ rw feed refl | inr carriage ↦ rw carriage refl ]
 

@@ -9,7 +9,8 @@ use Rattle.output_slice.proofs.ByteLemmas.{last-byte}
 use Rattle.output_slice.proofs.OccursLemmas.{dropped-occurs, occurs-dropped}
 
 -- a text that ends before s ends where the breaks before s begin, or before that
-stop-least : (b : List ℕ) (s stop other : ℕ) → other ≤ s → AreBreaks b stop s → ¬ IsBreak (get_or b (other - 1) 0) → other ≤ stop
+stop-least : (b : List ℕ) (s stop other : ℕ) → other ≤ s → AreBreaks b stop s → ¬ IsBreak (get_or b (other - 1) 0)
+    → other ≤ stop
 stop-least b s stop other within breaks text = grind arith
 
 -- an error line is not empty, and begins with a line feed
@@ -27,7 +28,8 @@ module _ (b : List ℕ) (s stop : ℕ) (low : stop ≤ s) (high : s ≤ length b
       grind arith
 
   -- where the last line before begins with `Error:`
-  pub widened-some : (at : ℕ) → IsLastByte (is_byte 10) (take stop b) (Some at) → OccursAt (drop at (take stop b)) (codes "\nError:") 0
+  pub widened-some : (at : ℕ) → IsLastByte (is_byte 10) (take stop b) (Some at)
+      → OccursAt (drop at (take stop b)) (codes "\nError:") 0
       → IsWidened b s (at + 1)
   widened-some at h starts =
       let last = last-byte 10 b stop (omega arith) at h in
@@ -46,7 +48,8 @@ module _ (b : List ℕ) (s stop : ℕ) (low : stop ≤ s) (high : s ≤ length b
       )
 
   -- where it begins with something else
-  pub widened-other : (at : ℕ) → IsLastByte (is_byte 10) (take stop b) (Some at) → ¬ OccursAt (drop at (take stop b)) (codes "\nError:") 0
+  pub widened-other : (at : ℕ) → IsLastByte (is_byte 10) (take stop b) (Some at)
+      → ¬ OccursAt (drop at (take stop b)) (codes "\nError:") 0
       → IsWidened b s s
   widened-other at h none = inr (λ j line. other j line, refl) where
     other : (j : ℕ) → ¬ IsErrorLine b s j

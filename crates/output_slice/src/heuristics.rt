@@ -102,8 +102,8 @@ pub fn heuristic_panic_message(stderr: &[u8]) -> Option<ByteSubslice<'_>>
     panic_message_before(stderr, stderr.len())
 }
 
-/// The same, where no sign of a panic begins at `end` or behind it. An extraction has looked for the
-/// signs of all three slices at once, so each heuristic has such a twin, which passes the end over.
+/// The same, where no sign of a panic begins at `end` or behind it. An extraction has looked for
+/// the signs of all three slices at once, so each heuristic has a twin, which leaves the end out.
 fn panic_message_before(stderr: &[u8], end: usize) -> Option<ByteSubslice<'_>>
     requires { IsQuietFrom stderr.now (codes "\nthread '") end }
     ensures { IsPanicSlice stderr.now (option_map slice_of result) }
@@ -134,7 +134,8 @@ fn error_str_before(stderr: &[u8], end: usize) -> Option<ByteSubslice<'_>>
     Some(trimmed(stderr, start))
 }
 
-/// The first line start at which an error stands, where no sign of one begins at `end` or behind it.
+/// The first line start at which an error stands, where no sign of one begins at `end` or behind
+/// it.
 fn error_start(stderr: &[u8], end: usize) -> Option<usize>
     requires { IsQuietFrom stderr.now (codes "\nError: ") end }
     ensures { IsFirst (IsErrorStart stderr.now) 0 (length stderr.now + 1) result }

@@ -114,8 +114,8 @@ pub fn last_head(bytes: &[u8]) -> Option<HeadSpan>
     last_head_before(bytes, bytes.len())
 }
 
-/// The same, where no sign of a panic begins at `end` or behind it: an extraction has looked for the
-/// signs of all slices at once.
+/// The same, where no sign of a panic begins at `end` or behind it: an extraction has looked for
+/// the signs of all slices at once.
 pub(crate) fn last_head_before(bytes: &[u8], end: usize) -> Option<HeadSpan>
     requires { IsQuietFrom bytes.now (codes "\nthread '") end }
     ensures { IsLastTaken bytes.now result }

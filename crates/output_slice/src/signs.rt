@@ -1,4 +1,5 @@
-//! The signs of a slice: texts without which there is none, and from where on output has none of them.
+//! The signs of a slice: texts without which there is none, and from where on output has none of
+//! them.
 //!
 //! In most output there is no sign at all, and then each is looked for in all of it. So they are
 //! looked for side by side, block by block, while the block is at hand in the processor's cache.
@@ -32,8 +33,8 @@ pub(crate) struct QuietEnds {
     pub(crate) stderr: usize,
 }
 
-/// From where on no sign begins: the search goes from the back of both streams, a block of each at a
-/// time, and ends with the first block that has a sign.
+/// From where on no sign begins: the search goes from the back of both streams, a block of each at
+/// a time, and ends with the first block that has a sign.
 pub(crate) fn quiet_ends(stdout: &[u8], stderr: &[u8]) -> QuietEnds
     ensures { AreQuiet stdout.now stderr.now result.stdout result.stderr }
 {

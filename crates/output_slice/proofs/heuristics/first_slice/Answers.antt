@@ -16,7 +16,8 @@ pub note_slice-requires : goal.note_slice-requires
 note_slice-requires c = note-quiet c.args.stdout _ _ _ c.unwrap_or.ensures c.quiet_ends-quiet.ensures.note
 
 pub note_slice-requires-in-None-error_str_before : goal.note_slice-requires-in-None-error_str_before
-note_slice-requires-in-None-error_str_before c = note-quiet c.args.stdout _ _ _ c.unwrap_or.ensures c.quiet_ends-quiet.ensures.note
+note_slice-requires-in-None-error_str_before c =
+    note-quiet c.args.stdout _ _ _ c.unwrap_or.ensures c.quiet_ends-quiet.ensures.note
 
 pub panic_message_before-requires : goal.panic_message_before-requires
 panic_message_before-requires c = rw (rw c.in-Some.is at c.unwrap_or-2.ensures) at c.quiet_ends-quiet.ensures.panic

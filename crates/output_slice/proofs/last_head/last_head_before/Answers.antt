@@ -9,7 +9,9 @@ use Rattle.output_slice.proofs.last_head.last_head_before.Goals as goal
 pub returns-in-Some-last_from : goal.returns-in-Some-last_from
 returns-in-Some-last_from c =
     let e = c.window_end.ensures in
-    c.loop-at.invariant.0 (Some c.in-Some-last_from.head) (last-within-front c.loop-at.rest.now c.window_end.result (Some c.in-Some-last_from.head) e.high e.ends c.in-Some-last_from.ensures)
+    let found = Some c.in-Some-last_from.head in
+    c.loop-at.invariant.0 found
+    (last-within-front c.loop-at.rest.now c.window_end.result found e.high e.ends c.in-Some-last_from.ensures)
 
 pub loop-at-preserved : goal.loop-at-preserved
 loop-at-preserved c =

@@ -52,8 +52,10 @@ loop-next-preserved g c =
           h (rw one at n.found) n.fits (rw one at n.reads) v c.opened_head_end.ensures.opened (rw two at c.opened_head_end.ensures.line) r,
     )
 
-done : (b : List ℕ) (old new place : ℕ) (next : Option ℕ) (last : Option HeadSpan) → next ≡ None → (h : Searched b old new place next last) → IsTaken b h.taken
-done b old new place next last none h = settled-done b place h.taken h.settled (subst (IsNextQuote b place) none h.is_next)
+done : (b : List ℕ) (old new place : ℕ) (next : Option ℕ) (last : Option HeadSpan) → next ≡ None
+    → (h : Searched b old new place next last) → IsTaken b h.taken
+done b old new place next last none h =
+    settled-done b place h.taken h.settled (subst (IsNextQuote b place) none h.is_next)
 
 pub returns-clause-last : goal.returns-clause-last
 returns-clause-last g c =

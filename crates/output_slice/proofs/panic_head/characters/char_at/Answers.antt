@@ -2,7 +2,8 @@ use Rattle.std.proofs.Common.{[], ◌∷◌, ◌≡◌, ◌+◌, ◌<◌, ℕ, L
 use Rattle.output_slice.proofs.CharLemmas.{one-byte, buffer-more, char-some, char-none, char-short}
 use Rattle.output_slice.proofs.panic_head.characters.char_at.Goals as goal
 
-first-read : (b : List ℕ) (at v : ℕ) → v ≡ get_or b at 0 → (k : ℕ) → k < 1 → get_or (v ∷ 0 ∷ 0 ∷ 0 ∷ []) k 0 ≡ get_or b (at + k) 0
+first-read : (b : List ℕ) (at v : ℕ) → v ≡ get_or b at 0 → (k : ℕ) → k < 1
+    → get_or (v ∷ 0 ∷ 0 ∷ 0 ∷ []) k 0 ≡ get_or b (at + k) 0
 first-read b at v is k low = grind arith
 
 pub loop-i-init : goal.loop-i-init

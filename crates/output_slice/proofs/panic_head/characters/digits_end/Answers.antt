@@ -15,7 +15,8 @@ loop-at-preserved g c =
     let i = c.loop-at.invariant in
     let ends = v.0.ends in
     let reads = c.in-Some.ensures.reads in
-    (c.in-Some.ensures.same ∙ i.0, i.1, omega arith, omega arith, omega arith, digits-more _ _ _ _ _ _ i.5 v.0 (c.is_digit.ensures.0 c.if-not-is_digit.false) v.1)
+    let more = digits-more _ _ _ _ _ _ i.5 v.0 (c.is_digit.ensures.0 c.if-not-is_digit.false) v.1 in
+    (c.in-Some.ensures.same ∙ i.0, i.1, omega arith, omega arith, omega arith, more)
 
 pub returns-then-not-is_digit-clause-run : goal.returns-then-not-is_digit-clause-run
 returns-then-not-is_digit-clause-run g c =
