@@ -1,7 +1,8 @@
 -- Bytes that are read and written in pieces.
 use Rattle.std.proofs.Common.{◌≡◌, ℕ, List, ◌++◌, take, drop, ap, sym, ◌∙◌, append_assoc}
-use Rattle.std.specs.Prelude.{Option, Some, None}
+use Rattle.std.specs.Prelude.{Option}
 use Rattle.std.specs.Io.KnownBytes.{Appends}
+use Rattle.std.proofs.KnownBytes.{Appends-trans}
 use Rattle.std.proofs.lemmas.List.{take-append-drop}
 
 -- known bytes have grown by the text but for its rest
@@ -10,17 +11,10 @@ pub record Writing (old new : Option (List ℕ)) (text rest : List ℕ) : Type 0
   pub divided : text ≡ start ++ rest
   pub written : Appends old new start
 
--- known bytes that grow twice
-appends_more : (old mid new : Option (List ℕ)) (xs ys : List ℕ) → Appends old mid xs → Appends mid new ys → Appends old new (xs ++ ys)
-appends_more None mid new xs ys first second = tt
-appends_more (Some a) None new xs ys first second = absurd first
-appends_more (Some a) (Some b) None xs ys first second = absurd second
-appends_more (Some a) (Some b) (Some c) xs ys first second = second ∙ ap (λ x. x ++ ys) first ∙ append_assoc a xs ys
-
 -- the front of the rest was written
 pub writing_more : (old mid new : Option (List ℕ)) (text rest : List ℕ) (n : ℕ) → Writing old mid text rest → Appends mid new (take n rest) → Writing old new text (drop n rest)
 writing_more old mid new text rest n so_far more = record {
   start = so_far.start ++ take n rest;
   divided = so_far.divided ∙ ap (λ x. so_far.start ++ x) (sym (take-append-drop n rest)) ∙ sym (append_assoc so_far.start (take n rest) (drop n rest));
-  written = appends_more old mid new so_far.start (take n rest) so_far.written more;
+  written = Appends-trans old mid new so_far.start (take n rest) so_far.written more;
 }

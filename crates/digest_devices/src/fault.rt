@@ -8,6 +8,9 @@ use std::fmt;
 
 /// Why the program gives no answer. Its Display is the line that the program writes to standard
 /// error.
+///
+/// The faults of words and of lines stand here beside those of devices: each layer answers this
+/// one type, whose status and line hold for every fault.
 #[derive(Clone, Copy, Debug, PartialEq, Eq)]
 pub enum Fault {
     /// A line of the input does not say what its place allows.

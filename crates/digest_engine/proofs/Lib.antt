@@ -1,6 +1,6 @@
-pub mod Answering
 pub mod Attempts
 pub mod Continued
+pub mod Digesting
 pub mod EntryLines
 pub mod Extracting
 pub mod Numbers

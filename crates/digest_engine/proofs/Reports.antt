@@ -1,7 +1,7 @@
 -- The reports of runs, one after another, and the outcome of runs by what was read of them.
 use Rattle.std.proofs.Common.{◌≡◌, ℕ, ◌+◌, ◌<◌, Bool, List, [], ◌∷◌, ◌++◌, length, get_or, map, take, refl, ap, sym, ◌∙◌, subst, arith}
 use Rattle.std.specs.List.{concat}
-use Rattle.std.specs.Prelude.{Ok}
+use Rattle.std.specs.Prelude.{Err, IfErr, IsErrAnd, Ok}
 use Rattle.std.specs.declared.result.Result.{Result}
 use Rattle.std.proofs.lemmas.List.{append-nil, map-append, take_more}
 use Rattle.std.proofs.lemmas.List.Folds.{concat-append}
@@ -9,10 +9,14 @@ use Rattle.std.proofs.lemmas.Simd.{map-map}
 use Rattle.run_events.specs.Outcome.{IsHighest, outcome_of, run_summary}
 use Rattle.run_events.specs.declared.outcome.run_outcome.RunOutcome.{RunOutcome}
 use Rattle.run_events.specs.declared.stats.FinishedRun.{FinishedRun}
-use Rattle.digest_engine.specs.CountSteps.{GivesDigest}
+use Rattle.digest_devices.specs.declared.fault.Fault.{Fault}
+use Rattle.digest_devices.specs.declared.fault.Fault.TheVariants as faults
+use Rattle.digest_engine.specs.Digest.{IsDigest, IsRefusal}
+use Rattle.digest_engine.specs.Reader.{Gives, runs_of}
 use Rattle.digest_engine.specs.Reading.{Run}
 use Rattle.digest_engine.specs.Report.{is_success, outcome_line, report_of, reports_of, run_outcome, run_reports, run_stats}
 use Rattle.digest_engine.specs.RunInput.{finished_said}
+use Rattle.digest_engine.proofs.Readings.{GivenRuns, given}
 
 -- one more report
 pub reports_more : (runs : List FinishedRun) (i : ℕ) (d : FinishedRun) → i < length runs
@@ -47,10 +51,33 @@ reports_one (run ∷ []) o one = append-nil (report_of (run_stats run))
 reports_one (run ∷ next ∷ runs) o one = absurd (omega (arith, one))
 
 -- the digest of runs that the reader gives
-pub digest_given : {X : Type 0} (view : X → List ℕ × Bool) (x : X) (read : Result (List Run) ℕ) (runs : List Run) (o : RunOutcome) → read ≡ Ok runs
-    → IsHighest (map run_outcome runs) o → (view x).0 ≡ reports_of runs o → (view x).1 ≡ is_success o → GivesDigest view (Ok x) read
-digest_given view x read runs o is_read highest text success =
-    let P : Result (List Run) ℕ → Type 0 = GivesDigest view (Ok x) in
-    let digest : List ℕ × Bool = (reports_of runs o, is_success o) in
-    let same : view x ≡ digest = ap (λ t. (t, (view x).1)) text ∙ ap (λ b. (reports_of runs o, b)) success in
-    subst P (sym is_read) (record { outcome = o; highest = highest; is = same })
+pub digest_given : (lines : List (List ℕ)) (text : List ℕ) (success : Bool) (runs : List Run) (o : RunOutcome) → runs_of lines ≡ Ok runs
+    → IsHighest (map run_outcome runs) o → text ≡ reports_of runs o → success ≡ is_success o → IsDigest lines text success
+digest_given lines text success runs o is_read highest text_is success_is =
+    let P : Result (List Run) ℕ → Type 0 = GivenRuns lines in
+    let reading = subst P is_read (given lines) in
+    record {
+      good = reading.0;
+      runs = runs;
+      outcome = o;
+      tells = record { reading = reading.1; highest = highest };
+      text_is = text_is;
+      success_is = success_is;
+    }
+
+-- the reader gives this fault
+abbrev Refuses : Fault → Result (List Run) ℕ → Type 0
+Refuses fault read = Gives {X = Unit {0}} (λ _. []) (Err fault) read
+
+-- the reader refuses lines for the first bad one
+refusal_given : (lines : List (List ℕ)) (fault : Fault) → Refuses fault (runs_of lines) → IsRefusal lines fault
+refusal_given lines (faults.BadLine number) e = let P : Result (List Run) ℕ → Type 0 = GivenRuns lines in subst P e (given lines)
+refusal_given lines faults.OutOfMemory e = tt
+refusal_given lines faults.BadWord e = absurd e
+refusal_given lines faults.Read e = absurd e
+refusal_given lines faults.Write e = absurd e
+
+-- a fault that is handed on
+pub refused_by : {Y : Type 0} (r : Result Y Fault) (lines : List (List ℕ)) (fault : Fault) → IsErrAnd r (λ e. e ≡ fault) → Refuses fault (runs_of lines) → IfErr r (λ e. IsRefusal lines e)
+refused_by (Ok y) lines fault same e = absurd same
+refused_by (Err other) lines fault same e = let P : Fault → Type 0 = IsRefusal lines in subst P (sym same) (refusal_given lines fault e)

@@ -1,7 +1,8 @@
 pub mod Answer
 pub mod Command
-pub mod CountSteps
+pub mod Digest
 pub mod ExtractAnswer
+pub mod Laws
 pub mod Number
 pub mod Reader
 pub mod Reading

@@ -1,16 +1,10 @@
 //! Counting runs: from the lines that tell of their units to the reports of their counters.
 
-ghost use Rattle.std.specs.Prelude.{◌≡◌, ◌↔◌, ℕ, List, true, false, IfSome, OnOk, IsErrOf, codes, string_bytes};
-ghost use Rattle.bstr.specs.Text.{lines_of};
-ghost use Rattle.run_events.specs.Counters.{UnitView};
-ghost use Rattle.run_events.specs.Lines.{AreLines};
-ghost use Rattle.run_events.specs.declared.stats.RunStart.{RunStart};
+ghost use Rattle.std.specs.Prelude.{◌≡◌, ◌↔◌, true, false, IfErr, IfOk, IfSome, OnOk, IsErrOf, string_bytes};
 ghost use Rattle.digest_devices.specs.declared.fault.Fault.TheVariants as faults;
 ghost use Rattle.digest_engine.specs.Answer.{Answers, KeepsSink, ReadsToEnd};
-ghost use Rattle.digest_engine.specs.CountSteps.{AnswersRuns, GivesDigest};
-ghost use Rattle.digest_engine.specs.Reader.{runs_of};
-ghost use Rattle.digest_engine.specs.Reading.{IsReading, Run, texts_of};
-ghost use Rattle.digest_engine.specs.Spelling.{SpellsStart, SpellsUnit};
+ghost use Rattle.digest_engine.specs.Digest.{IsDigest, IsRefusal};
+ghost use Rattle.digest_engine.specs.Reading.{texts_of};
 
 use crate::lent::{finished_runs, lent_runs};
 use crate::lines::runs_in;
@@ -19,12 +13,12 @@ use digest_devices::device::{Sink, Source};
 use digest_devices::fault::Fault;
 use digest_devices::transfer::{read_all, write_all};
 use run_events::outcome::RunOutcome;
-use run_events::output_slice::laws::lines_are_cut;
 use std::alloc::Global;
 
-/// The text for an input, and whether the outcome of its runs is `Success`.
+/// The text for an input, and whether the outcome of its runs is `Success`; or why there is none.
 fn digest(alloc: Global, bytes: &[u8]) -> Result<(String, bool), Fault>
-    ensures { GivesDigest (λ p. (string_bytes p.0, p.1)) result (runs_of (texts_of bytes.now)) }
+    ensures digest { IfOk result (λ d. IsDigest (texts_of bytes.now) (string_bytes d.0) d.1) }
+    ensures refusal { IfErr result (λ fault. IsRefusal (texts_of bytes.now) fault) }
 {
     let inputs = runs_in(alloc, bytes)?;
     let lent = lent_runs(alloc, inputs.as_slice())?;
@@ -32,27 +26,6 @@ fn digest(alloc: Global, bytes: &[u8]) -> Result<(String, bool), Fault>
     let outcome = RunOutcome::of_runs(runs.as_slice());
     let text = reports(alloc, runs.as_slice(), outcome)?;
     Ok((text, outcome == RunOutcome::Success))
-}
-
-/// [`count`], by what the reader gives.
-fn count_runs<R: Source, W: Sink>(
-    alloc: Global,
-    source: &mut R,
-    sink: &mut W,
-) -> Result<bool, Fault>
-    requires source_works { R.failed source.old ≡ false }
-    requires sink_works { W.failed sink.old ≡ false }
-    ensures read { IsErrOf result faults.Read ↔ (R.failed source.new ≡ true) }
-    ensures write { IsErrOf result faults.Write ↔ (W.failed sink.new ≡ true) }
-    ensures end { ReadsToEnd result (R.left source.new) }
-    ensures kept { KeepsSink result (W.written sink.old) (W.written sink.new) }
-    ensures flushed { OnOk result (W.flushed sink.new ≡ true) }
-    ensures answer { IfSome (R.left source.old) (λ input. AnswersRuns result (W.written sink.old) (W.written sink.new) (runs_of (texts_of input))) }
-{
-    let bytes = read_all(alloc, source)?;
-    let (text, success) = digest(alloc, bytes.as_slice())?;
-    write_all(sink, text.as_bytes())?;
-    Ok(success)
 }
 
 /// Reads all of the source, which says a run, or the sub-runs of a repeated run, line by line, and
@@ -87,17 +60,9 @@ pub fn count<R: Source, W: Sink>(alloc: Global, source: &mut R, sink: &mut W) ->
     ensures kept { KeepsSink result (W.written sink.old) (W.written sink.new) }
     ensures flushed { OnOk result (W.flushed sink.new ≡ true) }
     ensures answer { IfSome (R.left source.old) (λ input. Answers result (W.written sink.old) (W.written sink.new) (texts_of input)) }
-
-    // The lines of an input are the parts that join to it, each with one line feed, at its end.
-    ensures lines { (bytes : List ℕ) → AreLines bytes (lines_of bytes) }
-
-    // A line says at most one thing, and so lines say at most one list of runs.
-    ensures one_start { (keyword : List ℕ) → (line : List ℕ) → (a : RunStart) → (b : RunStart) → SpellsStart keyword line a → SpellsStart keyword line b → a ≡ b }
-    ensures one_unit { (line : List ℕ) → (a : UnitView) → (b : UnitView) → SpellsUnit line a → SpellsUnit line b → a ≡ b }
-    ensures one_entry { (line : List ℕ) → (unit : UnitView) → (start : RunStart) → SpellsUnit line unit → ¬ SpellsStart (codes "sub-run") line start }
-    ensures one_reading { (lines : List (List ℕ)) → (a : List Run) → (b : List Run) → IsReading lines a → IsReading lines b → a ≡ b }
 {
-    // The law that the clause `lines` hands on.
-    lines_are_cut();
-    count_runs(alloc, source, sink)
+    let bytes = read_all(alloc, source)?;
+    let (text, success) = digest(alloc, bytes.as_slice())?;
+    write_all(sink, text.as_bytes())?;
+    Ok(success)
 }

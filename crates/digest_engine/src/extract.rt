@@ -28,7 +28,7 @@ fn heading_of(alloc: Global, kind: &str, start: usize, len: usize) -> Result<Str
 fn extracted(output: &[u8]) -> Option<TestOutputErrorSlice<'_>>
     ensures { IsExtracted output.now (option_map extract_of result) }
 {
-    let limit = NonZero::<usize>::MIN.saturating_add(MAX_SLICE - 1);
+    let limit = NonZero::<usize>::new(MAX_SLICE).unwrap();
     TestOutputErrorSlice::heuristic_extract_capped(Some(output), Some(output), limit)
 }
 

@@ -6,6 +6,7 @@ pub mod command;
 pub mod count;
 mod entry;
 pub mod extract;
+pub mod laws;
 mod lent;
 mod lines;
 mod report;

@@ -1,21 +1,15 @@
-use Rattle.digest_engine.proofs.Answering.{answers}
-use Rattle.digest_engine.proofs.Readings.{one_reading}
-use Rattle.digest_engine.proofs.SpelledEntries.{one_entry}
-use Rattle.digest_engine.proofs.SpelledStart.{one_start}
-use Rattle.digest_engine.proofs.SpelledUnits.{one_unit}
+use Rattle.digest_engine.proofs.Digesting.{broken_off, refused, written}
 use Rattle.digest_engine.proofs.count.count.Goals as goal
 
+pub returns-in_err-text-clause-answer : goal.returns-in_err-text-clause-answer
+returns-in_err-text-clause-answer g c =
+    refused _ _ _ _ _ _ _ c.from_residual-in_err-text.ensures.1 c.in_ok-bytes.ensures.bytes c.as_slice.ensures.value c.in_err-text.ensures.refusal
+
+pub returns-in_err-write_all-clause-answer : goal.returns-in_err-write_all-clause-answer
+returns-in_err-write_all-clause-answer g c =
+    broken_off _ _ _ _ _ _ _ _ _ c.from_residual-in_err-write_all.ensures.1 c.in_err-write_all.ensures.errors c.in_ok-bytes.ensures.bytes c.as_slice.ensures.value
+    c.in_ok-text.ensures.digest (rw c.as_bytes.ensures.value at c.in_err-write_all.ensures.start)
+
 pub returns-clause-answer : goal.returns-clause-answer
-returns-clause-answer g c = answers _ _ _ _ c.count_runs.ensures.answer
-
-pub returns-clause-one_start : goal.returns-clause-one_start
-returns-clause-one_start g c = one_start
-
-pub returns-clause-one_unit : goal.returns-clause-one_unit
-returns-clause-one_unit g c = one_unit
-
-pub returns-clause-one_entry : goal.returns-clause-one_entry
-returns-clause-one_entry g c = one_entry
-
-pub returns-clause-one_reading : goal.returns-clause-one_reading
-returns-clause-one_reading g c = one_reading
+returns-clause-answer g c =
+    written _ _ _ _ _ _ _ c.in_ok-bytes.ensures.bytes c.as_slice.ensures.value c.in_ok-text.ensures.digest (rw c.as_bytes.ensures.value at c.in_ok-write_all.ensures.bytes)
