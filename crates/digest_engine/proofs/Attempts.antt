@@ -1,6 +1,6 @@
 -- The reader goes over the results of a test.
-use Rattle.std.proofs.Common.{◌≡◌, ℕ, zero, suc, ◌+◌, ◌-◌, ◌<◌, ◌≤◌, List, [], ◌∷◌, ◌++◌, length, map, drop, get_or, refl, ap, sym, ◌∙◌, append_assoc, arith, length-append, le-leb, Bor}
-use Rattle.std.specs.Prelude.{Option, Some, None, slice_get, option_and_then, option_map, IfSome, Bool, true, false, ◌&&◌}
+use Rattle.std.proofs.Common.{◌≡◌, ℕ, zero, suc, ◌+◌, ◌-◌, ◌<◌, ◌≤◌, List, [], ◌∷◌, ◌++◌, length, map, get_or, refl, ap, sym, ◌∙◌, append_assoc, arith, cond, length-append, le-leb, leb-true}
+use Rattle.std.specs.Prelude.{Option, Some, None, slice_get, option_and_then, option_map, IfSome, nat_le, Bool, true, false, ◌&&◌}
 use Rattle.std.proofs.Common.{inl, inr}
 use Rattle.std.specs.Prelude.{◌==◌}
 use Rattle.std.specs.List.{slice_split}
@@ -15,17 +15,13 @@ use Rattle.test_attempts.specs.declared.attempts.statuses.ExecutionStatuses.{Exe
 use Rattle.unit_results.specs.declared.config.FlakyResult.{FlakyResult}
 use Rattle.unit_results.specs.declared.results.ExecutionResultDescription.TheVariants.{Pass}
 use Rattle.std.proofs.lemmas.Bool.{eq-eqb}
-use Rattle.std.proofs.lemmas.List.{at_drop_more, at_drop_all, append-nil, get_or_push, length-map}
+use Rattle.std.proofs.lemmas.List.{append-nil, get_or_push, length-map}
 use Rattle.digest_engine.specs.Reader.{result_of, all_results, results_of, flags_of, test_of_words, view_from}
 use Rattle.unit_results.specs.declared.results.ExecutionResultDescription.{ExecutionResultDescription}
 
 -- the results that follow some
 abbrev pub with_front : List ExecutionResultDescription → Option (List ExecutionResultDescription) → Option (List ExecutionResultDescription)
 with_front front rest = option_map (λ rs. front ++ rs) rest
-
--- the texts of words
-abbrev texts : List (Bor (List ℕ)) → List (List ℕ)
-texts words = map (λ w. w.now) words
 
 -- a word that names a result
 all_results-cons : (word : List ℕ) (words : List (List ℕ)) (r : ExecutionResultDescription) (front : List ExecutionResultDescription) → result_of word ≡ Some r → with_front front (all_results (word ∷ words)) ≡ with_front (front ++ r ∷ []) (all_results words)
@@ -44,26 +40,18 @@ unfolding all_results
 all_results-empty = refl
 
 -- one more word
-pub results_more : (words : List (Bor (List ℕ))) (i : ℕ) (d : Bor (List ℕ)) (r : ExecutionResultDescription) (front : List ExecutionResultDescription) (all : Option (List ExecutionResultDescription)) → i < length words → Some r ≡ result_of (get_or words i d).now → with_front front (all_results (texts (drop i words))) ≡ all → with_front (front ++ r ∷ []) (all_results (texts (drop (i + 1) words))) ≡ all
-results_more words i d r front all within is_r so_far =
-    sym (all_results-cons (get_or words i d).now (texts (drop (i + 1) words)) r front (sym is_r))
-    ∙ sym (at_drop_more (λ ws. with_front front (all_results (texts ws))) words i d within)
-    ∙ so_far
+pub results_more : (word : List ℕ) (words : List (List ℕ)) (r : ExecutionResultDescription) (front : List ExecutionResultDescription) (all : Option (List ExecutionResultDescription))
+    → Some r ≡ result_of word → with_front front (all_results (word ∷ words)) ≡ all → with_front (front ++ r ∷ []) (all_results words) ≡ all
+results_more word words r front all is_r so_far = sym (all_results-cons word words r front (sym is_r)) ∙ so_far
 
 -- a word that names no result
-pub results_none : (words : List (Bor (List ℕ))) (i : ℕ) (d : Bor (List ℕ)) (front : List ExecutionResultDescription) (all : Option (List ExecutionResultDescription)) → i < length words → None ≡ result_of (get_or words i d).now → with_front front (all_results (texts (drop i words))) ≡ all → None ≡ all
-results_none words i d front all within is_none so_far =
-    ap (with_front front) (sym (all_results-none (get_or words i d).now (texts (drop (i + 1) words)) (sym is_none)))
-    ∙ sym (at_drop_more (λ ws. with_front front (all_results (texts ws))) words i d within)
-    ∙ so_far
+pub results_none : (word : List ℕ) (words : List (List ℕ)) (front : List ExecutionResultDescription) (all : Option (List ExecutionResultDescription))
+    → None ≡ result_of word → with_front front (all_results (word ∷ words)) ≡ all → None ≡ all
+results_none word words front all is_none so_far = ap (with_front front) (sym (all_results-none word words (sym is_none))) ∙ so_far
 
 -- no word is left
-pub results_end : (words : List (Bor (List ℕ))) (i : ℕ) (front : List ExecutionResultDescription) (all : Option (List ExecutionResultDescription)) → length words ≤ i → with_front front (all_results (texts (drop i words))) ≡ all → Some front ≡ all
-results_end words i front all past so_far =
-    ap Some (sym (append-nil front))
-    ∙ ap (with_front front) (sym all_results-empty)
-    ∙ sym (at_drop_all (λ ws. with_front front (all_results (texts ws))) words i past)
-    ∙ so_far
+pub results_end : (front : List ExecutionResultDescription) (all : Option (List ExecutionResultDescription)) → with_front front (all_results []) ≡ all → Some front ≡ all
+results_end front all so_far = ap Some (sym (append-nil front)) ∙ ap (with_front front) (sym all_results-empty) ∙ so_far
 
 -- what holds of each element and its place holds of one more at the end
 pub placed_push : {X : Type 0} (P : ℕ → X → Type 0) (xs : List X) (y : X) → ((k : ℕ) → k < length xs → IfSome (slice_get xs k) (P k)) → P (length xs) y → (k : ℕ) → k < length (xs ++ y ∷ []) → IfSome (slice_get (xs ++ y ∷ []) k) (P k)
@@ -118,3 +106,16 @@ last_slow items total slow all count some =
           rw found.2 (here.1 ∙ ap (λ b. slow && b) (eq-eqb (k + 1) total (omega (arith, count, some))) ∙ elim slow as (λ s. (s && true) ≡ s) [ true ↦ refl | false ↦ refl ])
       | inr past ↦ absurd (omega (arith, past.0, some))
     ]
+
+-- a list with a part that is no result, or with too many parts
+pub results_bad : (list : List ℕ) → None ≡ all_results (slice_split (λ b. b == 44) list) → None ≡ results_of list
+unfolding results_of
+results_bad list none =
+    elim (nat_le (length (slice_split (λ b. b == 44) list)) 100) as (λ b. None ≡ cond b (all_results (slice_split (λ b. b == 44) list)) None) [ true ↦ none | false ↦ refl ]
+
+pub results_many : (list : List ℕ) → 100 < length (slice_split (λ b. b == 44) list) → None ≡ results_of list
+unfolding results_of
+results_many list many =
+    let parts : List (List ℕ) = slice_split (λ b. b == 44) list in
+    elim (nat_le (length parts) 100) as (λ b. nat_le (length parts) 100 ≡ b → None ≡ cond b (all_results parts) None)
+    [ true ↦ λ few. absurd (omega (arith, leb-true (length parts) 100 few, many)) | false ↦ λ _. refl ] refl

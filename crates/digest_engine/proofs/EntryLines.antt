@@ -1,6 +1,6 @@
 -- The reader goes over the lines after line 1.
-use Rattle.std.proofs.Common.{◌≡◌, ℕ, ◌+◌, ◌≤◌, List, [], ◌∷◌, ◌++◌, refl, ap, sym, ◌∙◌, append_assoc, le-ltb}
-use Rattle.std.specs.Prelude.{Some, Ok, Err}
+use Rattle.std.proofs.Common.{◌≡◌, ℕ, ◌+◌, ◌<◌, ◌≤◌, List, [], ◌∷◌, ◌++◌, refl, ap, sym, ◌∙◌, append_assoc, le-ltb, lt-ltb}
+use Rattle.std.specs.Prelude.{None, Some, Ok, Err}
 use Rattle.std.specs.declared.result.Result.{Result}
 use Rattle.run_events.specs.Counters.{UnitView}
 use Rattle.run_events.specs.declared.stats.RunStart.{RunStart}
@@ -21,6 +21,16 @@ runs_from-unit number run line lines unit few is_unit = rw (le-ltb 10000 number 
 pub runs_from-start : (number : ℕ) (run : Run) (line : List ℕ) (lines : List (List ℕ)) (start : RunStart) → number ≤ 10000 → entry_of_words (words_of line) ≡ Some (SubRunEntry start) → runs_from number run (line ∷ lines) ≡ and_runs run (runs_from (number + 1) (begun start) lines)
 unfolding runs_from
 runs_from-start number run line lines start few is_start = rw (le-ltb 10000 number few, is_start) refl
+
+-- a line that says nothing
+pub runs_from-bad : (number : ℕ) (run : Run) (line : List ℕ) (lines : List (List ℕ)) → number ≤ 10000 → entry_of_words (words_of line) ≡ None → runs_from number run (line ∷ lines) ≡ Err number
+unfolding runs_from
+runs_from-bad number run line lines few none = rw (le-ltb 10000 number few, none) refl
+
+-- a line too many
+pub runs_from-late : (number : ℕ) (run : Run) (line : List ℕ) (lines : List (List ℕ)) → 10000 < number → runs_from number run (line ∷ lines) ≡ Err number
+unfolding runs_from
+runs_from-late number run line lines late = rw (lt-ltb 10000 number late) refl
 
 -- one more run in front
 after-more : (front : List Run) (run : Run) (rest : Result (List Run) ℕ) → after_runs front (and_runs run rest) ≡ after_runs (front ++ run ∷ []) rest

@@ -1,5 +1,6 @@
 pub mod Attempts
 pub mod Continued
+pub mod Counting
 pub mod Digesting
 pub mod EntryLines
 pub mod Extracting
@@ -10,3 +11,5 @@ pub mod ResultWords
 pub mod SpelledEntries
 pub mod SpelledStart
 pub mod SpelledUnits
+pub mod TextLines
+pub mod TextParts

@@ -9,7 +9,8 @@ use Rattle.digest_engine.specs.Reader.{EntryView, SubRunEntry, UnitEntry, and_ru
 use Rattle.digest_engine.specs.Reading.{HasEntry, IsBadLine, IsFirstBadLine, IsReading, Run}
 use Rattle.digest_engine.specs.Spelling.{SpellsStart}
 use Rattle.digest_engine.proofs.Continued.{Continues, continues-end, continues-start, continues-unit, sub_runs_read, units_read}
-use Rattle.digest_engine.proofs.SpelledEntries.{SpellsEntry, entry_spelled, has_entry, no_entry, option_cases}
+use Rattle.digest_engine.proofs.ResultWords.{option_cases}
+use Rattle.digest_engine.proofs.SpelledEntries.{SpellsEntry, entry_spelled, has_entry, no_entry}
 use Rattle.digest_engine.proofs.SpelledStart.{is_run, start_read, start_spelled}
 
 -- Among the lines from this number on, the line of number k is bad: it is line 10,001, or spells no entry.

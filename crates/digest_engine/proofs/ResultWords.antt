@@ -1,6 +1,6 @@
 -- The words of a unit's line, read and spelled.
 use Rattle.std.proofs.Common.{◌≡◌, ℕ, ◌<◌, ◌≤◌, List, [], ◌∷◌, ◌++◌, Bool, true, false, length, map, refl, ap, sym, ◌∙◌, append_assoc, le-leb, leb-true, arith, cond, inl, inr}
-use Rattle.std.specs.Prelude.{◌==◌, ◌⊎◌, ◌&&◌, nat_le, Option, None, Some, option_and_then, codes, if◌then◌else◌}
+use Rattle.std.specs.Prelude.{◌==◌, ◌⊎◌, ◌&&◌, nat_le, Option, None, Some, option_and_then, option_map, codes, if◌then◌else◌}
 use Rattle.std.specs.List.{slice_split, join_with_byte}
 use Rattle.std.specs.Str.{bytes_eq}
 use Rattle.std.proofs.lemmas.Bool.{and_parts}
@@ -11,7 +11,7 @@ use Rattle.std.proofs.lemmas.Slice.Eq.{bytes_eq-Decides}
 use Rattle.unit_results.specs.declared.config.FlakyResult.{FlakyResult}
 use Rattle.unit_results.specs.declared.config.FlakyResult.TheVariants as setting
 use Rattle.unit_results.specs.declared.results.ExecutionResultDescription.{ExecutionResultDescription}
-use Rattle.digest_engine.specs.Reader.{result_of, all_results, results_of, flags_of}
+use Rattle.digest_engine.specs.Reader.{named, result_of, all_results, results_of, flags_of}
 use Rattle.digest_engine.specs.Spelling.{ResultWord, Pass, Leak, LeakFail, Fail, ExecFail, Timeout, TimeoutPass, word_of, result_named, flag_words}
 
 -- xs has no separator: what stands before a text joins its first part
@@ -83,41 +83,33 @@ chosen false x y z e = inr (refl, e)
 abbrev Names : List ℕ → ExecutionResultDescription → Type 0
 Names word r = (n : ResultWord) × (word ≡ word_of n) × (r ≡ result_named n)
 
-names_or_rest : (word : List ℕ) (n : ResultWord) (rest : Option ExecutionResultDescription) (r : ExecutionResultDescription) → cond (bytes_eq word (word_of n)) (Some (result_named n)) rest ≡ Some r → Names word r ⊎ (rest ≡ Some r)
-names_or_rest word n rest r e =
-    elim (chosen (bytes_eq word (word_of n)) (Some (result_named n)) rest (Some r) e) [
-      | inl held ↦ let same : word ≡ word_of n = (bytes_eq-Decides word (word_of n)).0 held.0 in inl (n, same, cc)
-      | inr failed ↦ inr failed.1
+-- a value, or none
+pub option_cases : {A : Type 0} (o : Option A) → ((a : A) × (o ≡ Some a)) ⊎ (o ≡ None)
+option_cases None = inr refl
+option_cases (Some a) = inl (a, refl)
+
+-- what a word names among some values has this word
+pub named_is : {A : Type 0} (spell : A → List ℕ) (xs : List A) (word : List ℕ) (x : A) → named spell xs word ≡ Some x → word ≡ spell x
+named_is spell [] word x e = absurd cc
+named_is spell (y ∷ ys) word x e =
+    elim (chosen (bytes_eq word (spell y)) (Some y) (named spell ys word) (Some x) e) [
+      | inl held ↦
+          let same : word ≡ spell y = (bytes_eq-Decides word (spell y)).0 held.0 in
+          let is : y ≡ x = cc in
+          same ∙ ap spell is
+      | inr failed ↦ named_is spell ys word x failed.1
     ]
 
 -- a word that is read as a result is its word
 pub result_inverse : (word : List ℕ) (r : ExecutionResultDescription) → result_of word ≡ Some r → Names word r
 unfolding result_of
 result_inverse word r e =
-    elim (names_or_rest word Pass _ r e) [
-      | inl n ↦ n
-      | inr e ↦
-          elim (names_or_rest word Leak _ r e) [
-            | inl n ↦ n
-            | inr e ↦
-                elim (names_or_rest word LeakFail _ r e) [
-                  | inl n ↦ n
-                  | inr e ↦
-                      elim (names_or_rest word Fail _ r e) [
-                        | inl n ↦ n
-                        | inr e ↦
-                            elim (names_or_rest word ExecFail _ r e) [
-                              | inl n ↦ n
-                              | inr e ↦
-                                  elim (names_or_rest word Timeout _ r e) [
-                                    | inl n ↦ n
-                                    | inr e ↦
-                                        elim (names_or_rest word TimeoutPass _ r e) [ inl n ↦ n | inr e ↦ absurd cc ]
-                                  ]
-                            ]
-                      ]
-                ]
-          ]
+    let words : List ResultWord = Pass ∷ Leak ∷ LeakFail ∷ Fail ∷ ExecFail ∷ Timeout ∷ TimeoutPass ∷ [] in
+    elim (option_cases (named word_of words word)) [
+      | inl n ↦
+          let found : Some (result_named n.0) ≡ Some r = sym (ap (option_map result_named) n.1) ∙ e in
+          (n.0, named_is word_of words word n.0 n.1, cc)
+      | inr none ↦ let clash : None ≡ Some r = sym (ap (option_map result_named) none) ∙ e in absurd cc
     ]
 
 -- words that are read as results are their words

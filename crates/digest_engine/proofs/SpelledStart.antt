@@ -1,6 +1,6 @@
 -- The reader of the start of a run against its spelling.
-use Rattle.std.proofs.Common.{◌≡◌, ℕ, ◌+◌, List, [], ◌∷◌, ◌++◌, true, false, map, refl, ap, sym, ◌∙◌, subst, append_assoc, arith, cond, inl, inr}
-use Rattle.std.specs.Prelude.{◌==◌, ◌⊎◌, Option, None, Some, option_and_then, codes}
+use Rattle.std.proofs.Common.{◌≡◌, ℕ, ◌+◌, List, [], ◌∷◌, ◌++◌, true, false, map, refl, ap, sym, ◌∙◌, subst, append_assoc, arith, inl, inr}
+use Rattle.std.specs.Prelude.{◌==◌, Option, None, Some, option_and_then, codes}
 use Rattle.std.specs.List.{slice_split, join_with_byte}
 use Rattle.std.specs.Str.{bytes_eq}
 use Rattle.std.proofs.lemmas.Bool.Decides.{eqb_tells}
@@ -12,10 +12,10 @@ use Rattle.unit_results.specs.declared.results.CancelReason.{CancelReason}
 use Rattle.unit_results.specs.declared.results.CancelReason.TheVariants as reason
 use Rattle.run_events.specs.declared.stats.RunStart.{RunStart}
 use Rattle.digest_engine.specs.Number.{SpellsNumber}
-use Rattle.digest_engine.specs.Reader.{number_of, reason_of, start_of_words, words_of}
+use Rattle.digest_engine.specs.Reader.{number_of, reason_of, reasons, start_fields, start_of_words, words_of}
 use Rattle.digest_engine.specs.Spelling.{SpellsStart, reason_word}
 use Rattle.digest_engine.proofs.Numbers.{byte_of, number_read, number_spelled}
-use Rattle.digest_engine.proofs.ResultWords.{JoinsFirst, chosen}
+use Rattle.digest_engine.proofs.ResultWords.{JoinsFirst, chosen, named_is}
 
 -- a reason's word is read
 reason_read : (why : Option CancelReason) → reason_of (reason_word why) ≡ Some why
@@ -44,57 +44,10 @@ reason_whole (Some reason.Signal) = refl
 reason_whole (Some reason.Interrupt) = refl
 reason_whole (Some reason.SecondSignal) = refl
 
-word_or_rest : (word : List ℕ) (why : Option CancelReason) (rest : Option (Option CancelReason)) (found : Option CancelReason) → cond (bytes_eq word (reason_word why)) (Some why) rest ≡ Some found → (word ≡ reason_word found) ⊎ (rest ≡ Some found)
-word_or_rest word why rest found e =
-    elim (chosen (bytes_eq word (reason_word why)) (Some why) rest (Some found) e) [
-      | inl held ↦
-          let same : word ≡ reason_word why = (bytes_eq-Decides word (reason_word why)).0 held.0 in
-          let is : why ≡ found = cc in
-          inl (same ∙ ap reason_word is)
-      | inr failed ↦ inr failed.1
-    ]
-
 -- a word that is read as a reason is its word
 reason_inverse : (word : List ℕ) (found : Option CancelReason) → reason_of word ≡ Some found → word ≡ reason_word found
 unfolding reason_of
-reason_inverse word found e =
-    elim (word_or_rest word None _ found e) [
-      | inl is ↦ is
-      | inr e ↦
-          elim (word_or_rest word (Some reason.SetupScriptFailure) _ found e) [
-            | inl is ↦ is
-            | inr e ↦
-                elim (word_or_rest word (Some reason.TestFailure) _ found e) [
-                  | inl is ↦ is
-                  | inr e ↦
-                      elim (word_or_rest word (Some reason.ReportError) _ found e) [
-                        | inl is ↦ is
-                        | inr e ↦
-                            elim (word_or_rest word (Some reason.OutputLimit) _ found e) [
-                              | inl is ↦ is
-                              | inr e ↦
-                                  elim (word_or_rest word (Some reason.TestFailureImmediate) _ found e) [
-                                    | inl is ↦ is
-                                    | inr e ↦
-                                        elim (word_or_rest word (Some reason.GlobalTimeout) _ found e) [
-                                          | inl is ↦ is
-                                          | inr e ↦
-                                              elim (word_or_rest word (Some reason.Signal) _ found e) [
-                                                | inl is ↦ is
-                                                | inr e ↦
-                                                    elim (word_or_rest word (Some reason.Interrupt) _ found e) [
-                                                      | inl is ↦ is
-                                                      | inr e ↦
-                                                          elim (word_or_rest word (Some reason.SecondSignal) _ found e) [ inl is ↦ is | inr e ↦ absurd cc ]
-                                                    ]
-                                              ]
-                                        ]
-                                  ]
-                            ]
-                      ]
-                ]
-          ]
-    ]
+reason_inverse word found e = named_is reason_word reasons word found e
 
 not_space : (d : ℕ) → (48 + d == 32) ≡ false
 not_space d = elim (eqb_tells (48 + d) 32) [ inl same ↦ absurd (omega (arith, same.1)) | inr other ↦ other.0 ]
@@ -123,11 +76,11 @@ is_empty : IsKeyword []
 is_empty = (λ ys part parts e. e, refl)
 
 -- what stands behind a keyword
-abbrev behind : List ℕ → List ℕ → List ℕ → List ℕ
+abbrev pub behind : List ℕ → List ℕ → List ℕ → List ℕ
 behind tests scripts why = 32 ∷ (tests ++ 32 ∷ (scripts ++ 32 ∷ why))
 
 -- the text of a start, nested the other way
-nested : (keyword tests scripts why : List ℕ) → keyword ++ codes " " ++ tests ++ codes " " ++ scripts ++ codes " " ++ why ≡ keyword ++ behind tests scripts why
+pub nested : (keyword tests scripts why : List ℕ) → keyword ++ codes " " ++ tests ++ codes " " ++ scripts ++ codes " " ++ why ≡ keyword ++ behind tests scripts why
 nested keyword tests scripts why = simp append_assoc
 
 -- the words of a start
@@ -143,39 +96,74 @@ start_words keyword line start s is_keyword =
     is_keyword.0 (behind s.tests s.scripts why) [] (s.tests ∷ s.scripts ∷ why ∷ []) (rw tests refl) ∙ ap (λ x. x ∷ s.tests ∷ s.scripts ∷ why ∷ []) (append-nil keyword) in
     ap words_of (s.written ∙ nested keyword s.tests s.scripts why) ∙ all
 
+-- two numbers and the word of a reason are read
+pub fields_read : (keyword line : List ℕ) (start : RunStart) (s : SpellsStart keyword line start)
+    → start_fields (s.tests ∷ s.scripts ∷ reason_word start.cancel_reason ∷ []) ≡ Some start
+unfolding start_fields
+fields_read keyword line start s =
+    rw (number_read s.tests start.initial_run_count s.tests_number, number_read s.scripts start.setup_scripts_initial_count s.scripts_number, reason_read start.cancel_reason)
+    (ap (λ n. Some (record { initial_run_count = start.initial_run_count; setup_scripts_initial_count = start.setup_scripts_initial_count; skipped = n; cancel_reason = start.cancel_reason })) (sym s.none_skipped))
+
 -- what is spelled is read
 pub start_read : (keyword line : List ℕ) (start : RunStart) → IsKeyword keyword → SpellsStart keyword line start → start_of_words keyword (words_of line) ≡ Some start
 unfolding start_of_words
 start_read keyword line start is_keyword s =
     ap (start_of_words keyword) (start_words keyword line start s is_keyword)
-    ∙ rw (is_keyword.1, number_read s.tests start.initial_run_count s.tests_number, number_read s.scripts start.setup_scripts_initial_count s.scripts_number, reason_read start.cancel_reason)
-    (ap (λ n. Some (record { initial_run_count = start.initial_run_count; setup_scripts_initial_count = start.setup_scripts_initial_count; skipped = n; cancel_reason = start.cancel_reason })) (sym s.none_skipped))
+    ∙ rw is_keyword.1 (fields_read keyword line start s)
+
+-- words that are two numbers and a reason
+record Fields (words : List (List ℕ)) (start : RunStart) : Type 0 where
+  tests : List ℕ
+  scripts : List ℕ
+  are : words ≡ tests ∷ scripts ∷ reason_word start.cancel_reason ∷ []
+  tests_number : SpellsNumber tests start.initial_run_count
+  scripts_number : SpellsNumber scripts start.setup_scripts_initial_count
+  none_skipped : start.skipped ≡ 0
+
+fields_inverse : (words : List (List ℕ)) (start : RunStart) → start_fields words ≡ Some start → Fields words start
+unfolding start_fields
+fields_inverse [] start e = absurd cc
+fields_inverse (a ∷ []) start e = absurd cc
+fields_inverse (a ∷ b ∷ []) start e = absurd cc
+fields_inverse (a ∷ b ∷ c ∷ d ∷ words) start e = absurd cc
+fields_inverse (tests ∷ scripts ∷ why ∷ []) start e =
+    let begun : ℕ → ℕ → Option CancelReason → RunStart = λ t s r. record { initial_run_count = t; setup_scripts_initial_count = s; skipped = 0; cancel_reason = r } in
+    option_and_then_some (λ t. option_and_then (λ s. option_and_then (λ r. Some (begun t s r)) (reason_of why)) (number_of scripts)) (number_of tests) start e (λ t is_t more.
+    option_and_then_some (λ s. option_and_then (λ r. Some (begun t s r)) (reason_of why)) (number_of scripts) start more (λ s is_s last.
+    option_and_then_some (λ r. Some (begun t s r)) (reason_of why) start last (λ r is_r is_start.
+    let is : begun t s r ≡ start = cc in
+    let P : RunStart → Type 0 = Fields (tests ∷ scripts ∷ why ∷ []) in
+    subst P is (record {
+      tests = tests;
+      scripts = scripts;
+      are = ap (λ x. tests ∷ scripts ∷ x ∷ []) (reason_inverse why r is_r);
+      tests_number = number_spelled tests t is_t;
+      scripts_number = number_spelled scripts s is_s;
+      none_skipped = refl;
+    }))))
+
+-- a line of a keyword, two numbers and a reason
+pub start_joined : (keyword line : List ℕ) (words : List (List ℕ)) (start : RunStart) → join_with_byte 32 (keyword ∷ words) ≡ line → start_fields words ≡ Some start
+    → SpellsStart keyword line start
+start_joined keyword line words start is_line e =
+    let f : Fields words start = fields_inverse words start e in
+    record {
+      tests = f.tests;
+      scripts = f.scripts;
+      written = sym is_line ∙ ap (λ ws. join_with_byte 32 (keyword ∷ ws)) f.are ∙ sym (nested keyword f.tests f.scripts (reason_word start.cancel_reason));
+      tests_number = f.tests_number;
+      scripts_number = f.scripts_number;
+      none_skipped = f.none_skipped;
+    }
 
 start_inverse : (keyword line : List ℕ) (words : List (List ℕ)) (start : RunStart) → join_with_byte 32 words ≡ line → start_of_words keyword words ≡ Some start → SpellsStart keyword line start
 unfolding start_of_words
 start_inverse keyword line [] start is_line e = absurd cc
-start_inverse keyword line (a ∷ []) start is_line e = absurd cc
-start_inverse keyword line (a ∷ b ∷ []) start is_line e = absurd cc
-start_inverse keyword line (a ∷ b ∷ c ∷ []) start is_line e = absurd cc
-start_inverse keyword line (a ∷ b ∷ c ∷ d ∷ f ∷ words) start is_line e = absurd cc
-start_inverse keyword line (first ∷ tests ∷ scripts ∷ why ∷ []) start is_line e =
-    let begun : ℕ → ℕ → Option CancelReason → RunStart = λ t s r. record { initial_run_count = t; setup_scripts_initial_count = s; skipped = 0; cancel_reason = r } in
-    elim (chosen (bytes_eq first keyword) (option_and_then (λ t. option_and_then (λ s. option_and_then (λ r. Some (begun t s r)) (reason_of why)) (number_of scripts)) (number_of tests)) None (Some start) e) [
+start_inverse keyword line (first ∷ words) start is_line e =
+    elim (chosen (bytes_eq first keyword) (start_fields words) None (Some start) e) [
       | inl held ↦
           let is_first : first ≡ keyword = (bytes_eq-Decides first keyword).0 held.0 in
-          option_and_then_some (λ t. option_and_then (λ s. option_and_then (λ r. Some (begun t s r)) (reason_of why)) (number_of scripts)) (number_of tests) start held.1 (λ t is_t more.
-          option_and_then_some (λ s. option_and_then (λ r. Some (begun t s r)) (reason_of why)) (number_of scripts) start more (λ s is_s last.
-          option_and_then_some (λ r. Some (begun t s r)) (reason_of why) start last (λ r is_r is_start.
-          let is : begun t s r ≡ start = cc in
-          let P : RunStart → Type 0 = SpellsStart keyword line in
-          subst P is (record {
-            tests = tests;
-            scripts = scripts;
-            written = sym is_line ∙ ap (λ x. x ++ behind tests scripts why) is_first ∙ ap (λ x. keyword ++ behind tests scripts x) (reason_inverse why r is_r) ∙ sym (nested keyword tests scripts (reason_word r));
-            tests_number = number_spelled tests t is_t;
-            scripts_number = number_spelled scripts s is_s;
-            none_skipped = refl;
-          }))))
+          start_joined keyword line words start (ap (λ k. join_with_byte 32 (k ∷ words)) (sym is_first) ∙ is_line) held.1
       | inr none ↦ absurd cc
     ]
 

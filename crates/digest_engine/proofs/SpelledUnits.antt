@@ -1,21 +1,18 @@
 -- The reader of a unit's line against its spelling.
-use Rattle.std.proofs.Common.{◌≡◌, ℕ, ◌+◌, ◌<◌, ◌≤◌, List, [], ◌∷◌, ◌++◌, Bool, true, false, length, map, refl, ap, sym, ◌∙◌, subst, arith, length-append, inl, inr}
-use Rattle.std.specs.Prelude.{◌==◌, None, Some, option_and_then, codes, if◌then◌else◌}
+use Rattle.std.proofs.Common.{◌≡◌, ℕ, ◌+◌, ◌<◌, ◌≤◌, List, [], ◌∷◌, ◌++◌, Bool, true, false, length, map, refl, ap, sym, ◌∙◌, arith, length-append}
+use Rattle.std.specs.Prelude.{◌==◌, Some, option_and_then, codes, if◌then◌else◌}
 use Rattle.std.specs.List.{slice_split, join_with_byte}
-use Rattle.std.specs.Str.{bytes_eq}
 use Rattle.std.proofs.lemmas.List.{append-nil, length-map, map-append}
-use Rattle.std.proofs.lemmas.List.Splits.{join_with_byte-slice_split}
 use Rattle.std.proofs.lemmas.Option.{option_and_then_some}
-use Rattle.std.proofs.lemmas.Slice.Eq.{bytes_eq-Decides}
 use Rattle.run_events.specs.Counters.{UnitView, ScriptUnit, TestUnit}
 use Rattle.run_events.specs.TestView.{TestView}
 use Rattle.unit_results.specs.declared.config.FlakyResult.{FlakyResult}
 use Rattle.unit_results.specs.declared.config.FlakyResult.TheVariants as setting
 use Rattle.unit_results.specs.declared.results.ExecutionResultDescription.{ExecutionResultDescription}
-use Rattle.digest_engine.specs.Reader.{results_of, flags_of, script_of_words, test_of_words, unit_of_words, view_from, words_of}
+use Rattle.digest_engine.specs.Reader.{UnitEntry, entry_of_words, results_of, flags_of, script_of_words, test_of_words, view_from, words_of}
 use Rattle.digest_engine.specs.Spelling.{ResultWord, Pass, Leak, LeakFail, Fail, ExecFail, Timeout, TimeoutPass, word_of, result_named, flag_words, ScriptLine, TestLine, SpellsUnit}
 use Rattle.digest_engine.proofs.Attempts.{last_pushed}
-use Rattle.digest_engine.proofs.ResultWords.{chosen, flags_inverse, list_inverse, list_joins, result_inverse, result_word, results_spelled}
+use Rattle.digest_engine.proofs.ResultWords.{flags_inverse, list_inverse, list_joins, result_inverse, result_word, results_spelled}
 
 -- the setting that a flag means
 abbrev setting_by : Bool → FlakyResult
@@ -30,13 +27,13 @@ test_words : (rs : List ResultWord) (slow fails : Bool) (flags : List (List ℕ)
 test_words rs slow fails flags e =
     rw (list_joins rs (flag_words slow fails) [] flags e, append-nil) refl
 
-test_by_flags : (r : ResultWord) (rs : List ResultWord) (slow fails : Bool) (flags : List (List ℕ)) → length (r ∷ rs) ≤ 100 → slice_split (λ b. b == 32) (flag_words slow fails) ≡ [] ∷ flags → flags_of flags ≡ Some (slow, setting_by fails) → unit_of_words (words_of (test_text (r ∷ rs) slow fails)) ≡ Some (TestUnit (view_from (map result_named (r ∷ rs)) (slow, setting_by fails)))
-unfolding unit_of_words test_of_words
+test_by_flags : (r : ResultWord) (rs : List ResultWord) (slow fails : Bool) (flags : List (List ℕ)) → length (r ∷ rs) ≤ 100 → slice_split (λ b. b == 32) (flag_words slow fails) ≡ [] ∷ flags → flags_of flags ≡ Some (slow, setting_by fails) → entry_of_words (words_of (test_text (r ∷ rs) slow fails)) ≡ Some (UnitEntry (TestUnit (view_from (map result_named (r ∷ rs)) (slow, setting_by fails))))
+unfolding entry_of_words test_of_words
 test_by_flags r rs slow fails flags few cut is_flags =
-    ap unit_of_words (test_words (r ∷ rs) slow fails flags cut) ∙ rw (is_flags, results_spelled r rs few) refl
+    ap entry_of_words (test_words (r ∷ rs) slow fails flags cut) ∙ rw (is_flags, results_spelled r rs few) refl
 
 -- a test's line is read
-test_read : (rs : List ResultWord) (slow fails : Bool) → 0 < length rs → length rs ≤ 100 → unit_of_words (words_of (test_text rs slow fails)) ≡ Some (TestUnit (view_from (map result_named rs) (slow, setting_by fails)))
+test_read : (rs : List ResultWord) (slow fails : Bool) → 0 < length rs → length rs ≤ 100 → entry_of_words (words_of (test_text rs slow fails)) ≡ Some (UnitEntry (TestUnit (view_from (map result_named rs) (slow, setting_by fails))))
 unfolding flags_of
 test_read [] slow fails some few = absurd (omega (arith, some))
 test_read (r ∷ rs) false false some few = test_by_flags r rs false false [] few refl refl
@@ -54,9 +51,9 @@ script_words Timeout = refl
 script_words TimeoutPass = refl
 
 -- a script's line is read
-script_read : (r : ResultWord) → unit_of_words (words_of (codes "script " ++ word_of r)) ≡ Some (ScriptUnit (result_named r))
-unfolding unit_of_words script_of_words
-script_read r = ap unit_of_words (script_words r) ∙ rw (result_word r) refl
+script_read : (r : ResultWord) → entry_of_words (words_of (codes "script " ++ word_of r)) ≡ Some (UnitEntry (ScriptUnit (result_named r)))
+unfolding entry_of_words script_of_words
+script_read r = ap entry_of_words (script_words r) ∙ rw (result_word r) refl
 
 -- the view of a test, by its last result
 view-last : (earlier : List ResultWord) (last : ResultWord) (slow : Bool) (kept : FlakyResult) → view_from (map result_named (earlier ++ last ∷ [])) (slow, kept) ≡ record { result = result_named last; attempts = length earlier + 1; is_slow = slow; setting = kept }
@@ -72,14 +69,14 @@ ends_with (x ∷ []) some = ([], x, refl)
 ends_with (x ∷ y ∷ ys) some = let rest = ends_with (y ∷ ys) (omega arith) in (x ∷ rest.0, rest.1, ap (λ zs. x ∷ zs) rest.2)
 
 -- what is spelled is read
-pub unit_read : (line : List ℕ) (unit : UnitView) → SpellsUnit line unit → unit_of_words (words_of line) ≡ Some unit
-unit_read line unit (ScriptLine r, ok, is_line, is_unit) = ap (λ l. unit_of_words (words_of l)) is_line ∙ script_read r ∙ ap Some (sym is_unit)
+pub unit_read : (line : List ℕ) (unit : UnitView) → SpellsUnit line unit → entry_of_words (words_of line) ≡ Some (UnitEntry unit)
+unit_read line unit (ScriptLine r, ok, is_line, is_unit) = ap (λ l. entry_of_words (words_of l)) is_line ∙ script_read r ∙ ap (λ u. Some (UnitEntry u)) (sym is_unit)
 unit_read line unit (TestLine earlier last slow fails, ok, is_line, is_unit) =
     let count = length-append earlier (last ∷ []) in
-    ap (λ l. unit_of_words (words_of l)) is_line
+    ap (λ l. entry_of_words (words_of l)) is_line
     ∙ test_read (earlier ++ last ∷ []) slow fails (omega (arith, count)) (omega (arith, count, ok))
-    ∙ ap (λ v. Some (TestUnit v)) (view-last earlier last slow (setting_by fails))
-    ∙ ap Some (sym is_unit)
+    ∙ ap (λ v. Some (UnitEntry (TestUnit v))) (view-last earlier last slow (setting_by fails))
+    ∙ ap (λ u. Some (UnitEntry u)) (sym is_unit)
 
 -- the spelling of a test with these results and flags
 test_spelled : (line : List ℕ) (rs : List ResultWord) (slow fails : Bool) (t : TestView) → 0 < length rs → length rs ≤ 100 → line ≡ test_text rs slow fails → t ≡ view_from (map result_named rs) (slow, setting_by fails) → SpellsUnit line (TestUnit t)
@@ -98,7 +95,7 @@ script_inverse [] r e = absurd cc
 script_inverse (word ∷ []) r e = let named = result_inverse word r e in (named.0, ap (λ x. x ∷ []) named.1, named.2)
 script_inverse (word ∷ w ∷ words) r e = absurd cc
 
-test_inverse : (line : List ℕ) (words : List (List ℕ)) (t : TestView) → join_with_byte 32 (codes "test" ∷ words) ≡ line → test_of_words words ≡ Some t → SpellsUnit line (TestUnit t)
+pub test_inverse : (line : List ℕ) (words : List (List ℕ)) (t : TestView) → join_with_byte 32 (codes "test" ∷ words) ≡ line → test_of_words words ≡ Some t → SpellsUnit line (TestUnit t)
 unfolding test_of_words
 test_inverse line [] t is_line e = absurd cc
 test_inverse line (list ∷ flags) t is_line e =
@@ -111,32 +108,15 @@ test_inverse line (list ∷ flags) t is_line e =
     (sym is_line ∙ ap (λ x. codes "test" ++ 32 ∷ x) flag.2 ∙ ap (λ x. codes "test" ++ 32 ∷ (x ++ flag_words flag.0 flag.1)) named.3)
     (sym is ∙ ap (λ x. view_from x f) named.4 ∙ ap (view_from (map result_named named.0)) flag.3)))
 
-unit_inverse : (line : List ℕ) (words : List (List ℕ)) (u : UnitView) → join_with_byte 32 words ≡ line → unit_of_words words ≡ Some u → SpellsUnit line u
-unfolding unit_of_words
-unit_inverse line [] u is_line e = absurd cc
-unit_inverse line (kind ∷ words) u is_line e =
-    elim (chosen (bytes_eq kind (codes "script")) (option_and_then (λ r. Some (ScriptUnit r)) (script_of_words words)) (if bytes_eq kind (codes "test") then option_and_then (λ t. Some (TestUnit t)) (test_of_words words) else None) (Some u) e) [
-      | inl held ↦ let is_kind : kind ≡ codes "script" = (bytes_eq-Decides kind (codes "script")).0 held.0 in
-          option_and_then_some (λ r. Some (ScriptUnit r)) (script_of_words words) u held.1 (λ r is_r is_u.
-          let named = script_inverse words r is_r in
-          let is : ScriptUnit r ≡ u = cc in
-          (ScriptLine named.0, tt, sym is_line ∙ ap (λ ws. join_with_byte 32 (kind ∷ ws)) named.1 ∙ ap (λ k. k ++ 32 ∷ word_of named.0) is_kind, sym is ∙ ap ScriptUnit named.2))
-      | inr failed ↦ elim (chosen (bytes_eq kind (codes "test")) (option_and_then (λ t. Some (TestUnit t)) (test_of_words words)) None (Some u) failed.1) [
-        | inl held ↦ let is_kind : kind ≡ codes "test" = (bytes_eq-Decides kind (codes "test")).0 held.0 in
-            option_and_then_some (λ t. Some (TestUnit t)) (test_of_words words) u held.1 (λ t is_t is_u.
-            let is : TestUnit t ≡ u = cc in
-            let P : UnitView → Type 0 = SpellsUnit line in
-            subst P is (test_inverse line words t (ap (λ k. join_with_byte 32 (k ∷ words)) (sym is_kind) ∙ is_line) is_t))
-        | inr none ↦ absurd cc
-      ]
-    ]
-
--- what is read is spelled so
-pub unit_spelled : (line : List ℕ) (unit : UnitView) → unit_of_words (words_of line) ≡ Some unit → SpellsUnit line unit
-unit_spelled line unit e = unit_inverse line (words_of line) unit (join_with_byte-slice_split 32 line) e
+-- a script's line, by its words
+pub script_spelled : (line : List ℕ) (words : List (List ℕ)) (r : ExecutionResultDescription) → join_with_byte 32 (codes "script" ∷ words) ≡ line
+    → script_of_words words ≡ Some r → SpellsUnit line (ScriptUnit r)
+script_spelled line words r is_line e =
+    let named = script_inverse words r e in
+    (ScriptLine named.0, tt, sym is_line ∙ ap (λ ws. join_with_byte 32 (codes "script" ∷ ws)) named.1, ap ScriptUnit named.2)
 
 -- a line spells at most one unit
 pub one_unit : (line : List ℕ) (a b : UnitView) → SpellsUnit line a → SpellsUnit line b → a ≡ b
 one_unit line a b first second =
-    let same : Some a ≡ Some b = sym (unit_read line a first) ∙ unit_read line b second in
+    let same : Some (UnitEntry a) ≡ Some (UnitEntry b) = sym (unit_read line a first) ∙ unit_read line b second in
     cc

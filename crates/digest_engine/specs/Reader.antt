@@ -1,6 +1,6 @@
 -- The reader of `count`, as functions on lists: what its private steps answer. What the input says is defined apart from
 -- it, in Spelling and Reading.
-use Rattle.std.specs.Prelude.{◌≡◌, ◌+◌, ◌-◌, ◌*◌, ℕ, Bool, true, false, ◌&&◌, ◌==◌, nat_lt, nat_le, List, [], ◌∷◌, ◌++◌, length, fold, Option, Some, None, Ok, Err, option_and_then, unwrap_or, slice_get, if◌then◌else◌, codes, pos}
+use Rattle.std.specs.Prelude.{◌≡◌, ◌+◌, ◌-◌, ◌*◌, ℕ, Bool, true, false, ◌&&◌, ◌==◌, nat_lt, nat_le, List, [], ◌∷◌, ◌++◌, length, fold, Option, Some, None, Ok, Err, option_and_then, option_map, unwrap_or, slice_get, if◌then◌else◌, codes}
 use Rattle.std.specs.Char.{is_ascii_digit}
 use Rattle.std.specs.List.{list_all, slice_split}
 use Rattle.std.specs.Str.{bytes_eq}
@@ -9,49 +9,40 @@ use Rattle.run_events.specs.TestView.{TestView}
 use Rattle.run_events.specs.Counters.{UnitView, ScriptUnit, TestUnit}
 use Rattle.unit_results.specs.declared.config.FlakyResult.{FlakyResult}
 use Rattle.unit_results.specs.declared.config.FlakyResult.TheVariants as setting
-use Rattle.unit_results.specs.declared.config.LeakTimeoutResult.TheVariants as leak
-use Rattle.unit_results.specs.declared.config.SlowTimeoutResult.TheVariants as slow
 use Rattle.unit_results.specs.declared.results.CancelReason.{CancelReason}
 use Rattle.unit_results.specs.declared.results.CancelReason.TheVariants as reason
 use Rattle.unit_results.specs.declared.results.ExecutionResultDescription.{ExecutionResultDescription}
 use Rattle.unit_results.specs.declared.results.ExecutionResultDescription.TheVariants as result
-use Rattle.unit_results.specs.declared.results.failure.FailureDescription.TheVariants as failure
 use Rattle.run_events.specs.declared.stats.RunStart.{RunStart}
 use Rattle.digest_devices.specs.declared.fault.Fault.{Fault}
 use Rattle.digest_devices.specs.declared.fault.Fault.TheVariants as faults
 use Rattle.digest_engine.specs.Reading.{Run}
+use Rattle.digest_engine.specs.Spelling.{Pass, Leak, LeakFail, Fail, ExecFail, Timeout, TimeoutPass, word_of, result_named, reason_word}
 
 -- what comes of a value that is there
 infixl 10 ◌>>=◌
 abbrev pub ◌>>=◌ : {A B : Type 0} → Option A → (A → Option B) → Option B
 o >>= f = option_and_then f o
 
+-- the first of some values whose word this is
+abbrev pub named : {A : Type 0} → (A → List ℕ) → List A → List ℕ → Option A
+named word_of [] word = None
+named word_of (x ∷ xs) word = if bytes_eq word (word_of x) then Some x else named word_of xs word
+
 -- the result that a word names
 unfoldable pub result_of : List ℕ → Option ExecutionResultDescription
-result_of word =
-    if bytes_eq word (codes "pass") then Some result.Pass
-    else if bytes_eq word (codes "leak") then Some (result.Leak leak.Pass)
-    else if bytes_eq word (codes "leak-fail") then Some (result.Leak leak.Fail)
-    else if bytes_eq word (codes "fail") then Some (result.Fail (failure.ExitCode (pos 1)) false)
-    else if bytes_eq word (codes "exec-fail") then Some result.ExecFail
-    else if bytes_eq word (codes "timeout") then Some (result.Timeout slow.Fail)
-    else if bytes_eq word (codes "timeout-pass") then Some (result.Timeout slow.Pass)
-    else None
+result_of word = option_map result_named (named word_of (Pass ∷ Leak ∷ LeakFail ∷ Fail ∷ ExecFail ∷ Timeout ∷ TimeoutPass ∷ []) word)
+
+-- the reasons to cancel, and that there is none
+abbrev pub reasons : List (Option CancelReason)
+reasons =
+    None ∷ Some reason.SetupScriptFailure ∷ Some reason.TestFailure ∷ Some reason.ReportError ∷ Some reason.OutputLimit
+    ∷ Some reason.TestFailureImmediate ∷ Some reason.GlobalTimeout ∷ Some reason.Signal ∷ Some reason.Interrupt
+    ∷ Some reason.SecondSignal ∷ []
 
 -- the reason that a word names, or that there is none
 unfoldable pub reason_of : List ℕ → Option (Option CancelReason)
-reason_of word =
-    if bytes_eq word (codes "-") then Some None
-    else if bytes_eq word (codes "setup-script-failure") then Some (Some reason.SetupScriptFailure)
-    else if bytes_eq word (codes "test-failure") then Some (Some reason.TestFailure)
-    else if bytes_eq word (codes "report-error") then Some (Some reason.ReportError)
-    else if bytes_eq word (codes "output-limit") then Some (Some reason.OutputLimit)
-    else if bytes_eq word (codes "test-failure-immediate") then Some (Some reason.TestFailureImmediate)
-    else if bytes_eq word (codes "global-timeout") then Some (Some reason.GlobalTimeout)
-    else if bytes_eq word (codes "signal") then Some (Some reason.Signal)
-    else if bytes_eq word (codes "interrupt") then Some (Some reason.Interrupt)
-    else if bytes_eq word (codes "second-signal") then Some (Some reason.SecondSignal)
-    else None
+reason_of word = named reason_word reasons word
 
 -- the number that digits spell
 abbrev pub value_of_digits : List ℕ → ℕ
@@ -67,14 +58,17 @@ number_of word =
 abbrev pub words_of : List ℕ → List (List ℕ)
 words_of line = slice_split (λ b. b == 32) line
 
+-- the start of a run, by the words after its keyword
+unfoldable pub start_fields : List (List ℕ) → Option RunStart
+start_fields (tests ∷ scripts ∷ why ∷ []) =
+    number_of tests >>= λ t. number_of scripts >>= λ s. reason_of why >>= λ r.
+    Some (record { initial_run_count = t; setup_scripts_initial_count = s; skipped = 0; cancel_reason = r })
+start_fields _ = None
+
 -- the start of a run, by its keyword
 unfoldable pub start_of_words : List ℕ → List (List ℕ) → Option RunStart
-start_of_words keyword (first ∷ tests ∷ scripts ∷ why ∷ []) =
-    if bytes_eq first keyword
-    then (number_of tests >>= λ t. number_of scripts >>= λ s. reason_of why >>= λ r.
-    Some (record { initial_run_count = t; setup_scripts_initial_count = s; skipped = 0; cancel_reason = r }))
-    else None
-start_of_words keyword _ = None
+start_of_words keyword [] = None
+start_of_words keyword (first ∷ words) = if bytes_eq first keyword then start_fields words else None
 
 -- the results of a test, divided by commas
 unfoldable pub all_results : List (List ℕ) → Option (List ExecutionResultDescription)
@@ -117,28 +111,19 @@ test_of_words [] = None
 test_of_words (results ∷ flags) =
     flags_of flags >>= λ f. results_of results >>= λ rs. Some (view_from rs f)
 
--- a finished unit, by its words
-unfoldable pub unit_of_words : List (List ℕ) → Option UnitView
-unit_of_words [] = None
-unit_of_words (kind ∷ words) =
-    if bytes_eq kind (codes "script") then (script_of_words words >>= λ r. Some (ScriptUnit r))
-    else if bytes_eq kind (codes "test") then (test_of_words words >>= λ t. Some (TestUnit t))
-    else None
-
 -- what a line after line 1 says: a finished unit, or the start of a sub-run
 pub data EntryView : Type 0 where
   UnitEntry : UnitView → EntryView
   SubRunEntry : RunStart → EntryView
 
--- the start of a sub-run, or else a unit
-abbrev pub entry_from : Option RunStart → Option UnitView → Option EntryView
-entry_from (Some start) unit = Some (SubRunEntry start)
-entry_from None (Some unit) = Some (UnitEntry unit)
-entry_from None None = None
-
--- a line after line 1, by its words
+-- a line after line 1, by its words: the first says what follows
 unfoldable pub entry_of_words : List (List ℕ) → Option EntryView
-entry_of_words words = entry_from (start_of_words (codes "sub-run") words) (unit_of_words words)
+entry_of_words [] = None
+entry_of_words (kind ∷ words) =
+    if bytes_eq kind (codes "sub-run") then option_map SubRunEntry (start_fields words)
+    else if bytes_eq kind (codes "script") then option_map (λ r. UnitEntry (ScriptUnit r)) (script_of_words words)
+    else if bytes_eq kind (codes "test") then option_map (λ t. UnitEntry (TestUnit t)) (test_of_words words)
+    else None
 
 -- a run of which only the start is known
 abbrev pub begun : RunStart → Run
@@ -177,11 +162,10 @@ unfoldable pub runs_of : List (List ℕ) → Result (List Run) ℕ
 runs_of [] = Err 1
 runs_of (line ∷ lines) = start_line (start_of_words (codes "run") (words_of line)) (λ run. runs_from 2 run lines)
 
--- what was answered, seen by a view, is what the reader gives, unless memory was refused
-abbrev pub Gives : {X Y : Type 0} → (X → Y) → Result X Fault → Result Y ℕ → Type 0
-Gives view (Ok x) read = read ≡ Ok (view x)
-Gives view (Err (faults.BadLine number)) read = read ≡ Err number
-Gives view (Err faults.OutOfMemory) read = Unit {0}
-Gives view (Err faults.BadWord) read = ⊥
-Gives view (Err faults.Read) read = ⊥
-Gives view (Err faults.Write) read = ⊥
+-- the reader gives this bad line, unless memory was refused
+abbrev pub Refuses : Fault → Result (List Run) ℕ → Type 0
+Refuses (faults.BadLine number) read = read ≡ Err number
+Refuses faults.OutOfMemory read = Unit {0}
+Refuses faults.BadWord read = ⊥
+Refuses faults.Read read = ⊥
+Refuses faults.Write read = ⊥

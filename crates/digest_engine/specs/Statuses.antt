@@ -1,8 +1,7 @@
 -- The statuses that `count` builds for what its input says.
-use Rattle.std.specs.Prelude.{◌≡◌, ◌+◌, ◌<◌, ◌&&◌, ◌==◌, ℕ, Bool, false, List, length, pos, None, Some, slice_get, IfSome}
+use Rattle.std.specs.Prelude.{◌≡◌, ◌+◌, ◌<◌, ◌&&◌, ◌==◌, ℕ, Bool, false, List, length, map, pos, None, Some, slice_get, IfSome}
 use Rattle.std.specs.Duration.{as_nanos}
-use Rattle.run_events.specs.Counters.{UnitView, ScriptUnit, TestUnit}
-use Rattle.run_events.specs.TestView.{view_of}
+use Rattle.run_events.specs.Described.{described_result}
 use Rattle.test_attempts.specs.declared.attempts.ExecuteStatus.{ExecuteStatus}
 use Rattle.test_attempts.specs.declared.attempts.SetupScriptExecuteStatus.{SetupScriptExecuteStatus}
 use Rattle.unit_results.specs.declared.child.ChildExecutionOutputDescription.{ChildExecutionOutputDescription}
@@ -11,14 +10,12 @@ use Rattle.unit_results.specs.declared.child.output.ChildOutputDescription.{Chil
 use Rattle.unit_results.specs.declared.child.output.ChildOutputDescription.TheVariants.{Split}
 use Rattle.unit_results.specs.declared.child.LiveSpec.{LiveSpec}
 use Rattle.unit_results.specs.declared.config.Moment.{Moment}
+use Rattle.unit_results.specs.declared.results.ExecutionResult.{ExecutionResult}
 use Rattle.unit_results.specs.declared.results.ExecutionResultDescription.{ExecutionResultDescription}
-use Rattle.digest_engine.specs.declared.units.OwnedUnit.{OwnedUnit}
-use Rattle.digest_engine.specs.declared.units.OwnedUnit.TheVariants.{Script, Test}
 
--- the view of a unit that is owned
-abbrev pub owned_view : OwnedUnit → UnitView
-owned_view (Script s) = ScriptUnit s.result
-owned_view (Test t) = TestUnit (view_of t)
+-- what results say of the attempts that had them
+abbrev pub described_results : List ExecutionResult → List ExecutionResultDescription
+described_results results = map (λ r. described_result r None) results
 
 -- 1970-01-01T00:00:00Z, with offset 0
 abbrev pub IsEpoch : Moment → Type 0

@@ -1,29 +1,40 @@
 //! Counting runs: from the lines that tell of their units to the reports of their counters.
 
-ghost use Rattle.std.specs.Prelude.{◌≡◌, ◌↔◌, true, false, IfErr, IfOk, IfSome, OnOk, IsErrOf, string_bytes};
+ghost use Rattle.std.specs.Prelude.{◌≡◌, ◌↔◌, true, false, map, IfErr, IfOk, IfSome, OnOk, IsErrOf, string_bytes};
+ghost use Rattle.run_events.specs.Summary.{summary_of};
 ghost use Rattle.digest_devices.specs.declared.fault.Fault.TheVariants as faults;
 ghost use Rattle.digest_engine.specs.Answer.{Answers, KeepsSink, ReadsToEnd};
 ghost use Rattle.digest_engine.specs.Digest.{IsDigest, IsRefusal};
 ghost use Rattle.digest_engine.specs.Reading.{texts_of};
 
-use crate::lent::{finished_runs, lent_runs};
-use crate::lines::runs_in;
+use crate::lines::stats_in;
 use crate::report::reports;
 use digest_devices::device::{Sink, Source};
 use digest_devices::fault::Fault;
 use digest_devices::transfer::{read_all, write_all};
-use run_events::outcome::RunOutcome;
-use std::alloc::Global;
+use run_events::outcome::{FinalRunStats, RunOutcome};
+use run_events::stats::RunStats;
+use std::alloc::{AllocError, Global};
+
+/// The summaries of runs, by their statistics.
+fn summaries_of(alloc: Global, runs: &[RunStats]) -> Result<Vec<FinalRunStats>, AllocError>
+    ensures { IfOk result (λ v. v.items ≡ map summary_of runs.now) }
+{
+    let mut summaries = Vec::with_capacity(alloc, runs.len())?;
+    for stats in runs {
+        summaries.push(stats.summarize_final())?;
+    }
+    Ok(summaries)
+}
 
 /// The text for an input, and whether the outcome of its runs is `Success`; or why there is none.
 fn digest(alloc: Global, bytes: &[u8]) -> Result<(String, bool), Fault>
     ensures digest { IfOk result (λ d. IsDigest (texts_of bytes.now) (string_bytes d.0) d.1) }
     ensures refusal { IfErr result (λ fault. IsRefusal (texts_of bytes.now) fault) }
 {
-    let inputs = runs_in(alloc, bytes)?;
-    let lent = lent_runs(alloc, inputs.as_slice())?;
-    let runs = finished_runs(alloc, lent.as_slice())?;
-    let outcome = RunOutcome::of_runs(runs.as_slice());
+    let runs = stats_in(alloc, bytes)?;
+    let summaries = summaries_of(alloc, runs.as_slice())?;
+    let outcome = RunOutcome::of_sub_runs(summaries.as_slice());
     let text = reports(alloc, runs.as_slice(), outcome)?;
     Ok((text, outcome == RunOutcome::Success))
 }

@@ -1,85 +1,79 @@
 //! What the lines of the input say of runs.
 
-ghost use Rattle.std.specs.Prelude.{◌≡◌, map};
-ghost use Rattle.digest_engine.specs.Reader.{Gives, begun, runs_from, runs_of};
+ghost use Rattle.std.specs.Prelude.{◌≡◌, IfErr, IfOk, codes};
+ghost use Rattle.digest_engine.specs.Counted.{AreCounted, GivesStats};
+ghost use Rattle.digest_engine.specs.Digest.{IsRefusal};
+ghost use Rattle.digest_engine.specs.Reader.{Refuses, begun, runs_from, start_of_words, words_of};
 ghost use Rattle.digest_engine.specs.Reading.{texts_of};
-ghost use Rattle.digest_engine.specs.RunInput.{run_said};
 
-use crate::entry::{Entry, entry_in};
-use crate::units::OwnedUnit;
-use crate::words::{start_from, words_in};
+use crate::entry::{Entry, parse_entry};
+use crate::parts::Parts;
+use crate::words::parse_start;
 use bstr::{ByteSlice, Lines};
 use digest_devices::fault::Fault;
-use run_events::stats::RunStart;
+use run_events::stats::{RunStart, RunStats};
 use std::alloc::Global;
-use std::mem;
 
 /// How many lines the input has at most.
 const MAX_LINES: usize = 10_000;
 
-/// What the input says of a run.
-#[derive(Drop)]
-pub(crate) struct RunInput {
-    /// What is known of the run apart from its units.
-    pub(crate) start: RunStart,
-
-    /// Its finished units, in order.
-    pub(crate) units: Vec<OwnedUnit>,
-}
-
-impl RunInput {
-    /// A run of which only the start is known.
-    fn begun(alloc: Global, start: RunStart) -> RunInput
-        ensures { run_said result ≡ begun start }
-    {
-        RunInput {
-            start,
-            units: Vec::new(alloc),
-        }
+/// The start of the first run, as line 1 says it. A line that is no text says nothing.
+#[tactic(auto, unfolding(crate::specs::Reader::start_of_words))]
+fn parse_first(line: &[u8]) -> Option<RunStart>
+    ensures { result ≡ start_of_words (codes "run") (words_of line.now) }
+{
+    let Ok(text) = str::from_utf8(line) else {
+        return None;
+    };
+    let mut words = Parts::new(text, ' ');
+    match words.next() {
+        Some("run") => parse_start(words),
+        _ => None,
     }
 }
 
-/// The runs that the lines after line 1 say, where line 1 begins with this start. There are at most
-/// [`MAX_LINES`] lines.
-#[tactic(auto, unfolding(crate::specs::Reader::runs_from))]
-fn runs_after(alloc: Global, start: RunStart, mut lines: Lines<'_>) -> Result<Vec<RunInput>, Fault>
-    ensures { Gives (λ v. map run_said v.items) result (runs_from 2 (begun start) lines.entry) }
+/// The statistics of the runs that the lines say, of which this start begins the first. Line 1 is
+/// not among them, and there are at most [`MAX_LINES`] with it.
+fn stats_after(alloc: Global, start: RunStart, mut lines: Lines<'_>) -> Result<Vec<RunStats>, Fault>
+    ensures stats { IfOk result (λ v. GivesStats (runs_from 2 (begun start) lines.entry) v.items) }
+    ensures refusal { IfErr result (λ fault. Refuses fault (runs_from 2 (begun start) lines.entry)) }
 {
     let mut runs = Vec::new(alloc);
-    let mut run = RunInput::begun(alloc, start);
+    let mut stats = RunStats::of_run(&[], start);
     let mut number = 2;
     while let Some(line) = lines.next() {
         if number > MAX_LINES {
             return Err(Fault::BadLine { number });
         }
-        let Some(entry) = entry_in(alloc, line)? else {
+        let Some(entry) = parse_entry(alloc, line)? else {
             return Err(Fault::BadLine { number });
         };
-        match entry {
-            Entry::Unit(unit) => run.units.push(unit)?,
+        match &entry {
+            Entry::Script(script) => stats.on_setup_script_finished(script),
+            Entry::Test(test) => stats.on_test_finished(test),
             Entry::SubRun(start) => {
-                let before = mem::replace(&mut run, RunInput::begun(alloc, start));
-                runs.push(before)?;
+                runs.push(stats)?;
+                stats = RunStats::of_run(&[], *start);
             }
         }
         number += 1;
     }
-    runs.push(run)?;
+    runs.push(stats)?;
     Ok(runs)
 }
 
-/// What the input says of runs, at least one, or the first bad line.
-#[tactic(auto, unfolding(crate::specs::Reader::runs_of))]
-pub(crate) fn runs_in(alloc: Global, bytes: &[u8]) -> Result<Vec<RunInput>, Fault>
-    ensures { Gives (λ v. map run_said v.items) result (runs_of (texts_of bytes.now)) }
+/// The statistics of the runs that the input says, at least one; or why there are none: the first
+/// bad line, or memory was refused.
+pub(crate) fn stats_in(alloc: Global, bytes: &[u8]) -> Result<Vec<RunStats>, Fault>
+    ensures stats { IfOk result (λ v. AreCounted (texts_of bytes.now) v.items) }
+    ensures refusal { IfErr result (λ fault. IsRefusal (texts_of bytes.now) fault) }
 {
     let mut lines = bytes.lines();
     let Some(first) = lines.next() else {
         return Err(Fault::BadLine { number: 1 });
     };
-    let words = words_in(alloc, first)?;
-    let Some(start) = start_from(b"run", words.as_slice()) else {
-        return Err(Fault::BadLine { number: 1 });
-    };
-    runs_after(alloc, start, lines)
+    match parse_first(first) {
+        Some(start) => stats_after(alloc, start, lines),
+        None => Err(Fault::BadLine { number: 1 }),
+    }
 }

@@ -1,15 +1,17 @@
 //! The text that tells of runs.
 
-ghost use Rattle.std.specs.Prelude.{◌≡◌, map, IfOk, string_bytes};
+ghost use Rattle.std.specs.Prelude.{◌≡◌, ◌++◌, All, IfOk, OnOk, map, string_bytes};
+ghost use Rattle.std.specs.List.{concat};
 ghost use Rattle.run_events.specs.Summary.{FailuresFit};
-ghost use Rattle.digest_engine.specs.Report.{outcome_line, outcome_words, report_of, reports_of, run_reports, scripts_line, step_words, summary_words, tests_line};
-ghost use Rattle.digest_engine.specs.RunInput.{finished_said};
+ghost use Rattle.digest_engine.specs.Counted.{stats_reports};
+ghost use Rattle.digest_engine.specs.Report.{outcome_words, report_of};
 ghost use Rattle.digest_engine.specs.Spelling.{reason_word};
 
 use run_events::outcome::{FinalRunStats, RunFailureStep, RunOutcome, RunStatsFailureKind};
 use run_events::results::CancelReason;
-use run_events::stats::{FinishedRun, RunStats};
+use run_events::stats::RunStats;
 use std::alloc::{AllocError, Global};
+use std::fmt::{self, Write};
 
 /// The word of a reason, as line 1 spells it.
 fn reason_text(reason: Option<CancelReason>) -> &'static str
@@ -29,93 +31,54 @@ fn reason_text(reason: Option<CancelReason>) -> &'static str
     }
 }
 
-/// The step at which a run ended.
-#[tactic(auto, unfolding(crate::specs::Report::step_words))]
-fn step_text(alloc: Global, kind: RunStatsFailureKind) -> Result<String, AllocError>
-    ensures { IfOk result (λ s. string_bytes s ≡ step_words kind) }
-{
-    match kind {
-        RunStatsFailureKind::SetupScript => String::from_str(alloc, "setup-script"),
-        RunStatsFailureKind::Test {
-            initial_run_count,
-            not_run,
-        } => format!(in alloc; "test {initial_run_count} {not_run}"),
-    }
-}
+/// The step at which a run ended, in words.
+#[derive(Clone, Copy)]
+struct StepText(RunStatsFailureKind);
 
-/// A summary in words.
-#[tactic(auto, unfolding(crate::specs::Report::summary_words))]
-fn summary_text(alloc: Global, summary: FinalRunStats) -> Result<String, AllocError>
-    ensures { IfOk result (λ s. string_bytes s ≡ summary_words summary) }
-{
-    match summary {
-        FinalRunStats::Success => String::from_str(alloc, "success"),
-        FinalRunStats::NoTestsRun => String::from_str(alloc, "no-tests-run"),
-        FinalRunStats::Cancelled { reason, kind } => {
-            let word = reason_text(reason);
-            let step = step_text(alloc, kind)?;
-            format!(in alloc; "cancelled {word} {step}")
-        }
-        FinalRunStats::Failed { kind } => {
-            let step = step_text(alloc, kind)?;
-            format!(in alloc; "failed {step}")
+impl fmt::Display for StepText {
+    ghost use Rattle.std.specs.Prelude.{Some};
+    ghost use Rattle.digest_engine.specs.Report.{step_words};
+
+    ghost output = { λ s. Some (step_words s.0) };
+
+    #[tactic(auto, unfolding(crate::specs::Report::step_words))]
+    fn fmt<W: fmt::Write>(&self, f: &mut fmt::Formatter<W>) -> fmt::Result {
+        match self.0 {
+            RunStatsFailureKind::SetupScript => f.write_str("setup-script"),
+            RunStatsFailureKind::Test {
+                initial_run_count,
+                not_run,
+            } => write!(f, "test {initial_run_count} {not_run}"),
         }
     }
 }
 
-/// The line of the tests, by its numbers.
-#[tactic(auto, unfolding(crate::specs::Report::tests_line))]
-fn tests_text(
-    alloc: Global,
-    finished: usize,
-    passed: usize,
-    failed: usize,
-    flaky: usize,
-) -> Result<String, AllocError>
-    ensures { IfOk result (λ s. string_bytes s ≡ tests_line finished passed failed flaky) }
-{
-    format!(in alloc; "tests {finished} passed {passed} failed {failed} flaky {flaky}\n")
-}
+/// A summary, in words.
+#[derive(Clone, Copy)]
+struct SummaryText(FinalRunStats);
 
-/// The line of the scripts, by its numbers.
-#[tactic(auto, unfolding(crate::specs::Report::scripts_line))]
-fn scripts_text(alloc: Global, finished: usize, failed: usize) -> Result<String, AllocError>
-    ensures { IfOk result (λ s. string_bytes s ≡ scripts_line finished failed) }
-{
-    format!(in alloc; "scripts {finished} failed {failed}\n")
-}
+impl fmt::Display for SummaryText {
+    ghost use Rattle.std.specs.Prelude.{Some};
+    ghost use Rattle.digest_engine.specs.Report.{summary_words};
 
-/// The three lines for statistics. Both sums of failures must fit `usize`.
-#[tactic(auto, unfolding(crate::specs::Report::report_of))]
-fn report(alloc: Global, stats: &RunStats) -> Result<String, AllocError>
-    requires { FailuresFit stats.now }
-    ensures { IfOk result (λ s. string_bytes s ≡ report_of stats.now) }
-{
-    let failed = stats.failed_count();
-    let tests = tests_text(
-        alloc,
-        stats.finished_count,
-        stats.passed,
-        failed,
-        stats.flaky,
-    )?;
-    let failed = stats.failed_setup_script_count();
-    let scripts = scripts_text(alloc, stats.setup_scripts_finished_count, failed)?;
-    let summary = summary_text(alloc, stats.summarize_final())?;
-    format!(in alloc; "{tests}{scripts}summary {summary}\n")
-}
+    ghost output = { λ s. Some (summary_words s.0) };
 
-/// The reports of runs, in order.
-fn run_reports_text(alloc: Global, runs: &[FinishedRun<'_>]) -> Result<String, AllocError>
-    ensures { IfOk result (λ s. string_bytes s ≡ run_reports (map finished_said runs.now)) }
-{
-    let mut text = String::new(alloc);
-    for run in runs {
-        let stats = RunStats::of_run(run.units, run.start);
-        let report = report(alloc, &stats)?;
-        text.push_str(report.as_str())?;
+    #[tactic(auto, unfolding(crate::specs::Report::summary_words))]
+    fn fmt<W: fmt::Write>(&self, f: &mut fmt::Formatter<W>) -> fmt::Result {
+        match self.0 {
+            FinalRunStats::Success => f.write_str("success"),
+            FinalRunStats::NoTestsRun => f.write_str("no-tests-run"),
+            FinalRunStats::Cancelled { reason, kind } => {
+                let word = reason_text(reason);
+                let step = StepText(kind);
+                write!(f, "cancelled {word} {step}")
+            }
+            FinalRunStats::Failed { kind } => {
+                let step = StepText(kind);
+                write!(f, "failed {step}")
+            }
+        }
     }
-    Ok(text)
 }
 
 /// An outcome in words.
@@ -141,28 +104,51 @@ fn outcome_text(outcome: RunOutcome) -> &'static str
     }
 }
 
-/// The line of an outcome.
-#[tactic(auto, unfolding(crate::specs::Report::outcome_line))]
-fn outcome_line_text(alloc: Global, outcome: RunOutcome) -> Result<String, AllocError>
-    ensures { IfOk result (λ s. string_bytes s ≡ outcome_line outcome) }
+/// Appends the three lines for statistics. Both sums of failures must fit `usize`.
+#[tactic(auto, unfolding(crate::specs::Report::report_of, crate::specs::Report::tests_line, crate::specs::Report::scripts_line))]
+fn push_report(text: &mut String, stats: &RunStats) -> Result<(), AllocError>
+    requires { FailuresFit stats.now }
+    ensures { OnOk result (string_bytes text.new ≡ string_bytes text.old ++ report_of stats.now) }
 {
-    let words = outcome_text(outcome);
-    format!(in alloc; "outcome {words}\n")
+    let (finished, passed, flaky) = (stats.finished_count, stats.passed, stats.flaky);
+    let failed = stats.failed_count();
+    writeln!(
+        text,
+        "tests {finished} passed {passed} failed {failed} flaky {flaky}"
+    )?;
+    let finished = stats.setup_scripts_finished_count;
+    let failed = stats.failed_setup_script_count();
+    writeln!(text, "scripts {finished} failed {failed}")?;
+    let summary = SummaryText(stats.summarize_final());
+    writeln!(text, "summary {summary}")
 }
 
-/// The text for runs and their outcome: their reports, and the line of the outcome unless there is
-/// one run alone.
+/// The reports of runs, in order.
+fn report_texts(alloc: Global, runs: &[RunStats]) -> Result<String, AllocError>
+    requires { All FailuresFit runs.now }
+    ensures { IfOk result (λ s. string_bytes s ≡ concat (map report_of runs.now)) }
+{
+    let mut text = String::new(alloc);
+    for stats in runs {
+        push_report(&mut text, stats)?;
+    }
+    Ok(text)
+}
+
+/// The text for runs with these statistics and their outcome: their reports, and the line of the
+/// outcome unless there is one run alone. Both sums of failures of each must fit `usize`.
 pub(crate) fn reports(
     alloc: Global,
-    runs: &[FinishedRun<'_>],
+    runs: &[RunStats],
     outcome: RunOutcome,
 ) -> Result<String, AllocError>
-    ensures { IfOk result (λ s. string_bytes s ≡ reports_of (map finished_said runs.now) outcome) }
+    requires { All FailuresFit runs.now }
+    ensures { IfOk result (λ s. string_bytes s ≡ stats_reports runs.now outcome) }
 {
-    let mut text = run_reports_text(alloc, runs)?;
+    let mut text = report_texts(alloc, runs)?;
     if runs.len() != 1 {
-        let line = outcome_line_text(alloc, outcome)?;
-        text.push_str(line.as_str())?;
+        let words = outcome_text(outcome);
+        writeln!(text, "outcome {words}")?;
     }
     Ok(text)
 }

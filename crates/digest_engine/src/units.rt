@@ -1,45 +1,24 @@
-//! Finished units, as the lines of the input name them.
+//! Finished units, as the lines of the input say them.
 
-ghost use Rattle.std.specs.Prelude.{◌≡◌, ◌==◌, ◌≤◌, None, map, length, IfOk, IfSome, option_map};
-ghost use Rattle.std.specs.List.{slice_split};
-ghost use Rattle.run_events.specs.Counters.{unit_view};
+ghost use Rattle.std.specs.Prelude.{◌≡◌, ◌<◌, ◌≤◌, None, map, length, IfOk, IfSome, option_map};
 ghost use Rattle.run_events.specs.Described.{described_result};
 ghost use Rattle.run_events.specs.TestView.{view_of};
-ghost use Rattle.digest_engine.specs.Reader.{all_results, script_of_words, test_of_words, unit_of_words};
-ghost use Rattle.digest_engine.specs.Statuses.{AreAttempts, IsAttempt, IsEpoch, IsScript, nothing_captured, owned_view};
+ghost use Rattle.digest_engine.specs.Reader.{results_of, script_of_words, test_of_words};
+ghost use Rattle.digest_engine.specs.Statuses.{AreAttempts, IsAttempt, IsEpoch, IsScript, described_results, nothing_captured};
 
-use crate::words::{flags_from, named_result, parts_at};
+use crate::parts::Parts;
+use crate::words::{parse_flags, parse_result};
 use jiff::Timestamp;
 use jiff::tz::Offset;
 use run_events::attempts::{ExecuteStatus, ExecutionStatuses, RetryData, SetupScriptExecuteStatus};
 use run_events::child::{ChildExecutionOutputDescription, ChildOutputDescription, LiveSpec};
 use run_events::config::Moment;
 use run_events::results::{ExecutionResult, ExecutionResultDescription};
-use run_events::stats::FinishedUnit;
 use std::alloc::{AllocError, Global};
 use std::time::Duration;
 
 /// How many results a test has at most.
 const MAX_RESULTS: usize = 100;
-
-/// A finished unit, owned.
-#[derive(Drop)]
-pub(crate) enum OwnedUnit {
-    Script(SetupScriptExecuteStatus<LiveSpec>),
-    Test(ExecutionStatuses<LiveSpec>),
-}
-
-impl OwnedUnit {
-    /// The unit, lent.
-    pub(crate) fn lent(&self) -> FinishedUnit<'_>
-        ensures { unit_view result ≡ owned_view self.now }
-    {
-        match self {
-            OwnedUnit::Script(script) => FinishedUnit::Script(script),
-            OwnedUnit::Test(test) => FinishedUnit::Test(test),
-        }
-    }
-}
 
 /// The moment at which all units of the input began: the input names none.
 fn epoch() -> Moment
@@ -88,16 +67,16 @@ fn attempt_of(
     }
 }
 
-/// The script that the words after `script` name: one result.
+/// The script that the words after `script` say: one result.
 #[tactic(auto, unfolding(crate::specs::Reader::script_of_words))]
-fn script_from(words: &[&[u8]]) -> Option<SetupScriptExecuteStatus<LiveSpec>>
-    ensures value { option_map (λ s. s.result) result ≡ script_of_words (map (λ w. w.now) words.now) }
+pub(crate) fn parse_script(mut words: Parts<'_>) -> Option<SetupScriptExecuteStatus<LiveSpec>>
+    ensures value { option_map (λ s. s.result) result ≡ script_of_words words.entry }
     ensures bare { IfSome result IsScript }
 {
-    let [word] = words else {
+    let (Some(word), None) = (words.next(), words.next()) else {
         return None;
     };
-    let outcome = named_result(word)?;
+    let outcome = parse_result(word)?;
     Some(SetupScriptExecuteStatus {
         output: output_of(outcome),
         result: ExecutionResultDescription::from_status(outcome, None),
@@ -109,78 +88,67 @@ fn script_from(words: &[&[u8]]) -> Option<SetupScriptExecuteStatus<LiveSpec>>
     })
 }
 
-/// The attempts whose results words name, at most [`MAX_RESULTS`]; the last of them is slow where
-/// that is said.
-fn attempts_from(
-    alloc: Global,
-    words: &[&[u8]],
-    is_slow: bool,
-) -> Result<Option<Vec<ExecuteStatus<LiveSpec>>>, AllocError>
-    requires { length words.now ≤ MAX_RESULTS }
-    ensures results { IfOk result (λ found. option_map (λ v. map (λ s. s.result) v.items) found ≡ all_results (map (λ w. w.now) words.now)) }
-    ensures attempts { IfOk result (λ found. IfSome found (λ v. AreAttempts v.items (length words.now) is_slow)) }
-    ensures count { IfOk result (λ found. IfSome found (λ v. length v.items ≡ length words.now)) }
+/// The results of a test, with one comma between two, at most [`MAX_RESULTS`].
+fn parse_results(alloc: Global, list: &str) -> Result<Option<Vec<ExecutionResult>>, AllocError>
+    ensures results { IfOk result (λ found. option_map (λ v. described_results v.items) found ≡ results_of list.now) }
+    ensures some { IfOk result (λ found. IfSome found (λ v. 0 < length v.items)) }
+    ensures few { IfOk result (λ found. IfSome found (λ v. length v.items ≤ MAX_RESULTS)) }
 {
-    let total = words.len();
-    let mut statuses = Vec::with_capacity(alloc, total)?;
-    for (i, word) in words.iter().enumerate() {
+    let mut results = Vec::new(alloc);
+    let mut words = Parts::new(list, ',');
+    while let Some(word) = words.next() {
+        if results.len() == MAX_RESULTS {
+            return Ok(None);
+        }
+        match parse_result(word) {
+            Some(result) => results.push(result)?,
+            None => return Ok(None),
+        }
+    }
+    Ok(Some(results))
+}
+
+/// The attempts that had these results; the last of them is slow where that is said.
+fn attempts_of(
+    alloc: Global,
+    results: &[ExecutionResult],
+    is_slow: bool,
+) -> Result<Vec<ExecuteStatus<LiveSpec>>, AllocError>
+    requires { length results.now ≤ MAX_RESULTS }
+    ensures results { IfOk result (λ v. map (λ s. s.result) v.items ≡ described_results results.now) }
+    ensures attempts { IfOk result (λ v. AreAttempts v.items (length results.now) is_slow) }
+    ensures count { IfOk result (λ v. length v.items ≡ length results.now) }
+{
+    let total = results.len();
+    let mut attempts = Vec::with_capacity(alloc, total)?;
+    for (i, outcome) in results.iter().enumerate() {
         let retry_data = RetryData {
             attempt: i as u32 + 1,
             total_attempts: total as u32,
         };
         let is_last = i + 1 == total;
-        match named_result(word) {
-            Some(outcome) => statuses.push(attempt_of(outcome, retry_data, is_slow & is_last))?,
-            None => return Ok(None),
-        }
+        attempts.push(attempt_of(*outcome, retry_data, is_slow & is_last))?;
     }
-    Ok(Some(statuses))
+    Ok(attempts)
 }
 
-/// The parts of a list, divided by one comma.
-fn parts_of(alloc: Global, list: &[u8]) -> Result<Vec<&[u8]>, AllocError>
-    ensures { IfOk result (λ v. map (λ w. w.now) v.items ≡ slice_split (λ b. b == 44) list.now) }
-{
-    parts_at(alloc, list, b',')
-}
-
-/// The test that the words after `test` name: the results of its attempts, and its flags.
-#[tactic(auto, unfolding(crate::specs::Reader::test_of_words, crate::specs::Reader::results_of))]
-fn test_from(
+/// The test that the words after `test` say: the results of its attempts, and its flags.
+#[tactic(auto, unfolding(crate::specs::Reader::test_of_words))]
+pub(crate) fn parse_test(
     alloc: Global,
-    words: &[&[u8]],
+    mut words: Parts<'_>,
 ) -> Result<Option<ExecutionStatuses<LiveSpec>>, AllocError>
-    ensures { IfOk result (λ found. option_map view_of found ≡ test_of_words (map (λ w. w.now) words.now)) }
+    ensures { IfOk result (λ found. option_map view_of found ≡ test_of_words words.entry) }
 {
-    let Some((list, flags)) = words.split_first() else {
+    let Some(list) = words.next() else {
         return Ok(None);
     };
-    let Some((is_slow, setting)) = flags_from(flags) else {
+    let Some((is_slow, setting)) = parse_flags(words) else {
         return Ok(None);
     };
-    let results = parts_of(alloc, list)?;
-    if results.len() > MAX_RESULTS {
-        return Ok(None);
-    }
-    let Some(statuses) = attempts_from(alloc, results.as_slice(), is_slow)? else {
+    let Some(results) = parse_results(alloc, list)? else {
         return Ok(None);
     };
-    Ok(Some(ExecutionStatuses::new(statuses, setting)))
-}
-
-/// The unit that words name.
-#[tactic(auto, unfolding(crate::specs::Reader::unit_of_words))]
-pub(crate) fn unit_from(alloc: Global, words: &[&[u8]]) -> Result<Option<OwnedUnit>, AllocError>
-    ensures { IfOk result (λ found. option_map owned_view found ≡ unit_of_words (map (λ w. w.now) words.now)) }
-{
-    let Some((kind, words)) = words.split_first() else {
-        return Ok(None);
-    };
-    if *kind == b"script".as_slice() {
-        Ok(script_from(words).map(OwnedUnit::Script))
-    } else if *kind == b"test".as_slice() {
-        Ok(test_from(alloc, words)?.map(OwnedUnit::Test))
-    } else {
-        Ok(None)
-    }
+    let attempts = attempts_of(alloc, results.as_slice(), is_slow)?;
+    Ok(Some(ExecutionStatuses::new(attempts, setting)))
 }
