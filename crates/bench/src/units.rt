@@ -1,21 +1,13 @@
 //! Finished tests and summaries of sub-runs, and how they are counted. Every second one failed.
 
 use crate::timing::{Step, Work};
-use jiff::Timestamp;
-use jiff::tz::Offset;
-use run_events::attempts::{ExecuteStatus, ExecutionStatuses, RetryData};
-use run_events::child::{ChildExecutionOutputDescription, ChildOutputDescription, LiveSpec};
-use run_events::config::{FlakyResult, Moment};
+use fixtures::{EXIT_ONE, PASS, finished_test};
+use run_events::attempts::ExecutionStatuses;
+use run_events::child::LiveSpec;
+use run_events::config::FlakyResult;
 use run_events::outcome::{FinalRunStats, RunFailureStep, RunOutcome, RunStatsFailureKind};
-use run_events::results::{ExecutionResult, ExecutionResultDescription, FailureStatus};
 use run_events::stats::{FinishedUnit, RunStart, RunStats};
 use std::alloc::{AllocError, Global};
-use std::time::Duration;
-
-const FAIL: ExecutionResult = ExecutionResult::Fail {
-    failure_status: FailureStatus::ExitCode(1),
-    leaked: false,
-};
 
 /// A run of which nothing is known but its units.
 const START: RunStart = RunStart {
@@ -32,33 +24,6 @@ const SUMMARIES: [FinalRunStats; 2] = [
     },
 ];
 
-/// A test of one attempt that ended so.
-fn test(alloc: Global, end: ExecutionResult) -> Result<ExecutionStatuses<LiveSpec>, AllocError> {
-    let mut statuses = Vec::with_capacity(alloc, 1)?;
-    statuses.push(ExecuteStatus {
-        retry_data: RetryData {
-            attempt: 1,
-            total_attempts: 1,
-        },
-        output: ChildExecutionOutputDescription::Output {
-            result: None,
-            output: ChildOutputDescription::NotLoaded,
-            errors: None,
-        },
-        result: ExecutionResultDescription::from_status(end, None),
-        start_time: Moment {
-            timestamp: Timestamp::UNIX_EPOCH,
-            offset: Offset::UTC,
-        },
-        time_taken: Duration::ZERO,
-        is_slow: false,
-        delay_before_start: Duration::ZERO,
-        error_summary: None,
-        output_error_slice: None,
-    })?;
-    Ok(ExecutionStatuses::new(statuses, FlakyResult::Pass))
-}
-
 /// So many pairs of a test that passed and one that failed.
 pub(crate) fn tests(
     alloc: Global,
@@ -66,8 +31,8 @@ pub(crate) fn tests(
 ) -> Result<Vec<ExecutionStatuses<LiveSpec>>, AllocError> {
     let mut tests = Vec::new(alloc);
     for _ in 0..pairs {
-        tests.push(test(alloc, ExecutionResult::Pass)?)?;
-        tests.push(test(alloc, FAIL)?)?;
+        tests.push(finished_test(alloc, &[], PASS, false, FlakyResult::Pass)?)?;
+        tests.push(finished_test(alloc, &[], EXIT_ONE, false, FlakyResult::Pass)?)?;
     }
     Ok(tests)
 }

@@ -1,6 +1,7 @@
 //! What a child process left, described for reporters.
 
 use crate::outcome::Outcome;
+use fixtures::{captured, error};
 use run_events::child::{
     ChildError, ChildErrorDescription, ChildExecutionOutput, ChildExecutionOutputDescription,
     ChildFdError, ChildOutput, ChildOutputDescription, ChildSingleOutput, ChildSplitOutput,
@@ -10,7 +11,6 @@ use run_events::results::{
     AbortDescription, AbortStatus, ExecutionResult, ExecutionResultDescription, FailureDescription,
     FailureStatus,
 };
-use sample_units::{captured, error};
 use std::alloc::{AllocError, Global};
 
 const END: ExecutionResult = ExecutionResult::Fail {

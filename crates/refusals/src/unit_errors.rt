@@ -1,6 +1,7 @@
 //! Lists of the errors of a unit.
 
 use crate::outcome::Outcome;
+use fixtures::{captured, error};
 use run_events::child::{
     ChildErrorDescription, ChildExecutionOutputDescription, ChildOutputDescription, ErrorList,
     LiveSpec,
@@ -9,7 +10,6 @@ use run_events::results::{
     AbortDescription, ExecutionResultDescription, FailureDescription, UnitKind,
 };
 use run_events::unit_error::{UnitError, UnitErrorDescription};
-use sample_units::{captured, error};
 use std::alloc::{AllocError, Global};
 
 type Answer<'a> = Result<Option<ErrorList<UnitError<'a>>>, AllocError>;

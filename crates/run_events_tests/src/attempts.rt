@@ -1,7 +1,7 @@
 //! The attempts of a test, in order.
 
+use fixtures::{EXIT_ONE, PASS, finished_test};
 use run_events::config::FlakyResult;
-use sample_units::{EXIT_ONE, PASS, finished_test};
 use std::test::Fail;
 
 #[test]

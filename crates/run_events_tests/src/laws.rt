@@ -1,5 +1,6 @@
 //! Each law called once.
 
+use fixtures::error;
 use run_events::attempts::RetryData;
 use run_events::chain::SerializableError;
 use run_events::config::FlakyResult;
@@ -16,7 +17,6 @@ use run_events::results::CancelReason;
 use run_events::run_mode::NextestRunMode;
 use run_events::stats::RunStats;
 use run_events::stress::StressIndex;
-use sample_units::error;
 use std::cmp::Ordering;
 use std::hash::{DefaultHasher, Hasher};
 use std::num::NonZero;

@@ -1,14 +1,14 @@
 //! Whole runs.
 
+use fixtures::{
+    EXEC_FAIL, EXIT_ONE, LEAK_FAIL, LEAK_PASS, PASS, TIMEOUT_FAIL, TIMEOUT_PASS, finished_script,
+    finished_test,
+};
 use run_events::config::FlakyResult;
 use run_events::levels::StatusLevel;
 use run_events::outcome::{RunFailureStep, RunOutcome};
 use run_events::results::CancelReason;
 use run_events::stats::{FinishedRun, FinishedUnit, RunStart, RunStats};
-use sample_units::{
-    EXEC_FAIL, EXIT_ONE, LEAK_FAIL, LEAK_PASS, PASS, TIMEOUT_FAIL, TIMEOUT_PASS, finished_script,
-    finished_test,
-};
 use std::test::Fail;
 
 /// The start of a run of so many tests, with this reason.

@@ -6,8 +6,9 @@
 ghost use Rattle.std.specs.Prelude.{◌≡◌, ◌↔◌, IsTrue};
 ghost use Rattle.upstream_replay.specs.Units.{counters_of, view_of_unit};
 
-use crate::unit::{Unit, script_of, test_in};
+use crate::unit::{Unit, test_in};
 use crate::words::named_result;
+use fixtures::finished_script;
 use run_events::stats::{RunStart, RunStats};
 use std::alloc::{AllocError, Global};
 
@@ -47,9 +48,9 @@ fn raises(unit: &Unit, counters: &RunStats) -> bool
 pub(crate) fn unit_in(alloc: Global, text: &str) -> Result<Option<Unit>, AllocError> {
     let words: Vec<&str> = text.split(' ').collect(alloc)?;
     match words.as_slice() {
-        ["script", result] => Ok(named_result(result).map(|outcome| Unit::Script(script_of(
-            outcome,
-        )))),
+        ["script", result] => {
+            Ok(named_result(result).map(|outcome| Unit::Script(finished_script(outcome))))
+        }
         ["test", rest @ ..] => Ok(test_in(alloc, rest)?.map(Unit::Test)),
         _ => Ok(None),
     }

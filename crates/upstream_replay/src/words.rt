@@ -1,29 +1,19 @@
 //! Words that several kinds of cases share.
 
-use run_events::config::{FlakyResult, LeakTimeoutResult, SlowTimeoutResult};
-use run_events::results::{ExecutionResult, FailureStatus};
+use fixtures::{EXEC_FAIL, EXIT_ONE, LEAK_FAIL, LEAK_PASS, PASS, TIMEOUT_FAIL, TIMEOUT_PASS};
+use run_events::config::FlakyResult;
+use run_events::results::ExecutionResult;
 
 /// The result that a word names.
 pub(crate) fn named_result(word: &str) -> Option<ExecutionResult> {
     match word {
-        "pass" => Some(ExecutionResult::Pass),
-        "leak" => Some(ExecutionResult::Leak {
-            result: LeakTimeoutResult::Pass,
-        }),
-        "leak-fail" => Some(ExecutionResult::Leak {
-            result: LeakTimeoutResult::Fail,
-        }),
-        "fail" => Some(ExecutionResult::Fail {
-            failure_status: FailureStatus::ExitCode(1),
-            leaked: false,
-        }),
-        "exec-fail" => Some(ExecutionResult::ExecFail),
-        "timeout" => Some(ExecutionResult::Timeout {
-            result: SlowTimeoutResult::Fail,
-        }),
-        "timeout-pass" => Some(ExecutionResult::Timeout {
-            result: SlowTimeoutResult::Pass,
-        }),
+        "pass" => Some(PASS),
+        "leak" => Some(LEAK_PASS),
+        "leak-fail" => Some(LEAK_FAIL),
+        "fail" => Some(EXIT_ONE),
+        "exec-fail" => Some(EXEC_FAIL),
+        "timeout" => Some(TIMEOUT_FAIL),
+        "timeout-pass" => Some(TIMEOUT_PASS),
         _ => None,
     }
 }
@@ -37,11 +27,11 @@ pub(crate) fn named_setting(word: &str) -> Option<FlakyResult> {
     }
 }
 
-/// Whether there was a second attempt, by the number of attempts, which is 1 or 2.
-pub(crate) fn named_retry(word: &str) -> Option<bool> {
+/// The attempts before the last one, which failed, by the number of all: 1 or 2.
+pub(crate) fn earlier_attempts(word: &str) -> Option<&'static [ExecutionResult]> {
     match word {
-        "1" => Some(false),
-        "2" => Some(true),
+        "1" => Some(&[]),
+        "2" => Some(&[EXIT_ONE]),
         _ => None,
     }
 }

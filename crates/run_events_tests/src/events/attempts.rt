@@ -3,6 +3,7 @@
 use super::{
     SO_FAR, THIRD, are, instance, is_instance, is_result, is_silent, kind_of, owned, told,
 };
+use fixtures::{EXIT_ONE, LEAK_PASS, attempt, finished_test};
 use run_events::attempts::{ExecuteStatus, ExecutionStatuses, RetryData};
 use run_events::child::LiveSpec;
 use run_events::config::{
@@ -10,7 +11,6 @@ use run_events::config::{
     TestOutputDisplay,
 };
 use run_events::events::{ReporterEvent, TestEventKind, TestSlotAssignment};
-use sample_units::{EXIT_ONE, LEAK_PASS, attempt, finished_test};
 use std::alloc::{AllocError, Global};
 use std::time::Duration;
 

@@ -1,6 +1,7 @@
 //! Events of finished units lend them to the counters.
 
 use super::{SO_FAR, instance, owned, script_id, told};
+use fixtures::{EXIT_ONE, LEAK_FAIL, PASS, TIMEOUT_PASS, finished_script, finished_test};
 use run_events::attempts::ExecutionStatuses;
 use run_events::child::LiveSpec;
 use run_events::config::{FlakyResult, JunitFlakyFailStatus, TestOutputDisplay};
@@ -8,7 +9,6 @@ use run_events::events::{ReporterEvent, TestEventKind};
 use run_events::outcome::{FinalRunStats, RunStatsFailureKind};
 use run_events::results::CancelReason;
 use run_events::stats::{FinishedUnit, RunStart, RunStats};
-use sample_units::{EXIT_ONE, LEAK_FAIL, PASS, TIMEOUT_PASS, finished_script, finished_test};
 use std::alloc::{AllocError, Global};
 
 /// The event of a test that finished so.

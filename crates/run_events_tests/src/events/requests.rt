@@ -4,12 +4,12 @@ use super::states::{delayed, ending, is_as_made};
 use super::{
     SO_FAR, THIRD, are, instance, is_instance, is_silent, kind_of, owned, script_id, told,
 };
+use fixtures::{EXIT_ONE, LEAK_PASS, attempt};
 use run_events::attempts::RetryData;
 use run_events::events::{
     InfoResponse, ReporterEvent, SetupScriptInfoResponse, TestEventKind, TestInfoResponse,
     UnitState,
 };
-use sample_units::{EXIT_ONE, LEAK_PASS, attempt};
 use std::alloc::{AllocError, Global};
 
 const FIRST_OF_THREE: RetryData = RetryData {

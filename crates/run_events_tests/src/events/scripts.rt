@@ -1,13 +1,13 @@
 //! Setup scripts start, are slow and finish.
 
 use super::{THIRD, are, is_result, is_silent, kind_of, owned, script_id, told};
+use fixtures::{LEAK_FAIL, finished_script};
 use jiff::Timestamp;
 use jiff::tz::Offset;
 use run_events::attempts::SetupScriptExecuteStatus;
 use run_events::child::LiveSpec;
 use run_events::config::ScriptId;
 use run_events::events::{ReporterEvent, TestEventKind};
-use sample_units::{LEAK_FAIL, finished_script};
 use std::alloc::{AllocError, Global};
 use std::time::Duration;
 

@@ -2,9 +2,9 @@
 
 use crate::level::{named_final_level, named_level};
 use crate::rows::words::result_in;
-use crate::unit::attempt_of;
 use crate::visibility::{named_display, named_reason};
 use crate::words::{named_setting, named_truth};
+use fixtures::attempt;
 use run_events::attempts::{EmptyStatuses, ExecutionDescription, ExecutionStatuses, RetryData};
 use run_events::child::LiveSpec;
 use run_events::config::FlakyResult;
@@ -27,7 +27,7 @@ fn test_in(
                 return Ok(None);
             };
             let is_last = number as usize == last;
-            statuses.push(attempt_of(outcome, number, is_slow && is_last))?;
+            statuses.push(attempt(outcome, number, is_slow && is_last))?;
         }
     }
     Ok(Some(ExecutionStatuses::try_from_parts(statuses, setting)))
@@ -76,7 +76,7 @@ fn of_success(alloc: Global, word: &str) -> Result<Option<String>, AllocError> {
     let Some(outcome) = result_in(word) else {
         return Ok(None);
     };
-    let single_status = &attempt_of(outcome, 1, true);
+    let single_status = &attempt(outcome, 1, true);
     let description = ExecutionDescription::Success { single_status };
     let (is_consistent, is_success) = (
         description.is_consistent(),
