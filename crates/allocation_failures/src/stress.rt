@@ -14,15 +14,11 @@ const PROGRESS: StressProgress = StressProgress::Count {
 
 pub(crate) fn unique_id(alloc: Global) -> Outcome {
     let progress = PROGRESS;
-    let answer = progress.unique_id(alloc, Uuid::from_u128(1));
-    if progress != PROGRESS {
-        return Outcome::Wrong("the progress is changed");
-    }
-    match answer {
+    match progress.unique_id(alloc, Uuid::from_u128(1)) {
         Ok(id) => Outcome::of_answer(
             id.as_str() == "00000000-0000-0000-0000-000000000001:@stress-7",
             "another id",
         ),
-        Err(_) => Outcome::WasRefused,
+        Err(_) => Outcome::of_failure(progress == PROGRESS),
     }
 }

@@ -1,0 +1,110 @@
+//! What a child process left, described for reporters.
+
+use crate::outcome::Outcome;
+use fixtures::{captured, error};
+use run_events::child::{
+    ChildError, ChildErrorDescription, ChildExecutionOutput, ChildExecutionOutputDescription,
+    ChildFdError, ChildOutput, ChildOutputDescription, ChildSplitOutput, ErrorList, LiveSpec,
+};
+use run_events::results::{
+    AbortStatus, ExecutionResult, ExecutionResultDescription, FailureStatus,
+};
+use std::alloc::{AllocError, Global};
+
+const END: ExecutionResult = ExecutionResult::Fail {
+    failure_status: FailureStatus::Abort(AbortStatus::UnixSignal(15)),
+    leaked: true,
+};
+
+/// Two errors in reading from a process and in waiting for it.
+fn errors(alloc: Global) -> Result<Option<ErrorList<ChildError>>, AllocError> {
+    let mut errors = Vec::new(alloc);
+    errors.push(ChildError::Fd(ChildFdError::ReadStdout(error(alloc, "r")?)))?;
+    errors.push(ChildError::Fd(ChildFdError::Wait(error(alloc, "w")?)))?;
+    Ok(ErrorList::new("tried", errors))
+}
+
+/// What a process left that a signal ended, with two errors.
+fn left(alloc: Global) -> Result<ChildExecutionOutput, AllocError> {
+    let errors = errors(alloc)?;
+    let stderr = captured(alloc, b"Error: e")?;
+    Ok(ChildExecutionOutput::Output {
+        result: Some(END),
+        output: ChildOutput::Split(ChildSplitOutput {
+            stdout: None,
+            stderr: Some(stderr),
+        }),
+        errors,
+    })
+}
+
+/// The name of that signal.
+fn name(alloc: Global) -> Result<Option<String>, AllocError> {
+    Ok(Some(String::from_str(alloc, "TERM")?))
+}
+
+/// What [`left`] makes, described.
+pub(crate) fn described(
+    alloc: Global,
+) -> Result<ChildExecutionOutputDescription<LiveSpec>, AllocError> {
+    let output = left(alloc)?;
+    ChildExecutionOutputDescription::from_output(alloc, output, name(alloc)?).map_err(
+        |_| AllocError,
+    )
+}
+
+/// Whether output is that of [`left`].
+fn is_left_output(output: &ChildOutputDescription) -> bool {
+    match output {
+        ChildOutputDescription::Split {
+            stdout: None,
+            stderr: Some(stderr),
+        } => stderr.buf().as_slice() == b"Error: e".as_slice(),
+        _ => false,
+    }
+}
+
+/// Whether the errors are those of [`left`], described.
+fn are_left_errors(errors: &ErrorList<ChildErrorDescription>) -> bool {
+    let mut items = errors.iter();
+    let (first, second, third) = (items.next(), items.next(), items.next());
+    match (first, second, third) {
+        (
+            Some(ChildErrorDescription::ReadStdout { source: read }),
+            Some(ChildErrorDescription::Wait { source: wait }),
+            None,
+        ) => { errors.description() == "tried" && read.message() == "r" && wait.message() == "w" }
+        _ => false,
+    }
+}
+
+/// Whether this describes what [`left`] makes, with this end.
+fn is_described(
+    described: &ChildExecutionOutputDescription<LiveSpec>,
+    end: &ExecutionResultDescription,
+) -> bool {
+    match described {
+        ChildExecutionOutputDescription::Output {
+            result: Some(result),
+            output,
+            errors: Some(errors),
+        } => result == end && is_left_output(output) && are_left_errors(errors),
+        _ => false,
+    }
+}
+
+pub(crate) fn from_output(alloc: Global) -> Result<Outcome, AllocError> {
+    let end = ExecutionResultDescription::from_status(END, name(alloc)?);
+    let output = left(alloc)?;
+    let name = name(alloc)?;
+    let refused = match ChildExecutionOutputDescription::from_output(alloc, output, name) {
+        Ok(described) => {
+            let is_right = is_described(&described, &end);
+            return Ok(Outcome::of_answer(is_right, "another description"));
+        }
+        Err(refused) => refused,
+    };
+    // What is handed back is what was handed in, so it is described in the same way.
+    let again = ChildExecutionOutputDescription::from_output(alloc, refused.output, refused.name);
+    Ok(Outcome::of_failure(again.is_ok_and(|described| is_described(&described, &end))))
+}

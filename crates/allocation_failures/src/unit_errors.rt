@@ -1,0 +1,105 @@
+//! Lists of the errors of a unit.
+
+use crate::child::described;
+use crate::outcome::Outcome;
+use run_events::child::{ChildExecutionOutputDescription, ChildOutputDescription, ErrorList};
+use run_events::results::{ExecutionResultDescription, UnitKind};
+use run_events::unit_error::{UnitError, UnitErrorDescription};
+use std::alloc::{AllocError, Global};
+
+type Answer<'a> = Result<Option<ErrorList<UnitError<'a>>>, AllocError>;
+
+/// The kind of an error, by a letter.
+fn letter(error: &UnitError<'_>) -> u8 {
+    match error {
+        UnitError::Start(_) => b's',
+        UnitError::Output(_) => b'o',
+        UnitError::Abort(_) => b'a',
+        UnitError::Slice(_) => b't',
+    }
+}
+
+/// Whether a list is of a test and has errors of these kinds.
+fn is_list_of(list: &ErrorList<UnitError<'_>>, letters: &[u8]) -> bool {
+    list.description() == "executing test"
+        && list.len() == letters.len()
+        && list
+            .iter()
+            .zip(letters)
+            .all(|(error, kind)| letter(error) == *kind)
+}
+
+/// One of the three lists of errors.
+#[derive(Clone, Copy)]
+pub(crate) enum ErrorKinds {
+    All,
+    ExecFail,
+    ChildProcess,
+}
+
+impl ErrorKinds {
+    /// The list of these errors.
+    fn list<'a>(self, alloc: Global, errors: UnitErrorDescription<'a>) -> Answer<'a> {
+        match self {
+            ErrorKinds::All => errors.all_error_list(alloc),
+            ErrorKinds::ExecFail => errors.exec_fail_error_list(alloc),
+            ErrorKinds::ChildProcess => errors.child_process_error_list(alloc),
+        }
+    }
+
+    /// Which of them there are in a test that has an error of each kind but that of its start.
+    fn letters(self) -> &'static [u8] {
+        match self {
+            ErrorKinds::All => b"ooat",
+            ErrorKinds::ExecFail => b"oo",
+            ErrorKinds::ChildProcess => b"at",
+        }
+    }
+}
+
+/// Whether the list of these errors of a unit, made once more, is right.
+fn lists_again(alloc: Global, kinds: ErrorKinds, errors: UnitErrorDescription<'_>) -> bool {
+    match kinds.list(alloc, errors) {
+        Ok(Some(list)) => is_list_of(&list, kinds.letters()),
+        _ => false,
+    }
+}
+
+/// One of the lists of a test that has an error of each kind but that of its start.
+pub(crate) fn errors(alloc: Global, kinds: ErrorKinds) -> Result<Outcome, AllocError> {
+    let output = described(alloc)?;
+    if !UnitErrorDescription::can_describe(UnitKind::Test, &output) {
+        return Ok(Outcome::Wrong("it cannot be described"));
+    }
+    let errors = UnitErrorDescription::new(UnitKind::Test, &output);
+    Ok(match kinds.list(alloc, errors) {
+        Ok(Some(list)) => Outcome::of_answer(is_list_of(&list, kinds.letters()), "another list"),
+        Ok(None) => Outcome::Wrong("no list"),
+        Err(_) => Outcome::of_failure(lists_again(alloc, kinds, errors)),
+    })
+}
+
+/// The three lists of a test that passed, which are empty.
+pub(crate) fn no_errors(alloc: Global) -> Outcome {
+    let output = ChildExecutionOutputDescription::Output {
+        result: Some(ExecutionResultDescription::Pass),
+        output: ChildOutputDescription::NotLoaded,
+        errors: None,
+    };
+    if !UnitErrorDescription::can_describe(UnitKind::Test, &output) {
+        return Outcome::Wrong("it cannot be described");
+    }
+    let errors = UnitErrorDescription::new(UnitKind::Test, &output);
+    for kinds in [
+        ErrorKinds::All,
+        ErrorKinds::ExecFail,
+        ErrorKinds::ChildProcess,
+    ] {
+        match kinds.list(alloc, errors) {
+            Ok(None) => {}
+            Ok(Some(_)) => return Outcome::Wrong("a list of no errors"),
+            Err(_) => return Outcome::OutOfMemory,
+        }
+    }
+    Outcome::RightAnswer
+}
