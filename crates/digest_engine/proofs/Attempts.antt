@@ -6,7 +6,8 @@ use Rattle.std.specs.Prelude.{◌==◌}
 use Rattle.std.specs.List.{slice_split}
 use Rattle.std.specs.Option.{option_map_or}
 use Rattle.std.proofs.lemmas.Option.{slice_get-map, slice_get_cases, slice_get_read}
-use Rattle.run_events.specs.TestView.{TestView, view_of, attempts_of, setting_of}
+use Rattle.run_events.specs.Attempts.{view_of, attempts_of, setting_of}
+use Rattle.run_events.specs.TestView.{TestView}
 use Rattle.test_attempts.specs.declared.attempts.ExecuteStatus.{ExecuteStatus}
 use Rattle.unit_results.specs.declared.child.output.ChildOutputDescription.{ChildOutputDescription}
 use Rattle.unit_results.specs.declared.child.LiveSpec.{LiveSpec}

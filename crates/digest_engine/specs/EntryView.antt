@@ -1,6 +1,6 @@
 -- What an entry is to the counters.
 use Rattle.run_events.specs.Counters.{ScriptUnit, TestUnit}
-use Rattle.run_events.specs.TestView.{view_of}
+use Rattle.run_events.specs.Attempts.{view_of}
 use Rattle.digest_engine.specs.Reader.{EntryView, SubRunEntry, UnitEntry}
 use Rattle.digest_engine.specs.declared.entry.Entry.{Entry}
 use Rattle.digest_engine.specs.declared.entry.Entry.TheVariants.{Script, SubRun, Test}

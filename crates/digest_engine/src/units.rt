@@ -2,7 +2,7 @@
 
 ghost use Rattle.std.specs.Prelude.{◌≡◌, ◌<◌, ◌≤◌, None, map, length, IfOk, IfSome, option_map};
 ghost use Rattle.run_events.specs.Described.{described_result};
-ghost use Rattle.run_events.specs.TestView.{view_of};
+ghost use Rattle.run_events.specs.Attempts.{view_of};
 ghost use Rattle.digest_engine.specs.Reader.{results_of, script_of_words, test_of_words};
 ghost use Rattle.digest_engine.specs.Statuses.{AreAttempts, IsAttempt, IsEpoch, IsScript, described_results, nothing_captured};
 

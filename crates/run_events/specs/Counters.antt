@@ -1,7 +1,8 @@
 -- The counters of a run: each is the number of finished units that its rule holds of.
 use Rattle.std.specs.Prelude.{◌<◌, ◌^◌, ◌+◌, ℕ, Bool, if◌then◌else◌, List, length, filter, Option, Some, None}
 use Rattle.std.specs.List.{filter_map}
-use Rattle.test_attempts.specs.TestView.{TestView, view_of}
+use Rattle.test_attempts.specs.Attempts.{view_of}
+use Rattle.test_attempts.specs.TestView.{TestView}
 use Rattle.run_events.specs.TestCounters.{is_passed, is_passed_slow, is_passed_timed_out, is_flaky, is_failed, is_failed_slow, is_failed_timed_out, is_leaky, is_leaky_failed, is_exec_failed}
 use Rattle.run_events.specs.ScriptCounters.{script_passed, script_failed, script_exec_failed, script_timed_out}
 use Rattle.unit_results.specs.declared.results.ExecutionResultDescription.{ExecutionResultDescription}

@@ -4,11 +4,10 @@ use test_attempts::attempts::{ExecutionStatuses, SetupScriptExecuteStatus};
 use unit_results::child::LiveSpec;
 use unit_results::results::CancelReason;
 
-mod cases;
+mod raised;
 mod run;
 mod summary;
 mod update;
-mod verdict;
 
 /// How many setup scripts and tests were to run, how many finished, and with what. Each counter is
 /// a number of units.

@@ -7,7 +7,7 @@ use Rattle.std.proofs.lemmas.Option.{slice_get_read}
 use Rattle.test_attempts.specs.Description.{ComesTo, HasFinalLevel, described_final_level, described_level, is_success_description}
 use Rattle.test_attempts.specs.Level.{final_level_of, level_of}
 use Rattle.unit_results.specs.Results.{succeeds}
-use Rattle.test_attempts.specs.TestView.{attempts_of, last_of, setting_of, view_of}
+use Rattle.test_attempts.specs.Attempts.{attempts_of, last_of, setting_of, view_of}
 use Rattle.test_attempts.specs.declared.attempts.ExecuteStatus.{ExecuteStatus}
 use Rattle.test_attempts.specs.declared.attempts.description.ExecutionDescription.{ExecutionDescription}
 use Rattle.test_attempts.specs.declared.attempts.description.ExecutionDescription.TheVariants.{Failure, Flaky, Success}

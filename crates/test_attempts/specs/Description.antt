@@ -2,7 +2,7 @@
 use Rattle.std.specs.Prelude.{◌≡◌, ◌<◌, ◌||◌, Bool, true, false, List, [], ◌∷◌, ◌++◌, length, Option, Some}
 use Rattle.test_attempts.specs.Level.{final_flaky_level, final_success_level, flaky_level, success_level}
 use Rattle.unit_results.specs.Results.{succeeds}
-use Rattle.test_attempts.specs.TestView.{last_of}
+use Rattle.test_attempts.specs.Attempts.{last_of}
 use Rattle.test_attempts.specs.declared.attempts.ExecuteStatus.{ExecuteStatus}
 use Rattle.test_attempts.specs.declared.attempts.description.ExecutionDescription.{ExecutionDescription}
 use Rattle.test_attempts.specs.declared.attempts.description.ExecutionDescription.TheVariants.{Failure, Flaky, Success}

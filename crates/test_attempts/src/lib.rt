@@ -4,3 +4,4 @@
 pub mod attempts;
 pub mod laws;
 pub mod levels;
+pub mod view;

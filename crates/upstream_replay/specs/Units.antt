@@ -1,7 +1,7 @@
 -- Finished units that a frozen answer speaks of.
 use Rattle.std.specs.Prelude.{[], ◌∷◌}
 use Rattle.run_events.specs.Counters.{UnitView, ScriptUnit, TestUnit, nothing_known, stats_of}
-use Rattle.run_events.specs.TestView.{view_of}
+use Rattle.run_events.specs.Attempts.{view_of}
 use Rattle.run_events.specs.declared.stats.RunStats.{RunStats}
 use Rattle.upstream_replay.specs.declared.unit.Unit.{Unit}
 use Rattle.upstream_replay.specs.declared.unit.Unit.TheVariants.{Script, Test}

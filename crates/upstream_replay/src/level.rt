@@ -4,7 +4,7 @@
 
 ghost use Rattle.std.specs.Prelude.{◌≡◌, Some};
 ghost use Rattle.run_events.specs.Level.{final_level_of, level_of};
-ghost use Rattle.run_events.specs.TestView.{view_of};
+ghost use Rattle.run_events.specs.Attempts.{view_of};
 
 use crate::unit::test_in;
 use run_events::attempts::ExecutionStatuses;

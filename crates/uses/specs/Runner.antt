@@ -2,7 +2,8 @@
 use Rattle.std.specs.Prelude.{ℕ, Bool, List, Option, None, Some, option_and_then}
 use Rattle.run_events.specs.Counters.{ScriptUnit, TestUnit, UnitView}
 use Rattle.run_events.specs.Described.{described_result}
-use Rattle.run_events.specs.TestView.{TestView, attempts_of, last_of, view_of}
+use Rattle.run_events.specs.Attempts.{attempts_of, last_of, view_of}
+use Rattle.run_events.specs.TestView.{TestView}
 use Rattle.test_attempts.specs.declared.attempts.RetryData.{RetryData}
 use Rattle.test_attempts.specs.declared.attempts.statuses.ExecutionStatuses.{ExecutionStatuses}
 use Rattle.unit_results.specs.declared.child.ChildExecutionOutputDescription.{ChildExecutionOutputDescription}

@@ -5,7 +5,7 @@ ghost use Rattle.run_events.specs.Config.{is_immediate_display};
 ghost use Rattle.run_events.specs.Counters.{unit_view};
 ghost use Rattle.run_events.specs.Level.{final_level_of, level_of};
 ghost use Rattle.run_events.specs.Results.{succeeds};
-ghost use Rattle.run_events.specs.TestView.{view_of};
+ghost use Rattle.run_events.specs.Attempts.{view_of};
 ghost use Rattle.run_events.specs.Visibility.{severity};
 ghost use Rattle.uses.specs.Displayer.{IsAbove, display_of, listing, numbers_line, status_line, summary_line, test_word};
 

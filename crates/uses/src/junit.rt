@@ -4,7 +4,7 @@ ghost use Rattle.std.specs.Prelude.{◌≡◌, ◌&&◌, nat_lt, IfSome, option_
 ghost use Rattle.output_slice.specs.Shown.{extract_of};
 ghost use Rattle.run_events.specs.Level.{has_level_fail, has_level_retry};
 ghost use Rattle.run_events.specs.Results.{succeeds};
-ghost use Rattle.run_events.specs.TestView.{attempts_of, last_of, view_of};
+ghost use Rattle.run_events.specs.Attempts.{attempts_of, last_of, view_of};
 ghost use Rattle.uses.specs.Junit.{HasMessage, IsMessage, is_failure, is_flaky, is_late_success};
 
 use output_slice::subslice::TestOutputErrorSlice;

@@ -5,7 +5,7 @@ ghost use Rattle.std.specs.Prelude.{◌≡◌, ◌<◌, ◌+◌, ◌^◌, ◌++�
 ghost use Rattle.std.specs.List.{filter_map, range_with_len};
 ghost use Rattle.run_events.specs.Counters.{TestUnit, stats_of, unit_view};
 ghost use Rattle.run_events.specs.Described.{described_result};
-ghost use Rattle.run_events.specs.TestView.{attempts_of, view_of};
+ghost use Rattle.run_events.specs.Attempts.{attempts_of, view_of};
 ghost use Rattle.uses.specs.Runner.{last_stderr, numbered_of, stderr_of, told_name, told_stats, told_unit, view_of_attempts};
 
 use bytes::Bytes;

@@ -1,38 +1,69 @@
 //! How a finished unit changes the counters.
 
 ghost use Rattle.std.specs.Prelude.{◌≡◌, ◌↔◌, ◌<◌, ◌^◌, IsTrue};
-ghost use Rattle.test_attempts.specs.TestView.{view_of};
+ghost use Rattle.test_attempts.specs.Attempts.{view_of};
+ghost use Rattle.test_attempts.specs.TestView.{said_of};
 ghost use Rattle.run_events.specs.Counters.{ScriptCountersFit, TestCountersFit, raised, with_script, with_test};
 
 use crate::stats::RunStats;
-use crate::stats::cases::{is_exec_fail, is_leak_fail, is_leak_pass, is_timeout_fail};
-use crate::stats::verdict::{
-    is_failed, is_failed_slow, is_flaky, is_passed, is_passed_slow, is_passed_timed_out,
-    last_result, script_failed, script_passed, script_timed_out,
-};
+use crate::stats::raised::{RaisedByScript, RaisedByTest};
 use test_attempts::attempts::{ExecutionStatuses, SetupScriptExecuteStatus};
+use test_attempts::view::TestView;
 use unit_results::child::LiveSpec;
+use unit_results::results::ExecutionResultDescription;
 
 impl RunStats {
-    /// Counts one more finished test: each counter whose rule holds of it is raised by one, and
-    /// every other field stays.
+    /// Counts one more finished test by what decides its counters: each counter whose rule holds of
+    /// it is raised by one, and every other field stays.
+    ///
+    /// Every counter that the test raises must be below `usize::MAX`, as [`can_count_view`] tests.
+    ///
+    /// [`can_count_view`]: RunStats::can_count_view
+    pub fn on_test_view(&mut self, test: &TestView<'_>)
+        requires { TestCountersFit (with_test self.old (said_of test.now)) }
+        ensures { self.new ≡ with_test self.old (said_of test.now) }
+    {
+        let raised = RaisedByTest::of(test);
+        self.finished_count += 1;
+        self.passed = counter_after(self.passed, raised.passed);
+        self.passed_slow = counter_after(self.passed_slow, raised.passed_slow);
+        self.passed_timed_out = counter_after(self.passed_timed_out, raised.passed_timed_out);
+        self.flaky = counter_after(self.flaky, raised.flaky);
+        self.failed = counter_after(self.failed, raised.failed);
+        self.failed_slow = counter_after(self.failed_slow, raised.failed_slow);
+        self.failed_timed_out = counter_after(self.failed_timed_out, raised.failed_timed_out);
+        self.leaky = counter_after(self.leaky, raised.leaky);
+        self.leaky_failed = counter_after(self.leaky_failed, raised.leaky_failed);
+        self.exec_failed = counter_after(self.exec_failed, raised.exec_failed);
+    }
+
+    /// Whether one more finished test can be counted: every counter that it raises is below
+    /// `usize::MAX`.
+    pub fn can_count_view(&self, test: &TestView<'_>) -> bool
+        ensures { IsTrue result ↔ TestCountersFit (with_test self.now (said_of test.now)) }
+    {
+        let raised = RaisedByTest::of(test);
+        fits(self.finished_count, true)
+            && fits(self.passed, raised.passed)
+            && fits(self.passed_slow, raised.passed_slow)
+            && fits(self.passed_timed_out, raised.passed_timed_out)
+            && fits(self.flaky, raised.flaky)
+            && fits(self.failed, raised.failed)
+            && fits(self.failed_slow, raised.failed_slow)
+            && fits(self.failed_timed_out, raised.failed_timed_out)
+            && fits(self.leaky, raised.leaky)
+            && fits(self.leaky_failed, raised.leaky_failed)
+            && fits(self.exec_failed, raised.exec_failed)
+    }
+
+    /// Counts one more finished test, by the view of its attempts.
     ///
     /// Every counter that the test raises must be below `usize::MAX`.
     pub fn on_test_finished(&mut self, test: &ExecutionStatuses<LiveSpec>)
         requires { TestCountersFit (with_test self.old (view_of test.now)) }
         ensures { self.new ≡ with_test self.old (view_of test.now) }
     {
-        self.finished_count += 1;
-        self.passed += usize::from(is_passed(test));
-        self.passed_slow += usize::from(is_passed_slow(test));
-        self.passed_timed_out += usize::from(is_passed_timed_out(test));
-        self.flaky += usize::from(is_flaky(test));
-        self.failed += usize::from(is_failed(test));
-        self.failed_slow += usize::from(is_failed_slow(test));
-        self.failed_timed_out += usize::from(is_timeout_fail(last_result(test)));
-        self.leaky += usize::from(is_leak_pass(last_result(test)));
-        self.leaky_failed += usize::from(is_leak_fail(last_result(test)));
-        self.exec_failed += usize::from(is_exec_fail(last_result(test)));
+        self.on_test_view(&test.view());
     }
 
     /// Whether one more finished test can be counted: every counter that it raises is below
@@ -40,34 +71,55 @@ impl RunStats {
     pub fn can_count_test(&self, test: &ExecutionStatuses<LiveSpec>) -> bool
         ensures { IsTrue result ↔ TestCountersFit (with_test self.now (view_of test.now)) }
     {
-        let result = last_result(test);
-        fits(self.finished_count, true)
-            && fits(self.passed, is_passed(test))
-            && fits(self.passed_slow, is_passed_slow(test))
-            && fits(self.passed_timed_out, is_passed_timed_out(test))
-            && fits(self.flaky, is_flaky(test))
-            && fits(self.failed, is_failed(test))
-            && fits(self.failed_slow, is_failed_slow(test))
-            && fits(self.failed_timed_out, is_timeout_fail(result))
-            && fits(self.leaky, is_leak_pass(result))
-            && fits(self.leaky_failed, is_leak_fail(result))
-            && fits(self.exec_failed, is_exec_fail(result))
+        self.can_count_view(&test.view())
     }
 
-    /// Counts one more finished setup script: each counter whose rule holds of its result is
+    /// Counts one more finished setup script by its result: each counter whose rule holds of it is
     /// raised by one, and every other field stays.
+    ///
+    /// Every counter that the script raises must be below `usize::MAX`, as
+    /// [`can_count_script_result`] tests.
+    ///
+    /// [`can_count_script_result`]: RunStats::can_count_script_result
+    pub fn on_script_result(&mut self, script: &ExecutionResultDescription)
+        requires { ScriptCountersFit (with_script self.old script.now) }
+        ensures { self.new ≡ with_script self.old script.now }
+    {
+        let raised = RaisedByScript::of(script);
+        self.setup_scripts_finished_count += 1;
+        self.setup_scripts_passed = counter_after(self.setup_scripts_passed, raised.passed);
+        self.setup_scripts_failed = counter_after(self.setup_scripts_failed, raised.failed);
+        self.setup_scripts_exec_failed = counter_after(
+            self.setup_scripts_exec_failed,
+            raised.exec_failed,
+        );
+        self.setup_scripts_timed_out = counter_after(
+            self.setup_scripts_timed_out,
+            raised.timed_out,
+        );
+    }
+
+    /// Whether one more finished setup script can be counted: every counter that its result raises
+    /// is below `usize::MAX`.
+    pub fn can_count_script_result(&self, script: &ExecutionResultDescription) -> bool
+        ensures { IsTrue result ↔ ScriptCountersFit (with_script self.now script.now) }
+    {
+        let raised = RaisedByScript::of(script);
+        fits(self.setup_scripts_finished_count, true)
+            && fits(self.setup_scripts_passed, raised.passed)
+            && fits(self.setup_scripts_failed, raised.failed)
+            && fits(self.setup_scripts_exec_failed, raised.exec_failed)
+            && fits(self.setup_scripts_timed_out, raised.timed_out)
+    }
+
+    /// Counts one more finished setup script, by its result.
     ///
     /// Every counter that the script raises must be below `usize::MAX`.
     pub fn on_setup_script_finished(&mut self, script: &SetupScriptExecuteStatus<LiveSpec>)
         requires { ScriptCountersFit (with_script self.old script.now.result) }
         ensures { self.new ≡ with_script self.old script.now.result }
     {
-        let result = &script.result;
-        self.setup_scripts_finished_count += 1;
-        self.setup_scripts_passed += usize::from(script_passed(result));
-        self.setup_scripts_failed += usize::from(script_failed(result));
-        self.setup_scripts_exec_failed += usize::from(is_exec_fail(result));
-        self.setup_scripts_timed_out += usize::from(script_timed_out(result));
+        self.on_script_result(&script.result);
     }
 
     /// Whether one more finished setup script can be counted: every counter that it raises is
@@ -75,13 +127,16 @@ impl RunStats {
     pub fn can_count_script(&self, script: &SetupScriptExecuteStatus<LiveSpec>) -> bool
         ensures { IsTrue result ↔ ScriptCountersFit (with_script self.now script.now.result) }
     {
-        let result = &script.result;
-        fits(self.setup_scripts_finished_count, true)
-            && fits(self.setup_scripts_passed, script_passed(result))
-            && fits(self.setup_scripts_failed, script_failed(result))
-            && fits(self.setup_scripts_exec_failed, is_exec_fail(result))
-            && fits(self.setup_scripts_timed_out, script_timed_out(result))
+        self.can_count_script_result(&script.result)
     }
+}
+
+/// A counter, one higher where it is raised.
+fn counter_after(counter: usize, is_raised: bool) -> usize
+    requires { raised counter is_raised < 2 ^ 64 }
+    ensures { result ≡ raised counter is_raised }
+{
+    counter + usize::from(is_raised)
 }
 
 /// Whether a counter has room to be raised, where it is.

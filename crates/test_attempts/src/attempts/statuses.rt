@@ -4,6 +4,7 @@ ghost use Rattle.std.specs.Prelude.{◌<◌, vec_len};
 
 use crate::attempts::ExecuteStatus;
 use crate::attempts::description::ExecutionDescription;
+use crate::view::TestView;
 use unit_results::child::OutputSpec;
 use unit_results::config::FlakyResult;
 
@@ -22,11 +23,11 @@ pub struct EmptyStatuses;
 
 impl<S: OutputSpec> ExecutionStatuses<S> {
     ghost use Rattle.std.specs.Prelude.{◌≡◌, ◌↔◌, ◌<◌, [], IfOk, IsErr, Some, length, vec_len};
-    ghost use Rattle.test_attempts.specs.Attempts.{attempts_left};
+    ghost use Rattle.test_attempts.specs.Attempts.{attempts_left, attempts_of, last_of, setting_of, view_of};
     ghost use Rattle.test_attempts.specs.Description.{ComesTo, HasFinalLevel, IsConsistent, described_final_level, described_level, is_success_description};
     ghost use Rattle.test_attempts.specs.Level.{final_level_of, level_of};
     ghost use Rattle.unit_results.specs.Results.{succeeds};
-    ghost use Rattle.test_attempts.specs.TestView.{attempts_of, last_of, setting_of, view_of};
+    ghost use Rattle.test_attempts.specs.TestView.{said_of};
 
     /// A test with these attempts, in order, of which there must be at least one.
     pub fn new(statuses: Vec<ExecuteStatus<S>>, flaky_result: FlakyResult) -> Self
@@ -70,6 +71,19 @@ impl<S: OutputSpec> ExecutionStatuses<S> {
         ensures { last_of (attempts_of self.now) ≡ Some result.now }
     {
         &self.statuses[self.statuses.len() - 1]
+    }
+
+    /// What of the test decides its counters and its levels.
+    pub fn view(&self) -> TestView<'_>
+        ensures { said_of result ≡ view_of self.now }
+    {
+        let last = self.last_status();
+        TestView {
+            result: &last.result,
+            attempts: self.len(),
+            is_slow: last.is_slow,
+            flaky_result: self.flaky_result,
+        }
     }
 
     /// The number of attempts, at least 1.
@@ -149,7 +163,7 @@ where
 {
     ghost use Rattle.std.specs.Prelude.{◌≡◌};
     ghost use Rattle.std.specs.Vec.Iter.{into_iter_items};
-    ghost use Rattle.test_attempts.specs.TestView.{attempts_of};
+    ghost use Rattle.test_attempts.specs.Attempts.{attempts_of};
 
     type Item = ExecuteStatus<S>;
 

@@ -1,5 +1,5 @@
 use Rattle.std.proofs.Common.{◌<◌, ◌^◌, length, ap, sym, ◌∙◌, arith}
-use Rattle.test_attempts.specs.TestView.{view_of}
+use Rattle.test_attempts.specs.Attempts.{view_of}
 use Rattle.run_events.specs.Counters.{with_test, with_script, unit_view}
 use Rattle.run_events.proofs.Counting.{test-fits, script-fits, stats-more-test, stats-more-script}
 use Rattle.run_events.proofs.stats.RunStats.count_units.Goals as goal

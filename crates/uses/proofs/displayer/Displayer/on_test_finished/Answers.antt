@@ -2,7 +2,7 @@ use Rattle.std.proofs.Common.{◌≡◌, ◌∙◌, ap, sym}
 use Rattle.std.specs.Prelude.{if◌then◌else◌, Some}
 use Rattle.run_events.specs.Config.{is_final_display, is_immediate_display}
 use Rattle.run_events.specs.Level.{final_level_of}
-use Rattle.run_events.specs.TestView.{view_of}
+use Rattle.run_events.specs.Attempts.{view_of}
 use Rattle.run_events.specs.Visibility.{is_stored}
 use Rattle.unit_results.specs.declared.config.TestOutputDisplay.{TestOutputDisplay}
 use Rattle.test_attempts.specs.declared.levels.OutputOnTestFinished.{OutputOnTestFinished}
