@@ -8,17 +8,17 @@ use Rattle.std.specs.Option.{option_map_or}
 use Rattle.std.proofs.lemmas.Option.{slice_get-map, slice_get_cases, slice_get_read}
 use Rattle.run_events.specs.Attempts.{view_of, attempts_of, setting_of}
 use Rattle.run_events.specs.TestView.{TestView}
-use Rattle.test_attempts.specs.declared.attempts.ExecuteStatus.{ExecuteStatus}
-use Rattle.unit_results.specs.declared.child.output.ChildOutputDescription.{ChildOutputDescription}
-use Rattle.unit_results.specs.declared.child.LiveSpec.{LiveSpec}
+use Rattle.run_events_attempts.specs.declared.attempts.ExecuteStatus.{ExecuteStatus}
+use Rattle.run_events_child.specs.declared.child.output.ChildOutputDescription.{ChildOutputDescription}
+use Rattle.run_events_child.specs.declared.child.LiveSpec.{LiveSpec}
 use Rattle.digest_engine.specs.Statuses.{AreAttempts, IsAttempt}
-use Rattle.test_attempts.specs.declared.attempts.statuses.ExecutionStatuses.{ExecutionStatuses}
-use Rattle.unit_results.specs.declared.config.FlakyResult.{FlakyResult}
-use Rattle.unit_results.specs.declared.results.ExecutionResultDescription.TheVariants.{Pass}
+use Rattle.run_events_attempts.specs.declared.attempts.statuses.ExecutionStatuses.{ExecutionStatuses}
+use Rattle.run_events_settings.specs.declared.config.FlakyResult.{FlakyResult}
+use Rattle.run_events_results.specs.declared.results.ExecutionResultDescription.TheVariants.{Pass}
 use Rattle.std.proofs.lemmas.Bool.{eq-eqb}
 use Rattle.std.proofs.lemmas.List.{append-nil, get_or_push, length-map}
 use Rattle.digest_engine.specs.Reader.{result_of, all_results, results_of, flags_of, test_of_words, view_from}
-use Rattle.unit_results.specs.declared.results.ExecutionResultDescription.{ExecutionResultDescription}
+use Rattle.run_events_results.specs.declared.results.ExecutionResultDescription.{ExecutionResultDescription}
 
 -- the results that follow some
 abbrev pub with_front : List ExecutionResultDescription → Option (List ExecutionResultDescription) → Option (List ExecutionResultDescription)

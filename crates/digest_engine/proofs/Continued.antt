@@ -3,7 +3,7 @@ use Rattle.std.proofs.Common.{◌≡◌, ℕ, ◌+◌, ◌≤◌, List, [], ◌�
 use Rattle.std.specs.Prelude.{Ok, codes}
 use Rattle.std.proofs.lemmas.List.{append-nil}
 use Rattle.run_events.specs.Counters.{UnitView}
-use Rattle.run_events.specs.declared.stats.RunStart.{RunStart}
+use Rattle.run_events_stats.specs.declared.stats.RunStart.{RunStart}
 use Rattle.digest_engine.specs.Reader.{SubRunEntry, UnitEntry, and_runs, begun, runs_from, with_unit}
 use Rattle.digest_engine.specs.Reading.{Run, SpellRuns, SpellUnits}
 use Rattle.digest_engine.specs.Spelling.{SpellsStart, SpellsUnit}

@@ -5,17 +5,17 @@ use Rattle.std.specs.List.{filter_map}
 use Rattle.std.specs.declared.result.Result.{Result}
 use Rattle.std.proofs.lemmas.List.{map-append}
 use Rattle.std.proofs.lemmas.List.Elements.{All-nil, All-push}
-use Rattle.test_attempts.specs.TestView.{TestView}
-use Rattle.unit_results.specs.declared.results.ExecutionResultDescription.{ExecutionResultDescription}
+use Rattle.run_events_levels.specs.TestView.{TestView}
+use Rattle.run_events_results.specs.declared.results.ExecutionResultDescription.{ExecutionResultDescription}
 use Rattle.run_events.specs.Counters.{ScriptCountersFit, ScriptUnit, TestCountersFit, TestUnit, UnitView, count_of, script_of, stats_of, test_of, with_script, with_test}
 use Rattle.run_events.specs.ScriptCounters.{script_exec_failed, script_failed, script_passed, script_timed_out}
 use Rattle.run_events.specs.Summary.{FailuresFit}
 use Rattle.run_events.specs.TestCounters.{is_exec_failed, is_failed, is_failed_slow, is_failed_timed_out, is_flaky, is_leaky, is_leaky_failed, is_passed, is_passed_slow, is_passed_timed_out}
-use Rattle.run_events.specs.declared.stats.RunStart.{RunStart}
-use Rattle.run_events.specs.declared.stats.RunStats.{RunStats}
-use Rattle.run_events.proofs.Counting.{stats_of-script, stats_of-test}
-use Rattle.run_events.proofs.Counts.{count_of-le, length-filter_map-le}
-use Rattle.run_events.proofs.Verdicts.{failures-fit}
+use Rattle.run_events_stats.specs.declared.stats.RunStart.{RunStart}
+use Rattle.run_events_stats.specs.declared.stats.RunStats.{RunStats}
+use Rattle.run_events_stats.proofs.Counting.{stats_of-script, stats_of-test}
+use Rattle.run_events_stats.proofs.Counts.{count_of-le, length-filter_map-le}
+use Rattle.run_events_stats.proofs.Verdicts.{failures-fit}
 use Rattle.digest_devices.specs.declared.fault.Fault.{Fault}
 use Rattle.digest_devices.specs.declared.fault.Fault.TheVariants as faults
 use Rattle.digest_engine.specs.Counted.{AreCounted, AreStats, GivesStats}

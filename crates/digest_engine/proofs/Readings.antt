@@ -3,7 +3,7 @@ use Rattle.std.proofs.Common.{◌≡◌, ℕ, zero, suc, ◌+◌, ◌-◌, ◌<�
 use Rattle.std.specs.Prelude.{◌⊎◌, Some, Ok, Err, codes, slice_get}
 use Rattle.std.specs.declared.result.Result.{Result}
 use Rattle.std.proofs.lemmas.Bool.{cases_lt}
-use Rattle.run_events.specs.declared.stats.RunStart.{RunStart}
+use Rattle.run_events_stats.specs.declared.stats.RunStart.{RunStart}
 use Rattle.digest_engine.specs.Answer.{NoBadLine}
 use Rattle.digest_engine.specs.Reader.{EntryView, SubRunEntry, UnitEntry, and_runs, begun, entry_line, entry_of_words, runs_from, runs_of, start_of_words, with_unit, words_of}
 use Rattle.digest_engine.specs.Reading.{HasEntry, IsBadLine, IsFirstBadLine, IsReading, Run}

@@ -6,9 +6,9 @@ use Rattle.std.proofs.lemmas.List.Folds.{concat-append}
 use Rattle.std.proofs.lemmas.Simd.{map-map}
 use Rattle.run_events.specs.Outcome.{IsHighest, outcome_of}
 use Rattle.run_events.specs.Summary.{summary_of}
-use Rattle.run_events.specs.declared.outcome.FinalRunStats.{FinalRunStats}
-use Rattle.run_events.specs.declared.outcome.run_outcome.RunOutcome.{RunOutcome}
-use Rattle.run_events.specs.declared.stats.RunStats.{RunStats}
+use Rattle.run_events_stats.specs.declared.outcome.FinalRunStats.{FinalRunStats}
+use Rattle.run_events_stats.specs.declared.outcome.run_outcome.RunOutcome.{RunOutcome}
+use Rattle.run_events_stats.specs.declared.stats.RunStats.{RunStats}
 use Rattle.digest_engine.specs.Counted.{AreCounted, stats_reports}
 use Rattle.digest_engine.specs.Digest.{IsDigest}
 use Rattle.digest_engine.specs.Reading.{Run}

@@ -6,7 +6,7 @@ use Rattle.std.specs.Str.{bytes_eq}
 use Rattle.std.proofs.lemmas.List.Splits.{join_with_byte-slice_split}
 use Rattle.std.proofs.lemmas.Slice.Eq.{bytes_eq-Decides}
 use Rattle.run_events.specs.Counters.{ScriptUnit, TestUnit, UnitView}
-use Rattle.run_events.specs.declared.stats.RunStart.{RunStart}
+use Rattle.run_events_stats.specs.declared.stats.RunStart.{RunStart}
 use Rattle.digest_engine.specs.Reader.{EntryView, SubRunEntry, UnitEntry, entry_of_words, script_of_words, start_fields, test_of_words, words_of}
 use Rattle.digest_engine.specs.Reading.{HasEntry}
 use Rattle.digest_engine.specs.Spelling.{SpellsStart, SpellsUnit}

@@ -8,9 +8,9 @@ use Rattle.std.proofs.lemmas.List.{append-nil, append_cancel_left}
 use Rattle.std.proofs.lemmas.List.Splits.{join_with_byte-slice_split}
 use Rattle.std.proofs.lemmas.Option.{option_and_then_some}
 use Rattle.std.proofs.lemmas.Slice.Eq.{bytes_eq-Decides}
-use Rattle.unit_results.specs.declared.results.CancelReason.{CancelReason}
-use Rattle.unit_results.specs.declared.results.CancelReason.TheVariants as reason
-use Rattle.run_events.specs.declared.stats.RunStart.{RunStart}
+use Rattle.run_events_results.specs.declared.results.CancelReason.{CancelReason}
+use Rattle.run_events_results.specs.declared.results.CancelReason.TheVariants as reason
+use Rattle.run_events_stats.specs.declared.stats.RunStart.{RunStart}
 use Rattle.digest_engine.specs.Number.{SpellsNumber}
 use Rattle.digest_engine.specs.Reader.{number_of, reason_of, reasons, start_fields, start_of_words, words_of}
 use Rattle.digest_engine.specs.Spelling.{SpellsStart, reason_word}

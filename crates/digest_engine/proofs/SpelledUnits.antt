@@ -6,9 +6,9 @@ use Rattle.std.proofs.lemmas.List.{append-nil, length-map, map-append}
 use Rattle.std.proofs.lemmas.Option.{option_and_then_some}
 use Rattle.run_events.specs.Counters.{UnitView, ScriptUnit, TestUnit}
 use Rattle.run_events.specs.TestView.{TestView}
-use Rattle.unit_results.specs.declared.config.FlakyResult.{FlakyResult}
-use Rattle.unit_results.specs.declared.config.FlakyResult.TheVariants as setting
-use Rattle.unit_results.specs.declared.results.ExecutionResultDescription.{ExecutionResultDescription}
+use Rattle.run_events_settings.specs.declared.config.FlakyResult.{FlakyResult}
+use Rattle.run_events_settings.specs.declared.config.FlakyResult.TheVariants as setting
+use Rattle.run_events_results.specs.declared.results.ExecutionResultDescription.{ExecutionResultDescription}
 use Rattle.digest_engine.specs.Reader.{UnitEntry, entry_of_words, results_of, flags_of, script_of_words, test_of_words, view_from, words_of}
 use Rattle.digest_engine.specs.Spelling.{ResultWord, Pass, Leak, LeakFail, Fail, ExecFail, Timeout, TimeoutPass, word_of, result_named, flag_words, ScriptLine, TestLine, SpellsUnit}
 use Rattle.digest_engine.proofs.Attempts.{last_pushed}

@@ -5,10 +5,10 @@ use Rattle.std.specs.List.{join_with_byte}
 use Rattle.std.specs.Str.{IsUtf8}
 use Rattle.std.proofs.lemmas.List.Elements.{All-head, All-tail}
 use Rattle.std.proofs.lemmas.Str.{IsUtf8-append, IsUtf8-from_ascii}
-use Rattle.unit_results.specs.declared.results.CancelReason.{CancelReason}
-use Rattle.unit_results.specs.declared.results.CancelReason.TheVariants as reason
+use Rattle.run_events_results.specs.declared.results.CancelReason.{CancelReason}
+use Rattle.run_events_results.specs.declared.results.CancelReason.TheVariants as reason
 use Rattle.run_events.specs.Counters.{UnitView}
-use Rattle.run_events.specs.declared.stats.RunStart.{RunStart}
+use Rattle.run_events_stats.specs.declared.stats.RunStart.{RunStart}
 use Rattle.digest_engine.specs.Number.{SpellsNumber}
 use Rattle.digest_engine.specs.Reader.{EntryView, SubRunEntry, UnitEntry, entry_of_words, start_of_words, words_of}
 use Rattle.digest_engine.specs.Spelling.{ExecFail, Fail, Leak, LeakFail, Pass, ResultWord, ScriptLine, SpellsStart, SpellsUnit, TestLine, Timeout, TimeoutPass, flag_words, reason_word, word_of}

@@ -3,7 +3,7 @@ use Rattle.std.specs.Prelude.{◌≡◌, ℕ, Bool, List, map, Option, Ok, Err}
 use Rattle.std.specs.Io.KnownBytes.{Appends, IsAtEnd, Keeps}
 use Rattle.std.specs.declared.result.Result.{Result}
 use Rattle.run_events.specs.Outcome.{IsHighest}
-use Rattle.run_events.specs.declared.outcome.run_outcome.RunOutcome.{RunOutcome}
+use Rattle.run_events_stats.specs.declared.outcome.run_outcome.RunOutcome.{RunOutcome}
 use Rattle.digest_devices.specs.Transfer.{AppendsStart}
 use Rattle.digest_devices.specs.declared.fault.Fault.{Fault}
 use Rattle.digest_devices.specs.declared.fault.Fault.TheVariants as faults

@@ -3,8 +3,8 @@ use Rattle.std.specs.Prelude.{◌≡◌, ℕ, List, [], ◌∷◌, ◌++◌, map
 use Rattle.std.specs.List.{concat}
 use Rattle.std.specs.declared.result.Result.{Result}
 use Rattle.run_events.specs.Summary.{FailuresFit}
-use Rattle.run_events.specs.declared.outcome.run_outcome.RunOutcome.{RunOutcome}
-use Rattle.run_events.specs.declared.stats.RunStats.{RunStats}
+use Rattle.run_events_stats.specs.declared.outcome.run_outcome.RunOutcome.{RunOutcome}
+use Rattle.run_events_stats.specs.declared.stats.RunStats.{RunStats}
 use Rattle.digest_engine.specs.Answer.{NoBadLine}
 use Rattle.digest_engine.specs.Reading.{IsReading, Run}
 use Rattle.digest_engine.specs.Report.{outcome_line, report_of, run_stats}

@@ -1,6 +1,6 @@
 -- The text that `count` makes of its input before it writes.
 use Rattle.std.specs.Prelude.{◌≡◌, ℕ, Bool, List}
-use Rattle.run_events.specs.declared.outcome.run_outcome.RunOutcome.{RunOutcome}
+use Rattle.run_events_stats.specs.declared.outcome.run_outcome.RunOutcome.{RunOutcome}
 use Rattle.digest_devices.specs.declared.fault.Fault.{Fault}
 use Rattle.digest_devices.specs.declared.fault.Fault.TheVariants as faults
 use Rattle.digest_engine.specs.Answer.{NoBadLine, Tells}

@@ -3,7 +3,7 @@ use Rattle.std.specs.Prelude.{◌≡◌, ℕ, List, codes}
 use Rattle.bstr.specs.Text.{lines_of}
 use Rattle.run_events.specs.Counters.{UnitView}
 use Rattle.run_events.specs.Lines.{AreLines}
-use Rattle.run_events.specs.declared.stats.RunStart.{RunStart}
+use Rattle.run_events_stats.specs.declared.stats.RunStart.{RunStart}
 use Rattle.digest_engine.specs.Reading.{IsReading, Run}
 use Rattle.digest_engine.specs.Spelling.{SpellsStart, SpellsUnit}
 

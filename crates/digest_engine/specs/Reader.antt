@@ -7,13 +7,13 @@ use Rattle.std.specs.Str.{bytes_eq}
 use Rattle.std.specs.declared.result.Result.{Result}
 use Rattle.run_events.specs.TestView.{TestView}
 use Rattle.run_events.specs.Counters.{UnitView, ScriptUnit, TestUnit}
-use Rattle.unit_results.specs.declared.config.FlakyResult.{FlakyResult}
-use Rattle.unit_results.specs.declared.config.FlakyResult.TheVariants as setting
-use Rattle.unit_results.specs.declared.results.CancelReason.{CancelReason}
-use Rattle.unit_results.specs.declared.results.CancelReason.TheVariants as reason
-use Rattle.unit_results.specs.declared.results.ExecutionResultDescription.{ExecutionResultDescription}
-use Rattle.unit_results.specs.declared.results.ExecutionResultDescription.TheVariants as result
-use Rattle.run_events.specs.declared.stats.RunStart.{RunStart}
+use Rattle.run_events_settings.specs.declared.config.FlakyResult.{FlakyResult}
+use Rattle.run_events_settings.specs.declared.config.FlakyResult.TheVariants as setting
+use Rattle.run_events_results.specs.declared.results.CancelReason.{CancelReason}
+use Rattle.run_events_results.specs.declared.results.CancelReason.TheVariants as reason
+use Rattle.run_events_results.specs.declared.results.ExecutionResultDescription.{ExecutionResultDescription}
+use Rattle.run_events_results.specs.declared.results.ExecutionResultDescription.TheVariants as result
+use Rattle.run_events_stats.specs.declared.stats.RunStart.{RunStart}
 use Rattle.digest_devices.specs.declared.fault.Fault.{Fault}
 use Rattle.digest_devices.specs.declared.fault.Fault.TheVariants as faults
 use Rattle.digest_engine.specs.Reading.{Run}

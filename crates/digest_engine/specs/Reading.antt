@@ -2,7 +2,7 @@
 use Rattle.std.specs.Prelude.{◌≡◌, ◌≢◌, ℕ, ◌-◌, ◌<◌, ◌≤◌, ◌⊎◌, List, [], ◌∷◌, ◌++◌, length, map, slice_get, codes, Some}
 use Rattle.bstr.specs.Text.{lines_of, without_terminator}
 use Rattle.run_events.specs.Counters.{UnitView}
-use Rattle.run_events.specs.declared.stats.RunStart.{RunStart}
+use Rattle.run_events_stats.specs.declared.stats.RunStart.{RunStart}
 use Rattle.digest_engine.specs.Spelling.{SpellsStart, SpellsUnit}
 
 -- the lines of an input, each without the `\n` or `\r\n` that ends it

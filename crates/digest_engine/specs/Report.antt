@@ -5,14 +5,14 @@ use Rattle.std.specs.List.{concat}
 use Rattle.run_events.specs.Counters.{stats_of}
 use Rattle.run_events.specs.Outcome.{outcome_of}
 use Rattle.run_events.specs.Summary.{failed_scripts, failed_tests, summary_of}
-use Rattle.run_events.specs.declared.outcome.FinalRunStats.{FinalRunStats}
-use Rattle.run_events.specs.declared.outcome.FinalRunStats.TheVariants.{Success, NoTestsRun, Cancelled, Failed}
-use Rattle.run_events.specs.declared.outcome.RunFailureStep.TheVariants as step
-use Rattle.run_events.specs.declared.outcome.RunStatsFailureKind.{RunStatsFailureKind}
-use Rattle.run_events.specs.declared.outcome.RunStatsFailureKind.TheVariants.{SetupScript, Test}
-use Rattle.run_events.specs.declared.outcome.run_outcome.RunOutcome.{RunOutcome}
-use Rattle.run_events.specs.declared.outcome.run_outcome.RunOutcome.TheVariants as outcome
-use Rattle.run_events.specs.declared.stats.RunStats.{RunStats}
+use Rattle.run_events_stats.specs.declared.outcome.FinalRunStats.{FinalRunStats}
+use Rattle.run_events_stats.specs.declared.outcome.FinalRunStats.TheVariants.{Success, NoTestsRun, Cancelled, Failed}
+use Rattle.run_events_stats.specs.declared.outcome.RunFailureStep.TheVariants as step
+use Rattle.run_events_stats.specs.declared.outcome.RunStatsFailureKind.{RunStatsFailureKind}
+use Rattle.run_events_stats.specs.declared.outcome.RunStatsFailureKind.TheVariants.{SetupScript, Test}
+use Rattle.run_events_stats.specs.declared.outcome.run_outcome.RunOutcome.{RunOutcome}
+use Rattle.run_events_stats.specs.declared.outcome.run_outcome.RunOutcome.TheVariants as outcome
+use Rattle.run_events_stats.specs.declared.stats.RunStats.{RunStats}
 use Rattle.digest_engine.specs.Reading.{Run}
 use Rattle.digest_engine.specs.Spelling.{reason_word}
 

@@ -2,15 +2,15 @@
 use Rattle.std.specs.Prelude.{◌≡◌, ◌<◌, ◌+◌, ℕ, Bool, true, false, if◌then◌else◌, List, [], ◌∷◌, ◌++◌, map, length, codes, pos, Option, None, Some}
 use Rattle.std.specs.List.{join_with_byte}
 use Rattle.run_events.specs.Counters.{UnitView, ScriptUnit, TestUnit}
-use Rattle.unit_results.specs.declared.config.FlakyResult.TheVariants as setting
-use Rattle.unit_results.specs.declared.config.LeakTimeoutResult.TheVariants as leak
-use Rattle.unit_results.specs.declared.config.SlowTimeoutResult.TheVariants as slow
-use Rattle.unit_results.specs.declared.results.CancelReason.{CancelReason}
-use Rattle.unit_results.specs.declared.results.CancelReason.TheVariants as reason
-use Rattle.unit_results.specs.declared.results.ExecutionResultDescription.{ExecutionResultDescription}
-use Rattle.unit_results.specs.declared.results.ExecutionResultDescription.TheVariants as result
-use Rattle.unit_results.specs.declared.results.failure.FailureDescription.TheVariants as failure
-use Rattle.run_events.specs.declared.stats.RunStart.{RunStart}
+use Rattle.run_events_settings.specs.declared.config.FlakyResult.TheVariants as setting
+use Rattle.run_events_settings.specs.declared.config.LeakTimeoutResult.TheVariants as leak
+use Rattle.run_events_settings.specs.declared.config.SlowTimeoutResult.TheVariants as slow
+use Rattle.run_events_results.specs.declared.results.CancelReason.{CancelReason}
+use Rattle.run_events_results.specs.declared.results.CancelReason.TheVariants as reason
+use Rattle.run_events_results.specs.declared.results.ExecutionResultDescription.{ExecutionResultDescription}
+use Rattle.run_events_results.specs.declared.results.ExecutionResultDescription.TheVariants as result
+use Rattle.run_events_results.specs.declared.results.failure.FailureDescription.TheVariants as failure
+use Rattle.run_events_stats.specs.declared.stats.RunStart.{RunStart}
 use Rattle.digest_engine.specs.Number.{SpellsNumber}
 
 -- the word of a reason, and `-` for none

@@ -2,16 +2,16 @@
 use Rattle.std.specs.Prelude.{◌≡◌, ◌+◌, ◌<◌, ◌&&◌, ◌==◌, ℕ, Bool, false, List, length, map, pos, None, Some, slice_get, IfSome}
 use Rattle.std.specs.Duration.{as_nanos}
 use Rattle.run_events.specs.Described.{described_result}
-use Rattle.test_attempts.specs.declared.attempts.ExecuteStatus.{ExecuteStatus}
-use Rattle.test_attempts.specs.declared.attempts.SetupScriptExecuteStatus.{SetupScriptExecuteStatus}
-use Rattle.unit_results.specs.declared.child.ChildExecutionOutputDescription.{ChildExecutionOutputDescription}
-use Rattle.unit_results.specs.declared.child.ChildExecutionOutputDescription.TheVariants.{Output}
-use Rattle.unit_results.specs.declared.child.output.ChildOutputDescription.{ChildOutputDescription}
-use Rattle.unit_results.specs.declared.child.output.ChildOutputDescription.TheVariants.{Split}
-use Rattle.unit_results.specs.declared.child.LiveSpec.{LiveSpec}
-use Rattle.unit_results.specs.declared.config.Moment.{Moment}
-use Rattle.unit_results.specs.declared.results.ExecutionResult.{ExecutionResult}
-use Rattle.unit_results.specs.declared.results.ExecutionResultDescription.{ExecutionResultDescription}
+use Rattle.run_events_attempts.specs.declared.attempts.ExecuteStatus.{ExecuteStatus}
+use Rattle.run_events_attempts.specs.declared.attempts.SetupScriptExecuteStatus.{SetupScriptExecuteStatus}
+use Rattle.run_events_child.specs.declared.child.ChildExecutionOutputDescription.{ChildExecutionOutputDescription}
+use Rattle.run_events_child.specs.declared.child.ChildExecutionOutputDescription.TheVariants.{Output}
+use Rattle.run_events_child.specs.declared.child.output.ChildOutputDescription.{ChildOutputDescription}
+use Rattle.run_events_child.specs.declared.child.output.ChildOutputDescription.TheVariants.{Split}
+use Rattle.run_events_child.specs.declared.child.LiveSpec.{LiveSpec}
+use Rattle.run_events_attempts.specs.declared.moment.Moment.{Moment}
+use Rattle.run_events_results.specs.declared.results.ExecutionResult.{ExecutionResult}
+use Rattle.run_events_results.specs.declared.results.ExecutionResultDescription.{ExecutionResultDescription}
 
 -- what results say of the attempts that had them
 abbrev pub described_results : List ExecutionResult → List ExecutionResultDescription

@@ -1,7 +1,1 @@
-pub mod Counting
-pub mod Counts
 pub mod EmptyLists
-pub mod Parts
-pub mod SubRuns
-pub mod SuccessLaws
-pub mod Verdicts

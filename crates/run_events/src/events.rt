@@ -9,8 +9,8 @@
 //! That the fields of an event agree with each other and with the events before it is the
 //! dispatcher's part: nothing here looks at them.
 
+use crate::config::Moment;
 use std::time::Duration;
-use unit_results::config::Moment;
 
 mod info;
 mod kind;

@@ -1,49 +1,16 @@
-//! Laws that callers rely on, each carried by the contract of a function.
+//! Laws that callers rely on, each carried by the contract of a function of the layer that declares
+//! its type.
 
-ghost use Rattle.std.specs.Prelude.{◌≡◌, ◌↔◌, ◌≤◌, [], IsTrue};
-ghost use Rattle.std.specs.Ordering.{nat_cmp};
-ghost use Rattle.run_events.specs.Counters.{counted, nothing_known};
-ghost use Rattle.run_events.specs.Outcome.{outcome_rank, step_rank};
-
-use crate::outcome::{RunFailureStep, RunOutcome};
-use crate::stats::RunStats;
-use std::cmp::Ordering;
-pub use test_attempts::laws::{
-    final_level_at_most, final_level_order, retry_data_at_most, retry_data_order,
-    status_level_at_most, status_level_order,
+pub use run_events_attempts::laws::{retry_data_at_most, retry_data_order};
+pub use run_events_child::laws::errors_are_equal;
+pub use run_events_levels::laws::{
+    final_level_at_most, final_level_order, status_level_at_most, status_level_order,
 };
-pub use unit_results::laws::{
-    cancel_reason_at_most, cancel_reason_order, errors_are_equal, flaky_result_default,
-    run_mode_default, stress_index_at_most, stress_index_hashes, stress_index_order,
+pub use run_events_results::laws::{cancel_reason_at_most, cancel_reason_order};
+pub use run_events_settings::laws::{
+    flaky_result_default, run_mode_default, stress_index_at_most, stress_index_hashes,
+    stress_index_order,
 };
-
-/// By default all counters are zero, and there is no reason to cancel: the statistics of a run
-/// of which nothing is known.
-pub fn run_stats_default() -> RunStats
-    ensures { result ≡ counted [] [] nothing_known }
-{
-    RunStats::default()
-}
-
-/// Steps of a run are ordered as they are declared, `Test` the least.
-pub fn failure_step_order(a: RunFailureStep, b: RunFailureStep) -> Ordering
-    ensures order { result ≡ nat_cmp (step_rank a) (step_rank b) }
-    ensures equality { (result ≡ Ordering.Equal) ↔ (a ≡ b) }
-{
-    a.cmp(&b)
-}
-
-/// `<=` of steps is that order.
-pub fn failure_step_at_most(a: RunFailureStep, b: RunFailureStep) -> bool
-    ensures { IsTrue result ↔ (step_rank a ≤ step_rank b) }
-{
-    a <= b
-}
-
-/// Different outcomes have different ranks, so one outcome alone is the highest of some.
-pub fn outcomes_are_equal(a: RunOutcome, b: RunOutcome) -> bool
-    ensures rank { IsTrue result ↔ (outcome_rank a ≡ outcome_rank b) }
-    ensures equality { IsTrue result ↔ (a ≡ b) }
-{
-    a == b
-}
+pub use run_events_stats::laws::{
+    failure_step_at_most, failure_step_order, outcomes_are_equal, run_stats_default,
+};

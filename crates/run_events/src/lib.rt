@@ -1,16 +1,19 @@
 //! What a test runner tells its reporters: events, and in them results, what child processes left,
 //! the errors of units, attempts, levels, counters, summaries and outcomes of a run.
 //!
-//! The layers below stand in crates of their own, `unit_results` and `test_attempts`. What they
-//! hold is reached here too.
+//! The layers below stand in crates of their own, `run_events_..`. What they hold is reached here
+//! too, so that a user names this crate alone.
 #![tactic(auto)]
 
 pub use output_slice;
-pub use test_attempts::{attempts, levels};
-pub use unit_results::{chain, child, config, results, run_mode, stress};
+pub use run_events_attempts::attempts;
+pub use run_events_child::{chain, child};
+pub use run_events_levels::{levels, view};
+pub use run_events_results::results;
+pub use run_events_settings::{run_mode, stress};
+pub use run_events_stats::{outcome, stats};
 
+pub mod config;
 pub mod events;
 pub mod laws;
-pub mod outcome;
-pub mod stats;
 pub mod unit_error;

@@ -4,17 +4,17 @@ ghost use Rattle.std.specs.Prelude.{◌≡◌, ◌++◌, ◌↔◌, [], IfOk, If
 ghost use Rattle.std.specs.Option.{option_copied};
 ghost use Rattle.output_slice.specs.Extraction.{Extract};
 ghost use Rattle.output_slice.specs.Shown.{extract_of};
-ghost use Rattle.unit_results.specs.Texts.{executing_text};
+ghost use Rattle.run_events_results.specs.Texts.{executing_text};
 ghost use Rattle.run_events.specs.UnitErrors.{CanDescribe, IsExtractOf, IsListOf, IsSliceOf, LiesInOutput, LiesInStreams, abort_error, aborts_in, all_errors, child_process_errors, child_process_of, error_seen, errors_of, exec_fail_errors, exec_fail_of, is_failed_test, kind_of, output_error, described_slice};
-ghost use Rattle.unit_results.specs.ChildOutput.{IsLoaded};
+ghost use Rattle.run_events_child.specs.ChildOutput.{IsLoaded};
 
 use output_slice::subslice::TestOutputErrorSlice;
-use std::alloc::{AllocError, Global};
-use unit_results::child::{
+use run_events_child::child::{
     ChildErrorDescription, ChildExecutionOutputDescription, ChildOutputDescription,
     ChildSingleOutput, ChildStartErrorDescription, ErrorList, LiveSpec,
 };
-use unit_results::results::{ExecutionResultDescription, FailureDescription, UnitKind};
+use run_events_results::results::{ExecutionResultDescription, FailureDescription, UnitKind};
+use std::alloc::{AllocError, Global};
 
 mod errors;
 

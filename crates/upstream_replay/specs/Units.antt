@@ -2,7 +2,7 @@
 use Rattle.std.specs.Prelude.{[], ◌∷◌}
 use Rattle.run_events.specs.Counters.{UnitView, ScriptUnit, TestUnit, nothing_known, stats_of}
 use Rattle.run_events.specs.Attempts.{view_of}
-use Rattle.run_events.specs.declared.stats.RunStats.{RunStats}
+use Rattle.run_events_stats.specs.declared.stats.RunStats.{RunStats}
 use Rattle.upstream_replay.specs.declared.unit.Unit.{Unit}
 use Rattle.upstream_replay.specs.declared.unit.Unit.TheVariants.{Script, Test}
 

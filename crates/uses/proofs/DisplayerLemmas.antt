@@ -2,8 +2,8 @@
 use Rattle.std.proofs.Common.{◌≡◌, Option, None, refl}
 use Rattle.std.specs.Prelude.{if◌then◌else◌}
 use Rattle.run_events.specs.Visibility.{Wanted, visibility}
-use Rattle.test_attempts.specs.declared.levels.OutputStoreFinal.TheVariants.{No, Yes}
-use Rattle.unit_results.specs.declared.results.CancelReason.{CancelReason}
+use Rattle.run_events_levels.specs.declared.levels.OutputStoreFinal.TheVariants.{No, Yes}
+use Rattle.run_events_results.specs.declared.results.CancelReason.{CancelReason}
 
 -- while nothing cancels the run, output is shown at once where that is asked for
 pub shown_while_running : (w : Wanted) (why : Option CancelReason) → why ≡ None → (visibility w why).show_immediate ≡ w.at_once

@@ -3,7 +3,7 @@ use Rattle.std.proofs.Common.{◌≡◌, List, [], ◌∷◌, ◌++◌, map, ap,
 use Rattle.std.proofs.lemmas.List.{append-nil, map_push}
 use Rattle.std.specs.Prelude.{Option, None, Some, option_to_list}
 use Rattle.run_events.specs.Counters.{UnitView, unit_view}
-use Rattle.run_events.specs.declared.stats.FinishedUnit.{FinishedUnit}
+use Rattle.run_events_stats.specs.declared.stats.FinishedUnit.{FinishedUnit}
 
 -- a unit that was told is lent behind those that were lent before
 pub lent_more : (lent : List FinishedUnit) (unit : FinishedUnit) (before all : List UnitView) (told : Option UnitView)

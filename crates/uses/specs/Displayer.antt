@@ -9,11 +9,11 @@ use Rattle.run_events.specs.Results.{result_word, succeeds}
 use Rattle.run_events.specs.RunLaws.{has_no_failure}
 use Rattle.run_events.specs.TestView.{TestView}
 use Rattle.run_events.specs.Visibility.{is_stored}
-use Rattle.unit_results.specs.declared.config.TestOutputDisplay.{TestOutputDisplay}
-use Rattle.test_attempts.specs.declared.levels.FinalStatusLevel.{FinalStatusLevel}
-use Rattle.test_attempts.specs.declared.levels.OutputStoreFinal.{OutputStoreFinal}
-use Rattle.test_attempts.specs.declared.levels.OutputStoreFinal.TheVariants.{No, Yes}
-use Rattle.test_attempts.specs.declared.levels.StatusLevel.{StatusLevel}
+use Rattle.run_events_settings.specs.declared.config.TestOutputDisplay.{TestOutputDisplay}
+use Rattle.run_events_levels.specs.declared.levels.FinalStatusLevel.{FinalStatusLevel}
+use Rattle.run_events_levels.specs.declared.levels.OutputStoreFinal.{OutputStoreFinal}
+use Rattle.run_events_levels.specs.declared.levels.OutputStoreFinal.TheVariants.{No, Yes}
+use Rattle.run_events_levels.specs.declared.levels.StatusLevel.{StatusLevel}
 use Rattle.uses.specs.declared.displayer.Displayer.{Displayer}
 
 -- a test's level is above the one that is set, so the test is not asked for

@@ -1,9 +1,9 @@
 -- The exit status of a run.
 use Rattle.std.specs.Prelude.{◌≡◌, ◌⊎◌, ℕ, List, All, Contains}
 use Rattle.run_events.specs.Outcome.{IsHighest}
-use Rattle.run_events.specs.declared.outcome.RunFailureStep.TheVariants.{SetupScript, Test}
-use Rattle.run_events.specs.declared.outcome.run_outcome.RunOutcome.{RunOutcome}
-use Rattle.run_events.specs.declared.outcome.run_outcome.RunOutcome.TheVariants.{Cancelled, Failed, NoTestsRun, Success}
+use Rattle.run_events_stats.specs.declared.outcome.RunFailureStep.TheVariants.{SetupScript, Test}
+use Rattle.run_events_stats.specs.declared.outcome.run_outcome.RunOutcome.{RunOutcome}
+use Rattle.run_events_stats.specs.declared.outcome.run_outcome.RunOutcome.TheVariants.{Cancelled, Failed, NoTestsRun, Success}
 
 -- the status of an outcome; of a run that was cancelled, or failed, by its step
 abbrev pub status_of : RunOutcome → ℕ

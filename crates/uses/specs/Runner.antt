@@ -4,20 +4,20 @@ use Rattle.run_events.specs.Counters.{ScriptUnit, TestUnit, UnitView}
 use Rattle.run_events.specs.Described.{described_result}
 use Rattle.run_events.specs.Attempts.{attempts_of, last_of, view_of}
 use Rattle.run_events.specs.TestView.{TestView}
-use Rattle.test_attempts.specs.declared.attempts.RetryData.{RetryData}
-use Rattle.test_attempts.specs.declared.attempts.statuses.ExecutionStatuses.{ExecutionStatuses}
-use Rattle.unit_results.specs.declared.child.ChildExecutionOutputDescription.{ChildExecutionOutputDescription}
-use Rattle.unit_results.specs.declared.child.ChildExecutionOutputDescription.TheVariants as left
-use Rattle.unit_results.specs.declared.child.LiveSpec.{LiveSpec}
-use Rattle.unit_results.specs.declared.child.output.ChildOutputDescription.{ChildOutputDescription}
-use Rattle.unit_results.specs.declared.child.output.ChildOutputDescription.TheVariants.{Combined, NotLoaded, Split}
-use Rattle.unit_results.specs.declared.config.FlakyResult.{FlakyResult}
+use Rattle.run_events_attempts.specs.declared.attempts.RetryData.{RetryData}
+use Rattle.run_events_attempts.specs.declared.attempts.statuses.ExecutionStatuses.{ExecutionStatuses}
+use Rattle.run_events_child.specs.declared.child.ChildExecutionOutputDescription.{ChildExecutionOutputDescription}
+use Rattle.run_events_child.specs.declared.child.ChildExecutionOutputDescription.TheVariants as left
+use Rattle.run_events_child.specs.declared.child.LiveSpec.{LiveSpec}
+use Rattle.run_events_child.specs.declared.child.output.ChildOutputDescription.{ChildOutputDescription}
+use Rattle.run_events_child.specs.declared.child.output.ChildOutputDescription.TheVariants.{Combined, NotLoaded, Split}
+use Rattle.run_events_settings.specs.declared.config.FlakyResult.{FlakyResult}
 use Rattle.run_events.specs.declared.events.ReporterEvent.{ReporterEvent}
 use Rattle.run_events.specs.declared.events.ReporterEvent.TheVariants as told
 use Rattle.run_events.specs.declared.events.kind.TestEventKind.{TestEventKind}
 use Rattle.run_events.specs.declared.events.kind.TestEventKind.TheVariants.{SetupScriptFinished, TestFinished}
-use Rattle.run_events.specs.declared.stats.RunStats.{RunStats}
-use Rattle.unit_results.specs.declared.results.ExecutionResult.{ExecutionResult}
+use Rattle.run_events_stats.specs.declared.stats.RunStats.{RunStats}
+use Rattle.run_events_results.specs.declared.results.ExecutionResult.{ExecutionResult}
 
 -- the view of a test of so many attempts, of which the last ended so
 abbrev pub view_of_attempts : ℕ → ExecutionResult → Bool → FlakyResult → TestView

@@ -1,10 +1,10 @@
 //! What units answer where one asks in the middle of a run.
 
+use crate::config::{ScriptId, TestInstanceId};
 use crate::events::unit_state::UnitState;
-use test_attempts::attempts::RetryData;
-use unit_results::child::{ChildExecutionOutputDescription, LiveSpec};
-use unit_results::config::{ScriptId, TestInstanceId};
-use unit_results::stress::StressIndex;
+use run_events_attempts::attempts::RetryData;
+use run_events_child::child::{ChildExecutionOutputDescription, LiveSpec};
+use run_events_settings::stress::StressIndex;
 
 /// What a unit answers to a request for information.
 #[derive(Drop)]

@@ -1,20 +1,20 @@
 //! The kinds of events.
 
-use crate::events::info::InfoResponse;
-use crate::events::not_seen::TestsNotSeen;
-use crate::events::slots::TestSlotAssignment;
-use crate::outcome::RunFinishedStats;
-use crate::stats::RunStats;
-use std::time::Duration;
-use test_attempts::attempts::{
-    ExecuteStatus, ExecutionStatuses, RetryData, SetupScriptExecuteStatus,
-};
-use unit_results::child::LiveSpec;
-use unit_results::config::{
+use crate::config::{
     JunitFlakyFailStatus, MismatchReason, Moment, ReportSkipPolicy, ScriptId, StressCondition,
     TestInstanceId, TestList, TestOutputDisplay,
 };
-use unit_results::stress::{StressIndex, StressProgress};
+use crate::events::info::InfoResponse;
+use crate::events::not_seen::TestsNotSeen;
+use crate::events::slots::TestSlotAssignment;
+use run_events_attempts::attempts::{
+    ExecuteStatus, ExecutionStatuses, RetryData, SetupScriptExecuteStatus,
+};
+use run_events_child::child::LiveSpec;
+use run_events_settings::stress::{StressIndex, StressProgress};
+use run_events_stats::outcome::RunFinishedStats;
+use run_events_stats::stats::RunStats;
+use std::time::Duration;
 use uuid::Uuid;
 
 /// What happened in a run. The kinds stand in the order in which a run meets them, those that may

@@ -1,6 +1,6 @@
 //! Tests that a rerun was to run and did not meet.
 
-use unit_results::config::OwnedTestInstanceId;
+use crate::config::OwnedTestInstanceId;
 
 /// The tests that an earlier run left over for this one, and of which this one told no event: they
 /// may have been removed or renamed since.

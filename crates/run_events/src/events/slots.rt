@@ -1,6 +1,6 @@
 //! Where a test is scheduled.
 
-use unit_results::config::TestGroup;
+use crate::config::TestGroup;
 
 /// The slots that a test holds while it runs, and its group. They are given to it before its first
 /// attempt, and it keeps them through all its attempts.

@@ -4,8 +4,8 @@ ghost use Rattle.std.specs.Prelude.{◌≡◌};
 ghost use Rattle.run_events.specs.UnitState.{state_has_output};
 
 use crate::events::terminate::{UnitTerminateMethod, UnitTerminateReason};
+use run_events_results::results::ExecutionResultDescription;
 use std::time::Duration;
-use unit_results::results::ExecutionResultDescription;
 
 /// What a unit, a test or a setup script, is doing.
 #[derive(Debug, Drop)]

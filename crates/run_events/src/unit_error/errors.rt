@@ -1,13 +1,13 @@
 //! Each error of a unit.
 
 ghost use Rattle.std.specs.Prelude.{Some};
-ghost use Rattle.unit_results.specs.Texts.{unit_abort_text};
+ghost use Rattle.run_events_results.specs.Texts.{unit_abort_text};
 ghost use Rattle.run_events.specs.UnitErrors.{unit_error_text};
 
 use output_slice::subslice::TestOutputErrorSlice;
+use run_events_child::child::{ChildErrorDescription, ChildStartErrorDescription};
+use run_events_results::results::AbortDescription;
 use std::fmt;
-use unit_results::child::{ChildErrorDescription, ChildStartErrorDescription};
-use unit_results::results::AbortDescription;
 
 /// That a unit's process was ended from outside.
 #[derive(Clone, Copy, Debug)]

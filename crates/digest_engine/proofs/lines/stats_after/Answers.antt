@@ -1,6 +1,6 @@
 use Rattle.std.proofs.Common.{ℕ, List, sym, subst, arith}
-use Rattle.test_attempts.specs.Attempts.{view_of}
-use Rattle.run_events.specs.declared.stats.RunStats.{RunStats}
+use Rattle.run_events_attempts.specs.Attempts.{view_of}
+use Rattle.run_events_stats.specs.declared.stats.RunStats.{RunStats}
 use Rattle.digest_engine.specs.Reader.{begun, runs_from}
 use Rattle.digest_engine.proofs.Counting.{Going, going-bad, going-end, going-late, going-script, going-start, going-sub_run, going-test, script_fits, test_fits}
 use Rattle.digest_engine.proofs.lines.stats_after.Goals as goal

@@ -3,9 +3,9 @@ use Rattle.std.specs.Prelude.{◌==◌, None}
 use Rattle.std.proofs.lemmas.Grind.{common_steps}
 use Rattle.std.proofs.lemmas.List.{map-append, map_more}
 use Rattle.run_events.specs.Described.{described_result}
-use Rattle.test_attempts.specs.declared.attempts.ExecuteStatus.{ExecuteStatus}
-use Rattle.unit_results.specs.declared.child.output.ChildOutputDescription.{ChildOutputDescription}
-use Rattle.unit_results.specs.declared.child.LiveSpec.{LiveSpec}
+use Rattle.run_events_attempts.specs.declared.attempts.ExecuteStatus.{ExecuteStatus}
+use Rattle.run_events_child.specs.declared.child.output.ChildOutputDescription.{ChildOutputDescription}
+use Rattle.run_events_child.specs.declared.child.LiveSpec.{LiveSpec}
 use Rattle.digest_engine.specs.Statuses.{IsAttempt, described_results}
 use Rattle.digest_engine.proofs.Attempts.{placed_push}
 use Rattle.digest_engine.proofs.units.attempts_of.Goals as goal

@@ -3,8 +3,8 @@ use Rattle.std.specs.List.{range_with_len}
 use Rattle.std.proofs.lemmas.Grind.{common_steps}
 use Rattle.std.proofs.lemmas.List.{map-append}
 use Rattle.std.proofs.lemmas.List.FromFn.{map-range_with_len_more}
-use Rattle.test_attempts.specs.declared.attempts.ExecuteStatus.{ExecuteStatus}
-use Rattle.test_attempts.specs.declared.attempts.RetryData.{RetryData}
+use Rattle.run_events_attempts.specs.declared.attempts.ExecuteStatus.{ExecuteStatus}
+use Rattle.run_events_attempts.specs.declared.attempts.RetryData.{RetryData}
 use Rattle.uses.specs.Runner.{numbered_of}
 use Rattle.uses.proofs.runner.finished_test.Goals as goal
 

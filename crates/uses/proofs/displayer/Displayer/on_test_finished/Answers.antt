@@ -4,10 +4,10 @@ use Rattle.run_events.specs.Config.{is_final_display, is_immediate_display}
 use Rattle.run_events.specs.Level.{final_level_of}
 use Rattle.run_events.specs.Attempts.{view_of}
 use Rattle.run_events.specs.Visibility.{is_stored}
-use Rattle.unit_results.specs.declared.config.TestOutputDisplay.{TestOutputDisplay}
-use Rattle.test_attempts.specs.declared.levels.OutputOnTestFinished.{OutputOnTestFinished}
-use Rattle.test_attempts.specs.declared.levels.OutputStoreFinal.{OutputStoreFinal}
-use Rattle.test_attempts.specs.declared.levels.OutputStoreFinal.TheVariants.{No, Yes}
+use Rattle.run_events_settings.specs.declared.config.TestOutputDisplay.{TestOutputDisplay}
+use Rattle.run_events_levels.specs.declared.levels.OutputOnTestFinished.{OutputOnTestFinished}
+use Rattle.run_events_levels.specs.declared.levels.OutputStoreFinal.{OutputStoreFinal}
+use Rattle.run_events_levels.specs.declared.levels.OutputStoreFinal.TheVariants.{No, Yes}
 use Rattle.uses.specs.Displayer.{display_of}
 use Rattle.uses.proofs.DisplayerLemmas.{shown_while_running, stored_while_running}
 use Rattle.uses.proofs.displayer.Displayer.on_test_finished.Goals as goal

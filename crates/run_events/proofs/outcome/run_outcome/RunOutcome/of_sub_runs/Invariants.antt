@@ -1,7 +1,0 @@
-use Rattle.std.proofs.Common.{map, take}
-use Rattle.run_events.specs.Outcome.{IsHighest, outcome_of}
-use Rattle.run_events.proofs.outcome.run_outcome.RunOutcome.of_sub_runs.Given as goal
-
--- the highest outcome of the sub-runs so far
-abbrev pub invariant-loop-summary : goal.invariant-loop-summary
-invariant-loop-summary l = IsHighest (map outcome_of (take l.summary-index l.sub_runs)) l.highest

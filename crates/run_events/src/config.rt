@@ -1,0 +1,12 @@
+//! Settings that decide how results count and what is shown, and values that are only carried.
+
+mod carried;
+
+pub use crate::config::carried::{
+    JunitFlakyFailStatus, MismatchReason, OwnedTestInstanceId, ReportSkipPolicy, ScriptId,
+    StressCondition, TestGroup, TestInstanceId, TestList,
+};
+pub use run_events_attempts::moment::Moment;
+pub use run_events_settings::config::{
+    FlakyResult, LeakTimeoutResult, SlowTimeoutResult, TestOutputDisplay,
+};

@@ -1,0 +1,41 @@
+-- The attempts of a test, and what of them decides how it counts.
+use Rattle.std.specs.Prelude.{◌≡◌, ◌<◌, ◌≤◌, ◌⊎◌, ◌-◌, false, List, Option, length, slice_get}
+use Rattle.std.specs.Option.{option_map_or}
+use Rattle.run_events_settings.specs.declared.config.FlakyResult.{FlakyResult}
+use Rattle.run_events_results.specs.declared.results.ExecutionResultDescription.TheVariants.{Pass}
+use Rattle.run_events_attempts.specs.declared.attempts.ExecuteStatus.{ExecuteStatus}
+use Rattle.run_events_attempts.specs.declared.attempts.RetryData.{RetryData}
+use Rattle.run_events_attempts.specs.declared.attempts.statuses.ExecutionStatuses.{ExecutionStatuses}
+use Rattle.run_events_attempts.specs.declared.attempts.statuses.ExecutionStatusesIter.{ExecutionStatusesIter}
+use Rattle.run_events_levels.specs.TestView.{TestView}
+
+-- the attempts of a test, in order
+abbrev pub attempts_of : {S D : Type 0} → ExecutionStatuses S D → List (ExecuteStatus S D)
+attempts_of t = t.statuses.items
+
+-- how the test counts where it is flaky
+abbrev pub setting_of : {S D : Type 0} → ExecutionStatuses S D → FlakyResult
+setting_of t = t.flaky_result
+
+-- the last of a list, which is there where the list is not empty
+abbrev pub last_of : {A : Type 0} → List A → Option A
+last_of xs = slice_get xs (length xs - 1)
+
+-- The view of a test. A test always has a last attempt: what stands for want of one is never met.
+abbrev pub view_of : {S D : Type 0} → ExecutionStatuses S D → TestView
+view_of t =
+    let last = last_of (attempts_of t) in
+    record {
+      result = option_map_or (λ s. s.result) last Pass;
+      attempts = length (attempts_of t);
+      is_slow = option_map_or (λ s. s.is_slow) last false;
+      setting = setting_of t;
+    }
+
+-- the attempts that are left to visit, in order
+abbrev pub attempts_left : {S D : Type 0} → ExecutionStatusesIter S D → List (ExecuteStatus S D)
+attempts_left iter = iter.rest.now
+
+-- a comes before b, or is b: an earlier attempt, or the same attempt of no more
+abbrev pub IsNoLaterAttempt : RetryData → RetryData → Type 0
+IsNoLaterAttempt a b = (a.attempt < b.attempt) ⊎ ((a.attempt ≡ b.attempt) × (a.total_attempts ≤ b.total_attempts))

@@ -1,0 +1,181 @@
+//! The attempts of one finished test.
+
+ghost use Rattle.std.specs.Prelude.{◌<◌, vec_len};
+
+use crate::attempts::ExecuteStatus;
+use crate::attempts::description::ExecutionDescription;
+use run_events_child::child::OutputSpec;
+use run_events_levels::view::TestView;
+use run_events_settings::config::FlakyResult;
+
+/// All attempts of a finished test, in order, with how it counts where it is flaky. There is
+/// always at least one.
+#[derive(Drop)]
+pub struct ExecutionStatuses<S: OutputSpec> {
+    statuses: Vec<ExecuteStatus<S>>,
+    flaky_result: FlakyResult,
+    ghost not_empty: { 0 < vec_len statuses },
+}
+
+/// The list of attempts is empty: there is no finished test without an attempt.
+#[derive(Clone, Copy, Debug, PartialEq, Eq)]
+pub struct EmptyStatuses;
+
+impl<S: OutputSpec> ExecutionStatuses<S> {
+    ghost use Rattle.std.specs.Prelude.{◌≡◌, ◌↔◌, ◌<◌, [], IfOk, IsErr, Some, length, vec_len};
+    ghost use Rattle.run_events_attempts.specs.Attempts.{attempts_left, attempts_of, last_of, setting_of, view_of};
+    ghost use Rattle.run_events_attempts.specs.Description.{ComesTo, HasFinalLevel, IsConsistent, described_final_level, described_level, is_success_description};
+    ghost use Rattle.run_events_levels.specs.Level.{final_level_of, level_of};
+    ghost use Rattle.run_events_results.specs.Results.{succeeds};
+    ghost use Rattle.run_events_levels.specs.TestView.{said_of};
+
+    /// A test with these attempts, in order, of which there must be at least one.
+    pub fn new(statuses: Vec<ExecuteStatus<S>>, flaky_result: FlakyResult) -> Self
+        requires { 0 < vec_len statuses }
+        ensures attempts { attempts_of result ≡ statuses.items }
+        ensures setting { setting_of result ≡ flaky_result }
+    {
+        ExecutionStatuses {
+            statuses,
+            flaky_result,
+        }
+    }
+
+    /// A test with these attempts, in order.
+    ///
+    /// [`EmptyStatuses`] exactly where there are none, as in a damaged record.
+    pub fn try_from_parts(
+        statuses: Vec<ExecuteStatus<S>>,
+        flaky_result: FlakyResult,
+    ) -> Result<Self, EmptyStatuses>
+        ensures empty { IsErr result ↔ (statuses.items ≡ []) }
+        ensures attempts { IfOk result (λ t. attempts_of t ≡ statuses.items) }
+        ensures setting { IfOk result (λ t. setting_of t ≡ flaky_result) }
+    {
+        if statuses.is_empty() {
+            statuses.destroy_empty();
+            return Err(EmptyStatuses);
+        }
+        Ok(ExecutionStatuses::new(statuses, flaky_result))
+    }
+
+    /// How the test counts where it is flaky.
+    pub fn flaky_result(&self) -> FlakyResult
+        ensures { result ≡ setting_of self.now }
+    {
+        self.flaky_result
+    }
+
+    /// The last attempt, which decides how the test counts.
+    pub fn last_status(&self) -> &ExecuteStatus<S>
+        ensures { last_of (attempts_of self.now) ≡ Some result.now }
+    {
+        &self.statuses[self.statuses.len() - 1]
+    }
+
+    /// What of the test decides its counters and its levels.
+    pub fn view(&self) -> TestView<'_>
+        ensures { said_of result ≡ view_of self.now }
+    {
+        let last = self.last_status();
+        TestView {
+            result: &last.result,
+            attempts: self.len(),
+            is_slow: last.is_slow,
+            flaky_result: self.flaky_result,
+        }
+    }
+
+    /// The number of attempts, at least 1.
+    pub fn len(&self) -> usize
+        ensures count { result ≡ length (attempts_of self.now) }
+        ensures not_empty { 0 < result }
+    {
+        self.statuses.len()
+    }
+
+    /// Visits the attempts, the first one first; from the back, the last one first.
+    pub fn iter(&self) -> ExecutionStatusesIter<'_, S>
+        ensures { attempts_left result ≡ attempts_of self.now }
+    {
+        ExecutionStatusesIter {
+            rest: self.statuses.as_slice(),
+        }
+    }
+
+    /// What the attempts come to: a success where there is one and it succeeded, flaky where there
+    /// are more and the last one succeeded, otherwise a failure. Of the results the last counts
+    /// alone.
+    pub fn describe(&self) -> ExecutionDescription<'_, S>
+        ensures parts { ComesTo (attempts_of self.now) (setting_of self.now) result }
+        ensures consistent { IsConsistent result }
+        ensures has_final_level { HasFinalLevel result }
+        ensures success { is_success_description result ≡ succeeds (view_of self.now).result }
+        ensures level { described_level result ≡ level_of (view_of self.now) }
+        ensures final_level { described_final_level result ≡ final_level_of (view_of self.now) }
+    {
+        ExecutionDescription::of_attempts(self.statuses.as_slice(), self.flaky_result)
+    }
+}
+
+/// The attempts of a test that are left to visit, from both ends.
+#[derive(Drop)]
+pub struct ExecutionStatusesIter<'a, S: OutputSpec> {
+    rest: &'a [ExecuteStatus<S>],
+}
+
+impl<'a, S: OutputSpec> Iterator for ExecutionStatusesIter<'a, S> {
+    ghost use Rattle.std.specs.Iterator.{YieldsFirstRef, item_count};
+    ghost use Rattle.run_events_attempts.specs.Attempts.{attempts_left};
+
+    type Item = &'a ExecuteStatus<S>;
+
+    ghost next_gives = { YieldsFirstRef attempts_left };
+
+    ghost remaining = { item_count attempts_left };
+
+    /// The first attempt that is left; `None` where none is.
+    fn next(&mut self) -> Option<&'a ExecuteStatus<S>> {
+        let (first, rest) = self.rest.split_first()?;
+        self.rest = rest;
+        Some(first)
+    }
+}
+
+impl<'a, S: OutputSpec> DoubleEndedIterator for ExecutionStatusesIter<'a, S> {
+    ghost use Rattle.std.specs.Iterator.{YieldsLastRef};
+    ghost use Rattle.run_events_attempts.specs.Attempts.{attempts_left};
+
+    ghost next_back_gives = { YieldsLastRef attempts_left };
+
+    /// The last attempt that is left; `None` where none is.
+    fn next_back(&mut self) -> Option<&'a ExecuteStatus<S>> {
+        let (last, rest) = self.rest.split_last()?;
+        self.rest = rest;
+        Some(last)
+    }
+}
+
+/// Gives the attempts away, the first one first; from the back, the last one first.
+impl<S: OutputSpec> IntoIterator for ExecutionStatuses<S>
+where
+    S::ChildOutputDesc: Drop,
+{
+    ghost use Rattle.std.specs.Prelude.{◌≡◌};
+    ghost use Rattle.std.specs.Vec.Iter.{into_iter_items};
+    ghost use Rattle.run_events_attempts.specs.Attempts.{attempts_of};
+
+    type Item = ExecuteStatus<S>;
+
+    type IntoIter = std::vec::IntoIter<ExecuteStatus<S>>;
+
+    ghost into_iter_gives = { λ t i. into_iter_items i ≡ attempts_of t };
+
+    fn into_iter(self) -> std::vec::IntoIter<ExecuteStatus<S>> {
+        let ExecutionStatuses {
+            statuses,
+            flaky_result: _,
+        } = self;
+        statuses.into_iter()
+    }
+}

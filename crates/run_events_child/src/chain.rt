@@ -1,0 +1,183 @@
+//! Errors with what caused them, kept as texts.
+
+ghost use Rattle.std.specs.Prelude.{◌≡◌, [], map, string_bytes, IfOk, MatchOption, Some};
+ghost use Rattle.std.specs.Iterator.{YieldsFirstRef, item_count};
+ghost use Rattle.run_events_child.specs.ErrorChain.{cause_chains, texts};
+
+use std::alloc::{AllocError, Global};
+use std::fmt;
+use std::marker::Model;
+
+mod json;
+
+pub use crate::chain::json::FromValueError;
+
+/// An error as its message and the chain of what caused it: a form that outlives the error itself
+/// and can be stored.
+///
+/// Contracts see it as its texts: the message, then the causes, the nearest first. It is dropped
+/// and compared in loops, so that takes no stack however long the chain is; the derived `Debug`
+/// goes down the chain.
+#[derive(Debug)]
+pub struct SerializableError {
+    message: String,
+    source: Option<Box<SerializableError>>,
+}
+
+impl Model for SerializableError {
+    ghost use Rattle.std.specs.Prelude.{string_bytes, []};
+    ghost use Rattle.std.specs.Option.{option_map_or};
+    ghost use Rattle.std.proofs.Common.{arith};
+    ghost use Rattle.run_events_child.specs.ErrorChain.{ErrorChain, texts, text_count};
+
+    ghost Value = { ErrorChain };
+
+    ghost view = { λ e. record {
+      message = string_bytes e.message;
+      causes = option_map_or (λ b. texts b.value) e.source [];
+    } };
+
+    ghost size = { text_count };
+
+    ghost size_decreases = { λ a h. Prim.grind arith };
+}
+
+impl Drop for SerializableError {
+    fn drop(mut self) {
+        loop {
+            let SerializableError { message: _, source } = self;
+            match source {
+                None => return,
+                Some(cause) => self = Box::into_inner(cause),
+            }
+        }
+    }
+}
+
+impl SerializableError {
+    /// An error with this message, caused by what the list says, the nearest cause first.
+    ///
+    /// Takes memory for each cause. Where it is refused, message and causes are dropped.
+    pub fn from_message_and_causes(
+        alloc: Global,
+        message: String,
+        mut causes: Vec<String>,
+    ) -> Result<Self, AllocError>
+        ensures message { IfOk result (λ e. e.message ≡ string_bytes message) }
+        ensures causes { IfOk result (λ e. e.causes ≡ map string_bytes causes.items) }
+    {
+        let mut source: Option<Box<SerializableError>> = None;
+        'link: while let Some(message) = causes.pop() {
+            source = Some(Box::new(alloc, SerializableError { message, source })?);
+        }
+        Ok(SerializableError { message, source })
+    }
+
+    /// The message, without its causes.
+    pub fn message(&self) -> &str
+        ensures { result.now ≡ self.now.message }
+    {
+        self.message.as_str()
+    }
+
+    /// The nearest cause, with all that caused it; `None` for an error without a cause.
+    pub fn source(&self) -> Option<&SerializableError>
+        ensures { MatchOption result (self.now.causes ≡ []) (λ e. self.now.causes ≡ texts e.now) }
+    {
+        match &self.source {
+            None => None,
+            Some(cause) => Some(cause),
+        }
+    }
+
+    /// The causes in order, the nearest first, each with all that caused it.
+    pub fn sources(&self) -> SerializableErrorSources<'_>
+        ensures { result ≡ self.now.causes }
+    {
+        SerializableErrorSources {
+            next: self.source(),
+        }
+    }
+}
+
+impl fmt::Display for SerializableError {
+    ghost output = { λ e. Some e.message };
+
+    /// The message, without its causes.
+    fn fmt<W: fmt::Write>(&self, f: &mut fmt::Formatter<W>) -> fmt::Result {
+        let message = self.message();
+        write!(f, "{message}")
+    }
+}
+
+impl PartialEq for SerializableError {
+    ghost use Rattle.std.specs.Ordering.{on};
+    ghost use Rattle.std.specs.Str.{bytes_eq};
+    ghost use Rattle.std.specs.Cmp.{on_equiv, partial_equiv_from_equiv};
+    ghost use Rattle.std.specs.Cmp.Lexicographic.{pointwise, lists_equiv, nat_list_eq_equiv};
+    ghost use Rattle.run_events_child.specs.ErrorChain.{texts};
+
+    ghost eq = { on texts (pointwise bytes_eq) };
+
+    ghost laws = { partial_equiv_from_equiv (on_equiv texts (lists_equiv nat_list_eq_equiv)) };
+
+    /// Errors are equal where their texts are.
+    fn eq(&self, other: &SerializableError) -> bool {
+        let mut left = self;
+        let mut right = other;
+        'compare: loop {
+            if left.message() != right.message() {
+                return false;
+            }
+            match (left.source(), right.source()) {
+                (None, None) => return true,
+                (Some(next_left), Some(next_right)) => {
+                    left = next_left;
+                    right = next_right;
+                }
+                _ => return false,
+            }
+        }
+    }
+}
+
+impl Eq for SerializableError {
+    ghost use Rattle.std.specs.Cmp.{on_equiv};
+    ghost use Rattle.std.specs.Cmp.Lexicographic.{lists_equiv, nat_list_eq_equiv};
+    ghost use Rattle.run_events_child.specs.ErrorChain.{texts};
+
+    ghost laws = { on_equiv texts (lists_equiv nat_list_eq_equiv) };
+}
+
+/// An iterator over the causes of an error, the nearest first.
+///
+/// Contracts see it as the texts of the causes that are left.
+#[derive(Debug, Drop)]
+pub struct SerializableErrorSources<'a> {
+    next: Option<&'a SerializableError>,
+}
+
+impl<'a> Model for SerializableErrorSources<'a> {
+    ghost use Rattle.std.specs.Prelude.{ℕ, List, []};
+    ghost use Rattle.std.specs.Option.{option_map_or};
+    ghost use Rattle.run_events_child.specs.ErrorChain.{texts};
+
+    ghost Value = { List (List ℕ) };
+
+    ghost view = { λ s. option_map_or (λ e. texts e.now) s.next [] };
+}
+
+impl<'a> Iterator for SerializableErrorSources<'a> {
+    type Item = &'a SerializableError;
+
+    ghost next_gives = { YieldsFirstRef cause_chains };
+
+    ghost remaining = { item_count cause_chains };
+
+    /// The next cause; `None` after the last.
+    fn next(&mut self) -> Option<&'a SerializableError> {
+        let error = self.next?;
+        self.next = error.source();
+        Some(error)
+    }
+}

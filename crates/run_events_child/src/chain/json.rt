@@ -1,0 +1,164 @@
+//! Error chains as JSON values.
+
+ghost use Rattle.std.specs.Prelude.{◌≡◌, ◌≤◌, codes, is_some, not, map, option_map, position, Err, IfOk, Ok, if◌then◌else◌};
+ghost use Rattle.std.specs.Result.{result_map_both};
+ghost use Rattle.serde_json.specs.Data.{depth};
+ghost use Rattle.serde_json.specs.Find.{as_object, as_str, get};
+ghost use Rattle.serde_json.specs.View.{view};
+ghost use Rattle.run_events_child.specs.ErrorChain.{ErrorChain};
+ghost use Rattle.run_events_child.specs.ChainReading.{IsChainUnlessMemory, ReadsAs, read_causes, read_chain, read_message, read_texts};
+ghost use Rattle.run_events_child.specs.ChainValue.{IsChainValue};
+ghost use Rattle.run_events_child.specs.ChainObject.{chain_object, texts_of};
+
+use crate::chain::SerializableError;
+use serde_json::{Map, Value, put};
+use std::alloc::{AllocError, Global};
+
+/// Why a JSON value was not read as an error.
+#[derive(Clone, Copy, Debug, PartialEq, Eq)]
+pub enum FromValueError {
+    /// It is no object.
+    NotAnObject,
+
+    /// It has no member `message`.
+    MessageMissing,
+
+    /// Its member `message` is no text.
+    MessageNotText,
+
+    /// Its member `causes` is no list. `null` is none either.
+    CausesNotAList,
+
+    /// A cause is no text.
+    CauseNotText {
+        /// The position of the first such cause, counted from 0.
+        index: usize,
+    },
+
+    /// Memory was refused.
+    OutOfMemory,
+}
+
+impl From<AllocError> for FromValueError {
+    ghost use Rattle.run_events_child.specs.declared.chain.json.FromValueError.TheVariants.{OutOfMemory};
+
+    ghost from_gives = { λ _ e. e ≡ OutOfMemory };
+
+    /// Answers [`FromValueError::OutOfMemory`].
+    fn from(_: AllocError) -> FromValueError {
+        FromValueError::OutOfMemory
+    }
+}
+
+impl SerializableError {
+    /// The error as an object with two members: `message`, a text, and `causes`, a list of texts,
+    /// the nearest cause first, which is there also where it is empty.
+    ///
+    /// Takes memory for the object, its texts and its list. The only error is that memory is
+    /// refused.
+    #[tactic(auto, using(crate::proofs::ChainLemmas::is_chain_value_from_object, crate::proofs::ChainLemmas::nests_from_object, crate::proofs::ChainLemmas::reads_from_object))]
+    pub fn to_value(&self, alloc: Global) -> Result<Value, AllocError>
+        ensures members { IfOk result (λ v. IsChainValue (view v) self.now) }
+
+        // `serde_json` reads a text again that nests no deeper than 127.
+        ensures nests { IfOk result (λ v. depth (view v) ≤ 2) }
+        ensures reads_back { IfOk result (λ v. read_chain (view v) ≡ Ok self.now) }
+    {
+        object_of(alloc, self)
+    }
+
+    /// The error that a value is read as: an object with a text as `message` and a list of texts
+    /// as `causes`. Where `causes` is missing, the error has none. Other members are ignored.
+    ///
+    /// Of the refusals but [`FromValueError::OutOfMemory`] the first that applies is answered, in
+    /// the order of their declaration, and before any memory is taken. What [`Self::to_value`]
+    /// wrote is read as the same error again.
+    #[tactic(auto, using(crate::proofs::ChainLemmas::reads_back_from_reads))]
+    pub fn from_value(alloc: Global, value: &Value) -> Result<Self, FromValueError>
+        ensures reads { ReadsAs (read_chain (view value.now)) result }
+        ensures reads_back { (c : ErrorChain) → IsChainValue (view value.now) c
+            → IsChainUnlessMemory c result }
+    {
+        read_value(alloc, value)
+    }
+}
+
+#[tactic(auto, using(crate::proofs::ChainLemmas::messages_of_cause_chains))]
+fn object_of(alloc: Global, error: &SerializableError) -> Result<Value, AllocError>
+    ensures { IfOk result (λ v. view v ≡ chain_object error.now) }
+{
+    let mut causes = Vec::new(alloc);
+    for cause in error.sources() {
+        causes.push(Value::try_from_str(alloc, cause.message())?)?;
+    }
+    let message = Value::try_from_str(alloc, error.message())?;
+    let mut members = Map::new(alloc);
+    put(&mut members, alloc, "message", message)?;
+    put(&mut members, alloc, "causes", Value::Array(causes))?;
+    Ok(Value::Object(members))
+}
+
+fn read_value(alloc: Global, value: &Value) -> Result<SerializableError, FromValueError>
+    ensures { ReadsAs (read_chain (view value.now)) result }
+{
+    let message = message_of(value)?;
+    let causes = causes_of(value.get("causes"))?;
+    Ok(error_of(alloc, message, causes)?)
+}
+
+fn message_of(value: &Value) -> Result<&str, FromValueError>
+    ensures { result_map_both (λ s. s.now) (λ e. e) result ≡ (if is_some (as_object (view value.now))
+        then read_message (get (codes "message") (view value.now)) else Err FromValueError.NotAnObject) }
+{
+    if !value.is_object() {
+        return Err(FromValueError::NotAnObject);
+    }
+    match value.get("message") {
+        None => Err(FromValueError::MessageMissing),
+        Some(member) => match member.as_str() {
+            None => Err(FromValueError::MessageNotText),
+            Some(message) => Ok(message),
+        },
+    }
+}
+
+#[tactic(auto, using(crate::proofs::ChainLemmas::values_in_items_of))]
+fn causes_of(member: Option<&Value>) -> Result<&[Value], FromValueError>
+    ensures { result_map_both (λ vs. texts_of vs.now) (λ e. e) result
+        ≡ read_causes (option_map (λ v. view v.now) member.entry) }
+{
+    match member {
+        None => Ok(&[]),
+        Some(member) => match member.as_array() {
+            None => Err(FromValueError::CausesNotAList),
+            Some(items) => all_texts(items.as_slice()),
+        },
+    }
+}
+
+#[tactic(auto, using(crate::proofs::ChainLemmas::texts_of_views, crate::proofs::ChainLemmas::position_of_view))]
+fn all_texts(items: &[Value]) -> Result<&[Value], FromValueError>
+    ensures { result_map_both (λ vs. texts_of vs.now) (λ e. e) result ≡ read_texts (map view items.now) }
+{
+    match first_no_text(items) {
+        None => Ok(items),
+        Some(index) => Err(FromValueError::CauseNotText { index }),
+    }
+}
+
+fn first_no_text(items: &[Value]) -> Option<usize>
+    ensures { result ≡ position (λ v. not (is_some (as_str (view v)))) items.now }
+{
+    items.iter().position(|item| !item.is_string())
+}
+
+fn error_of(alloc: Global, message: &str, causes: &[Value]) -> Result<SerializableError, AllocError>
+    ensures message { IfOk result (λ e. e.message ≡ message.now) }
+    ensures causes { IfOk result (λ e. e.causes ≡ texts_of causes.now) }
+{
+    let mut texts = Vec::with_capacity(alloc, causes.len())?;
+    for cause in causes {
+        texts.push(String::from_str(alloc, cause.as_str().unwrap_or(""))?)?;
+    }
+    SerializableError::from_message_and_causes(alloc, String::from_str(alloc, message)?, texts)
+}

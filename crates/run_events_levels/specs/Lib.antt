@@ -1,0 +1,4 @@
+pub mod Level
+pub mod LevelRanks
+pub mod TestView
+pub mod Visibility

@@ -1,0 +1,82 @@
+-- What is shown of a finished test, and when.
+use Rattle.std.specs.Prelude.{◌≡◌, ◌≤◌, ◌+◌, ◌⊎◌, ◌==◌, ◌&&◌, ◌||◌, ℕ, Bool, true, false, IsTrue, if◌then◌else◌, nat_le, nat_lt, Option, None, Some}
+use Rattle.run_events_settings.specs.Config.{is_final_display, is_immediate_display}
+use Rattle.run_events_results.specs.Ranks.{reason_rank}
+use Rattle.run_events_levels.specs.LevelRanks.{final_level_rank, level_rank}
+use Rattle.run_events_results.specs.Results.{is_termination_failure}
+use Rattle.run_events_settings.specs.declared.config.TestOutputDisplay.{TestOutputDisplay}
+use Rattle.run_events_levels.specs.declared.levels.FinalStatusLevel.{FinalStatusLevel}
+use Rattle.run_events_levels.specs.declared.levels.OutputOnTestFinished.{OutputOnTestFinished}
+use Rattle.run_events_levels.specs.declared.levels.OutputStoreFinal.{OutputStoreFinal}
+use Rattle.run_events_levels.specs.declared.levels.OutputStoreFinal.TheVariants.{No, Yes}
+use Rattle.run_events_levels.specs.declared.levels.StatusLevel.{StatusLevel}
+use Rattle.run_events_levels.specs.declared.levels.StatusLevels.{StatusLevels}
+use Rattle.run_events_results.specs.declared.results.CancelReason.{CancelReason}
+use Rattle.run_events_results.specs.declared.results.CancelReason.TheVariants as reason
+use Rattle.run_events_results.specs.declared.results.ExecutionResultDescription.{ExecutionResultDescription}
+
+-- what a finished test, its display and the levels ask for, whatever the reason
+pub record Wanted : Type 0 where
+  -- the line: the own level is at or above the test's
+  pub line : Bool
+  -- output at once, and at the end of the run: the display
+  pub at_once : Bool
+  pub at_end : Bool
+  -- output is stored: it is displayed at the end, or the own final level is at or above the test's
+  pub stored : Bool
+  -- the result is a termination failure
+  pub terminated : Bool
+
+-- output is stored that is displayed at the end, or whose final level the own one includes
+abbrev pub is_stored : StatusLevels → TestOutputDisplay → FinalStatusLevel → Bool
+is_stored own display final_level =
+    is_final_display display || nat_le (final_level_rank final_level) (final_level_rank own.final_status_level)
+
+abbrev pub wanted : StatusLevels → TestOutputDisplay → StatusLevel → FinalStatusLevel → ExecutionResultDescription → Wanted
+wanted own display level final_level result = record {
+  line = nat_le (level_rank level) (level_rank own.status_level);
+  at_once = is_immediate_display display;
+  at_end = is_final_display display;
+  stored = is_stored own display final_level;
+  terminated = is_termination_failure result;
+}
+
+-- how severe a reason is: from 1 on, and 0 where there is none
+abbrev pub severity : Option CancelReason → ℕ
+severity None = 0
+severity (Some r) = reason_rank r + 1
+
+-- whether a test was ended because the run stops at once
+abbrev pub is_stopped : Wanted → Option CancelReason → Bool
+is_stopped w why = (severity why == severity (Some reason.TestFailureImmediate)) && w.terminated
+
+-- the line as it is wanted, with output at once or not, and with this stored
+abbrev pub visible : Wanted → Bool → OutputStoreFinal → OutputOnTestFinished
+visible w shown stored = record { write_status_line = w.line; show_immediate = shown; store_final = stored }
+
+-- The table, its first row that holds: a test that was ended as the run stops at once; below a signal; under a signal; above.
+abbrev pub visibility : Wanted → Option CancelReason → OutputOnTestFinished
+visibility w why =
+    if is_stopped w why then visible w false No
+    else if nat_lt (severity why) (severity (Some reason.Signal)) then visible w w.at_once (if w.stored then Yes w.at_end else No)
+    else if severity why == severity (Some reason.Signal) then visible w w.at_once (if w.stored then Yes (if w.at_once then false else w.at_end) else No)
+    else visible w false No
+
+-- how much of the output is kept for the end of the run
+abbrev pub stored_rank : OutputStoreFinal → ℕ
+stored_rank No = 0
+stored_rank (Yes false) = 1
+stored_rank (Yes true) = 2
+
+-- x shows and stores no more than y
+pub record IsNoMoreVisible (x y : OutputOnTestFinished) : Type 0 where
+  pub shown : IsTrue x.show_immediate → IsTrue y.show_immediate
+  pub stored : stored_rank x.store_final ≤ stored_rank y.store_final
+
+-- The one exception, from a reason to a greater one: a test was ended, and something of its output is asked for. As the
+-- run stops at once that is hidden, and under the next two greater reasons it is not.
+pub record IsException (w : Wanted) (why greater : Option CancelReason) : Type 0 where
+  pub stopped : why ≡ Some reason.TestFailureImmediate
+  pub later : (greater ≡ Some reason.GlobalTimeout) ⊎ (greater ≡ Some reason.Signal)
+  pub terminated : IsTrue w.terminated
+  pub asked : IsTrue (w.at_once || w.stored)

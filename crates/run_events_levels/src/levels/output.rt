@@ -1,0 +1,157 @@
+//! The decision what to show of a finished test.
+
+ghost use Rattle.std.specs.Prelude.{◌≡◌, ◌≢◌, ◌≤◌, ◌==◌, ◌&&◌, IsTrue, Option, Some, false, true, if◌then◌else◌};
+ghost use Rattle.run_events_settings.specs.Config.{is_final_display, is_immediate_display};
+ghost use Rattle.run_events_levels.specs.Visibility.{IsException, IsNoMoreVisible, is_stored, severity, visibility, wanted};
+ghost use Rattle.run_events_results.specs.Results.{is_termination_failure};
+
+use crate::levels::{
+    FinalStatusLevel, OutputOnTestFinished, OutputStoreFinal, StatusLevel, StatusLevels,
+};
+use run_events_results::results::{CancelReason, ExecutionResultDescription};
+use run_events_settings::config::TestOutputDisplay;
+
+impl StatusLevels {
+    /// What is shown of a test that has just finished, and what is stored of it for the end of the
+    /// run.
+    ///
+    /// A line is written where the own status level is at or above the test's. Output is displayed
+    /// at once where the display is immediate. The test is stored where the display is final or the
+    /// own final level is at or above the test's, and its output is displayed at the end where the
+    /// display is final. A reason to cancel the run takes away from this:
+    ///
+    /// - while the run stops at once after a failure, nothing is shown or stored of a test that
+    ///   failed by `SIGTERM` or with the Windows job object, which is how the runner ends a test;
+    /// - under a signal, output that is displayed at once is not displayed again at the end;
+    /// - under an interrupt or a second signal, nothing is shown or stored of any test.
+    ///
+    /// The line is written whatever the reason.
+    ///
+    /// Under a greater reason no more is shown or stored than under a lesser one, with one
+    /// exception: a test that the runner seems to have ended is hidden while the run stops at once,
+    /// and neither when the time for the run is over nor under a signal.
+    pub fn compute_output_on_test_finished(
+        &self,
+        display: TestOutputDisplay,
+        cancel_status: Option<CancelReason>,
+        test_status_level: StatusLevel,
+        test_final_status_level: FinalStatusLevel,
+        execution_result: &ExecutionResultDescription,
+    ) -> OutputOnTestFinished
+        ensures exact { let asked = wanted self.now display test_status_level test_final_status_level execution_result.now in
+            result ≡ visibility asked cancel_status }
+
+        // Under each lesser reason no less is shown, exactly but for the exception.
+        ensures never_grows { let asked = wanted self.now display test_status_level test_final_status_level execution_result.now in
+            (lesser : Option CancelReason) → severity lesser ≤ severity cancel_status
+            → ¬ (IsException asked lesser cancel_status) → IsNoMoreVisible result (visibility asked lesser) }
+        ensures exception { let asked = wanted self.now display test_status_level test_final_status_level execution_result.now in
+            (lesser : Option CancelReason) → IsException asked lesser cancel_status
+            → ¬ (IsNoMoreVisible result (visibility asked lesser)) }
+
+        // The line is written under every reason or under none.
+        ensures line { let asked = wanted self.now display test_status_level test_final_status_level execution_result.now in
+            (other : Option CancelReason) → (visibility asked other).write_status_line ≡ result.write_status_line }
+
+        // From a signal on, output is never displayed twice.
+        ensures never_twice { severity (Some CancelReason.Signal) ≤ severity cancel_status
+            → IsTrue result.show_immediate → result.store_final ≢ OutputStoreFinal.Yes true }
+    {
+        self.output_of(
+            display,
+            cancel_status,
+            test_status_level,
+            test_final_status_level,
+            execution_result,
+        )
+    }
+
+    /// What is shown and stored, by the cases of the reason.
+    fn output_of(
+        &self,
+        display: TestOutputDisplay,
+        cancel_status: Option<CancelReason>,
+        test_status_level: StatusLevel,
+        test_final_status_level: FinalStatusLevel,
+        execution_result: &ExecutionResultDescription,
+    ) -> OutputOnTestFinished
+        ensures { let asked = wanted self.now display test_status_level test_final_status_level execution_result.now in
+            result ≡ visibility asked cancel_status }
+    {
+        let write_status_line = self.status_level >= test_status_level;
+        let is_stored = self.is_stored(display, test_final_status_level);
+        if is_stopped(cancel_status, execution_result) {
+            return hidden(write_status_line);
+        }
+        match cancel_status {
+            Some(CancelReason::Interrupt | CancelReason::SecondSignal) => hidden(write_status_line),
+            Some(CancelReason::Signal) => OutputOnTestFinished {
+                write_status_line,
+                show_immediate: display.is_immediate(),
+                store_final: stored(is_stored, is_only_final(display)),
+            },
+            None
+            | Some(
+                CancelReason::SetupScriptFailure
+                | CancelReason::TestFailure
+                | CancelReason::ReportError
+                | CancelReason::OutputLimit
+                | CancelReason::TestFailureImmediate
+                | CancelReason::GlobalTimeout,
+            ) => OutputOnTestFinished {
+                write_status_line,
+                show_immediate: display.is_immediate(),
+                store_final: stored(is_stored, display.is_final()),
+            },
+        }
+    }
+
+    /// Whether a test is listed at the end of the run.
+    fn is_stored(&self, display: TestOutputDisplay, test_level: FinalStatusLevel) -> bool
+        ensures { result ≡ is_stored self.now display test_level }
+    {
+        display.is_final() || self.final_status_level >= test_level
+    }
+}
+
+/// Nothing is shown but the line, and nothing is stored.
+fn hidden(write_status_line: bool) -> OutputOnTestFinished
+    ensures { result ≡ record { write_status_line = write_status_line; show_immediate = false; store_final = OutputStoreFinal.No } }
+{
+    OutputOnTestFinished {
+        write_status_line,
+        show_immediate: false,
+        store_final: OutputStoreFinal::No,
+    }
+}
+
+/// What is stored of a test, if it is stored.
+fn stored(is_stored: bool, display_output: bool) -> OutputStoreFinal
+    ensures { result ≡ (if is_stored then OutputStoreFinal.Yes display_output else OutputStoreFinal.No) }
+{
+    if is_stored {
+        OutputStoreFinal::Yes { display_output }
+    } else {
+        OutputStoreFinal::No
+    }
+}
+
+/// Whether output is displayed at the end of the run and not before.
+fn is_only_final(display: TestOutputDisplay) -> bool
+    ensures { result ≡ (if is_immediate_display display then false else is_final_display display) }
+{
+    matches!(display, TestOutputDisplay::Final)
+}
+
+/// Whether a test was ended because the run stops at once after a failure.
+fn is_stopped(
+    cancel_status: Option<CancelReason>,
+    execution_result: &ExecutionResultDescription,
+) -> bool
+    ensures { result ≡ ((severity cancel_status == severity (Some CancelReason.TestFailureImmediate)) && is_termination_failure execution_result.now) }
+{
+    match cancel_status {
+        Some(CancelReason::TestFailureImmediate) => execution_result.is_termination_failure(),
+        _ => false,
+    }
+}

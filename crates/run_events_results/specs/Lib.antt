@@ -1,0 +1,4 @@
+pub mod Described
+pub mod Ranks
+pub mod Results
+pub mod Texts

@@ -1,0 +1,2 @@
+pub mod SubRunIds
+pub mod SubRunOrder

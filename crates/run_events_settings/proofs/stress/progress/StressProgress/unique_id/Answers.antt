@@ -1,0 +1,9 @@
+use Rattle.run_events_settings.proofs.SubRunIds.{written_alone, written_id}
+use Rattle.run_events_settings.proofs.stress.progress.StressProgress.unique_id.Goals as goal
+
+pub returns-clause-text : goal.returns-clause-text
+returns-clause-text c = written_id c.format.result c.args.run_id _ _ c.completed-completed.ensures c.format.ensures.ok
+
+pub returns-clause-tells_apart : goal.returns-clause-tells_apart
+returns-clause-tells_apart c =
+    written_alone c.format.result c.args.run_id _ _ c.completed-completed.type_inv c.completed-completed.ensures c.format.ensures.ok

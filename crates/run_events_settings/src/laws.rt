@@ -1,0 +1,56 @@
+//! Laws that callers rely on, each carried by the contract of a function.
+
+ghost use Rattle.std.specs.Prelude.{◌≡◌, ◌≢◌, ◌↔◌, IsTrue};
+ghost use Rattle.run_events_settings.specs.Stress.{IsNoLaterSubRun};
+
+use crate::config::FlakyResult;
+use crate::run_mode::NextestRunMode;
+use crate::stress::StressIndex;
+use std::cmp::Ordering;
+use std::hash::{Hash, Hasher};
+
+/// By default a flaky test counts as passed.
+pub fn flaky_result_default() -> FlakyResult
+    ensures { result ≡ FlakyResult.Pass }
+{
+    FlakyResult::default()
+}
+
+/// By default a run runs tests.
+pub fn run_mode_default() -> NextestRunMode
+    ensures { result ≡ NextestRunMode.Test }
+{
+    NextestRunMode::default()
+}
+
+/// Sub-runs are ordered by their number, then by how many there are, where an unknown number is
+/// the least.
+pub fn stress_index_order(a: StressIndex, b: StressIndex) -> Ordering
+    ensures at_most { (result ≢ Ordering.Greater) ↔ IsNoLaterSubRun a b }
+    ensures equality { (result ≡ Ordering.Equal) ↔ (a ≡ b) }
+{
+    a.cmp(&b)
+}
+
+/// `<=` of sub-runs is that order.
+pub fn stress_index_at_most(a: StressIndex, b: StressIndex) -> bool
+    ensures { IsTrue result ↔ IsNoLaterSubRun a b }
+{
+    a <= b
+}
+
+/// Equal sub-runs hash alike: two hashers in one state are in one state again after them.
+pub fn stress_index_hashes<H: Hasher>(
+    a: StressIndex,
+    b: StressIndex,
+    first: &mut H,
+    second: &mut H,
+) -> bool
+    ensures equality { IsTrue result ↔ (a ≡ b) }
+    ensures alike { IsTrue result → first.old ≡ second.old → first.new ≡ second.new }
+{
+    let are_equal = a == b;
+    a.hash(first);
+    b.hash(second);
+    are_equal
+}

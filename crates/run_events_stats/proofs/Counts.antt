@@ -1,0 +1,57 @@
+-- Laws of `count_of`, and of what is kept of a list.
+use Rattle.std.proofs.Common.{◌≡◌, ℕ, ◌+◌, ◌≤◌, List, [], ◌∷◌, ◌++◌, length, Bool, true, false, cond, not, ◌&&◌, refl, ap, sym, ◌∙◌, arith}
+use Rattle.std.specs.Prelude.{filter, Option, Some, None}
+use Rattle.std.specs.List.{filter_map, cons_option, list_all}
+use Rattle.std.proofs.lemmas.List.{length-append}
+use Rattle.std.proofs.lemmas.List.Elements.{filter-append, filter_agree}
+use Rattle.std.proofs.lemmas.List.Filters.{length-filter_both}
+use Rattle.std.proofs.lemmas.List.Sums.{count_by-le-length, length-filter, sum_by-cons}
+use Rattle.run_events_stats.specs.Counters.{count_of, raised}
+
+-- one where a rule holds
+abbrev pub one : Bool → ℕ
+one b = cond b 1 0
+
+pub count_of-cons : {X : Type 0} (p : X → Bool) (x : X) (xs : List X) → count_of p (x ∷ xs) ≡ one (p x) + count_of p xs
+count_of-cons p x xs = omega (arith, length-filter p (x ∷ xs), length-filter p xs, sum_by-cons (λ y. one (p y)) x xs)
+
+pub count_of-append : {X : Type 0} (p : X → Bool) (xs ys : List X) → count_of p (xs ++ ys) ≡ count_of p xs + count_of p ys
+count_of-append p xs ys = ap length (filter-append p xs ys) ∙ length-append (filter p xs) (filter p ys)
+
+pub count_of-push : {X : Type 0} (p : X → Bool) (xs : List X) (x : X) → count_of p (xs ++ x ∷ []) ≡ raised (count_of p xs) (p x)
+count_of-push p xs x = omega (arith, count_of-append p xs (x ∷ []), count_of-cons p x [])
+
+pub count_of-le : {X : Type 0} (p : X → Bool) (xs : List X) → count_of p xs ≤ length xs
+count_of-le p xs = omega (arith, length-filter p xs, count_by-le-length p xs)
+
+-- rules that share out another rule share out its count
+pub count_of-three : {X : Type 0} (p q r whole : X → Bool) → ((x : X) → one (p x) + one (q x) + one (r x) ≡ one (whole x)) → (xs : List X) → count_of p xs + count_of q xs + count_of r xs ≡ count_of whole xs
+count_of-three p q r whole each [] = refl
+count_of-three p q r whole each (x ∷ xs) = omega (arith, each x, count_of-three p q r whole each xs, count_of-cons p x xs, count_of-cons q x xs, count_of-cons r x xs, count_of-cons whole x xs)
+
+-- rules that agree count the same
+pub count_of-same : {X : Type 0} (p q : X → Bool) → ((x : X) → p x ≡ q x) → (xs : List X) → count_of p xs ≡ count_of q xs
+count_of-same p q same xs = ap length (filter_agree p q same xs)
+
+-- a rule holds of an element or it does not
+pub count_of-not : {X : Type 0} (p : X → Bool) (xs : List X) → count_of (λ x. not (p x)) xs + count_of p xs ≡ length xs
+count_of-not p xs = omega (arith, length-filter_both p (λ x. not (p x)) (λ _. refl) xs)
+
+-- a rule that holds of nothing in a list fails of each element
+pub count_of-zero : {X : Type 0} (p : X → Bool) (xs : List X) → count_of p xs ≡ 0 → list_all (λ x. not (p x)) xs ≡ true
+count_of-zero p [] e = refl
+count_of-zero p (x ∷ xs) e =
+    let step = count_of-cons p x xs in
+    elim (p x) as (λ b. one b + count_of p xs ≡ 0 → (not b && list_all (λ y. not (p y)) xs) ≡ true) [ true ↦ λ h. absurd (omega (arith, h)) | false ↦ λ h. count_of-zero p xs (omega (arith, h)) ] (sym step ∙ e)
+
+pub zero-count_of : {X : Type 0} (p : X → Bool) (xs : List X) → list_all (λ x. not (p x)) xs ≡ true → count_of p xs ≡ 0
+zero-count_of p [] e = refl
+zero-count_of p (x ∷ xs) e =
+    count_of-cons p x xs ∙ elim (p x) as (λ b. (not b && list_all (λ y. not (p y)) xs) ≡ true → one b + count_of p xs ≡ 0) [ true ↦ λ h. absurd cc | false ↦ λ h. omega (arith, zero-count_of p xs h) ] e
+
+-- what is kept of a list is no longer than the list
+pub length-filter_map-le : {X Y : Type 0} (h : X → Option Y) (xs : List X) → length (filter_map h xs) ≤ length xs
+length-filter_map-le h [] = omega arith
+length-filter_map-le h (x ∷ xs) =
+    let shorter = length-filter_map-le h xs in
+    elim (h x) as (λ o. length (cons_option o (filter_map h xs)) ≤ length (x ∷ xs)) [ None ↦ omega (arith, shorter) | Some y ↦ omega (arith, shorter) ]

@@ -1,2 +1,0 @@
-pub mod LastAttempt
-pub mod VisibilityLaws

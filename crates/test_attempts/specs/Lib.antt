@@ -1,6 +1,0 @@
-pub mod Attempts
-pub mod Description
-pub mod Level
-pub mod LevelRanks
-pub mod TestView
-pub mod Visibility

@@ -1,5 +1,0 @@
-pub mod ChainLemmas
-pub mod Hexadecimal
-pub mod SubRunIds
-pub mod SubRunOrder
-pub mod SameChains

@@ -1,6 +1,0 @@
-use Rattle.std.proofs.Common.{length}
-use Rattle.unit_results.proofs.chain.SerializableError.drop.Given as goal
-
--- how many causes are left to drop
-abbrev pub decreases-loop-cause : goal.decreases-loop-cause
-decreases-loop-cause l = length l.self.causes
