@@ -5,11 +5,13 @@ use Rattle.run_events.specs.declared.events.terminate.UnitTerminateReason.TheVar
 use Rattle.run_events.specs.declared.events.terminate.UnitTerminateSignal.{UnitTerminateSignal}
 use Rattle.run_events.specs.declared.events.terminate.UnitTerminateSignal.TheVariants as signal
 
+-- why a unit is ended, in words
 abbrev pub terminate_reason_text : UnitTerminateReason → List ℕ
 terminate_reason_text why.Timeout = codes "timeout"
 terminate_reason_text why.Signal = codes "signal"
 terminate_reason_text why.Interrupt = codes "interrupt"
 
+-- the name of the signal that ends a unit
 abbrev pub terminate_signal_text : UnitTerminateSignal → List ℕ
 terminate_signal_text signal.Interrupt = codes "SIGINT"
 terminate_signal_text signal.Term = codes "SIGTERM"

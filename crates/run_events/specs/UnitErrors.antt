@@ -98,25 +98,31 @@ CanDescribe k (left.StartError e) = Unit {0}
 
 -- The parts of a description.
 
+-- the unit is a test or a script
 abbrev pub kind_of : UnitErrorDescription → UnitKind
 kind_of d = d.kind
 
+-- the slice of the output, if there is one
 abbrev pub described_slice : UnitErrorDescription → Option Extract
 described_slice d = option_map extract_of d.output_slice
 
+-- the error of the start, then those of the output
 abbrev pub exec_fail_errors : UnitErrorDescription → List ErrorOfUnit
 exec_fail_errors d =
     option_to_list (option_map (λ e. start_error e.now) d.start_error) ++ option_map_or (λ l. map output_error l.now.items) d.output_errors []
 
+-- the abort, then the slice
 abbrev pub child_process_errors : UnitErrorDescription → List ErrorOfUnit
 child_process_errors d =
     option_to_list (option_map (λ a. abort_error a.description.now a.leaked) d.abort) ++ option_to_list (option_map slice_error (described_slice d))
 
+-- all errors of a unit, in order
 abbrev pub all_errors : UnitErrorDescription → List ErrorOfUnit
 all_errors d = exec_fail_errors d ++ child_process_errors d
 
 -- Lists of errors.
 
+-- an error apart from where it is borrowed from
 abbrev pub error_seen : UnitError → ErrorOfUnit
 error_seen (unit.Start e) = start_error e.now
 error_seen (unit.Output e) = output_error e.now

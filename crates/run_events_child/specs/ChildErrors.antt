@@ -18,6 +18,7 @@ abbrev pub start_cause : ChildStartErrorDescription → ErrorChain
 start_cause (start.TempPath e) = e
 start_cause (start.Spawn e) = e
 
+-- what is behind an error of a child process
 abbrev pub error_cause : ChildErrorDescription → ErrorChain
 error_cause (error.ReadStdout e) = e
 error_cause (error.ReadStderr e) = e
@@ -30,12 +31,14 @@ abbrev pub described_start_error : ChildStartError → ChildStartErrorDescriptio
 described_start_error (starting.TempPath e) = start.TempPath e
 described_start_error (starting.Spawn e) = start.Spawn e
 
+-- an error of reading, described
 abbrev pub described_fd_error : ChildFdError → ChildErrorDescription
 described_fd_error (reading.ReadStdout e) = error.ReadStdout e
 described_fd_error (reading.ReadStderr e) = error.ReadStderr e
 described_fd_error (reading.ReadCombined e) = error.ReadCombined e
 described_fd_error (reading.Wait e) = error.Wait e
 
+-- an error of a child process, described
 abbrev pub described_error : ChildError → ChildErrorDescription
 described_error (seen.Fd e) = described_fd_error e
 described_error (seen.SetupScriptOutput e) = error.SetupScriptOutput e
@@ -49,6 +52,7 @@ abbrev pub start_error_text : ChildStartErrorDescription → List ℕ
 start_error_text (start.TempPath cause) = codes "error creating temporary path for setup script"
 start_error_text (start.Spawn cause) = codes "error spawning child process"
 
+-- an error in reading from a child process or waiting for it, without what caused it
 abbrev pub child_error_text : ChildErrorDescription → List ℕ
 child_error_text (error.ReadStdout cause) = codes "error reading standard output"
 child_error_text (error.ReadStderr cause) = codes "error reading standard error"

@@ -84,10 +84,7 @@ impl SerializableError {
     pub fn source(&self) -> Option<&SerializableError>
         ensures { MatchOption result (self.now.causes ≡ []) (λ e. self.now.causes ≡ texts e.now) }
     {
-        match &self.source {
-            None => None,
-            Some(cause) => Some(cause),
-        }
+        self.source.as_deref()
     }
 
     /// The causes in order, the nearest first, each with all that caused it.

@@ -2,7 +2,7 @@
 use Rattle.std.proofs.Common.{◌≡◌, ◌≢◌, ◌≤◌, ◌<◌, ◌⊎◌, ◌==◌, ◌&&◌, ◌||◌, ℕ, Bool, true, false, if◌then◌else◌, nat_lt, Option, Some, refl, sym, ◌∙◌, inl, inr, arith}
 use Rattle.std.proofs.lemmas.Bool.{and_parts, eqb-false, eqb-true, false≢true, false_from_ne_true, or_parts}
 use Rattle.std.proofs.lemmas.Bool.Decides.{nat_tests}
-use Rattle.run_events_levels.specs.Visibility.{IsException, IsNoMoreVisible, Wanted, severity, visibility, visible}
+use Rattle.run_events_levels.specs.Visibility.{IsException, IsNoMoreVisible, Asked, severity, visibility, with_output}
 use Rattle.run_events_levels.specs.declared.levels.OutputOnTestFinished.{OutputOnTestFinished}
 use Rattle.run_events_levels.specs.declared.levels.OutputStoreFinal.TheVariants.{No, Yes}
 use Rattle.run_events_results.specs.declared.results.CancelReason.{CancelReason}
@@ -10,28 +10,28 @@ use Rattle.run_events_results.specs.declared.results.CancelReason.TheVariants as
 
 -- The rows of the table, by their tests: stopped, below a signal, under a signal.
 
-abbrev row : Wanted → Bool → Bool → Bool → OutputOnTestFinished
+abbrev row : Asked → Bool → Bool → Bool → OutputOnTestFinished
 row w stopped below signal =
-    if stopped then visible w false No
-    else if below then visible w w.at_once (if w.stored then Yes w.at_end else No)
-    else if signal then visible w w.at_once (if w.stored then Yes (if w.at_once then false else w.at_end) else No)
-    else visible w false No
+    if stopped then with_output w false No
+    else if below then with_output w w.at_once (if w.stored then Yes w.at_end else No)
+    else if signal then with_output w w.at_once (if w.stored then Yes (if w.at_once then false else w.at_end) else No)
+    else with_output w false No
 
 at-most-itself : (x : OutputOnTestFinished) → IsNoMoreVisible x x
 at-most-itself x = record { shown = λ h. h; stored = omega arith }
 
-hidden-least : (w : Wanted) (y : OutputOnTestFinished) → IsNoMoreVisible (visible w false No) y
+hidden-least : (w : Asked) (y : OutputOnTestFinished) → IsNoMoreVisible (with_output w false No) y
 hidden-least w y = record { shown = λ h. absurd (false≢true h); stored = omega arith }
 
 -- of output that nobody asked for nothing is shown
-nothing-asked : (w : Wanted) (below signal : Bool) (y : OutputOnTestFinished) → (w.at_once || w.stored) ≡ false → IsNoMoreVisible (row w false below signal) y
+nothing-asked : (w : Asked) (below signal : Bool) (y : OutputOnTestFinished) → (w.at_once || w.stored) ≡ false → IsNoMoreVisible (row w false below signal) y
 nothing-asked w true signal y e = let none = or_parts w.at_once w.stored e in rw (none.0, none.1) (hidden-least w y)
 nothing-asked w false true y e = let none = or_parts w.at_once w.stored e in rw (none.0, none.1) (hidden-least w y)
 nothing-asked w false false y e = hidden-least w y
 
 -- no more is shown under a signal than below it
 signal-below : (line at_once at_end stored terminated : Bool)
-    → let w : Wanted = record { line = line; at_once = at_once; at_end = at_end; stored = stored; terminated = terminated } in
+    → let w : Asked = record { line = line; at_once = at_once; at_end = at_end; stored = stored; terminated = terminated } in
     IsNoMoreVisible (row w false false true) (row w false true false)
 signal-below line at_once at_end false terminated = record { shown = λ h. h; stored = omega arith }
 signal-below line true true true terminated = record { shown = λ h. h; stored = omega arith }
@@ -39,7 +39,7 @@ signal-below line true false true terminated = record { shown = λ h. h; stored 
 signal-below line false at_end true terminated = record { shown = λ h. h; stored = omega arith }
 
 -- the rows, by how the tests of a greater reason go with those of a lesser one
-rows : (w : Wanted) (stopped below signal stopped' below' signal' : Bool)
+rows : (w : Asked) (stopped below signal stopped' below' signal' : Bool)
     → (below ≡ true → below' ≡ true)
     → (signal ≡ true → (below' ≡ true) ⊎ (signal' ≡ true))
     → (stopped ≡ false → (below || signal) ≡ true → stopped' ≡ true → (w.at_once || w.stored) ≡ false)
@@ -54,12 +54,12 @@ rows w false false true false true signal' b s e = signal-below w.line w.at_once
 rows w false false true false false true b s e = at-most-itself _
 rows w false false true false false false b s e = absurd (false≢true (elim (s refl) as (λ _. false ≡ true) [ inl h ↦ h | inr h ↦ h ]))
 
-row-line : (w : Wanted) (stopped below signal : Bool) → (row w stopped below signal).write_status_line ≡ w.line
+row-line : (w : Asked) (stopped below signal : Bool) → (row w stopped below signal).write_status_line ≡ w.line
 row-line w false false true = refl
 row-line w _ _ _ = refl
 
 -- the line is the same under every reason
-pub line-stays : (w : Wanted) (why : Option CancelReason) → (visibility w why).write_status_line ≡ w.line
+pub line-stays : (w : Asked) (why : Option CancelReason) → (visibility w why).write_status_line ≡ w.line
 line-stays w why = row-line w _ _ _
 
 -- Tests of numbers and of bools.
@@ -90,7 +90,7 @@ later-reasons (Some reason.Signal) low high = inr refl
 later-reasons _ low high = absurd (omega arith)
 
 -- where a test is hidden as the run stops at once, and not under a greater reason, nothing was asked for
-hidden-unasked : (w : Wanted) (why greater : Option CancelReason) → severity why ≤ severity greater → ¬ (IsException w why greater)
+hidden-unasked : (w : Asked) (why greater : Option CancelReason) → severity why ≤ severity greater → ¬ (IsException w why greater)
     → ((severity greater == severity (Some reason.TestFailureImmediate)) && w.terminated) ≡ false
     → (nat_lt (severity greater) (severity (Some reason.Signal)) || severity greater == severity (Some reason.Signal)) ≡ true
     → ((severity why == severity (Some reason.TestFailureImmediate)) && w.terminated) ≡ true
@@ -109,7 +109,7 @@ hidden-unasked w why greater order usual goes_on seen stops =
     }))
 
 -- no more is shown under a greater reason, but for the exception
-pub never-grows : (w : Wanted) (why greater : Option CancelReason) → severity why ≤ severity greater
+pub never-grows : (w : Asked) (why greater : Option CancelReason) → severity why ≤ severity greater
     → ¬ (IsException w why greater) → IsNoMoreVisible (visibility w greater) (visibility w why)
 never-grows w why greater order usual =
     rows w _ _ _ _ _ _

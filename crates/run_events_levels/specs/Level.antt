@@ -32,10 +32,12 @@ level_of t =
     then (if nat_lt 1 t.attempts then Some (flaky_level t.setting) else success_level t.result)
     else Some level.Fail
 
+-- whether a level is `Fail`
 abbrev pub is_level_fail : Option StatusLevel → Bool
 is_level_fail (Some level.Fail) = true
 is_level_fail _ = false
 
+-- whether a level is `Retry`
 abbrev pub is_level_retry : Option StatusLevel → Bool
 is_level_retry (Some level.Retry) = true
 is_level_retry _ = false

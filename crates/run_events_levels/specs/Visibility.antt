@@ -16,7 +16,7 @@ use Rattle.run_events_results.specs.declared.results.CancelReason.TheVariants as
 use Rattle.run_events_results.specs.declared.results.ExecutionResultDescription.{ExecutionResultDescription}
 
 -- what a finished test, its display and the levels ask for, whatever the reason
-pub record Wanted : Type 0 where
+pub record Asked : Type 0 where
   -- the line: the own level is at or above the test's
   pub line : Bool
   -- output at once, and at the end of the run: the display
@@ -32,8 +32,9 @@ abbrev pub is_stored : StatusLevels → TestOutputDisplay → FinalStatusLevel �
 is_stored own display final_level =
     is_final_display display || nat_le (final_level_rank final_level) (final_level_rank own.final_status_level)
 
-abbrev pub wanted : StatusLevels → TestOutputDisplay → StatusLevel → FinalStatusLevel → ExecutionResultDescription → Wanted
-wanted own display level final_level result = record {
+-- what a finished test asks for under these levels
+abbrev pub asked_of : StatusLevels → TestOutputDisplay → StatusLevel → FinalStatusLevel → ExecutionResultDescription → Asked
+asked_of own display level final_level result = record {
   line = nat_le (level_rank level) (level_rank own.status_level);
   at_once = is_immediate_display display;
   at_end = is_final_display display;
@@ -47,20 +48,20 @@ severity None = 0
 severity (Some r) = reason_rank r + 1
 
 -- whether a test was ended because the run stops at once
-abbrev pub is_stopped : Wanted → Option CancelReason → Bool
+abbrev pub is_stopped : Asked → Option CancelReason → Bool
 is_stopped w why = (severity why == severity (Some reason.TestFailureImmediate)) && w.terminated
 
--- the line as it is wanted, with output at once or not, and with this stored
-abbrev pub visible : Wanted → Bool → OutputStoreFinal → OutputOnTestFinished
-visible w shown stored = record { write_status_line = w.line; show_immediate = shown; store_final = stored }
+-- the line as it is asked for, with output at once or not, and with this stored
+abbrev pub with_output : Asked → Bool → OutputStoreFinal → OutputOnTestFinished
+with_output w shown stored = record { write_status_line = w.line; show_immediate = shown; store_final = stored }
 
 -- The table, its first row that holds: a test that was ended as the run stops at once; below a signal; under a signal; above.
-abbrev pub visibility : Wanted → Option CancelReason → OutputOnTestFinished
+abbrev pub visibility : Asked → Option CancelReason → OutputOnTestFinished
 visibility w why =
-    if is_stopped w why then visible w false No
-    else if nat_lt (severity why) (severity (Some reason.Signal)) then visible w w.at_once (if w.stored then Yes w.at_end else No)
-    else if severity why == severity (Some reason.Signal) then visible w w.at_once (if w.stored then Yes (if w.at_once then false else w.at_end) else No)
-    else visible w false No
+    if is_stopped w why then with_output w false No
+    else if nat_lt (severity why) (severity (Some reason.Signal)) then with_output w w.at_once (if w.stored then Yes w.at_end else No)
+    else if severity why == severity (Some reason.Signal) then with_output w w.at_once (if w.stored then Yes (if w.at_once then false else w.at_end) else No)
+    else with_output w false No
 
 -- how much of the output is kept for the end of the run
 abbrev pub stored_rank : OutputStoreFinal → ℕ
@@ -75,7 +76,7 @@ pub record IsNoMoreVisible (x y : OutputOnTestFinished) : Type 0 where
 
 -- The one exception, from a reason to a greater one: a test was ended, and something of its output is asked for. As the
 -- run stops at once that is hidden, and under the next two greater reasons it is not.
-pub record IsException (w : Wanted) (why greater : Option CancelReason) : Type 0 where
+pub record IsException (w : Asked) (why greater : Option CancelReason) : Type 0 where
   pub stopped : why ≡ Some reason.TestFailureImmediate
   pub later : (greater ≡ Some reason.GlobalTimeout) ⊎ (greater ≡ Some reason.Signal)
   pub terminated : IsTrue w.terminated

@@ -18,30 +18,37 @@ use Rattle.run_events_results.specs.declared.results.ExecutionResultDescription.
 
 -- The cases of a result.
 
+-- it passed
 abbrev pub is_pass : ExecutionResultDescription → Bool
 is_pass result.Pass = true
 is_pass _ = false
 
+-- it leaked, which passes
 abbrev pub is_leak_pass : ExecutionResultDescription → Bool
 is_leak_pass (result.Leak leak.Pass) = true
 is_leak_pass _ = false
 
+-- it leaked, which fails
 abbrev pub is_leak_fail : ExecutionResultDescription → Bool
 is_leak_fail (result.Leak leak.Fail) = true
 is_leak_fail _ = false
 
+-- it failed
 abbrev pub is_fail : ExecutionResultDescription → Bool
 is_fail (result.Fail failure leaked) = true
 is_fail _ = false
 
+-- it could not be executed
 abbrev pub is_exec_fail : ExecutionResultDescription → Bool
 is_exec_fail result.ExecFail = true
 is_exec_fail _ = false
 
+-- its time ran out, which passes
 abbrev pub is_timeout_pass : ExecutionResultDescription → Bool
 is_timeout_pass (result.Timeout slow.Pass) = true
 is_timeout_pass _ = false
 
+-- its time ran out, which fails
 abbrev pub is_timeout_fail : ExecutionResultDescription → Bool
 is_timeout_fail (result.Timeout slow.Fail) = true
 is_timeout_fail _ = false
@@ -84,6 +91,7 @@ result_word (result.Fail failure leaked) = codes "fail"
 result_word result.ExecFail = codes "exec-fail"
 result_word (result.Timeout r) = codes "timeout"
 
+-- the case of a result as its runner saw it, in one word
 abbrev pub status_word : ExecutionResult → List ℕ
 status_word status.Pass = codes "pass"
 status_word (status.Leak r) = codes "leak"

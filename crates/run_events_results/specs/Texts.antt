@@ -26,11 +26,13 @@ abbrev pub within : List ℕ → Option (String Global) → List ℕ → List �
 within before None after = []
 within before (Some text) after = before ++ string_bytes text ++ after
 
+-- how an abort is shown
 abbrev pub abort_text : AbortDescription → List ℕ
 abort_text (abort.UnixSignal signal name) = codes "aborted with signal " ++ signed_decimal signal ++ within (codes " (SIG") name (codes ")")
 abort_text (abort.WindowsNtStatus code message) = codes "aborted with code 0x" ++ code_digits code ++ within (codes ": ") message []
 abort_text abort.WindowsJobObject = codes "terminated via job object"
 
+-- how a failure is shown
 abbrev pub failure_text : FailureDescription → List ℕ
 failure_text (failure.ExitCode code) = codes "exited with code " ++ signed_decimal code
 failure_text (failure.Abort a) = abort_text a
@@ -54,6 +56,7 @@ abbrev pub executing_text : UnitKind → List ℕ
 executing_text kind.Test = codes "executing test"
 executing_text kind.Script = codes "executing script"
 
+-- how a reason to cancel is shown
 abbrev pub cancel_text : CancelReason → List ℕ
 cancel_text reason.SetupScriptFailure = codes "setup script failure"
 cancel_text reason.TestFailure = codes "test failure"

@@ -23,6 +23,7 @@ pub data Left : Type 0 where
   endless : Left
   nanos : ℕ → Left
 
+-- what is left, as a number
 abbrev pub left_of : StressRemaining → Left
 left_of (remaining.Count n) = sub_runs (non_zero_u32_get n)
 left_of remaining.Infinite = endless

@@ -4,7 +4,7 @@ use Rattle.std.specs.Prelude.{map, Option}
 use Rattle.std.specs.List.{filter_map}
 use Rattle.std.proofs.lemmas.List.{append-nil, length-map, map_more}
 use Rattle.std.proofs.lemmas.List.Elements.{filter_map-append}
-use Rattle.run_events_stats.specs.Counters.{UnitView, ScriptUnit, TestUnit, unit_view, count_of, counted, stats_of, tests_of, scripts_of, test_of, script_of, with_test, with_script, TestCountersFit, ScriptCountersFit}
+use Rattle.run_events_stats.specs.Counters.{UnitView, ScriptUnit, TestUnit, unit_view, count_of, counters_of, stats_of, tests_of, scripts_of, test_of, script_of, with_test, with_script, TestCountersFit, ScriptCountersFit}
 use Rattle.run_events_stats.specs.ScriptCounters.{script_passed, script_failed, script_exec_failed, script_timed_out}
 use Rattle.run_events_stats.specs.TestCounters.{is_passed, is_passed_slow, is_passed_timed_out, is_flaky, is_failed, is_failed_slow, is_failed_timed_out, is_leaky, is_leaky_failed, is_exec_failed}
 use Rattle.run_events_levels.specs.TestView.{TestView}
@@ -15,30 +15,30 @@ use Rattle.run_events_stats.specs.declared.stats.RunStats.{RunStats}
 use Rattle.run_events_stats.proofs.Counts.{count_of-push, count_of-le, length-filter_map-le}
 
 -- one more test at the end
-pub counted-test : (tests : List TestView) (scripts : List ExecutionResultDescription) (start : RunStart) (t : TestView) → counted (tests ++ t ∷ []) scripts start ≡ with_test (counted tests scripts start) t
-counted-test tests scripts start t =
+pub counters_of-test : (tests : List TestView) (scripts : List ExecutionResultDescription) (start : RunStart) (t : TestView) → counters_of (tests ++ t ∷ []) scripts start ≡ with_test (counters_of tests scripts start) t
+counters_of-test tests scripts start t =
     let more = λ (p : TestView → Bool). count_of-push p tests t in
     simp (length-append, more is_passed, more is_passed_slow, more is_passed_timed_out, more is_flaky, more is_failed, more is_failed_slow, more is_failed_timed_out, more is_leaky, more is_leaky_failed, more is_exec_failed)
 
 -- one more script at the end
-pub counted-script : (tests : List TestView) (scripts : List ExecutionResultDescription) (start : RunStart) (r : ExecutionResultDescription) → counted tests (scripts ++ r ∷ []) start ≡ with_script (counted tests scripts start) r
-counted-script tests scripts start r =
+pub counters_of-script : (tests : List TestView) (scripts : List ExecutionResultDescription) (start : RunStart) (r : ExecutionResultDescription) → counters_of tests (scripts ++ r ∷ []) start ≡ with_script (counters_of tests scripts start) r
+counters_of-script tests scripts start r =
     let more = λ (p : ExecutionResultDescription → Bool). count_of-push p scripts r in
     simp (length-append, more script_passed, more script_failed, more script_exec_failed, more script_timed_out)
 
 -- one more unit at the end, a test
 pub stats_of-test : (us : List UnitView) (t : TestView) (start : RunStart) → stats_of (us ++ TestUnit t ∷ []) start ≡ with_test (stats_of us start) t
 stats_of-test us t start =
-    ap (λ ts. counted ts (scripts_of (us ++ TestUnit t ∷ [])) start) (filter_map-append test_of us (TestUnit t ∷ []))
-    ∙ ap (λ ss. counted (tests_of us ++ t ∷ []) ss start) (filter_map-append script_of us (TestUnit t ∷ []) ∙ append-nil (scripts_of us))
-    ∙ counted-test (tests_of us) (scripts_of us) start t
+    ap (λ ts. counters_of ts (scripts_of (us ++ TestUnit t ∷ [])) start) (filter_map-append test_of us (TestUnit t ∷ []))
+    ∙ ap (λ ss. counters_of (tests_of us ++ t ∷ []) ss start) (filter_map-append script_of us (TestUnit t ∷ []) ∙ append-nil (scripts_of us))
+    ∙ counters_of-test (tests_of us) (scripts_of us) start t
 
 -- one more unit at the end, a script
 pub stats_of-script : (us : List UnitView) (r : ExecutionResultDescription) (start : RunStart) → stats_of (us ++ ScriptUnit r ∷ []) start ≡ with_script (stats_of us start) r
 stats_of-script us r start =
-    ap (λ ts. counted ts (scripts_of (us ++ ScriptUnit r ∷ [])) start) (filter_map-append test_of us (ScriptUnit r ∷ []) ∙ append-nil (tests_of us))
-    ∙ ap (λ ss. counted (tests_of us) ss start) (filter_map-append script_of us (ScriptUnit r ∷ []))
-    ∙ counted-script (tests_of us) (scripts_of us) start r
+    ap (λ ts. counters_of ts (scripts_of (us ++ ScriptUnit r ∷ [])) start) (filter_map-append test_of us (ScriptUnit r ∷ []) ∙ append-nil (tests_of us))
+    ∙ ap (λ ss. counters_of (tests_of us) ss start) (filter_map-append script_of us (ScriptUnit r ∷ []))
+    ∙ counters_of-script (tests_of us) (scripts_of us) start r
 
 -- the views of the units so far, and of one more
 pub views-more : (us : List FinishedUnit) (i : ℕ) (u : FinishedUnit) (v : UnitView) → i < length us → u ≡ get_or us i u → unit_view u ≡ v → map unit_view (take (i + 1) us) ≡ map unit_view (take i us) ++ v ∷ []

@@ -6,7 +6,7 @@ use Rattle.std.proofs.lemmas.List.{length-append}
 use Rattle.std.proofs.lemmas.List.Elements.{filter-append, filter_agree}
 use Rattle.std.proofs.lemmas.List.Filters.{length-filter_both}
 use Rattle.std.proofs.lemmas.List.Sums.{count_by-le-length, length-filter, sum_by-cons}
-use Rattle.run_events_stats.specs.Counters.{count_of, raised}
+use Rattle.run_events_stats.specs.Counters.{count_of, plus_if}
 
 -- one where a rule holds
 abbrev pub one : Bool → ℕ
@@ -18,7 +18,7 @@ count_of-cons p x xs = omega (arith, length-filter p (x ∷ xs), length-filter p
 pub count_of-append : {X : Type 0} (p : X → Bool) (xs ys : List X) → count_of p (xs ++ ys) ≡ count_of p xs + count_of p ys
 count_of-append p xs ys = ap length (filter-append p xs ys) ∙ length-append (filter p xs) (filter p ys)
 
-pub count_of-push : {X : Type 0} (p : X → Bool) (xs : List X) (x : X) → count_of p (xs ++ x ∷ []) ≡ raised (count_of p xs) (p x)
+pub count_of-push : {X : Type 0} (p : X → Bool) (xs : List X) (x : X) → count_of p (xs ++ x ∷ []) ≡ plus_if (count_of p xs) (p x)
 count_of-push p xs x = omega (arith, count_of-append p xs (x ∷ []), count_of-cons p x [])
 
 pub count_of-le : {X : Type 0} (p : X → Bool) (xs : List X) → count_of p xs ≤ length xs

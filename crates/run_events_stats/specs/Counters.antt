@@ -21,10 +21,12 @@ abbrev pub unit_view : FinishedUnit → UnitView
 unit_view (Script s) = ScriptUnit s.now.result
 unit_view (Test t) = TestUnit (view_of t.now)
 
+-- the view of a test, if the unit is one
 abbrev pub test_of : UnitView → Option TestView
 test_of (ScriptUnit r) = None
 test_of (TestUnit t) = Some t
 
+-- the result of a script, if the unit is one
 abbrev pub script_of : UnitView → Option ExecutionResultDescription
 script_of (ScriptUnit r) = Some r
 script_of (TestUnit t) = None
@@ -42,8 +44,8 @@ abbrev pub count_of : {A : Type 0} → (A → Bool) → List A → ℕ
 count_of rule xs = length (filter rule xs)
 
 -- the statistics of a run with these finished tests and scripts
-abbrev pub counted : List TestView → List ExecutionResultDescription → RunStart → RunStats
-counted tests scripts start = record {
+abbrev pub counters_of : List TestView → List ExecutionResultDescription → RunStart → RunStats
+counters_of tests scripts start = record {
   initial_run_count = start.initial_run_count;
   finished_count = length tests;
   setup_scripts_initial_count = start.setup_scripts_initial_count;
@@ -68,40 +70,40 @@ counted tests scripts start = record {
 
 -- the statistics of finished units
 abbrev pub stats_of : List UnitView → RunStart → RunStats
-stats_of units start = counted (tests_of units) (scripts_of units) start
+stats_of units start = counters_of (tests_of units) (scripts_of units) start
 
 -- the start of a run of which nothing is known
 abbrev pub nothing_known : RunStart
 nothing_known = record { initial_run_count = 0; setup_scripts_initial_count = 0; skipped = 0; cancel_reason = None }
 
 -- a counter, one higher where the rule holds
-abbrev pub raised : ℕ → Bool → ℕ
-raised n holds = n + (if holds then 1 else 0)
+abbrev pub plus_if : ℕ → Bool → ℕ
+plus_if n holds = n + (if holds then 1 else 0)
 
 -- the statistics after one more test: each counter whose rule holds of it is one higher
 abbrev pub with_test : RunStats → TestView → RunStats
 with_test s t = record s {
   finished_count = s.finished_count + 1;
-  passed = raised s.passed (is_passed t);
-  passed_slow = raised s.passed_slow (is_passed_slow t);
-  passed_timed_out = raised s.passed_timed_out (is_passed_timed_out t);
-  flaky = raised s.flaky (is_flaky t);
-  failed = raised s.failed (is_failed t);
-  failed_slow = raised s.failed_slow (is_failed_slow t);
-  failed_timed_out = raised s.failed_timed_out (is_failed_timed_out t);
-  leaky = raised s.leaky (is_leaky t);
-  leaky_failed = raised s.leaky_failed (is_leaky_failed t);
-  exec_failed = raised s.exec_failed (is_exec_failed t);
+  passed = plus_if s.passed (is_passed t);
+  passed_slow = plus_if s.passed_slow (is_passed_slow t);
+  passed_timed_out = plus_if s.passed_timed_out (is_passed_timed_out t);
+  flaky = plus_if s.flaky (is_flaky t);
+  failed = plus_if s.failed (is_failed t);
+  failed_slow = plus_if s.failed_slow (is_failed_slow t);
+  failed_timed_out = plus_if s.failed_timed_out (is_failed_timed_out t);
+  leaky = plus_if s.leaky (is_leaky t);
+  leaky_failed = plus_if s.leaky_failed (is_leaky_failed t);
+  exec_failed = plus_if s.exec_failed (is_exec_failed t);
 }
 
 -- the statistics after one more script
 abbrev pub with_script : RunStats → ExecutionResultDescription → RunStats
 with_script s r = record s {
   setup_scripts_finished_count = s.setup_scripts_finished_count + 1;
-  setup_scripts_passed = raised s.setup_scripts_passed (script_passed r);
-  setup_scripts_failed = raised s.setup_scripts_failed (script_failed r);
-  setup_scripts_exec_failed = raised s.setup_scripts_exec_failed (script_exec_failed r);
-  setup_scripts_timed_out = raised s.setup_scripts_timed_out (script_timed_out r);
+  setup_scripts_passed = plus_if s.setup_scripts_passed (script_passed r);
+  setup_scripts_failed = plus_if s.setup_scripts_failed (script_failed r);
+  setup_scripts_exec_failed = plus_if s.setup_scripts_exec_failed (script_exec_failed r);
+  setup_scripts_timed_out = plus_if s.setup_scripts_timed_out (script_timed_out r);
 }
 
 -- each counter of tests fits `usize`

@@ -22,6 +22,7 @@ abbrev pub step_rank : RunFailureStep → ℕ
 step_rank step.Test = 0
 step_rank step.SetupScript = 1
 
+-- the step of a failure, without its numbers
 abbrev pub step_of : RunStatsFailureKind → RunFailureStep
 step_of kind.SetupScript = step.SetupScript
 step_of (kind.Test initial_run_count not_run) = step.Test

@@ -8,10 +8,11 @@ use Rattle.run_events_stats.specs.declared.outcome.RunStatsFailureKind.TheVarian
 use Rattle.run_events_stats.specs.declared.outcome.FinalRunStats.{FinalRunStats}
 use Rattle.run_events_stats.specs.declared.outcome.FinalRunStats.TheVariants.{Success, NoTestsRun, Cancelled, Failed}
 
--- the failed tests, and the setup scripts that did not pass
+-- the failed tests
 abbrev pub failed_tests : RunStats → ℕ
 failed_tests s = s.failed + s.exec_failed + s.failed_timed_out
 
+-- the setup scripts that did not pass
 abbrev pub failed_scripts : RunStats → ℕ
 failed_scripts s = s.setup_scripts_failed + s.setup_scripts_exec_failed + s.setup_scripts_timed_out
 
@@ -20,10 +21,11 @@ pub record FailuresFit (s : RunStats) : Type 0 where
   pub tests : failed_tests s < 2 ^ 64
   pub scripts : failed_scripts s < 2 ^ 64
 
--- one of the three counters of failed tests is above 0, and so of scripts
+-- one of the three counters of failed tests is above 0
 abbrev pub any_test_failed : RunStats → Bool
 any_test_failed s = nat_lt 0 s.failed || nat_lt 0 s.exec_failed || nat_lt 0 s.failed_timed_out
 
+-- one of the three counters of failed scripts is above 0
 abbrev pub any_script_failed : RunStats → Bool
 any_script_failed s = nat_lt 0 s.setup_scripts_failed || nat_lt 0 s.setup_scripts_exec_failed || nat_lt 0 s.setup_scripts_timed_out
 

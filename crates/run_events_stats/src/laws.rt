@@ -2,7 +2,7 @@
 
 ghost use Rattle.std.specs.Prelude.{◌≡◌, ◌↔◌, ◌≤◌, IsTrue, []};
 ghost use Rattle.std.specs.Ordering.{nat_cmp};
-ghost use Rattle.run_events_stats.specs.Counters.{counted, nothing_known};
+ghost use Rattle.run_events_stats.specs.Counters.{counters_of, nothing_known};
 ghost use Rattle.run_events_stats.specs.Outcome.{outcome_rank, step_rank};
 
 use crate::outcome::{RunFailureStep, RunOutcome};
@@ -12,7 +12,7 @@ use std::cmp::Ordering;
 /// By default all counters are zero, and there is no reason to cancel: the statistics of a run
 /// of which nothing is known.
 pub fn run_stats_default() -> RunStats
-    ensures { result ≡ counted [] [] nothing_known }
+    ensures { result ≡ counters_of [] [] nothing_known }
 {
     RunStats::default()
 }

@@ -83,6 +83,7 @@ impl SerializableError {
     }
 }
 
+/// The object of [`SerializableError::to_value`], whose clauses are proved from this one.
 #[tactic(auto, using(crate::proofs::ChainLemmas::messages_of_cause_chains))]
 fn object_of(alloc: Global, error: &SerializableError) -> Result<Value, AllocError>
     ensures { IfOk result (λ v. view v ≡ chain_object error.now) }
@@ -98,6 +99,7 @@ fn object_of(alloc: Global, error: &SerializableError) -> Result<Value, AllocErr
     Ok(Value::Object(members))
 }
 
+/// The reading of [`SerializableError::from_value`], whose clauses are proved from this one.
 fn read_value(alloc: Global, value: &Value) -> Result<SerializableError, FromValueError>
     ensures { ReadsAs (read_chain (view value.now)) result }
 {
@@ -152,6 +154,8 @@ fn first_no_text(items: &[Value]) -> Option<usize>
     items.iter().position(|item| !item.is_string())
 }
 
+/// The error with this message and these causes, which are texts: no other list gets here, so the
+/// empty text is never taken.
 fn error_of(alloc: Global, message: &str, causes: &[Value]) -> Result<SerializableError, AllocError>
     ensures message { IfOk result (λ e. e.message ≡ message.now) }
     ensures causes { IfOk result (λ e. e.causes ≡ texts_of causes.now) }

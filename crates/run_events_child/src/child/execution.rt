@@ -71,7 +71,7 @@ impl ChildExecutionOutputDescription<LiveSpec> {
                 errors,
             } => match described_list(alloc, errors) {
                 Ok(errors) => Ok(ChildExecutionOutputDescription::Output {
-                    result: described_end(end, name),
+                    result: end.map(|end| ExecutionResultDescription::from_status(end, name)),
                     output: ChildOutputDescription::from(output),
                     errors,
                 }),
@@ -101,18 +101,5 @@ fn described_list(
     match Vec::with_capacity(alloc, errors.len()) {
         Ok(room) => Ok(Some(errors.described(room))),
         Err(_) => Err(errors),
-    }
-}
-
-/// How a process ended, described, where it has ended.
-fn described_end(
-    end: Option<ExecutionResult>,
-    name: Option<String>,
-) -> Option<ExecutionResultDescription>
-    ensures { result ≡ option_map (λ r. described_result r name) end }
-{
-    match end {
-        None => None,
-        Some(end) => Some(ExecutionResultDescription::from_status(end, name)),
     }
 }

@@ -116,10 +116,7 @@ impl ChildOutputDescription {
 fn captured_length(output: &Option<ChildSingleOutput>) -> Option<u64>
     ensures { result ≡ option_map length output.now }
 {
-    match output {
-        None => None,
-        Some(output) => Some(output.buf().len() as u64),
-    }
+    output.as_ref().map(|output| output.buf().len() as u64)
 }
 
 impl From<ChildOutput> for ChildOutputDescription {

@@ -2,7 +2,7 @@
 
 ghost use Rattle.std.specs.Prelude.{◌≡◌, ◌≢◌, ◌≤◌, ◌==◌, ◌&&◌, IsTrue, Option, Some, false, true, if◌then◌else◌};
 ghost use Rattle.run_events_settings.specs.Config.{is_final_display, is_immediate_display};
-ghost use Rattle.run_events_levels.specs.Visibility.{IsException, IsNoMoreVisible, is_stored, severity, visibility, wanted};
+ghost use Rattle.run_events_levels.specs.Visibility.{IsException, IsNoMoreVisible, is_stored, severity, visibility, asked_of};
 ghost use Rattle.run_events_results.specs.Results.{is_termination_failure};
 
 use crate::levels::{
@@ -38,19 +38,19 @@ impl StatusLevels {
         test_final_status_level: FinalStatusLevel,
         execution_result: &ExecutionResultDescription,
     ) -> OutputOnTestFinished
-        ensures exact { let asked = wanted self.now display test_status_level test_final_status_level execution_result.now in
+        ensures exact { let asked = asked_of self.now display test_status_level test_final_status_level execution_result.now in
             result ≡ visibility asked cancel_status }
 
         // Under each lesser reason no less is shown, exactly but for the exception.
-        ensures never_grows { let asked = wanted self.now display test_status_level test_final_status_level execution_result.now in
+        ensures never_grows { let asked = asked_of self.now display test_status_level test_final_status_level execution_result.now in
             (lesser : Option CancelReason) → severity lesser ≤ severity cancel_status
             → ¬ (IsException asked lesser cancel_status) → IsNoMoreVisible result (visibility asked lesser) }
-        ensures exception { let asked = wanted self.now display test_status_level test_final_status_level execution_result.now in
+        ensures exception { let asked = asked_of self.now display test_status_level test_final_status_level execution_result.now in
             (lesser : Option CancelReason) → IsException asked lesser cancel_status
             → ¬ (IsNoMoreVisible result (visibility asked lesser)) }
 
         // The line is written under every reason or under none.
-        ensures line { let asked = wanted self.now display test_status_level test_final_status_level execution_result.now in
+        ensures line { let asked = asked_of self.now display test_status_level test_final_status_level execution_result.now in
             (other : Option CancelReason) → (visibility asked other).write_status_line ≡ result.write_status_line }
 
         // From a signal on, output is never displayed twice.
@@ -66,7 +66,8 @@ impl StatusLevels {
         )
     }
 
-    /// What is shown and stored, by the cases of the reason.
+    /// What is shown and stored, by the cases of the reason. Its one clause is what the laws of
+    /// [`StatusLevels::compute_output_on_test_finished`] are proved from.
     fn output_of(
         &self,
         display: TestOutputDisplay,
@@ -75,7 +76,7 @@ impl StatusLevels {
         test_final_status_level: FinalStatusLevel,
         execution_result: &ExecutionResultDescription,
     ) -> OutputOnTestFinished
-        ensures { let asked = wanted self.now display test_status_level test_final_status_level execution_result.now in
+        ensures { let asked = asked_of self.now display test_status_level test_final_status_level execution_result.now in
             result ≡ visibility asked cancel_status }
     {
         let write_status_line = self.status_level >= test_status_level;

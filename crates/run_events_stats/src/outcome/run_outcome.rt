@@ -88,7 +88,8 @@ impl RunOutcome {
         highest
     }
 
-    /// The higher of two outcomes, by their cases.
+    /// The higher of two outcomes, by their cases. Its one clause is what the laws of
+    /// [`RunOutcome::combine`] are proved from.
     fn higher(self, other: Self) -> Self
         ensures { result ≡ combined self other }
     {

@@ -35,7 +35,8 @@ impl RunStats {
         RunStats::count_units(units, start)
     }
 
-    /// The counters over finished units.
+    /// The counters over finished units. Its one clause is what the laws of [`RunStats::of_run`] are
+    /// proved from.
     fn count_units(units: &[FinishedUnit<'_>], start: RunStart) -> RunStats
         ensures { result ≡ stats_of (map unit_view units.now) start }
     {

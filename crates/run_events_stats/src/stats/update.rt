@@ -3,7 +3,7 @@
 ghost use Rattle.std.specs.Prelude.{◌≡◌, ◌↔◌, ◌<◌, ◌^◌, IsTrue};
 ghost use Rattle.run_events_attempts.specs.Attempts.{view_of};
 ghost use Rattle.run_events_levels.specs.TestView.{said_of};
-ghost use Rattle.run_events_stats.specs.Counters.{ScriptCountersFit, TestCountersFit, raised, with_script, with_test};
+ghost use Rattle.run_events_stats.specs.Counters.{ScriptCountersFit, TestCountersFit, plus_if, with_script, with_test};
 
 use crate::stats::RunStats;
 use crate::stats::raised::{RaisedByScript, RaisedByTest};
@@ -133,15 +133,15 @@ impl RunStats {
 
 /// A counter, one higher where it is raised.
 fn counter_after(counter: usize, is_raised: bool) -> usize
-    requires { raised counter is_raised < 2 ^ 64 }
-    ensures { result ≡ raised counter is_raised }
+    requires { plus_if counter is_raised < 2 ^ 64 }
+    ensures { result ≡ plus_if counter is_raised }
 {
     counter + usize::from(is_raised)
 }
 
 /// Whether a counter has room to be raised, where it is.
 fn fits(counter: usize, is_raised: bool) -> bool
-    ensures { IsTrue result ↔ (raised counter is_raised < 2 ^ 64) }
+    ensures { IsTrue result ↔ (plus_if counter is_raised < 2 ^ 64) }
 {
     !is_raised || counter < usize::MAX
 }
