@@ -7,6 +7,7 @@ use Rattle.digest_devices.specs.declared.std_device.StdSink.{StdSink}
 abbrev pub reader_of : {R : Type 0} → StdSource R → R
 reader_of s = s.reader
 
+-- whether a read of the source has failed
 abbrev pub source_failed : {R : Type 0} → StdSource R → Bool
 source_failed s = s.failed
 
@@ -14,8 +15,10 @@ source_failed s = s.failed
 abbrev pub writer_of : {W : Type 0} → StdSink W → W
 writer_of s = s.writer
 
+-- whether a write or a flush of the sink has failed
 abbrev pub sink_failed : {W : Type 0} → StdSink W → Bool
 sink_failed s = s.failed
 
+-- whether the sink was flushed after its last write
 abbrev pub sink_flushed : {W : Type 0} → StdSink W → Bool
 sink_flushed s = s.flushed

@@ -45,6 +45,7 @@ pub data ResultWord : Type 0 where
   Timeout : ResultWord
   TimeoutPass : ResultWord
 
+-- the word by which a result is spelled
 abbrev pub word_of : ResultWord → List ℕ
 word_of Pass = codes "pass"
 word_of Leak = codes "leak"
@@ -74,6 +75,7 @@ abbrev pub IsUnitLine : UnitLine → Type 0
 IsUnitLine (ScriptLine r) = Unit {0}
 IsUnitLine (TestLine earlier last is_slow flaky_fails) = length earlier < 100
 
+-- the words after the results of a test: for a slow last attempt, and for the setting that fails flaky tests
 abbrev pub flag_words : Bool → Bool → List ℕ
 flag_words false false = []
 flag_words true false = codes " slow"

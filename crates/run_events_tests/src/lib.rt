@@ -16,4 +16,6 @@ mod laws;
 #[cfg(test)]
 mod runs;
 #[cfg(test)]
+mod views;
+#[cfg(test)]
 mod visibility;

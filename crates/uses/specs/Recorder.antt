@@ -7,6 +7,7 @@ use Rattle.run_events_child.specs.declared.chain.json.FromValueError.{FromValueE
 use Rattle.uses.specs.declared.recorder.LoadError.{LoadError}
 use Rattle.uses.specs.declared.recorder.LoadError.TheVariants.{OutOfMemory}
 
+-- the chain that a value is read as, if it is read
 abbrev pub ok_chain : Result ErrorChain FromValueError → Option ErrorChain
 ok_chain (Ok c) = Some c
 ok_chain (Err refusal) = None
