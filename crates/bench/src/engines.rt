@@ -4,10 +4,10 @@ use crate::extraction::reads_all;
 use crate::inputs::{Output, joined};
 use crate::size::Size;
 use crate::timing::{Step, Work};
-use digest_devices::device::Source;
-use digest_devices::memory_device::{MemorySink, MemorySource};
-use digest_engine::count::count;
-use digest_engine::extract::extract;
+use run_digest_devices::device::Source;
+use run_digest_devices::memory_device::{MemorySink, MemorySource};
+use run_digest_engine::count::count;
+use run_digest_engine::extract::extract;
 use std::alloc::{AllocError, Global};
 
 /// How many bytes a sink has room for.

@@ -48,15 +48,15 @@ pub IsErrorSlice-same : (b : List ℕ) (f g : Option Slice) → IsErrorSlice b f
 IsErrorSlice-same b f g p q =
     let starts = IsFirst-same (IsErrorStart b) 0 (length b + 1) (option_map start f) (option_map start g) p.0 q.0 in
     by_found f g starts p.1 q.1 where
-  start : Slice → ℕ
-  start x = x.start
+      start : Slice → ℕ
+      start x = x.start
 
-  by_found : (x y : Option Slice) → option_map start x ≡ option_map start y → IfSome x (IsTrimmedSlice b)
-      → IfSome y (IsTrimmedSlice b) → x ≡ y
-  by_found None None e one two = refl
-  by_found None (Some y) e one two = absurd (cc)
-  by_found (Some x) None e one two = absurd (cc)
-  by_found (Some x) (Some y) e one two = ap Some (IsTrimmedSlice-same b x y (same_Some x.start y.start e) one two)
+      by_found : (x y : Option Slice) → option_map start x ≡ option_map start y → IfSome x (IsTrimmedSlice b)
+          → IfSome y (IsTrimmedSlice b) → x ≡ y
+      by_found None None e one two = refl
+      by_found None (Some y) e one two = absurd (cc)
+      by_found (Some x) None e one two = absurd (cc)
+      by_found (Some x) (Some y) e one two = ap Some (IsTrimmedSlice-same b x y (same_Some x.start y.start e) one two)
 
 -- there is one first element for which P holds
 first-same : (P : List ℕ → Type 0) (xs ys : List (List ℕ)) (x y : List ℕ) (us vs : List (List ℕ))
@@ -85,18 +85,18 @@ none-first P all xs x us e none p =
 pub IsNoteLine-same : (b : List ℕ) (f g : Option Slice) → IsNoteLine b f → IsNoteLine b g → f ≡ g
 IsNoteLine-same b f g p q =
     by_found f g (subst (Is f) (AreLines-same b p.0 p.1) p.2) (subst (Is g) (AreLines-same b q.0 q.1) q.2) where
-  Is : Option Slice → List (List ℕ) → Type 0
-  Is found lines = MatchOption found (All (λ line. ¬ IsNote line) lines)
-      (λ x. (before : List (List ℕ)) × (line : List ℕ) × (after : List (List ℕ)) × (lines ≡ before ++ line ∷ after)
-      × All (λ line. ¬ IsNote line) before × IsNote line × (x.start ≡ sum_by length before) × (x.bytes ≡ without_terminator line))
+      Is : Option Slice → List (List ℕ) → Type 0
+      Is found lines = MatchOption found (All (λ line. ¬ IsNote line) lines)
+          (λ x. (before : List (List ℕ)) × (line : List ℕ) × (after : List (List ℕ)) × (lines ≡ before ++ line ∷ after)
+          × All (λ line. ¬ IsNote line) before × IsNote line × (x.start ≡ sum_by length before) × (x.bytes ≡ without_terminator line))
 
-  by_found : (x y : Option Slice) → Is x (lines_of b) → Is y (lines_of b) → x ≡ y
-  by_found None None one two = refl
-  by_found None (Some y) one two = absurd (none-first IsNote (lines_of b) two.0 two.1 two.2 two.3 one two.5)
-  by_found (Some x) None one two = absurd (none-first IsNote (lines_of b) one.0 one.1 one.2 one.3 two one.5)
-  by_found (Some x) (Some y) one two =
-      let same = first-same IsNote one.0 two.0 one.1 two.1 one.2 two.2 (sym one.3 ∙ two.3) one.4 two.4 one.5 two.5 in
-      ap Some (slice-same x y (one.6 ∙ ap (sum_by length) same.0 ∙ sym two.6) (one.7 ∙ ap without_terminator same.1 ∙ sym two.7))
+      by_found : (x y : Option Slice) → Is x (lines_of b) → Is y (lines_of b) → x ≡ y
+      by_found None None one two = refl
+      by_found None (Some y) one two = absurd (none-first IsNote (lines_of b) two.0 two.1 two.2 two.3 one two.5)
+      by_found (Some x) None one two = absurd (none-first IsNote (lines_of b) one.0 one.1 one.2 one.3 two one.5)
+      by_found (Some x) (Some y) one two =
+          let same = first-same IsNote one.0 two.0 one.1 two.1 one.2 two.2 (sym one.3 ∙ two.3) one.4 two.4 one.5 two.5 in
+          ap Some (slice-same x y (one.6 ∙ ap (sum_by length) same.0 ∙ sym two.6) (one.7 ∙ ap without_terminator same.1 ∙ sym two.7))
 
 -- what holds of each stream's bytes holds of a stream
 OfStream-same : (Is : List ℕ → Option Slice → Type 0) → ((b : List ℕ) (f g : Option Slice) → Is b f → Is b g → f ≡ g)

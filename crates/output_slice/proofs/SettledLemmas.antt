@@ -28,12 +28,12 @@ pub settled-none : (b : List ℕ) (place q : ℕ) (taken : List HeadSpan) → Se
     → NoQuoteBetween b place q → ((s e : ℕ) → place ≤ s → s + 7 ≡ q → ¬ IsHead b s e) → Settled b (q + 1) taken
 settled-none b place q taken h low is quiet none rest r =
     h rest (leftmost-before b place (q + 1) rest (omega arith) later r) where
-  later : (s e : ℕ) → place ≤ s → IsHead b s e → q + 1 ≤ s
-  later s e from head =
-      let late = starts-late b place q s e quiet from head in
-      let letters = head-letters b s e q head in
-      let other = none s e from in
-      grind arith
+      later : (s e : ℕ) → place ≤ s → IsHead b s e → q + 1 ≤ s
+      later s e from head =
+          let late = starts-late b place q s e quiet from head in
+          let letters = head-letters b s e q head in
+          let other = none s e from in
+          grind arith
 
 -- a quote that opens a head
 pub settled-head : (b : List ℕ) (place q : ℕ) (taken : List HeadSpan) (x : HeadSpan) → Settled b place taken

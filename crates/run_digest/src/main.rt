@@ -2,11 +2,11 @@
 //! test's output, the part that says why the test failed.
 #![tactic(auto)]
 
-use digest_devices::fault::Fault;
-use digest_devices::std_device::{StdSink, StdSource};
-use digest_engine::command::Command;
-use digest_engine::count::count;
-use digest_engine::extract::extract;
+use run_digest_devices::fault::Fault;
+use run_digest_devices::std_device::{StdSink, StdSource};
+use run_digest_engine::command::Command;
+use run_digest_engine::count::count;
+use run_digest_engine::extract::extract;
 use std::process::ExitCode;
 use std::rt::Env;
 use std::{env, io};

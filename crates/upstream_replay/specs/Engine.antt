@@ -1,10 +1,10 @@
 -- What `run-digest` gives, by its definitions.
 use Rattle.std.specs.Prelude.{◌≡◌, ◌++◌, ℕ, Bool, true, false, List, [], Some, Ok, Err, codes}
 use Rattle.std.specs.declared.result.Result.{Result}
-use Rattle.digest_devices.specs.Fault.{fault_text, status_of}
-use Rattle.digest_devices.specs.declared.fault.Fault.{Fault}
-use Rattle.digest_engine.specs.Answer.{Answers, KeepsSink}
-use Rattle.digest_engine.specs.ExtractAnswer.{AnswersExtract}
+use Rattle.run_digest_devices.specs.Fault.{fault_text, status_of}
+use Rattle.run_digest_devices.specs.declared.fault.Fault.{Fault}
+use Rattle.run_digest_engine.specs.Answer.{Answers, KeepsSink}
+use Rattle.run_digest_engine.specs.ExtractAnswer.{AnswersExtract}
 use Rattle.upstream_replay.specs.declared.engine.Output.{Output}
 
 -- the exit status after an answer

@@ -3,15 +3,15 @@
 //! A case is `STATUS INPUT STDOUT STDERR`: the exit status, and bytes in hex, `-` for none.
 
 ghost use Rattle.std.specs.Prelude.{IfOk};
-ghost use Rattle.digest_engine.specs.Reading.{texts_of};
+ghost use Rattle.run_digest_engine.specs.Reading.{texts_of};
 ghost use Rattle.upstream_replay.specs.Engine.{IsCountOutput, IsExtractOutput, IsOutputAfter};
 
 use crate::hexadecimal::bytes_in;
-use digest_devices::fault::Fault;
-use digest_devices::memory_device::{MemorySink, MemorySource};
-use digest_engine::command::Command;
-use digest_engine::count::count;
-use digest_engine::extract::extract;
+use run_digest_devices::fault::Fault;
+use run_digest_devices::memory_device::{MemorySink, MemorySource};
+use run_digest_engine::command::Command;
+use run_digest_engine::count::count;
+use run_digest_engine::extract::extract;
 use std::alloc::{AllocError, Global};
 
 /// What a program gives: its exit status, and what it writes to standard output and error.

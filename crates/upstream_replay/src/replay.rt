@@ -1,7 +1,7 @@
 //! One line of the list.
 
 use crate::{counter, engine, extract, heads, level, rows, visibility};
-use digest_engine::command::Command;
+use run_digest_engine::command::Command;
 use std::alloc::{AllocError, Global};
 
 /// Whether the port agrees on a line, which is the word of its kind, a space, and the case; `None`

@@ -6,9 +6,9 @@
 pub mod displayer;
 pub mod exit_status;
 pub mod junit;
-pub mod of_digest_devices;
-pub mod of_digest_engine;
 pub mod of_output_slice;
+pub mod of_run_digest_devices;
+pub mod of_run_digest_engine;
 pub mod of_run_events;
 pub mod recorder;
 pub mod runner;

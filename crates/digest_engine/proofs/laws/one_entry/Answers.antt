@@ -1,5 +1,0 @@
-use Rattle.digest_engine.proofs.SpelledEntries.{one_entry}
-use Rattle.digest_engine.proofs.laws.one_entry.Goals as goal
-
-pub returns : goal.returns
-returns c = one_entry

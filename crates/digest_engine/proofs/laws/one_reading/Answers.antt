@@ -1,5 +1,0 @@
-use Rattle.digest_engine.proofs.Readings.{one_reading}
-use Rattle.digest_engine.proofs.laws.one_reading.Goals as goal
-
-pub returns : goal.returns
-returns c = one_reading

@@ -1,5 +1,0 @@
-use Rattle.digest_engine.proofs.SpelledStart.{one_start}
-use Rattle.digest_engine.proofs.laws.one_start.Goals as goal
-
-pub returns : goal.returns
-returns c = one_start

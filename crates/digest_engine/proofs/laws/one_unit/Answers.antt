@@ -1,5 +1,0 @@
-use Rattle.digest_engine.proofs.SpelledUnits.{one_unit}
-use Rattle.digest_engine.proofs.laws.one_unit.Goals as goal
-
-pub returns : goal.returns
-returns c = one_unit

@@ -1,6 +1,0 @@
-use Rattle.std.proofs.Common.{sym}
-use Rattle.digest_engine.proofs.TextLines.{no_text_start}
-use Rattle.digest_engine.proofs.lines.parse_first.Goals as goal
-
-pub returns-in_default : goal.returns-in_default
-returns-in_default c = sym (no_text_start c.args.line.now c.in_default.ensures.cases.0)

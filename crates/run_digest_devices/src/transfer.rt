@@ -1,0 +1,62 @@
+//! All of a source's bytes in, all of a text out.
+
+ghost use Rattle.std.specs.Prelude.{◌≡◌, ◌↔◌, ◌⊎◌, true, false, IfOk, IfErr, IfSome, OnOk, OnErr, IsErr, IsErrOf};
+ghost use Rattle.std.specs.Io.KnownBytes.{Appends, IsAtEnd};
+ghost use Rattle.run_digest_devices.specs.Transfer.{AppendsStart};
+ghost use Rattle.run_digest_devices.specs.declared.fault.Fault.TheVariants as faults;
+
+use crate::device::{Sink, Source};
+use crate::fault::Fault;
+use std::alloc::Global;
+
+/// All the bytes that a source has left. It must not have failed before.
+///
+/// - [`Fault::Read`] exactly where the source fails.
+/// - [`Fault::OutOfMemory`] where memory is refused.
+///
+/// What the source has left after a fault is not said.
+pub fn read_all<R: Source>(alloc: Global, source: &mut R) -> Result<Vec<u8>, Fault>
+    requires { R.failed source.old ≡ false }
+    ensures bytes { IfOk result (λ bytes. IfSome (R.left source.old) (λ all. bytes.items ≡ all)) }
+    ensures end { OnOk result (IsAtEnd (R.left source.new)) }
+    ensures errors { IfErr result (λ e. (e ≡ faults.Read) ⊎ (e ≡ faults.OutOfMemory)) }
+    ensures read { IsErrOf result faults.Read ↔ (R.failed source.new ≡ true) }
+{
+    let mut bytes = Vec::new(alloc);
+    let mut chunk = [0u8; 4096];
+    loop {
+        let n = match source.read(&mut chunk) {
+            Ok(n) => n,
+            Err(_) => return Err(Fault::Read),
+        };
+        if n == 0 {
+            return Ok(bytes);
+        }
+        bytes.extend_from_slice(&chunk[..n])?;
+    }
+}
+
+/// Writes all of the text, then flushes the sink. It must not have failed before.
+///
+/// [`Fault::Write`] comes exactly where the sink fails, and then a beginning of the text is
+/// written.
+pub fn write_all<W: Sink>(sink: &mut W, text: &[u8]) -> Result<(), Fault>
+    requires { W.failed sink.old ≡ false }
+    ensures bytes { OnOk result (Appends (W.written sink.old) (W.written sink.new) text.now) }
+    ensures flushed { OnOk result (W.flushed sink.new ≡ true) }
+    ensures start { OnErr result (AppendsStart (W.written sink.old) (W.written sink.new) text.now) }
+    ensures errors { IfErr result (λ e. e ≡ faults.Write) }
+    ensures write { IsErr result ↔ (W.failed sink.new ≡ true) }
+{
+    let mut rest = text;
+    while !rest.is_empty() {
+        match sink.write(rest) {
+            Ok(n) => rest = &rest[n..],
+            Err(_) => return Err(Fault::Write),
+        }
+    }
+    match sink.flush() {
+        Ok(()) => Ok(()),
+        Err(_) => Err(Fault::Write),
+    }
+}

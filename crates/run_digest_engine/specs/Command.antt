@@ -1,0 +1,17 @@
+-- What words ask for.
+use Rattle.std.specs.Prelude.{List, [], ◌∷◌, ℕ, Ok, Err, codes, if◌then◌else◌}
+use Rattle.std.specs.Str.{bytes_eq}
+use Rattle.std.specs.declared.result.Result.{Result}
+use Rattle.run_digest_devices.specs.declared.fault.Fault.{Fault}
+use Rattle.run_digest_devices.specs.declared.fault.Fault.TheVariants.{BadWord}
+use Rattle.run_digest_engine.specs.declared.command.Command.{Command}
+use Rattle.run_digest_engine.specs.declared.command.Command.TheVariants.{Count, Extract}
+
+-- the command that words ask for: the one that the only word names, and to count where there is no word
+abbrev pub command_of : List (List ℕ) → Result Command Fault
+command_of [] = Ok Count
+command_of (word ∷ []) =
+    if bytes_eq word (codes "extract") then Ok Extract
+    else if bytes_eq word (codes "count") then Ok Count
+    else Err BadWord
+command_of _ = Err BadWord

@@ -1,0 +1,41 @@
+-- What `extract` writes and answers.
+use Rattle.std.specs.Prelude.{◌≡◌, ℕ, ◌++◌, Bool, List, length, codes, is_some, Option, None, Some, Ok, Err}
+use Rattle.std.specs.Fmt.{decimal}
+use Rattle.std.specs.Io.KnownBytes.{Appends}
+use Rattle.std.specs.declared.result.Result.{Result}
+use Rattle.run_events.specs.Extraction.{Extract, IsCappedExtract, error_slice, note_line, panic_slice}
+use Rattle.run_events.specs.Slices.{Slice}
+use Rattle.run_digest_devices.specs.Transfer.{AppendsStart}
+use Rattle.run_digest_devices.specs.declared.fault.Fault.{Fault}
+use Rattle.run_digest_devices.specs.declared.fault.Fault.TheVariants as faults
+
+-- the first line for a slice: its kind, its start and its length in bytes
+unfoldable pub heading : List ℕ → ℕ → ℕ → List ℕ
+heading kind start len = kind ++ (codes " " ++ (decimal start ++ (codes " " ++ (decimal len ++ codes "\n"))))
+
+-- that line, the slice, and a line feed
+abbrev pub slice_text : List ℕ → Slice → List ℕ
+slice_text kind x = heading kind x.start (length x.bytes) ++ x.bytes ++ codes "\n"
+
+-- the text for what was extracted
+abbrev pub extract_text : Option Extract → List ℕ
+extract_text None = codes "none\n"
+extract_text (Some (panic_slice x)) = slice_text (codes "panic-message") x
+extract_text (Some (error_slice x)) = slice_text (codes "error-str") x
+extract_text (Some (note_line x)) = slice_text (codes "should-panic") x
+
+-- What is extracted of an input, which is taken as combined output: at most 4,096 bytes.
+abbrev pub IsExtracted : List ℕ → Option Extract → Type 0
+IsExtracted input found = IsCappedExtract 4096 (Some input) (Some input) found
+
+-- What is answered to this input. With Ok the text of what is extracted was written, and the answer is whether there is
+-- anything. After a failed write a beginning of that text was written.
+abbrev pub AnswersExtract : Result Bool Fault → Option (List ℕ) → Option (List ℕ) → List ℕ → Type 0
+AnswersExtract (Ok success) old new input =
+    (found : Option Extract) × IsExtracted input found × Appends old new (extract_text found) × (success ≡ is_some found)
+AnswersExtract (Err faults.Write) old new input =
+    (found : Option Extract) × IsExtracted input found × AppendsStart old new (extract_text found)
+AnswersExtract (Err faults.Read) old new input = Unit {0}
+AnswersExtract (Err faults.OutOfMemory) old new input = Unit {0}
+AnswersExtract (Err faults.BadWord) old new input = ⊥
+AnswersExtract (Err (faults.BadLine number)) old new input = ⊥

@@ -1,0 +1,103 @@
+-- What a line of the input spells.
+use Rattle.std.specs.Prelude.{◌≡◌, ◌<◌, ◌+◌, ℕ, Bool, true, false, if◌then◌else◌, List, [], ◌∷◌, ◌++◌, map, length, codes, pos, Option, None, Some}
+use Rattle.std.specs.List.{join_with_byte}
+use Rattle.run_events.specs.Counters.{UnitView, ScriptUnit, TestUnit}
+use Rattle.run_events_settings.specs.declared.config.FlakyResult.TheVariants as setting
+use Rattle.run_events_settings.specs.declared.config.LeakTimeoutResult.TheVariants as leak
+use Rattle.run_events_settings.specs.declared.config.SlowTimeoutResult.TheVariants as slow
+use Rattle.run_events_results.specs.declared.results.CancelReason.{CancelReason}
+use Rattle.run_events_results.specs.declared.results.CancelReason.TheVariants as reason
+use Rattle.run_events_results.specs.declared.results.ExecutionResultDescription.{ExecutionResultDescription}
+use Rattle.run_events_results.specs.declared.results.ExecutionResultDescription.TheVariants as result
+use Rattle.run_events_results.specs.declared.results.failure.FailureDescription.TheVariants as failure
+use Rattle.run_events_stats.specs.declared.stats.RunStart.{RunStart}
+use Rattle.run_digest_engine.specs.Number.{SpellsNumber}
+
+-- the word of a reason, and `-` for none
+abbrev pub reason_word : Option CancelReason → List ℕ
+reason_word None = codes "-"
+reason_word (Some reason.SetupScriptFailure) = codes "setup-script-failure"
+reason_word (Some reason.TestFailure) = codes "test-failure"
+reason_word (Some reason.ReportError) = codes "report-error"
+reason_word (Some reason.OutputLimit) = codes "output-limit"
+reason_word (Some reason.TestFailureImmediate) = codes "test-failure-immediate"
+reason_word (Some reason.GlobalTimeout) = codes "global-timeout"
+reason_word (Some reason.Signal) = codes "signal"
+reason_word (Some reason.Interrupt) = codes "interrupt"
+reason_word (Some reason.SecondSignal) = codes "second-signal"
+
+-- line is `KEYWORD TESTS SCRIPTS REASON`, which is the start of a run without skipped tests
+pub record SpellsStart (keyword line : List ℕ) (start : RunStart) : Type 0 where
+  pub tests : List ℕ
+  pub scripts : List ℕ
+  pub written : line ≡ keyword ++ codes " " ++ tests ++ codes " " ++ scripts ++ codes " " ++ reason_word start.cancel_reason
+  pub tests_number : SpellsNumber tests start.initial_run_count
+  pub scripts_number : SpellsNumber scripts start.setup_scripts_initial_count
+  pub none_skipped : start.skipped ≡ 0
+
+-- the results that have a word
+pub data ResultWord : Type 0 where
+  Pass : ResultWord
+  Leak : ResultWord
+  LeakFail : ResultWord
+  Fail : ResultWord
+  ExecFail : ResultWord
+  Timeout : ResultWord
+  TimeoutPass : ResultWord
+
+-- the word by which a result is spelled
+abbrev pub word_of : ResultWord → List ℕ
+word_of Pass = codes "pass"
+word_of Leak = codes "leak"
+word_of LeakFail = codes "leak-fail"
+word_of Fail = codes "fail"
+word_of ExecFail = codes "exec-fail"
+word_of Timeout = codes "timeout"
+word_of TimeoutPass = codes "timeout-pass"
+
+-- the result that a word stands for: a failure is exit code 1 and not leaked
+abbrev pub result_named : ResultWord → ExecutionResultDescription
+result_named Pass = result.Pass
+result_named Leak = result.Leak leak.Pass
+result_named LeakFail = result.Leak leak.Fail
+result_named Fail = result.Fail (failure.ExitCode (pos 1)) false
+result_named ExecFail = result.ExecFail
+result_named Timeout = result.Timeout slow.Fail
+result_named TimeoutPass = result.Timeout slow.Pass
+
+-- what a line after line 1 says: a script's result, or a test's results, the last one apart, and its flags
+pub data UnitLine : Type 0 where
+  ScriptLine : ResultWord → UnitLine
+  TestLine : (earlier : List ResultWord) → (last : ResultWord) → (is_slow : Bool) → (flaky_fails : Bool) → UnitLine
+
+-- a test has at most a hundred results
+abbrev pub IsUnitLine : UnitLine → Type 0
+IsUnitLine (ScriptLine r) = Unit {0}
+IsUnitLine (TestLine earlier last is_slow flaky_fails) = length earlier < 100
+
+-- the words after the results of a test: for a slow last attempt, and for the setting that fails flaky tests
+abbrev pub flag_words : Bool → Bool → List ℕ
+flag_words false false = []
+flag_words true false = codes " slow"
+flag_words false true = codes " flaky-fail"
+flag_words true true = codes " slow flaky-fail"
+
+-- the spelling of a line: `script R`, or `test R,R,..` and its flags
+abbrev pub spelling : UnitLine → List ℕ
+spelling (ScriptLine r) = codes "script " ++ word_of r
+spelling (TestLine earlier last is_slow flaky_fails) =
+    codes "test " ++ (join_with_byte 44 (map word_of (earlier ++ last ∷ [])) ++ flag_words is_slow flaky_fails)
+
+-- the finished unit that a line stands for
+abbrev pub unit_said : UnitLine → UnitView
+unit_said (ScriptLine r) = ScriptUnit (result_named r)
+unit_said (TestLine earlier last is_slow flaky_fails) = TestUnit (record {
+  result = result_named last;
+  attempts = length earlier + 1;
+  is_slow = is_slow;
+  setting = if flaky_fails then setting.Fail else setting.Pass;
+})
+
+-- line is the spelling of this unit
+abbrev pub SpellsUnit : List ℕ → UnitView → Type 0
+SpellsUnit line unit = (said : UnitLine) × IsUnitLine said × (line ≡ spelling said) × (unit ≡ unit_said said)

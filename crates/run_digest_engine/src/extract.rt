@@ -1,0 +1,91 @@
+//! Extracting: from a test's output to the part of it that says why the test failed.
+
+ghost use Rattle.std.specs.Prelude.{◌≡◌, ◌↔◌, ◌⊎◌, true, false, IfErr, IfOk, IfSome, OnOk, IsErrOf, option_map, string_bytes};
+ghost use Rattle.run_events.specs.Shown.{extract_of};
+ghost use Rattle.run_digest_devices.specs.declared.fault.Fault.TheVariants as faults;
+ghost use Rattle.run_digest_engine.specs.Answer.{KeepsSink, ReadsToEnd};
+ghost use Rattle.run_digest_engine.specs.ExtractAnswer.{AnswersExtract, IsExtracted, extract_text, heading};
+
+use run_digest_devices::device::{Sink, Source};
+use run_digest_devices::fault::Fault;
+use run_digest_devices::transfer::{read_all, write_all};
+use run_events::output_slice::subslice::TestOutputErrorSlice;
+use std::alloc::{AllocError, Global};
+use std::num::NonZero;
+
+/// How many bytes of a slice are written at most.
+const MAX_SLICE: usize = 4_096;
+
+/// The first line for a slice.
+#[tactic(auto, unfolding(crate::specs::ExtractAnswer::heading))]
+fn heading_of(alloc: Global, kind: &str, start: usize, len: usize) -> Result<String, AllocError>
+    ensures { IfOk result (λ s. string_bytes s ≡ heading kind.now start len) }
+{
+    format!(in alloc; "{kind} {start} {len}\n")
+}
+
+/// The part of combined output that says why a test failed, at most [`MAX_SLICE`] bytes of it.
+fn extracted(output: &[u8]) -> Option<TestOutputErrorSlice<'_>>
+    ensures { IsExtracted output.now (option_map extract_of result) }
+{
+    let limit = NonZero::<usize>::new(MAX_SLICE).unwrap();
+    TestOutputErrorSlice::heuristic_extract_capped(Some(output), Some(output), limit)
+}
+
+/// The text for what was extracted.
+fn text_of(alloc: Global, found: Option<TestOutputErrorSlice<'_>>) -> Result<Vec<u8>, AllocError>
+    ensures { IfOk result (λ text. text.items ≡ extract_text (option_map extract_of found.entry)) }
+{
+    let (kind, part) = match found {
+        None => return b"none\n".to_vec(alloc),
+        Some(TestOutputErrorSlice::PanicMessage { stderr_subslice }) => {
+            ("panic-message", stderr_subslice)
+        }
+        Some(TestOutputErrorSlice::ErrorStr { stderr_subslice }) => ("error-str", stderr_subslice),
+        Some(TestOutputErrorSlice::ShouldPanic { stdout_subslice }) => {
+            ("should-panic", stdout_subslice)
+        }
+    };
+    let heading = heading_of(alloc, kind, part.start, part.slice.len())?;
+    let mut text = Vec::new(alloc);
+    text.extend_from_slice(heading.as_bytes())?;
+    text.extend_from_slice(part.slice)?;
+    text.push(b'\n')?;
+    Ok(text)
+}
+
+/// Reads all of the source, takes it as a test's combined output, and writes the part of it that
+/// says why the test failed, at most 4,096 bytes of it. Answers whether there is one.
+///
+/// It writes `panic-message START LEN`, `error-str START LEN` or `should-panic START LEN`, START and
+/// LEN in bytes and START from 0, a line feed, the slice and a line feed; or `none` and a line feed.
+///
+/// Neither device may have failed before. Everything is read first, then the whole text is made,
+/// then it is written, then the sink is flushed.
+///
+/// - [`Fault::Read`] exactly where the source fails, [`Fault::Write`] exactly where the sink does.
+/// - [`Fault::OutOfMemory`] where memory is refused.
+///
+/// Nothing is written where it fails, save by [`Fault::Write`], when a beginning of the text is.
+pub fn extract<R: Source, W: Sink>(
+    alloc: Global,
+    source: &mut R,
+    sink: &mut W,
+) -> Result<bool, Fault>
+    requires source_works { R.failed source.old ≡ false }
+    requires sink_works { W.failed sink.old ≡ false }
+    ensures faults { IfErr result (λ e. (e ≡ faults.Read) ⊎ (e ≡ faults.Write) ⊎ (e ≡ faults.OutOfMemory)) }
+    ensures read { IsErrOf result faults.Read ↔ (R.failed source.new ≡ true) }
+    ensures write { IsErrOf result faults.Write ↔ (W.failed sink.new ≡ true) }
+    ensures end { ReadsToEnd result (R.left source.new) }
+    ensures kept { KeepsSink result (W.written sink.old) (W.written sink.new) }
+    ensures flushed { OnOk result (W.flushed sink.new ≡ true) }
+    ensures answer { IfSome (R.left source.old) (λ input. AnswersExtract result (W.written sink.old) (W.written sink.new) input) }
+{
+    let bytes = read_all(alloc, source)?;
+    let output = bytes.as_slice();
+    let found = extracted(output);
+    let text = text_of(alloc, found)?;
+    write_all(sink, text.as_slice())?;
+    Ok(found.is_some())
+}

@@ -1,0 +1,154 @@
+//! The text that tells of runs.
+
+ghost use Rattle.std.specs.Prelude.{◌≡◌, ◌++◌, All, IfOk, OnOk, map, string_bytes};
+ghost use Rattle.std.specs.List.{concat};
+ghost use Rattle.run_events.specs.Summary.{FailuresFit};
+ghost use Rattle.run_digest_engine.specs.Counted.{stats_reports};
+ghost use Rattle.run_digest_engine.specs.Report.{outcome_words, report_of};
+ghost use Rattle.run_digest_engine.specs.Spelling.{reason_word};
+
+use run_events::outcome::{FinalRunStats, RunFailureStep, RunOutcome, RunStatsFailureKind};
+use run_events::results::CancelReason;
+use run_events::stats::RunStats;
+use std::alloc::{AllocError, Global};
+use std::fmt::{self, Write};
+
+/// The word of a reason, as line 1 spells it.
+fn reason_text(reason: Option<CancelReason>) -> &'static str
+    ensures { result.now ≡ reason_word reason }
+{
+    match reason {
+        None => "-",
+        Some(CancelReason::SetupScriptFailure) => "setup-script-failure",
+        Some(CancelReason::TestFailure) => "test-failure",
+        Some(CancelReason::ReportError) => "report-error",
+        Some(CancelReason::OutputLimit) => "output-limit",
+        Some(CancelReason::TestFailureImmediate) => "test-failure-immediate",
+        Some(CancelReason::GlobalTimeout) => "global-timeout",
+        Some(CancelReason::Signal) => "signal",
+        Some(CancelReason::Interrupt) => "interrupt",
+        Some(CancelReason::SecondSignal) => "second-signal",
+    }
+}
+
+/// The step at which a run ended, in words.
+#[derive(Clone, Copy)]
+struct StepText(RunStatsFailureKind);
+
+impl fmt::Display for StepText {
+    ghost use Rattle.std.specs.Prelude.{Some};
+    ghost use Rattle.run_digest_engine.specs.Report.{step_words};
+
+    ghost output = { λ s. Some (step_words s.0) };
+
+    #[tactic(auto, unfolding(crate::specs::Report::step_words))]
+    fn fmt<W: fmt::Write>(&self, f: &mut fmt::Formatter<W>) -> fmt::Result {
+        match self.0 {
+            RunStatsFailureKind::SetupScript => f.write_str("setup-script"),
+            RunStatsFailureKind::Test {
+                initial_run_count,
+                not_run,
+            } => write!(f, "test {initial_run_count} {not_run}"),
+        }
+    }
+}
+
+/// A summary, in words.
+#[derive(Clone, Copy)]
+struct SummaryText(FinalRunStats);
+
+impl fmt::Display for SummaryText {
+    ghost use Rattle.std.specs.Prelude.{Some};
+    ghost use Rattle.run_digest_engine.specs.Report.{summary_words};
+
+    ghost output = { λ s. Some (summary_words s.0) };
+
+    #[tactic(auto, unfolding(crate::specs::Report::summary_words))]
+    fn fmt<W: fmt::Write>(&self, f: &mut fmt::Formatter<W>) -> fmt::Result {
+        match self.0 {
+            FinalRunStats::Success => f.write_str("success"),
+            FinalRunStats::NoTestsRun => f.write_str("no-tests-run"),
+            FinalRunStats::Cancelled { reason, kind } => {
+                let word = reason_text(reason);
+                let step = StepText(kind);
+                write!(f, "cancelled {word} {step}")
+            }
+            FinalRunStats::Failed { kind } => {
+                let step = StepText(kind);
+                write!(f, "failed {step}")
+            }
+        }
+    }
+}
+
+/// An outcome in words.
+#[tactic(auto, unfolding(crate::specs::Report::outcome_words))]
+fn outcome_text(outcome: RunOutcome) -> &'static str
+    ensures { result.now ≡ outcome_words outcome }
+{
+    match outcome {
+        RunOutcome::Success => "success",
+        RunOutcome::NoTestsRun => "no-tests-run",
+        RunOutcome::Cancelled {
+            step: RunFailureStep::SetupScript,
+        } => "cancelled setup-script",
+        RunOutcome::Cancelled {
+            step: RunFailureStep::Test,
+        } => "cancelled test",
+        RunOutcome::Failed {
+            step: RunFailureStep::SetupScript,
+        } => "failed setup-script",
+        RunOutcome::Failed {
+            step: RunFailureStep::Test,
+        } => "failed test",
+    }
+}
+
+/// Appends the three lines for statistics. Both sums of failures must fit `usize`.
+#[tactic(auto, unfolding(crate::specs::Report::report_of, crate::specs::Report::tests_line, crate::specs::Report::scripts_line))]
+fn push_report(text: &mut String, stats: &RunStats) -> Result<(), AllocError>
+    requires { FailuresFit stats.now }
+    ensures { OnOk result (string_bytes text.new ≡ string_bytes text.old ++ report_of stats.now) }
+{
+    let (finished, passed, flaky) = (stats.finished_count, stats.passed, stats.flaky);
+    let failed = stats.failed_count();
+    writeln!(
+        text,
+        "tests {finished} passed {passed} failed {failed} flaky {flaky}"
+    )?;
+    let finished = stats.setup_scripts_finished_count;
+    let failed = stats.failed_setup_script_count();
+    writeln!(text, "scripts {finished} failed {failed}")?;
+    let summary = SummaryText(stats.summarize_final());
+    writeln!(text, "summary {summary}")
+}
+
+/// The reports of runs, in order.
+fn report_texts(alloc: Global, runs: &[RunStats]) -> Result<String, AllocError>
+    requires { All FailuresFit runs.now }
+    ensures { IfOk result (λ s. string_bytes s ≡ concat (map report_of runs.now)) }
+{
+    let mut text = String::new(alloc);
+    for stats in runs {
+        push_report(&mut text, stats)?;
+    }
+    Ok(text)
+}
+
+/// The text for runs with these statistics and their outcome: their reports, and the line of the
+/// outcome unless there is one run alone. Both sums of failures of each must fit `usize`.
+pub(crate) fn reports(
+    alloc: Global,
+    runs: &[RunStats],
+    outcome: RunOutcome,
+) -> Result<String, AllocError>
+    requires { All FailuresFit runs.now }
+    ensures { IfOk result (λ s. string_bytes s ≡ stats_reports runs.now outcome) }
+{
+    let mut text = report_texts(alloc, runs)?;
+    if runs.len() != 1 {
+        let words = outcome_text(outcome);
+        writeln!(text, "outcome {words}")?;
+    }
+    Ok(text)
+}

@@ -1,0 +1,130 @@
+//! What the words of the input say.
+
+ghost use Rattle.std.specs.Prelude.{◌≡◌, ◌≤◌, true, None, length, option_map};
+ghost use Rattle.std.specs.Char.{is_ascii_digit};
+ghost use Rattle.std.specs.List.{list_all};
+ghost use Rattle.run_events.specs.Described.{described_result};
+ghost use Rattle.run_digest_engine.specs.Reader.{flags_of, number_of, reason_of, result_of, start_fields, value_of_digits};
+
+use crate::parts::Parts;
+use run_events::config::{FlakyResult, LeakTimeoutResult, SlowTimeoutResult};
+use run_events::results::{CancelReason, ExecutionResult, FailureStatus};
+use run_events::stats::RunStart;
+
+/// How many digits a number has at most.
+const MAX_DIGITS: usize = 7;
+
+/// The greatest number.
+const MAX_NUMBER: usize = 1_000_000;
+
+/// The result that a word names.
+#[tactic(auto, unfolding(crate::specs::Reader::result_of))]
+pub(crate) fn parse_result(word: &str) -> Option<ExecutionResult>
+    ensures { option_map (λ r. described_result r None) result ≡ result_of word.now }
+{
+    match word {
+        "pass" => Some(ExecutionResult::Pass),
+        "leak" => Some(ExecutionResult::Leak {
+            result: LeakTimeoutResult::Pass,
+        }),
+        "leak-fail" => Some(ExecutionResult::Leak {
+            result: LeakTimeoutResult::Fail,
+        }),
+        "fail" => Some(ExecutionResult::Fail {
+            failure_status: FailureStatus::ExitCode(1),
+            leaked: false,
+        }),
+        "exec-fail" => Some(ExecutionResult::ExecFail),
+        "timeout" => Some(ExecutionResult::Timeout {
+            result: SlowTimeoutResult::Fail,
+        }),
+        "timeout-pass" => Some(ExecutionResult::Timeout {
+            result: SlowTimeoutResult::Pass,
+        }),
+        _ => None,
+    }
+}
+
+/// The reason that a word names, or that there is none.
+#[tactic(auto, unfolding(crate::specs::Reader::reason_of))]
+fn parse_reason(word: &str) -> Option<Option<CancelReason>>
+    ensures { result ≡ reason_of word.now }
+{
+    match word {
+        "-" => Some(None),
+        "setup-script-failure" => Some(Some(CancelReason::SetupScriptFailure)),
+        "test-failure" => Some(Some(CancelReason::TestFailure)),
+        "report-error" => Some(Some(CancelReason::ReportError)),
+        "output-limit" => Some(Some(CancelReason::OutputLimit)),
+        "test-failure-immediate" => Some(Some(CancelReason::TestFailureImmediate)),
+        "global-timeout" => Some(Some(CancelReason::GlobalTimeout)),
+        "signal" => Some(Some(CancelReason::Signal)),
+        "interrupt" => Some(Some(CancelReason::Interrupt)),
+        "second-signal" => Some(Some(CancelReason::SecondSignal)),
+        _ => None,
+    }
+}
+
+fn are_digits(word: &[u8]) -> bool
+    ensures { result ≡ list_all is_ascii_digit word.now }
+{
+    word.iter().all(|b| b.is_ascii_digit())
+}
+
+/// The number that at most [`MAX_DIGITS`] digits spell.
+fn value_of(digits: &[u8]) -> usize
+    requires digits { list_all is_ascii_digit digits.now ≡ true }
+    requires few { length digits.now ≤ MAX_DIGITS }
+    ensures { result ≡ value_of_digits digits.now }
+{
+    let mut value: usize = 0;
+    for digit in digits {
+        value = 10 * value + usize::from(*digit - b'0');
+    }
+    value
+}
+
+/// The number that a word spells: one to [`MAX_DIGITS`] digits, and at most [`MAX_NUMBER`].
+#[tactic(auto, unfolding(crate::specs::Reader::number_of))]
+fn parse_number(word: &[u8]) -> Option<usize>
+    ensures { result ≡ number_of word.now }
+{
+    if word.is_empty() || word.len() > MAX_DIGITS || !are_digits(word) {
+        return None;
+    }
+    let value = value_of(word);
+    if value > MAX_NUMBER {
+        return None;
+    }
+    Some(value)
+}
+
+/// The start of a run that the words after its keyword say: two numbers and a reason.
+#[tactic(auto, unfolding(crate::specs::Reader::start_fields))]
+pub(crate) fn parse_start(mut words: Parts<'_>) -> Option<RunStart>
+    ensures { result ≡ start_fields words.entry }
+{
+    match (words.next(), words.next(), words.next(), words.next()) {
+        (Some(tests), Some(scripts), Some(reason), None) => Some(RunStart {
+            initial_run_count: parse_number(tests.as_bytes())?,
+            setup_scripts_initial_count: parse_number(scripts.as_bytes())?,
+            skipped: 0,
+            cancel_reason: parse_reason(reason)?,
+        }),
+        _ => None,
+    }
+}
+
+/// What the words after a test's results say: whether the last attempt was slow, and the setting.
+#[tactic(auto, unfolding(crate::specs::Reader::flags_of))]
+pub(crate) fn parse_flags(mut words: Parts<'_>) -> Option<(bool, FlakyResult)>
+    ensures { result ≡ flags_of words.entry }
+{
+    match (words.next(), words.next(), words.next()) {
+        (None, _, _) => Some((false, FlakyResult::Pass)),
+        (Some("slow"), None, _) => Some((true, FlakyResult::Pass)),
+        (Some("flaky-fail"), None, _) => Some((false, FlakyResult::Fail)),
+        (Some("slow"), Some("flaky-fail"), None) => Some((true, FlakyResult::Fail)),
+        _ => None,
+    }
+}
