@@ -143,9 +143,7 @@ fn error_start(stderr: &[u8], end: usize) -> Option<usize>
     if stderr.starts_with_str(&ERROR_SIGN[1..]) {
         return Some(0);
     }
-    let Some(feed) = first_sign(stderr, ERROR_SIGN, end) else {
-        return None;
-    };
+    let feed = first_sign(stderr, ERROR_SIGN, end)?;
     Some(feed + 1)
 }
 

@@ -49,9 +49,7 @@ fn crossing(bytes: &[u8], at: usize) -> Option<usize>
     requires line_start { IsLineStart bytes.now at }
     ensures { MatchOption result (IsCut bytes.now at) (λ s. MayCross bytes.now s at) }
 {
-    let Some(quote) = (&bytes[..at]).rfind_byte(b'\'') else {
-        return None;
-    };
+    let quote = (&bytes[..at]).rfind_byte(b'\'')?;
     if quote < WORD_SIZE {
         return None;
     }

@@ -6,12 +6,14 @@ pub returns-then-starts_with_str : goal.returns-then-starts_with_str
 returns-then-starts_with_str c =
     first-front c.args.stderr.now (codes "Error: ") (c.starts_with_str.ensures.0 c.if-starts_with_str.true)
 
-pub returns-in_default : goal.returns-in_default
-returns-in_default c =
+pub returns-in_err-feed : goal.returns-in_err-feed
+returns-in_err-feed c =
     let f = c.if-starts_with_str.false in
-    first-none c.args.stderr.now (codes "Error: ") (λ h. let yes = c.starts_with_str.ensures.1 h in cc) c.in_default.ensures
+    rw c.from_residual.ensures
+    (first-none c.args.stderr.now (codes "Error: ") (λ h. let yes = c.starts_with_str.ensures.1 h in cc) c.in_err-feed.ensures)
 
 pub returns : goal.returns
 returns c =
     let f = c.if-starts_with_str.false in
-    first-later c.args.stderr.now (codes "Error: ") c.in-Some.feed (λ h. let yes = c.starts_with_str.ensures.1 h in cc) c.in-Some.ensures
+    first-later c.args.stderr.now (codes "Error: ") c.in_ok-feed.feed (λ h. let yes = c.starts_with_str.ensures.1 h in cc)
+    c.in_ok-feed.ensures
