@@ -18,9 +18,9 @@ use Rattle.run_events_stats.proofs.Counts.{count_of-le, length-filter_map-le}
 use Rattle.run_events_stats.proofs.Verdicts.{failures-fit}
 use Rattle.run_digest_devices.specs.declared.fault.Fault.{Fault}
 use Rattle.run_digest_devices.specs.declared.fault.Fault.TheVariants as faults
-use Rattle.run_digest_engine.specs.Counted.{AreCounted, AreStats, GivesStats}
+use Rattle.run_digest_engine.specs.Counted.{AreCounted, AreStats, Counts, GivesStats, HasRoom}
 use Rattle.run_digest_engine.specs.Digest.{IsRefusal}
-use Rattle.run_digest_engine.specs.Reader.{Refuses, SubRunEntry, UnitEntry, begun, entry_of_words, runs_from, runs_of, start_of_words, with_unit, words_of}
+use Rattle.run_digest_engine.specs.Reader.{EntryView, Refuses, SubRunEntry, UnitEntry, begun, entry_of_words, runs_from, runs_of, start_of_words, with_unit, words_of}
 use Rattle.run_digest_engine.specs.Reading.{Run}
 use Rattle.run_digest_engine.specs.Report.{run_stats}
 use Rattle.run_digest_engine.proofs.EntryLines.{after_runs, runs_from-bad, runs_from-late, start_more, unit_more}
@@ -85,12 +85,12 @@ going-start start stats lines counted = record {
 }
 
 -- the counters have room for one more unit
-pub test_fits : (number : ℕ) (runs : List RunStats) (stats : RunStats) (lines : List (List ℕ)) (all : Result (List Run) ℕ) (t : TestView) → Going number runs stats lines all → TestCountersFit (with_test stats t)
+test_fits : (number : ℕ) (runs : List RunStats) (stats : RunStats) (lines : List (List ℕ)) (all : Result (List Run) ℕ) (t : TestView) → Going number runs stats lines all → TestCountersFit (with_test stats t)
 test_fits number runs stats lines all t g =
     let more : length (g.run.units ++ TestUnit t ∷ []) < 2 ^ 64 = omega (arith, length-append g.run.units (TestUnit t ∷ []), g.short, g.few) in
     subst (λ (s : RunStats). TestCountersFit s) (stats_of-test g.run.units t g.run.start ∙ ap (λ s. with_test s t) (sym g.counted)) (tests_fit (g.run.units ++ TestUnit t ∷ []) g.run.start more)
 
-pub script_fits : (number : ℕ) (runs : List RunStats) (stats : RunStats) (lines : List (List ℕ)) (all : Result (List Run) ℕ) (r : ExecutionResultDescription) → Going number runs stats lines all → ScriptCountersFit (with_script stats r)
+script_fits : (number : ℕ) (runs : List RunStats) (stats : RunStats) (lines : List (List ℕ)) (all : Result (List Run) ℕ) (r : ExecutionResultDescription) → Going number runs stats lines all → ScriptCountersFit (with_script stats r)
 script_fits number runs stats lines all r g =
     let more : length (g.run.units ++ ScriptUnit r ∷ []) < 2 ^ 64 = omega (arith, length-append g.run.units (ScriptUnit r ∷ []), g.short, g.few) in
     subst (λ (s : RunStats). ScriptCountersFit s) (stats_of-script g.run.units r g.run.start ∙ ap (λ s. with_script s r) (sym g.counted)) (scripts_fit (g.run.units ++ ScriptUnit r ∷ []) g.run.start more)
@@ -109,12 +109,12 @@ going-unit number runs stats next line lines all unit few is_unit g counted = re
   short = omega (arith, length-append g.run.units (unit ∷ []), g.short);
 }
 
-pub going-test : (number : ℕ) (runs : List RunStats) (stats : RunStats) (line : List ℕ) (lines : List (List ℕ)) (all : Result (List Run) ℕ) (t : TestView) → number ≤ 10000
+going-test : (number : ℕ) (runs : List RunStats) (stats : RunStats) (line : List ℕ) (lines : List (List ℕ)) (all : Result (List Run) ℕ) (t : TestView) → number ≤ 10000
     → Some (UnitEntry (TestUnit t)) ≡ entry_of_words (words_of line) → Going number runs stats (line ∷ lines) all → Going (number + 1) runs (with_test stats t) lines all
 going-test number runs stats line lines all t few is_test g =
     going-unit number runs stats (with_test stats t) line lines all (TestUnit t) few is_test g (ap (λ s. with_test s t) g.counted ∙ sym (stats_of-test g.run.units t g.run.start))
 
-pub going-script : (number : ℕ) (runs : List RunStats) (stats : RunStats) (line : List ℕ) (lines : List (List ℕ)) (all : Result (List Run) ℕ) (r : ExecutionResultDescription) → number ≤ 10000
+going-script : (number : ℕ) (runs : List RunStats) (stats : RunStats) (line : List ℕ) (lines : List (List ℕ)) (all : Result (List Run) ℕ) (r : ExecutionResultDescription) → number ≤ 10000
     → Some (UnitEntry (ScriptUnit r)) ≡ entry_of_words (words_of line) → Going number runs stats (line ∷ lines) all → Going (number + 1) runs (with_script stats r) lines all
 going-script number runs stats line lines all r few is_script g =
     going-unit number runs stats (with_script stats r) line lines all (ScriptUnit r) few is_script g (ap (λ s. with_script s r) g.counted ∙ sym (stats_of-script g.run.units r g.run.start))
@@ -128,7 +128,7 @@ over-more runs front stats run over counted short = record {
 }
 
 -- one more sub-run
-pub going-sub_run : (number : ℕ) (runs : List RunStats) (stats next : RunStats) (line : List ℕ) (lines : List (List ℕ)) (all : Result (List Run) ℕ) (start : RunStart) → number ≤ 10000
+going-sub_run : (number : ℕ) (runs : List RunStats) (stats next : RunStats) (line : List ℕ) (lines : List (List ℕ)) (all : Result (List Run) ℕ) (start : RunStart) → number ≤ 10000
     → Some (SubRunEntry start) ≡ entry_of_words (words_of line) → next ≡ stats_of [] start → Going number runs stats (line ∷ lines) all → Going (number + 1) (runs ++ stats ∷ []) next lines all
 going-sub_run number runs stats next line lines all start few is_start counted g = record {
   front = g.front ++ g.run ∷ [];
@@ -139,6 +139,28 @@ going-sub_run number runs stats next line lines all start few is_start counted g
   few = omega (arith, few);
   short = omega (arith, g.short);
 }
+
+-- what a line says has room
+pub has_room : (number : ℕ) (runs : List RunStats) (stats : RunStats) (lines : List (List ℕ)) (all : Result (List Run) ℕ) (entry : EntryView)
+    → Going number runs stats lines all → HasRoom stats entry
+has_room number runs stats lines all (UnitEntry (ScriptUnit r)) g = script_fits number runs stats lines all r g
+has_room number runs stats lines all (UnitEntry (TestUnit t)) g = test_fits number runs stats lines all t g
+has_room number runs stats lines all (SubRunEntry start) g = tt
+
+-- one more line
+pub going-entry : (number : ℕ) (runs after : List RunStats) (stats next : RunStats) (lines rest : List (List ℕ)) (line : List ℕ) (all : Result (List Run) ℕ)
+    (entry : EntryView) → number ≤ 10000 → Some entry ≡ entry_of_words (words_of line) → lines ≡ line ∷ rest → Going number runs stats lines all
+    → Counts entry runs stats after next → Going (number + 1) after next rest all
+going-entry number runs after stats next lines rest line all entry few said is going counts =
+    let P : List (List ℕ) → Type 0 = λ ls. Going number runs stats ls all in
+    let g : Going number runs stats (line ∷ rest) all = subst P is going in
+    (elim entry as (λ e. Some e ≡ entry_of_words (words_of line) → Counts e runs stats after next → Going (number + 1) after next rest all) [
+      | UnitEntry unit ↦ (elim unit as (λ u. Some (UnitEntry u) ≡ entry_of_words (words_of line) → Counts (UnitEntry u) runs stats after next → Going (number + 1) after next rest all) [
+        | ScriptUnit r ↦ λ s k. rw (k.0, k.1) (going-script number runs stats line rest all r few s g)
+        | TestUnit t ↦ λ s k. rw (k.0, k.1) (going-test number runs stats line rest all t few s g)
+      ])
+      | SubRunEntry start ↦ λ s k. rw k.0 (going-sub_run number runs stats next line rest all start few s k.1 g)
+    ]) said counts
 
 -- no line is left
 pub going-end : (number : ℕ) (runs : List RunStats) (stats : RunStats) (all : Result (List Run) ℕ) → Going number runs stats [] all → GivesStats all (runs ++ stats ∷ [])

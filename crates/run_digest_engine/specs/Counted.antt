@@ -2,10 +2,12 @@
 use Rattle.std.specs.Prelude.{◌≡◌, ℕ, List, [], ◌∷◌, ◌++◌, map, Ok, Err, All}
 use Rattle.std.specs.List.{concat}
 use Rattle.std.specs.declared.result.Result.{Result}
+use Rattle.run_events.specs.Counters.{ScriptCountersFit, ScriptUnit, TestCountersFit, TestUnit, stats_of, with_script, with_test}
 use Rattle.run_events.specs.Summary.{FailuresFit}
 use Rattle.run_events_stats.specs.declared.outcome.run_outcome.RunOutcome.{RunOutcome}
 use Rattle.run_events_stats.specs.declared.stats.RunStats.{RunStats}
 use Rattle.run_digest_engine.specs.Answer.{NoBadLine}
+use Rattle.run_digest_engine.specs.Reader.{EntryView, SubRunEntry, UnitEntry}
 use Rattle.run_digest_engine.specs.Reading.{IsReading, Run}
 use Rattle.run_digest_engine.specs.Report.{outcome_line, report_of, run_stats}
 
@@ -25,6 +27,18 @@ pub record AreCounted (lines : List (List ℕ)) (stats : List RunStats) : Type 0
 abbrev pub GivesStats : Result (List Run) ℕ → List RunStats → Type 0
 GivesStats (Ok runs) stats = AreStats stats runs
 GivesStats (Err number) stats = ⊥
+
+-- the counters of the run that goes on have room for what a line says
+abbrev pub HasRoom : RunStats → EntryView → Type 0
+HasRoom stats (UnitEntry (ScriptUnit r)) = ScriptCountersFit (with_script stats r)
+HasRoom stats (UnitEntry (TestUnit t)) = TestCountersFit (with_test stats t)
+HasRoom stats (SubRunEntry start) = Unit {0}
+
+-- what a line says was counted: one more unit of the run that goes on; or that run is over, and the next begins
+abbrev pub Counts : EntryView → List RunStats → RunStats → List RunStats → RunStats → Type 0
+Counts (UnitEntry (ScriptUnit r)) runs stats after next = (after ≡ runs) × (next ≡ with_script stats r)
+Counts (UnitEntry (TestUnit t)) runs stats after next = (after ≡ runs) × (next ≡ with_test stats t)
+Counts (SubRunEntry start) runs stats after next = (after ≡ runs ++ stats ∷ []) × (next ≡ stats_of [] start)
 
 -- the text for statistics of runs and their outcome: of one run its report alone, of more the line of the outcome too
 abbrev pub stats_reports : List RunStats → RunOutcome → List ℕ

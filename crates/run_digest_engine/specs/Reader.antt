@@ -31,7 +31,8 @@ named word_of (x ∷ xs) word = if bytes_eq word (word_of x) then Some x else na
 
 -- the result that a word names
 unfoldable pub result_of : List ℕ → Option ExecutionResultDescription
-result_of word = option_map result_named (named word_of (Pass ∷ Leak ∷ LeakFail ∷ Fail ∷ ExecFail ∷ Timeout ∷ TimeoutPass ∷ []) word)
+result_of word =
+    option_map result_named (named word_of (Pass ∷ Leak ∷ LeakFail ∷ Fail ∷ ExecFail ∷ Timeout ∷ TimeoutPass ∷ []) word)
 
 -- the reasons to cancel, and that there is none
 abbrev pub reasons : List (Option CancelReason)

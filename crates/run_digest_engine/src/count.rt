@@ -70,7 +70,8 @@ pub fn count<R: Source, W: Sink>(alloc: Global, source: &mut R, sink: &mut W) ->
     ensures end { ReadsToEnd result (R.left source.new) }
     ensures kept { KeepsSink result (W.written sink.old) (W.written sink.new) }
     ensures flushed { OnOk result (W.flushed sink.new ≡ true) }
-    ensures answer { IfSome (R.left source.old) (λ input. Answers result (W.written sink.old) (W.written sink.new) (texts_of input)) }
+    ensures answer { IfSome (R.left source.old)
+        (λ input. Answers result (W.written sink.old) (W.written sink.new) (texts_of input)) }
 {
     let bytes = read_all(alloc, source)?;
     let (text, success) = digest(alloc, bytes.as_slice())?;

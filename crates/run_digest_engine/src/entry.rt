@@ -27,7 +27,8 @@ pub(crate) enum Entry {
 
 /// What a line after line 1 says, if anything. A line that is no text says nothing.
 pub(crate) fn parse_entry(alloc: Global, line: &[u8]) -> Result<Option<Entry>, AllocError>
-    ensures { IfOk result (λ found. option_map entry_view found ≡ entry_of_words (words_of line.now)) }
+    ensures { IfOk result
+        (λ found. option_map entry_view found ≡ entry_of_words (words_of line.now)) }
 {
     match str::from_utf8(line) {
         Ok(text) => parse_words(alloc, Parts::new(text, ' ')),

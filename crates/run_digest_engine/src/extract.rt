@@ -74,13 +74,15 @@ pub fn extract<R: Source, W: Sink>(
 ) -> Result<bool, Fault>
     requires source_works { R.failed source.old ≡ false }
     requires sink_works { W.failed sink.old ≡ false }
-    ensures faults { IfErr result (λ e. (e ≡ faults.Read) ⊎ (e ≡ faults.Write) ⊎ (e ≡ faults.OutOfMemory)) }
+    ensures faults { IfErr result
+        (λ e. (e ≡ faults.Read) ⊎ (e ≡ faults.Write) ⊎ (e ≡ faults.OutOfMemory)) }
     ensures read { IsErrOf result faults.Read ↔ (R.failed source.new ≡ true) }
     ensures write { IsErrOf result faults.Write ↔ (W.failed sink.new ≡ true) }
     ensures end { ReadsToEnd result (R.left source.new) }
     ensures kept { KeepsSink result (W.written sink.old) (W.written sink.new) }
     ensures flushed { OnOk result (W.flushed sink.new ≡ true) }
-    ensures answer { IfSome (R.left source.old) (λ input. AnswersExtract result (W.written sink.old) (W.written sink.new) input) }
+    ensures answer { IfSome (R.left source.old)
+        (λ input. AnswersExtract result (W.written sink.old) (W.written sink.new) input) }
 {
     let bytes = read_all(alloc, source)?;
     let output = bytes.as_slice();

@@ -10,7 +10,8 @@ use std::marker::Model;
 /// The first part of a text, and what is left behind the character that divides it, if it does.
 fn first_part(text: &str, divider: char) -> (&str, Option<&str>)
     requires { divider < 128 }
-    ensures { slice_split (λ b. b == divider) text.now ≡ result.0.now ∷ parts_left divider result.1 }
+    ensures { slice_split (λ b. b == divider) text.now
+        ≡ result.0.now ∷ parts_left divider result.1 }
 {
     match text.split_once(divider) {
         Some((part, rest)) => (part, Some(rest)),

@@ -90,7 +90,8 @@ pub(crate) fn parse_script(mut words: Parts<'_>) -> Option<SetupScriptExecuteSta
 
 /// The results of a test, with one comma between two, at most [`MAX_RESULTS`].
 fn parse_results(alloc: Global, list: &str) -> Result<Option<Vec<ExecutionResult>>, AllocError>
-    ensures results { IfOk result (λ found. option_map (λ v. described_results v.items) found ≡ results_of list.now) }
+    ensures results { IfOk result
+        (λ found. option_map (λ v. described_results v.items) found ≡ results_of list.now) }
     ensures some { IfOk result (λ found. IfSome found (λ v. 0 < length v.items)) }
     ensures few { IfOk result (λ found. IfSome found (λ v. length v.items ≤ MAX_RESULTS)) }
 {
@@ -115,7 +116,8 @@ fn attempts_of(
     is_slow: bool,
 ) -> Result<Vec<ExecuteStatus<LiveSpec>>, AllocError>
     requires { length results.now ≤ MAX_RESULTS }
-    ensures results { IfOk result (λ v. map (λ s. s.result) v.items ≡ described_results results.now) }
+    ensures results { IfOk result
+        (λ v. map (λ s. s.result) v.items ≡ described_results results.now) }
     ensures attempts { IfOk result (λ v. AreAttempts v.items (length results.now) is_slow) }
     ensures count { IfOk result (λ v. length v.items ≡ length results.now) }
 {
