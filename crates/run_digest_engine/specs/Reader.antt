@@ -20,7 +20,6 @@ use Rattle.run_digest_engine.specs.Reading.{Run}
 use Rattle.run_digest_engine.specs.Spelling.{Pass, Leak, LeakFail, Fail, ExecFail, Timeout, TimeoutPass, word_of, result_named, reason_word}
 
 infixl 10 ◌>>=◌
-
 -- what comes of a value that is there
 abbrev pub ◌>>=◌ : {A B : Type 0} → Option A → (A → Option B) → Option B
 o >>= f = option_and_then f o
