@@ -49,7 +49,7 @@ views-more us i u v within is_at is_v =
 count-fits : {X Y : Type 0} (h : X → Option Y) (p : Y → Bool) (xs : List X) → length xs < 2 ^ 64 → count_of p (filter_map h xs) < 2 ^ 64
 count-fits h p xs short = omega (arith, count_of-le p (filter_map h xs), length-filter_map-le h xs)
 
-tests-fit : (us : List UnitView) (start : RunStart) → length us < 2 ^ 64 → TestCountersFit (stats_of us start)
+pub tests-fit : (us : List UnitView) (start : RunStart) → length us < 2 ^ 64 → TestCountersFit (stats_of us start)
 tests-fit us start short =
     let fits = λ (p : TestView → Bool). count-fits test_of p us short in
     record {
@@ -66,7 +66,7 @@ tests-fit us start short =
       exec_failed = fits is_exec_failed;
     }
 
-scripts-fit : (us : List UnitView) (start : RunStart) → length us < 2 ^ 64 → ScriptCountersFit (stats_of us start)
+pub scripts-fit : (us : List UnitView) (start : RunStart) → length us < 2 ^ 64 → ScriptCountersFit (stats_of us start)
 scripts-fit us start short =
     let fits = λ (p : ExecutionResultDescription → Bool). count-fits script_of p us short in
     record {
