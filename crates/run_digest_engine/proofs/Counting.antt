@@ -1,20 +1,16 @@
 -- The statistics of runs, counted line by line.
-use Rattle.std.proofs.Common.{◌≡◌, ℕ, ◌+◌, ◌<◌, ◌≤◌, ◌^◌, List, [], ◌∷◌, ◌++◌, Bool, length, map, refl, ap, sym, ◌∙◌, subst, arith, length-append}
-use Rattle.std.specs.Prelude.{Err, IfErr, IfOk, None, Ok, Option, Some, codes}
-use Rattle.std.specs.List.{filter_map}
+use Rattle.std.proofs.Common.{◌≡◌, ℕ, ◌+◌, ◌<◌, ◌≤◌, ◌^◌, List, [], ◌∷◌, ◌++◌, length, map, refl, ap, sym, ◌∙◌, subst, arith, length-append}
+use Rattle.std.specs.Prelude.{Err, IfErr, IfOk, None, Ok, Some, codes}
 use Rattle.std.specs.declared.result.Result.{Result}
 use Rattle.std.proofs.lemmas.List.{map-append}
 use Rattle.std.proofs.lemmas.List.Elements.{All-nil, All-push}
-use Rattle.run_events_levels.specs.TestView.{TestView}
+use Rattle.run_events.specs.TestView.{TestView}
 use Rattle.run_events_results.specs.declared.results.ExecutionResultDescription.{ExecutionResultDescription}
-use Rattle.run_events.specs.Counters.{ScriptCountersFit, ScriptUnit, TestCountersFit, TestUnit, UnitView, count_of, script_of, stats_of, test_of, with_script, with_test}
-use Rattle.run_events.specs.ScriptCounters.{script_exec_failed, script_failed, script_passed, script_timed_out}
+use Rattle.run_events.specs.Counters.{ScriptCountersFit, ScriptUnit, TestCountersFit, TestUnit, UnitView, stats_of, with_script, with_test}
 use Rattle.run_events.specs.Summary.{FailuresFit}
-use Rattle.run_events.specs.TestCounters.{is_exec_failed, is_failed, is_failed_slow, is_failed_timed_out, is_flaky, is_leaky, is_leaky_failed, is_passed, is_passed_slow, is_passed_timed_out}
 use Rattle.run_events_stats.specs.declared.stats.RunStart.{RunStart}
 use Rattle.run_events_stats.specs.declared.stats.RunStats.{RunStats}
-use Rattle.run_events_stats.proofs.Counting.{stats_of-script, stats_of-test}
-use Rattle.run_events_stats.proofs.Counts.{count_of-le, length-filter_map-le}
+use Rattle.run_events_stats.proofs.Counting.{scripts-fit, stats_of-script, stats_of-test, tests-fit}
 use Rattle.run_events_stats.proofs.Verdicts.{failures-fit}
 use Rattle.run_digest_devices.specs.declared.fault.Fault.{Fault}
 use Rattle.run_digest_devices.specs.declared.fault.Fault.TheVariants as faults
@@ -25,38 +21,6 @@ use Rattle.run_digest_engine.specs.Reading.{Run}
 use Rattle.run_digest_engine.specs.Report.{run_stats}
 use Rattle.run_digest_engine.proofs.EntryLines.{after_runs, runs_from-bad, runs_from-late, start_more, unit_more}
 use Rattle.run_digest_engine.proofs.Readings.{GivenRuns, given}
-
--- a counter is no greater than the number of units
-counter_fits : {X Y : Type 0} (kind : X → Option Y) (rule : Y → Bool) (units : List X) → length units < 2 ^ 64 → count_of rule (filter_map kind units) < 2 ^ 64
-counter_fits kind rule units short = omega (arith, count_of-le rule (filter_map kind units), length-filter_map-le kind units)
-
-tests_fit : (units : List UnitView) (start : RunStart) → length units < 2 ^ 64 → TestCountersFit (stats_of units start)
-tests_fit units start short =
-    let fits = λ (rule : TestView → Bool). counter_fits test_of rule units short in
-    record {
-      finished_count = omega (arith, length-filter_map-le test_of units);
-      passed = fits is_passed;
-      passed_slow = fits is_passed_slow;
-      passed_timed_out = fits is_passed_timed_out;
-      flaky = fits is_flaky;
-      failed = fits is_failed;
-      failed_slow = fits is_failed_slow;
-      failed_timed_out = fits is_failed_timed_out;
-      leaky = fits is_leaky;
-      leaky_failed = fits is_leaky_failed;
-      exec_failed = fits is_exec_failed;
-    }
-
-scripts_fit : (units : List UnitView) (start : RunStart) → length units < 2 ^ 64 → ScriptCountersFit (stats_of units start)
-scripts_fit units start short =
-    let fits = λ (rule : ExecutionResultDescription → Bool). counter_fits script_of rule units short in
-    record {
-      finished = omega (arith, length-filter_map-le script_of units);
-      passed = fits script_passed;
-      failed = fits script_failed;
-      exec_failed = fits script_exec_failed;
-      timed_out = fits script_timed_out;
-    }
 
 -- the runs that are over and the one that goes on have these statistics, and with the lines from this number on they are all
 pub record Going (number : ℕ) (runs : List RunStats) (stats : RunStats) (lines : List (List ℕ)) (all : Result (List Run) ℕ) : Type 0 where
@@ -88,12 +52,12 @@ going-start start stats lines counted = record {
 test_fits : (number : ℕ) (runs : List RunStats) (stats : RunStats) (lines : List (List ℕ)) (all : Result (List Run) ℕ) (t : TestView) → Going number runs stats lines all → TestCountersFit (with_test stats t)
 test_fits number runs stats lines all t g =
     let more : length (g.run.units ++ TestUnit t ∷ []) < 2 ^ 64 = omega (arith, length-append g.run.units (TestUnit t ∷ []), g.short, g.few) in
-    subst (λ (s : RunStats). TestCountersFit s) (stats_of-test g.run.units t g.run.start ∙ ap (λ s. with_test s t) (sym g.counted)) (tests_fit (g.run.units ++ TestUnit t ∷ []) g.run.start more)
+    subst (λ (s : RunStats). TestCountersFit s) (stats_of-test g.run.units t g.run.start ∙ ap (λ s. with_test s t) (sym g.counted)) (tests-fit (g.run.units ++ TestUnit t ∷ []) g.run.start more)
 
 script_fits : (number : ℕ) (runs : List RunStats) (stats : RunStats) (lines : List (List ℕ)) (all : Result (List Run) ℕ) (r : ExecutionResultDescription) → Going number runs stats lines all → ScriptCountersFit (with_script stats r)
 script_fits number runs stats lines all r g =
     let more : length (g.run.units ++ ScriptUnit r ∷ []) < 2 ^ 64 = omega (arith, length-append g.run.units (ScriptUnit r ∷ []), g.short, g.few) in
-    subst (λ (s : RunStats). ScriptCountersFit s) (stats_of-script g.run.units r g.run.start ∙ ap (λ s. with_script s r) (sym g.counted)) (scripts_fit (g.run.units ++ ScriptUnit r ∷ []) g.run.start more)
+    subst (λ (s : RunStats). ScriptCountersFit s) (stats_of-script g.run.units r g.run.start ∙ ap (λ s. with_script s r) (sym g.counted)) (scripts-fit (g.run.units ++ ScriptUnit r ∷ []) g.run.start more)
 
 -- one more unit
 going-unit : (number : ℕ) (runs : List RunStats) (stats next : RunStats) (line : List ℕ) (lines : List (List ℕ)) (all : Result (List Run) ℕ) (unit : UnitView) → number ≤ 10000

@@ -1,4 +1,3 @@
-pub mod Attempts
 pub mod Continued
 pub mod Counting
 pub mod Digesting
@@ -7,6 +6,7 @@ pub mod Extracting
 pub mod Numbers
 pub mod Readings
 pub mod Reports
+pub mod ResultLists
 pub mod ResultWords
 pub mod SpelledEntries
 pub mod SpelledStart

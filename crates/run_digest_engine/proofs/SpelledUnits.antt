@@ -11,7 +11,7 @@ use Rattle.run_events_settings.specs.declared.config.FlakyResult.TheVariants as 
 use Rattle.run_events_results.specs.declared.results.ExecutionResultDescription.{ExecutionResultDescription}
 use Rattle.run_digest_engine.specs.Reader.{UnitEntry, entry_of_words, results_of, flags_of, script_of_words, test_of_words, view_from, words_of}
 use Rattle.run_digest_engine.specs.Spelling.{ResultWord, Pass, Leak, LeakFail, Fail, ExecFail, Timeout, TimeoutPass, word_of, result_named, flag_words, ScriptLine, TestLine, SpellsUnit}
-use Rattle.run_digest_engine.proofs.Attempts.{last_pushed}
+use Rattle.run_digest_engine.proofs.ResultLists.{last_pushed}
 use Rattle.run_digest_engine.proofs.ResultWords.{flags_inverse, list_inverse, list_joins, result_inverse, result_word, results_spelled}
 
 -- the setting that a flag means

@@ -11,4 +11,3 @@ pub mod Reader
 pub mod Reading
 pub mod Report
 pub mod Spelling
-pub mod Statuses

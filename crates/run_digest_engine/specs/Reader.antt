@@ -97,10 +97,18 @@ unfoldable pub script_of_words : List (List ℕ) → Option ExecutionResultDescr
 script_of_words (word ∷ []) = result_of word
 script_of_words _ = None
 
+-- the last of some results
+abbrev pub last_result : List ExecutionResultDescription → ExecutionResultDescription
+last_result results = unwrap_or (slice_get results (length results - 1)) result.Pass
+
+-- the last of some results, and how many they are
+abbrev pub last_and_count : List ExecutionResultDescription → ExecutionResultDescription × ℕ
+last_and_count results = (last_result results, length results)
+
 -- the view of a test with these results, in order
 abbrev pub view_from : List ExecutionResultDescription → Bool × FlakyResult → TestView
 view_from results flags = record {
-  result = unwrap_or (slice_get results (length results - 1)) result.Pass;
+  result = last_result results;
   attempts = length results;
   is_slow = flags.0;
   setting = flags.1;

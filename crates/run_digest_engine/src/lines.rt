@@ -1,18 +1,22 @@
 //! What the lines of the input say of runs.
 
 ghost use Rattle.std.specs.Prelude.{◌≡◌, IfErr, IfOk, codes};
+ghost use Rattle.run_events.specs.Counters.{TestCountersFit, with_test};
 ghost use Rattle.run_digest_engine.specs.Counted.{AreCounted, Counts, GivesStats, HasRoom};
 ghost use Rattle.run_digest_engine.specs.Digest.{IsRefusal};
-ghost use Rattle.run_digest_engine.specs.EntryView.{entry_view};
+ghost use Rattle.run_digest_engine.specs.EntryView.{entry_view, test_view};
 ghost use Rattle.run_digest_engine.specs.Reader.{Refuses, begun, runs_from, start_of_words, words_of};
 ghost use Rattle.run_digest_engine.specs.Reading.{texts_of};
 
 use crate::entry::{Entry, parse_entry};
 use crate::parts::Parts;
+use crate::units::FinishedTest;
 use crate::words::parse_start;
 use bstr::{ByteSlice, Lines};
 use run_digest_devices::fault::Fault;
+use run_events::results::ExecutionResultDescription;
 use run_events::stats::{RunStart, RunStats};
+use run_events::view::TestView;
 use std::alloc::{AllocError, Global};
 
 /// How many lines the input has at most.
@@ -33,23 +37,39 @@ fn parse_first(line: &[u8]) -> Option<RunStart>
     }
 }
 
+/// Counts a finished test.
+fn count_test(stats: &mut RunStats, test: FinishedTest)
+    requires { TestCountersFit (with_test stats.old (test_view test)) }
+    ensures { stats.new ≡ with_test stats.old (test_view test) }
+{
+    let result = ExecutionResultDescription::from_status(test.result, None);
+    stats.on_test_view(&TestView {
+        result: &result,
+        attempts: test.attempts,
+        is_slow: test.is_slow,
+        flaky_result: test.flaky_result,
+    });
+}
+
 /// Counts what a line says, and answers the statistics of the run that goes on. Where another
 /// sub-run begins, those of the run before are pushed to the runs that are over.
 fn count_entry(
     runs: &mut Vec<RunStats>,
     mut stats: RunStats,
-    entry: &Entry,
+    entry: Entry,
 ) -> Result<RunStats, AllocError>
-    requires { HasRoom stats (entry_view entry.now) }
+    requires { HasRoom stats (entry_view entry) }
     ensures { IfOk result
-        (λ next. Counts (entry_view entry.now) runs.old.items stats runs.new.items next) }
+        (λ next. Counts (entry_view entry) runs.old.items stats runs.new.items next) }
 {
     match entry {
-        Entry::Script(script) => stats.on_setup_script_finished(script),
-        Entry::Test(test) => stats.on_test_finished(test),
+        Entry::Script(result) => {
+            stats.on_script_result(&ExecutionResultDescription::from_status(result, None));
+        }
+        Entry::Test(test) => count_test(&mut stats, test),
         Entry::SubRun(start) => {
             runs.push(stats)?;
-            return Ok(RunStats::of_run(&[], *start));
+            return Ok(RunStats::of_run(&[], start));
         }
     }
     Ok(stats)
@@ -69,10 +89,10 @@ fn stats_after(alloc: Global, start: RunStart, mut lines: Lines<'_>) -> Result<V
         if number > MAX_LINES {
             return Err(Fault::BadLine { number });
         }
-        let Some(entry) = parse_entry(alloc, line)? else {
+        let Some(entry) = parse_entry(line) else {
             return Err(Fault::BadLine { number });
         };
-        stats = count_entry(&mut runs, stats, &entry)?;
+        stats = count_entry(&mut runs, stats, entry)?;
         number += 1;
     }
     runs.push(stats)?;

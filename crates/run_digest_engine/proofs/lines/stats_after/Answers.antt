@@ -15,33 +15,18 @@ returns-then-number-gt-MAX_LINES-clause-refusal c =
     let P : List (List ℕ) → Type 0 = λ lines. Going c.loop-line.number c.loop-line.runs.items c.loop-line.stats lines all in
     going-late _ _ _ _ _ all c.if-number-gt-MAX_LINES.true (subst P c.in-Some.ensures.steps c.loop-line.invariant)
 
-pub returns-in_default-2-clause-refusal : goal.returns-in_default-2-clause-refusal
-returns-in_default-2-clause-refusal c =
+pub returns-in_default-parse_entry-clause-refusal : goal.returns-in_default-parse_entry-clause-refusal
+returns-in_default-parse_entry-clause-refusal c =
     let all = runs_from 2 (begun c.args.start) c.args.lines in
     let P : List (List ℕ) → Type 0 = λ lines. Going c.loop-line.number c.loop-line.runs.items c.loop-line.stats lines all in
-    going-bad _ _ _ _ _ all (omega (arith, c.if-number-gt-MAX_LINES.false)) (rw c.in_default-2.is at c.in_ok-entry.ensures) (subst P c.in-Some.ensures.steps c.loop-line.invariant)
+    going-bad _ _ _ _ _ all (omega (arith, c.if-number-gt-MAX_LINES.false)) (rw c.in_default-parse_entry.is at c.parse_entry.ensures) (subst P c.in-Some.ensures.steps c.loop-line.invariant)
 
 pub count_entry-requires : goal.count_entry-requires
 count_entry-requires c = has_room _ _ _ _ _ _ c.loop-line.invariant
 
 pub loop-line-preserved : goal.loop-line-preserved
 loop-line-preserved c =
-    going-entry _ _ _ _ _ _ _ _ _ _ (omega (arith, c.if-number-gt-MAX_LINES.false)) (rw c.in-Some-2.is at c.in_ok-entry.ensures) c.in-Some.ensures.steps
-    c.loop-line.invariant c.in_ok-stats.ensures
-
-pub loop-line-preserved-in_ok-stats : goal.loop-line-preserved-in_ok-stats
-loop-line-preserved-in_ok-stats c =
-    going-entry _ _ _ _ _ _ _ _ _ _ (omega (arith, c.if-number-gt-MAX_LINES.false)) (rw c.in-Some-2.is at c.in_ok-entry.ensures) c.in-Some.ensures.steps
-    c.loop-line.invariant c.in_ok-stats.ensures
-
-pub loop-line-preserved-in_ok-stats-2 : goal.loop-line-preserved-in_ok-stats-2
-loop-line-preserved-in_ok-stats-2 c =
-    going-entry _ _ _ _ _ _ _ _ _ _ (omega (arith, c.if-number-gt-MAX_LINES.false)) (rw c.in-Some-2.is at c.in_ok-entry.ensures) c.in-Some.ensures.steps
-    c.loop-line.invariant c.in_ok-stats.ensures
-
-pub loop-line-preserved-in_ok-stats-3 : goal.loop-line-preserved-in_ok-stats-3
-loop-line-preserved-in_ok-stats-3 c =
-    going-entry _ _ _ _ _ _ _ _ _ _ (omega (arith, c.if-number-gt-MAX_LINES.false)) (rw c.in-Some-2.is at c.in_ok-entry.ensures) c.in-Some.ensures.steps
+    going-entry _ _ _ _ _ _ _ _ _ _ (omega (arith, c.if-number-gt-MAX_LINES.false)) c.in-Some-parse_entry.ensures c.in-Some.ensures.steps
     c.loop-line.invariant c.in_ok-stats.ensures
 
 pub returns-clause-stats : goal.returns-clause-stats
