@@ -10,8 +10,6 @@ mod chain;
 #[cfg(test)]
 mod events;
 #[cfg(test)]
-mod examples;
-#[cfg(test)]
 mod laws;
 #[cfg(test)]
 mod runs;

@@ -1,0 +1,250 @@
+//! The small inputs of the program, and what each user makes of them.
+
+use crate::displayer::{Displayer, summary_text};
+use crate::exit_status;
+use crate::junit::{TestCase, test_case};
+use crate::recorder::{load, store, through_text};
+use crate::runner::{EndedAttempt, finished_test, stats_of_events, test_finished};
+use run_events::attempts::ExecutionStatuses;
+use run_events::chain::SerializableError;
+use run_events::child::LiveSpec;
+use run_events::config::{FlakyResult, TestOutputDisplay};
+use run_events::events::{ReporterEvent, TestEventKind};
+use run_events::levels::{FinalStatusLevel, OutputStoreFinal, StatusLevel, StatusLevels};
+use run_events::outcome::{FinalRunStats, RunStatsFailureKind};
+use run_events::results::{CancelReason, ExecutionResult, FailureStatus};
+use run_events::stats::{FinishedRun, FinishedUnit, RunStart, RunStats};
+use std::alloc::{AllocError, Global};
+use std::io;
+
+const PASSED: EndedAttempt<'static> = EndedAttempt {
+    outcome: ExecutionResult::Pass,
+    stderr: b"",
+    is_slow: false,
+};
+
+pub(crate) const PANICKED: EndedAttempt<'static> = EndedAttempt {
+    outcome: ExecutionResult::Fail {
+        failure_status: FailureStatus::ExitCode(101),
+        leaked: false,
+    },
+    stderr: b"running 1 test\n\nthread 'divides' panicked at src/lib.rs:4:5:\nby zero\n",
+    is_slow: false,
+};
+
+/// Four tests were to run, and one was skipped.
+pub(crate) const START: RunStart = RunStart {
+    initial_run_count: 4,
+    setup_scripts_initial_count: 0,
+    skipped: 1,
+    cancel_reason: None,
+};
+
+/// Prints failures and flaky tests, and the output of failures.
+const DISPLAYER: Displayer = Displayer {
+    levels: StatusLevels {
+        status_level: StatusLevel::Retry,
+        final_status_level: FinalStatusLevel::Fail,
+    },
+    success_output: TestOutputDisplay::Never,
+    failure_output: TestOutputDisplay::ImmediateFinal,
+};
+
+/// The event that a test of this name finished, with this attempt after the earlier ones.
+fn event(
+    alloc: Global,
+    name: &'static str,
+    earlier: &[EndedAttempt<'_>],
+    last: EndedAttempt<'_>,
+    setting: FlakyResult,
+) -> Result<ReporterEvent<'static>, AllocError> {
+    let test = finished_test(alloc, earlier, last, setting)?;
+    test_finished(alloc, name, test, RunStats::default())
+}
+
+/// What a runner tells of a run: a test that passed, one that panicked, and two that passed at
+/// their second attempt, of which one is to count as failed then.
+pub(crate) fn run(alloc: Global) -> Result<Vec<ReporterEvent<'static>>, AllocError> {
+    let mut events = Vec::new(alloc);
+    events.push(event(alloc, "adds", &[], PASSED, FlakyResult::Pass)?)?;
+    events.push(event(alloc, "divides", &[], PANICKED, FlakyResult::Pass)?)?;
+    events.push(event(alloc, "retries", &[PANICKED], PASSED, FlakyResult::Pass)?)?;
+    events.push(event(alloc, "insists", &[PANICKED], PASSED, FlakyResult::Fail)?)?;
+    Ok(events)
+}
+
+/// Prints what a runner counts.
+pub(crate) fn count<R: AllocGlobal + Print>(
+    rt: &R,
+    events: &[ReporterEvent<'_>],
+) -> io::Result<()> {
+    let stats = stats_of_events(rt.alloc(), events, START)?;
+    let (finished, passed) = (stats.finished_count, stats.passed);
+    println!(rt; "runner\n  {finished} tests finished, {passed} passed")
+}
+
+/// The test whose end an event tells, with its name.
+fn test_of<'e>(event: &'e ReporterEvent<'_>) -> Option<(&'e str, &'e ExecutionStatuses<LiveSpec>)> {
+    let ReporterEvent::Test(event) = event else {
+        return None;
+    };
+    match &event.kind {
+        TestEventKind::TestFinished {
+            test_instance,
+            run_statuses,
+            ..
+        } => Some((test_instance.test_name, run_statuses)),
+        _ => None,
+    }
+}
+
+/// What is stored of a test for the end of the run, in words.
+fn stored_text(stored: OutputStoreFinal) -> &'static str {
+    match stored {
+        OutputStoreFinal::No => "nothing",
+        OutputStoreFinal::Yes {
+            display_output: false,
+        } => "its name",
+        OutputStoreFinal::Yes {
+            display_output: true,
+        } => "its name and output",
+    }
+}
+
+/// Prints what a displayer makes of a test, while the run goes on and after a signal.
+fn display_test<R: AllocGlobal + Print>(
+    rt: &R,
+    name: &str,
+    test: &ExecutionStatuses<LiveSpec>,
+) -> io::Result<()> {
+    let line = DISPLAYER.finished_text(rt.alloc(), name, test)?;
+    print!(rt; "{line}")?;
+    for reason in [None, Some(CancelReason::Signal)] {
+        let shown = DISPLAYER.on_test_finished(test, reason);
+        let at_once = if shown.show_immediate {
+            "output"
+        } else {
+            "nothing"
+        };
+        let stored = stored_text(shown.store_final);
+        let when = reason.map_or("running", |reason| reason.to_static_str());
+        println!(rt; "  {name}, {when}: {at_once} at once, {stored} at the end")?;
+    }
+    Ok(())
+}
+
+/// Prints what a displayer makes of the run.
+pub(crate) fn display<R: AllocGlobal + Print>(
+    rt: &R,
+    events: &[ReporterEvent<'_>],
+    units: &[FinishedUnit<'_>],
+) -> io::Result<()> {
+    println!(rt; "displayer")?;
+    for event in events {
+        if let Some((name, test)) = test_of(event) {
+            display_test(rt, name, test)?;
+        }
+    }
+    let summary = summary_text(rt.alloc(), units, START)?;
+    print!(rt; "{summary}")
+}
+
+/// Prints what a JUnit report says of each test of the run.
+pub(crate) fn write_junit<R: Print>(rt: &R, events: &[ReporterEvent<'_>]) -> io::Result<()> {
+    println!(rt; "junit")?;
+    for event in events {
+        if let Some((name, test)) = test_of(event) {
+            match test_case(test) {
+                TestCase::Success => println!(rt; "  {name}: success")?,
+                TestCase::Flaky => println!(rt; "  {name}: success, flaky")?,
+                TestCase::FlakyFailure => println!(rt; "  {name}: failure, flaky")?,
+                TestCase::Failure { message: None } => println!(rt; "  {name}: failure")?,
+                TestCase::Failure {
+                    message: Some(message),
+                } => println!(rt; "  {name}: failure\n{message}")?,
+            }
+        }
+    }
+    Ok(())
+}
+
+/// An error with two causes.
+fn error(alloc: Global) -> Result<SerializableError, AllocError> {
+    let mut causes = Vec::new(alloc);
+    causes.push(String::from_str(alloc, "cannot start `sh`")?)?;
+    causes.push(String::from_str(alloc, "no such file")?)?;
+    let message = String::from_str(alloc, "setup script \"db\" failed")?;
+    SerializableError::from_message_and_causes(alloc, message, causes)
+}
+
+/// Prints an error in JSON, what comes back of it, and what is said of a text that is no error.
+pub(crate) fn record<R: AllocGlobal + Print>(rt: &R) -> io::Result<()> {
+    println!(rt; "recorder")?;
+    let error = error(rt.alloc())?;
+    if let Ok(text) = store(rt.alloc(), &error) {
+        println!(rt; "  {text}")?;
+    }
+    if let Ok(back) = through_text(rt.alloc(), &error) {
+        print!(rt; "  {back}")?;
+        for cause in back.sources() {
+            print!(rt; ", caused by {cause}")?;
+        }
+        println!(rt)?;
+    }
+    if let Err(refusal) = load(rt.alloc(), "{\"message\":\"m\",\"causes\":[\"a\",1]}") {
+        println!(rt; "  {refusal:?}")?;
+    }
+    Ok(())
+}
+
+/// Prints the exit status of the run, and of repeated runs.
+pub(crate) fn exit<R: Print>(rt: &R, units: &[FinishedUnit<'_>]) -> io::Result<()> {
+    println!(rt; "exit status")?;
+    let status = exit_status::of_run(units, START);
+    println!(rt; "  the run: {status}")?;
+    if let Some(first) = units.first() {
+        exit_of_runs(rt, first)?;
+    }
+    exit_of_sub_runs(rt)
+}
+
+/// Prints the exit status of repeated runs of one test, the second time to its end or stopped
+/// before it.
+fn exit_of_runs<R: Print>(rt: &R, unit: &FinishedUnit<'_>) -> io::Result<()> {
+    let start = RunStart {
+        initial_run_count: 1,
+        ..START
+    };
+    let whole = FinishedRun {
+        units: &[*unit],
+        start,
+    };
+    let stopped = FinishedRun {
+        units: &[],
+        start: RunStart {
+            setup_scripts_initial_count: 1,
+            cancel_reason: Some(CancelReason::Interrupt),
+            ..start
+        },
+    };
+    let status = exit_status::of_runs(&[whole, whole]);
+    println!(rt; "  its first test, twice: {status}")?;
+    let status = exit_status::of_runs(&[whole, stopped]);
+    println!(rt; "  then stopped at a script: {status}")
+}
+
+/// Prints the exit status of repeated runs with these summaries.
+fn exit_of_sub_runs<R: Print>(rt: &R) -> io::Result<()> {
+    let failed = FinalRunStats::Failed {
+        kind: RunStatsFailureKind::SetupScript,
+    };
+    for (said, second) in [
+        ("no tests, then success", FinalRunStats::Success),
+        ("no tests, twice", FinalRunStats::NoTestsRun),
+        ("no tests, then a failed script", failed),
+    ] {
+        let status = exit_status::of_sub_runs(&[FinalRunStats::NoTestsRun, second]);
+        println!(rt; "  {said}: {status}")?;
+    }
+    Ok(())
+}

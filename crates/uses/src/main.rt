@@ -1,0 +1,29 @@
+//! Examples of use of the layer: a runner, a displayer, a JUnit writer, a recorder and the exit
+//! status of a run, and the callers that the pages on calling the libraries show, which stand in the
+//! files `of_LIBRARY`; each on a small input.
+#![tactic(auto)]
+
+mod demo;
+mod displayer;
+mod exit_status;
+mod junit;
+mod of_output_slice;
+mod of_run_digest_devices;
+mod of_run_digest_engine;
+mod of_run_events;
+mod pages;
+mod recorder;
+mod runner;
+
+use std::io;
+
+fn main(rt: HostRuntime) -> io::Result<()> {
+    let events = demo::run(rt.alloc())?;
+    let units = runner::finished_units(rt.alloc(), events.as_slice())?;
+    demo::count(&rt, events.as_slice())?;
+    demo::display(&rt, events.as_slice(), units.as_slice())?;
+    demo::write_junit(&rt, events.as_slice())?;
+    demo::record(&rt)?;
+    demo::exit(&rt, units.as_slice())?;
+    pages::show(&rt, demo::PANICKED.stderr, units.as_slice())
+}

@@ -1,0 +1,58 @@
+//! What the callers of the pages on calling answer.
+
+use crate::demo::START;
+use crate::of_output_slice::{failure_in, has_panicked};
+use crate::of_run_digest_devices::copy;
+use crate::of_run_digest_engine::first_bad_line;
+use crate::of_run_events::ends_well;
+use run_digest_devices::memory_device::{MemorySink, MemorySource};
+use run_events::stats::FinishedUnit;
+use std::io;
+
+/// A run whose line 3 names no result.
+const BAD_RUN: &[u8] = b"run 2 0 -\ntest pass\ntest maybe\n";
+
+/// Prints what each of the callers answers, for the output of a test and the units of a run.
+pub(crate) fn show<R: AllocGlobal + Print>(
+    rt: &R,
+    output: &[u8],
+    units: &[FinishedUnit<'_>],
+) -> io::Result<()> {
+    println!(rt; "callers")?;
+    let panicked = has_panicked(output);
+    println!(rt; "  panicked: {panicked}")?;
+    if let Some(failure) = failure_in(output) {
+        println!(rt; "  failure:\n{failure}")?;
+    }
+    let well = ends_well(units, START);
+    println!(rt; "  the run ends well: {well}")?;
+    show_bad_line(rt)?;
+    show_copy(rt)
+}
+
+/// Prints which line of the bad run is bad.
+fn show_bad_line<R: AllocGlobal + Print>(rt: &R) -> io::Result<()> {
+    let mut buffer = [0; 64];
+    let mut source = MemorySource::new(BAD_RUN, None);
+    let mut sink = MemorySink::new(&mut buffer, None);
+    match first_bad_line(rt.alloc(), &mut source, &mut sink) {
+        Ok(Some(number)) => println!(rt; "  bad line: {number}"),
+        Ok(None) => println!(rt; "  no bad line"),
+        Err(fault) => println!(rt; "  {fault}"),
+    }
+}
+
+/// Prints how much of the bad run was copied.
+fn show_copy<R: AllocGlobal + Print>(rt: &R) -> io::Result<()> {
+    let mut buffer = [0; 64];
+    let mut source = MemorySource::new(BAD_RUN, None);
+    let mut sink = MemorySink::new(&mut buffer, None);
+    match copy(rt.alloc(), &mut source, &mut sink) {
+        Ok(()) => println!(rt;
+            "  copied: {} of {} bytes",
+            sink.written().len(),
+            BAD_RUN.len()
+        ),
+        Err(fault) => println!(rt; "  {fault}"),
+    }
+}
