@@ -1,9 +1,6 @@
-//! What is tested of `output_slice`, through its public calls alone, so that a check of the tests does
-//! not prove the library once more. Worked inputs with their answers are rows that `upstream_replay`
-//! replays.
-//!
-//! The test functions are of what no such row can say: printed text, the parts by stream, the counted
-//! reads, and that long inputs take no long time.
+//! What is tested of `output_slice`, through its public calls alone. Worked inputs with their answers
+//! are rows that `upstream_replay` replays; this program tests what no such row can say. What it
+//! prints is compared with the file `stdout`.
 //!
 //! The program compares the searches for the last taken head with slow functions that follow the rules
 //! to the letter: on worked inputs, of which it prints the heads that the slow functions list; on all
@@ -15,6 +12,9 @@
 //! Of each set of inputs it prints what was met in it. An input on which the searches do not agree,
 //! or that is no hex, is printed before. The exit status is 0 where all agree, and else 1.
 //!
+//! It also prints the parts of each stream with their text, the reads that a source counts, and what is
+//! found in long inputs, where a search whose time grows faster than its input does not end in time.
+//!
 //! The wanted heads, in the file `stdout`, were worked out by hand. The wanted numbers of inputs are
 //! those that a search by the pattern of upstream with a regular expression engine gives, so that no
 //! kind can go missing unseen. The most reads are as they were measured: that they are few is tested
@@ -23,6 +23,9 @@
 
 use crate::beginnings::beginnings;
 use crate::damage::damaged_outputs;
+use crate::long_inputs::{few_reads, linear_time};
+use crate::parts::parts_of_each_stream;
+use crate::reads::counted_reads;
 use crate::small_inputs::{SETS, all_inputs};
 use crate::worked_heads::worked_heads;
 use std::io;
@@ -30,12 +33,9 @@ use std::process::ExitCode;
 
 mod beginnings;
 mod damage;
-#[cfg(test)]
 mod long_inputs;
 mod met;
-#[cfg(test)]
 mod parts;
-#[cfg(test)]
 mod reads;
 mod slow;
 mod small_inputs;
@@ -43,6 +43,10 @@ mod trial;
 mod worked_heads;
 
 fn main(rt: HostRuntime) -> io::Result<ExitCode> {
+    parts_of_each_stream(&rt)?;
+    counted_reads(&rt)?;
+    few_reads(&rt)?;
+    linear_time(&rt)?;
     let mut all_agree = worked_heads(&rt)?.print(&rt, "worked heads")?;
     for set in &SETS {
         all_agree &= all_inputs(&rt, set)?.print(&rt, set.name)?;
