@@ -1,28 +1,23 @@
 -- There is always a list of taken heads.
-use Rattle.std.proofs.Common.{◌≡◌, ◌≢◌, ℕ, zero, suc, ◌+◌, ◌-◌, ◌<◌, ◌≤◌, ◌⊎◌, List, [], ◌∷◌, ◌++◌, length, get_or, refl, subst, arith, inl, inr}
-use Rattle.std.specs.Prelude.{Bool, nat_le, ◌&&◌, codes, Option, Some, None}
+use Rattle.std.proofs.Common.{◌≡◌, ◌≢◌, ℕ, zero, suc, ◌+◌, ◌-◌, ◌<◌, ◌≤◌, ◌⊎◌, ◌==◌, Bool, true, not, nat_le, ◌&&◌, ◌||◌, codes, All, Decides, List, [], ◌∷◌, ◌++◌, length, get_or, chars, encode_utf8_all, refl, sym, ap, subst, ◌∙◌, arith, inl, inr, length-append, take_at}
+use Rattle.std.proofs.Math.Utf8.{scalar, scalars}
 use Rattle.std.proofs.lemmas.Bool.{cases_lt, cases_eq, cases_Bool, le-leb, leb-true}
-use Rattle.std.proofs.lemmas.Bool.Decides.{Decides-and, Decides-or, not_from_Decides}
+use Rattle.std.proofs.lemmas.Bool.Decides.{Decides-and, Decides-by_and, Decides-eqb, Decides-not, Decides-or, not_from_Decides}
+use Rattle.std.proofs.lemmas.List.{get_or_past}
+use Rattle.std.proofs.lemmas.List.Elements.{All-weaker}
 use Rattle.std.proofs.lemmas.Slice.Eq.{bytes_eq-Decides}
-use Rattle.std.specs.Bool.{Decides}
-use Rattle.std.proofs.lemmas.Str.{length-encode, len_utf8_bounds, IsUtf8-from_is_utf8, is_utf8-from_IsUtf8}
-use Rattle.std.specs.Char.{encode_utf8}
+use Rattle.std.proofs.lemmas.Str.{IsUtf8-from_is_utf8, chars-encodes, is_utf8-from_IsUtf8}
+use Rattle.std.specs.Char.{IsScalar}
 use Rattle.std.specs.Str.{is_utf8}
 use Rattle.bstr.specs.Find.{OccursAt}
 use Rattle.bstr.specs.Text.{part}
-use Rattle.bstr.specs.Utf8.{decoded}
 use Rattle.unicode.specs.Perl.{is_digit_char}
 use Rattle.output_slice.specs.declared.panic_head.HeadSpan.{HeadSpan}
-use Rattle.output_slice.specs.Head.{IsName, IsDigit}
+use Rattle.output_slice.specs.Head.{IsName, IsDigit, IsHead, IsLineStart, IsNumber, IsTail}
 use Rattle.output_slice.specs.Taken.{IsTaken}
-use Rattle.output_slice.specs.Steps.{IsTextEnd, IsCharAt, AreDigits, IsDigitRun, IsOpened, NoDigitAt, IsTailEnd, IsOpenedHeadEnd, IsNextQuote, NoQuoteBetween}
-use Rattle.output_slice.proofs.CharLemmas.{IsCharAt-decoded, not_char-decoded, char-same}
-use Rattle.output_slice.proofs.OccursLemmas.{length-part}
-use Rattle.output_slice.proofs.DigitLemmas.{digits-none, digits-more}
-use Rattle.output_slice.proofs.TailLemmas.{IsTailEnd-plain, IsTailEnd-none, IsTailEnd-numbered}
+use Rattle.output_slice.proofs.HeadLemmas.{head-order}
 use Rattle.output_slice.proofs.OccursLemmas.{occurs-part, part-occurs}
-use Rattle.output_slice.proofs.SettledLemmas.{Settled, settled-first, settled-none, settled-head, settled-done}
-use Rattle.output_slice.proofs.StepLemmas.{name-from, IsNamedHeadEnd-name, IsOpenedHeadEnd-none, IsOpenedHeadEnd-closed, IsOpenedHeadEnd-opened, opened-order}
+use Rattle.output_slice.proofs.TakenLemmas.{IsTaken-leftmost, Leftmost}
 
 -- what holds, or does not
 abbrev Known : Type 0 → Type 0
@@ -31,155 +26,141 @@ Known P = P ⊎ ¬ P
 decided : {P : Type 0} (r : Bool) → Decides r P → Known P
 decided r d = elim (cases_Bool r) [ inl t ↦ inl (d.0 t) | inr f ↦ inr (not_from_Decides r d f) ]
 
--- whether a text stands at a place, and where it ends
-occurs-dec : (b xs : List ℕ) (at : ℕ) → 0 < length xs → Known (OccursAt b xs at)
-occurs-dec b xs at some = elim (cases_lt (length b) (at + length xs)) [
+mapped : {P Q : Type 0} → (P → Q) → (Q → P) → Known P → Known Q
+mapped to from (inl p) = inl (to p)
+mapped to from (inr none) = inr (λ q. none (from q))
+
+both : {P Q : Type 0} → Known P → Known Q → Known (P × Q)
+both (inl p) (inl q) = inl (p, q)
+both (inr none) q = inr (λ h. none h.0)
+both (inl p) (inr none) = inr (λ h. none h.1)
+
+-- the first of so many places for which something holds
+first : (P : ℕ → Type 0) → ((i : ℕ) → Known (P i)) → (size at : ℕ)
+    → ((i : ℕ) × (at ≤ i) × P i × ((j : ℕ) → at ≤ j → j < i → ¬ P j)) ⊎ ((i : ℕ) → at ≤ i → i < at + size → ¬ P i)
+first P known zero at = inr (λ i low high. absurd (omega arith))
+first P known (suc n) at = elim (known at) [
+  | inl here ↦ inl (at, omega arith, here, λ j low high. absurd (omega arith))
+  | inr none ↦
+      let other = λ (i : ℕ) (h : P i) (is : i ≡ at). none (subst P is h) in
+      elim (first P known n (at + 1)) [
+        | inl f ↦ inl (f.0, omega (arith, f.1), f.2, λ j low high h. let apart = other j h in f.3 j (omega arith) high h)
+        | inr all ↦ inr (λ i low high h. let apart = other i h in all i (omega arith) (omega arith) h)
+      ]
+]
+
+-- whether there is a place for which it holds
+some : (P : ℕ → Type 0) → ((i : ℕ) → Known (P i)) → (size : ℕ) → ((i : ℕ) → P i → i < size) → Known ((i : ℕ) × P i)
+some P known size below = elim (first P known size 0) [
+  | inl f ↦ inl (f.0, f.2)
+  | inr none ↦ inr (λ h. let low = below h.0 h.1 in none h.0 (omega arith) (omega arith) h.1)
+]
+
+-- whether two texts are one
+same-known : (xs ys : List ℕ) → Known (xs ≡ ys)
+same-known xs ys = decided _ (bytes_eq-Decides xs ys)
+
+-- whether characters are digits
+
+digits-known : (cs : List ℕ) → Known (All (λ c. IsScalar c × IsDigit c) cs)
+digits-known cs = decided _ (Decides-by_and test (λ c. IsScalar c × IsDigit c) tests each refl (λ x xs. refl) cs) where
+  test : ℕ → Bool
+  test c = scalar c && (nat_le 48 c && nat_le c 57 || nat_le 128 c && is_digit_char c)
+
+  tests : List ℕ → Bool
+  tests [] = true
+  tests (c ∷ cs) = test c && tests cs
+
+  each : (c : ℕ) → Decides (test c) (IsScalar c × IsDigit c)
+  each c = Decides-and (scalar c) _ (λ t. t, λ t. t) (Decides-or (nat_le 48 c && nat_le c 57) (nat_le 128 c && is_digit_char c)
+      (Decides-and (nat_le 48 c) (nat_le c 57) (leb-true 48 c, le-leb 48 c) (leb-true c 57, le-leb c 57))
+      (Decides-and (nat_le 128 c) (is_digit_char c) (leb-true 128 c, le-leb 128 c) (λ t. t, λ t. t)))
+
+-- whether a text is a number, and a tail
+number-known : (text : List ℕ) → Known (IsNumber text)
+number-known text =
+    mapped (λ h. (chars text, h.0, h.1.0, h.1.1)) (λ n. rw (only n) (n.1, (n.2, n.3)))
+    (both (some-chars (chars text)) (both (digits-known (chars text)) (same-known text (encode_utf8_all (chars text))))) where
+      some-chars : (cs : List ℕ) → Known (0 < length cs)
+      some-chars cs = let cases = cases_lt 0 (length cs) in grind arith
+
+      only : (n : IsNumber text) → chars text ≡ n.0
+      only n =
+          let all = All-weaker (λ c. IsScalar c × IsDigit c) IsScalar (λ c h. h.0) n.0 n.2 in
+          ap chars n.3 ∙ chars-encodes n.0 ((Decides-by_and scalar IsScalar scalars (λ c. (λ t. t, λ t. t)) refl (λ x xs. refl) n.0).1 all)
+
+tail-known : (text : List ℕ) → Known (IsTail text)
+tail-known text =
+    let number = part 2 (length text - 14) text in
+    let end = codes ") panicked at " in
+    let plain = same-known text (codes " panicked at ") in
+    elim (both (number-known number) (same-known text (codes " (" ++ (number ++ end)))) [
+      | inl h ↦ inl (inr (number, h.0, h.1))
+      | inr none ↦ mapped (λ h. inl h) (λ t. elim t [
+        | inl h ↦ h
+        | inr n ↦ absurd (none (rw (← only n) (n.1, n.2)))
+      ]) plain
+    ] where
+      only : (n : (number : List ℕ) × IsNumber number × (text ≡ codes " (" ++ (number ++ codes ") panicked at ")))
+          → n.0 ≡ part 2 (length text - 14) text
+      only n = sym (rw n.2 (take_at n.0 (codes ") panicked at ") _ (omega (arith, length-append n.0 (codes ") panicked at ")))))
+
+-- whether a text stands at a place, and a part is a name
+occurs-known : (b xs : List ℕ) (at : ℕ) → 0 < length xs → Known (OccursAt b xs at)
+occurs-known b xs at some = elim (cases_lt (length b) (at + length xs)) [
   | inl short ↦ inr (λ h. omega (arith, h.fits))
-  | inr fits ↦ elim (decided _ (bytes_eq-Decides (part at (at + length xs) b) xs)) [
-    | inl same ↦ inl (part-occurs b xs at (at + length xs) same fits some).0
-    | inr other ↦ inr (λ h. other (occurs-part b xs at (at + length xs) h refl))
-  ]
+  | inr fits ↦ mapped (λ same. (part-occurs b xs at (at + length xs) same fits some).0) (λ h. occurs-part b xs at (at + length xs) h refl)
+      (same-known (part at (at + length xs) b) xs)
 ]
 
-text-end : (b xs : List ℕ) (at : ℕ) → 0 < length xs → (found : Option ℕ) × IsTextEnd b xs at found
-text-end b xs at some =
-    elim (occurs-dec b xs at some) [ inl h ↦ (Some (at + length xs), (h, refl)) | inr n ↦ (None, n) ]
+name-known : (text : List ℕ) → Known (IsName text)
+name-known text =
+    let cases = cases_lt 0 (length text) in
+    let is_some : Known (0 < length text) = grind arith in
+    let utf8 = decided (is_utf8 text) (IsUtf8-from_is_utf8 text, is_utf8-from_IsUtf8 text) in
+    let quotes = decided _ (Decides-by_and other (λ x. x ≢ 39) others (λ x. Decides-not (x == 39) (Decides-eqb x 39)) refl (λ x xs. refl) text) in
+    mapped (λ h. record { some = h.0; utf8 = h.1.0; no_quote = h.1.1 }) (λ h. (h.some, (h.utf8, h.no_quote))) (both is_some (both utf8 quotes)) where
+      other : ℕ → Bool
+      other x = not (x == 39)
 
--- whether a character is a digit
-digit-dec : (c : ℕ) → Known (IsDigit c)
-digit-dec c = decided _ (Decides-or (nat_le 48 c && nat_le c 57) (nat_le 128 c && is_digit_char c)
-    (Decides-and (nat_le 48 c) (nat_le c 57) (leb-true 48 c, le-leb 48 c) (leb-true c 57, le-leb c 57))
-    (Decides-and (nat_le 128 c) (is_digit_char c) (leb-true 128 c, le-leb 128 c) (λ t. t, λ t. t)))
+      others : List ℕ → Bool
+      others [] = true
+      others (x ∷ xs) = other x && others xs
 
--- whether a digit stands at a place
-digit-at : (b : List ℕ) (at : ℕ) → ((c : ℕ) × IsCharAt b at (length b) c × IsDigit c) ⊎ NoDigitAt b at
-digit-at b at = by_found (decoded (part at (length b) b)).char refl where
-  by_found : (f : Option ℕ) → (decoded (part at (length b) b)).char ≡ f
-      → ((c : ℕ) × IsCharAt b at (length b) c × IsDigit c) ⊎ NoDigitAt b at
-  by_found None e = inr (λ c h digit. not_char-decoded b at (length b) c (omega arith) e h)
-  by_found (Some c) e =
-      let char = (IsCharAt-decoded b at (length b) c (omega arith) e).0 in
-      elim (digit-dec c) [
-        | inl digit ↦ inl (c, char, digit)
-        | inr other ↦ inr (λ x h digit. other (subst IsDigit (char-same b at (length b) (length b) x c h char) digit))
-      ]
+-- whether a head stands at a place, and where it ends
+head-known : (b : List ℕ) (s e : ℕ) → Known (IsHead b s e)
+head-known b s e =
+    let front = cases_lt 0 s in
+    let feed = cases_eq (get_or b (s - 1) 0) 10 in
+    let line : Known (IsLineStart b s) = grind arith in
+    let fits = cases_lt (length b) e in
+    let ends : Known (e ≤ length b) = grind arith in
+    let opening = occurs-known b (codes "thread '") s (omega arith) in
+    mapped (λ h. record { line_start = h.0; opening = h.1.0; quote = h.1.1.1.0; name = h.1.1.1.1.0; closing = h.1.1.1.1.1.0; tail = h.1.1.1.1.1.1; ends = h.1.1.0 })
+    (λ h. (h.line_start, (h.opening, (h.ends, (h.quote, (h.name, (h.closing, h.tail)))))))
+    (both line (both opening (both ends (some Quote quote-known (length b) within)))) where
+      Quote : ℕ → Type 0
+      Quote q = IsName (part (s + 8) q b) × ((get_or b q 0 ≡ 39) × IsTail (part (q + 1) e b))
 
--- where the digits end, by the number of bytes left
-digit-run : (fuel : ℕ) (b : List ℕ) (from at : ℕ) → AreDigits b from at → length b < at + fuel
-    → (to : ℕ) × IsDigitRun b from to
-digit-run zero b from at h done = absurd (let fits = h.stands.fits in let ends = h.ends in omega arith)
-digit-run (suc fuel) b from at h done = elim (digit-at b at) [
-  | inl more ↦
-      let c = more.0 in
-      let size = length (encode_utf8 c) in
-      let len = length-encode c in
-      let some = len_utf8_bounds c in
-      digit-run fuel b from (at + size) (digits-more b from at (length b) c size h more.1 more.2 refl) (omega arith)
-  | inr none ↦ (at, record { digits = h; stops = none })
+      quote-known : (q : ℕ) → Known (Quote q)
+      quote-known q = both (name-known (part (s + 8) q b)) (both (cases_eq (get_or b q 0) 39) (tail-known (part (q + 1) e b)))
+
+      within : (q : ℕ) → Quote q → q < length b
+      within q h = grind (arith, get_or_past)
+
+-- the taken heads from a place on, by the number of bytes left
+heads-from : (size : ℕ) (b : List ℕ) (from : ℕ) → length b < from + size → (xs : List HeadSpan) × Leftmost b from xs
+heads-from zero b from done = ([], λ s e low head. omega (arith, head.ends, head-order b s e head))
+heads-from (suc n) b from done = elim (first (λ s. (e : ℕ) × IsHead b s e) (λ s. some (IsHead b s) (head-known b s) (length b + 1) (λ e h. omega (arith, h.ends))) (length b) from) [
+  | inl f ↦
+      let x : HeadSpan = record { start = f.0; stop = f.2.0 } in
+      let rest = heads-from n b x.stop (omega (arith, f.1, head-order b f.0 f.2.0 f.2.1)) in (
+        x ∷ rest.0,
+        (record { head = f.2.1; low = f.1; least = λ s e low head. elim (cases_lt s f.0) [ inl less ↦ absurd (f.3 s low less (e, head)) | inr more ↦ more ] }, rest.1),
+      )
+  | inr none ↦ ([], λ s e low head. none s low (omega (arith, head.ends, head-order b s e head)) (e, head))
 ]
-
--- where a tail ends
-tail-end : (b : List ℕ) (at : ℕ) → (found : Option ℕ) × IsTailEnd b at found
-tail-end b at = elim (occurs-dec b (codes " (") at (omega arith)) [
-  | inl opens ↦
-      let run = digit-run (length b) b (at + 2) (at + 2) (digits-none b (at + 2) opens.fits) (omega arith) in
-      elim (cases_eq run.0 (at + 2)) [
-        | inl same ↦ (None, IsTailEnd-none b at run.0 opens run.1 same)
-        | inr more ↦
-            let f = text-end b (codes ") panicked at ") run.0 (omega arith) in
-            (f.0, IsTailEnd-numbered b at run.0 f.0 opens run.1 more f.1)
-      ]
-  | inr none ↦ let f = text-end b (codes " panicked at ") at (omega arith) in (f.0, IsTailEnd-plain b at f.0 none f.1)
-]
-
--- the next quote, by the number of bytes left
-quote-from : (fuel : ℕ) (b : List ℕ) (from at : ℕ) → from ≤ at → NoQuoteBetween b from at → length b ≤ at + fuel
-    → (found : Option ℕ) × IsNextQuote b from found
-quote-from zero b from at low quiet done = (None, λ k l u. quiet k l (omega arith))
-quote-from (suc fuel) b from at low quiet done = elim (cases_eq (get_or b at 0) 39) [
-  | inl is ↦ elim (cases_lt at (length b)) [
-    | inl more ↦ (Some at, (record { low = low; high = more; before = quiet }, is))
-    | inr end ↦ (None, λ k l u. quiet k l (omega arith))
-  ]
-  | inr other ↦ quote-from fuel b from (at + 1) (omega arith) (Nowhere-next b from at quiet other) (omega arith)
-] where
-  Nowhere-next : (b : List ℕ) (from at : ℕ) → NoQuoteBetween b from at → get_or b at 0 ≢ 39
-      → NoQuoteBetween b from (at + 1)
-  Nowhere-next b from at quiet other k l u = let before = quiet k l in grind arith
-
-next-quote : (b : List ℕ) (from : ℕ) → (found : Option ℕ) × IsNextQuote b from found
-next-quote b from = quote-from (length b) b from from (omega arith) (λ k l u is. omega arith) (omega arith)
-
--- whether a quote is opened
-opened-dec : (b : List ℕ) (place q : ℕ) → Known (IsOpened b place q)
-opened-dec b place q =
-    let far = cases_lt q (place + 7) in
-    let front = cases_lt 0 (q - 7) in
-    let feed = cases_eq (get_or b (q - 7 - 1) 0) 10 in
-    let word = occurs-dec b (codes "thread ") (q - 7) (omega arith) in
-    grind arith
-
--- whether a part is a name
-name-dec : (b : List ℕ) (i j : ℕ) → j ≤ length b → NoQuoteBetween b i j → Known (IsName (part i j b))
-name-dec b i j high quiet =
-    let size = length-part b i j high in
-    elim (cases_lt i j) [
-      | inl some ↦ elim (decided (is_utf8 (part i j b)) (IsUtf8-from_is_utf8 (part i j b), is_utf8-from_IsUtf8 (part i j b))) [
-        | inl utf8 ↦ inl (name-from b i j some high utf8 quiet)
-        | inr other ↦ inr (λ h. other h.utf8)
-      ]
-      | inr none ↦ inr (λ h. omega (arith, h.some))
-    ]
-
--- where the head ends that a quote opens
-head-end : (b : List ℕ) (place q : ℕ) → get_or b q 0 ≡ 39 → q < length b → (close : Option ℕ)
-    → IsNextQuote b (q + 1) close
-    → (found : Option ℕ) × IsOpenedHeadEnd b place q found
-head-end b place q is high None n = (None, IsOpenedHeadEnd-none b place q n)
-head-end b place q is high (Some c) n = elim (opened-dec b place q) [
-  | inl opened ↦
-      let end = IsOpenedHeadEnd-opened b place q c opened is high n in
-      elim (name-dec b (q + 1) c (omega (arith, n.0.high)) n.0.before) [
-        | inl name ↦ let t = tail-end b (c + 1) in (t.0, end t.0 (IsNamedHeadEnd-name b q c t.0 name t.1))
-        | inr none ↦ (None, end None (λ e l name tail. none name))
-      ]
-  | inr closed ↦ (None, IsOpenedHeadEnd-closed b place q closed)
-]
-
--- the search goes on from a later place
-abbrev GoesOn : List ℕ → ℕ → Type 0
-GoesOn b place =
-    (later : ℕ) (taken : List HeadSpan) → Settled b later taken → place < later → (xs : List HeadSpan) × IsTaken b xs
-
--- one step of the search
-step : (b : List ℕ) (place : ℕ) (taken : List HeadSpan) → Settled b place taken → GoesOn b place
-    → (xs : List HeadSpan) × IsTaken b xs
-step b place taken h go = let n = next-quote b place in by_next n.0 n.1 where
-  by_end : (q : ℕ) → IsNextQuote b place (Some q) → (found : Option ℕ) → IsOpenedHeadEnd b place q found
-      → (xs : List HeadSpan) × IsTaken b xs
-  by_end q n None s =
-      let low = n.0.low in go (q + 1) taken (settled-none b place q taken h low n.1 n.0.before s) (omega arith)
-  by_end q n (Some e) s =
-      let far = s.0 in
-      let x : HeadSpan = record { start = q - 7; stop = e } in
-      let settled = settled-head b place q taken x h n.0.before (omega arith) (omega arith) s.1 in
-      go e (taken ++ x ∷ []) settled (opened-order b place q e s).0
-
-  by_next : (next : Option ℕ) → IsNextQuote b place next → (xs : List HeadSpan) × IsTaken b xs
-  by_next None n = (taken, settled-done b place taken h n)
-  by_next (Some q) n =
-      let close = next-quote b (q + 1) in
-      let end = head-end b place q n.1 n.0.high close.0 close.1 in
-      by_end q n end.0 end.1
-
--- the search from a place, by the number of bytes left
-search-from : (fuel : ℕ) (b : List ℕ) (place : ℕ) (taken : List HeadSpan) → Settled b place taken
-    → length b ≤ place + fuel
-    → (xs : List HeadSpan) × IsTaken b xs
-search-from zero b place taken h done = (taken, settled-done b place taken h (λ k l u is. omega arith))
-search-from (suc fuel) b place taken h done =
-    step b place taken h (λ later ts s more. search-from fuel b later ts s (omega arith))
 
 -- there is a list of taken heads
 pub IsTaken-exists : (b : List ℕ) → (taken : List HeadSpan) × IsTaken b taken
-IsTaken-exists b = search-from (length b) b 0 [] (settled-first b) (omega arith)
+IsTaken-exists b = let heads = heads-from (length b + 1) b 0 (omega arith) in (heads.0, (IsTaken-leftmost b heads.0).1 heads.1)
