@@ -16,9 +16,7 @@ module _ (x : ℕ) (b : List ℕ) (at : ℕ) (within : at ≤ length b) where
   pub first-byte : (n : ℕ) → IsFirstByte (is_byte x) (drop at b) (Some n)
       → (at + n < length b) × (get_or b (at + n) 0 ≡ x) × NoByteBetween x b at (at + n)
   first-byte n h =
-      let is = eqb-true _ _ h.1 in
       let size = length-drop at b in
-      let high = h.0.high in
       (omega arith, grind (arith, get_or-drop), λ k low up e. h.0.before (k - at) (omega arith) (omega arith) (dropped k low e))
 
   pub no-byte : IsFirstByte (is_byte x) (drop at b) None → NoByteBetween x b at (length b)
@@ -33,9 +31,7 @@ module _ (x : ℕ) (b : List ℕ) (at : ℕ) (within : at ≤ length b) where
   pub last-byte : (n : ℕ) → IsLastByte (is_byte x) (take at b) (Some n)
       → (n < at) × (get_or b n 0 ≡ x) × NoByteBetween x b (n + 1) at
   last-byte n h =
-      let is = eqb-true _ _ h.1 in
       let size = length-take at b in
-      let high = h.0.high in
       (omega arith, grind (arith, get_or-take), λ k low up e. h.0.after k low (omega arith) (taken k up e))
 
   pub no-last-byte : IsLastByte (is_byte x) (take at b) None → NoByteBetween x b 0 at
@@ -51,8 +47,6 @@ agrees b text at h = record { short = omega arith; reads = h.reads; fits = h.fit
 pub agrees-passes : (test : ℕ → Bool) (b text : List ℕ) (at n : ℕ) → AgreesFor b text at n → list_all test text ≡ true
     → (k : ℕ) → at ≤ k → k < at + n → test (get_or b k 0) ≡ true
 agrees-passes test b text at n h all k low high =
-    let short = h.short in
-    let here : k < at + length text = omega arith in
     let same : get_or b k 0 ≡ get_or text (k - at) 0 = grind (arith, h.reads (k - at)) in
     rw same (AllPass-from_list_all test text all (k - at) 0 (omega arith))
 

@@ -47,7 +47,6 @@ pub not_char-decoded : (b : List ℕ) (at stop c : ℕ) → stop ≤ length b �
 not_char-decoded b at stop c high none h =
     let rest = part at stop b in
     let size = length-part b at stop high in
-    let ends = h.ends in
     let reads =
     λ (j : ℕ) (l : j < length (encode_utf8 c)). get_or-part b at stop j (omega arith) ∙ h.stands.reads j l in
     let begins = front_from_reads 0 rest (encode_utf8 c) (omega arith) reads in
@@ -90,7 +89,6 @@ first-utf8 bs h some = by_chars h.0 h.1.0 h.1.1 where
 pub utf8-char : (b : List ℕ) (at to c n : ℕ) → IsCharAt b at to c → n ≡ length (encode_utf8 c)
     → IsUtf8 (part at to b) ↔ IsUtf8 (part (at + n) to b)
 utf8-char b at to c n h size =
-    let ends = h.ends in
     let text = encode_utf8 c in
     let left = to - (at + length text) in
     let count : to - at ≡ length text + left = omega arith in
@@ -137,7 +135,6 @@ module _ (b buffer : List ℕ) (at stop i : ℕ) (four : length buffer ≡ 4) (s
       let char : (decoded (part at (at + (i + 1)) b)).char ≡ Some c = ap (λ (p : Decoded). p.char) (sym same) ∙ found in
       let h = IsCharAt-decoded b at (at + (i + 1)) c (omega arith) char in
       let ends = h.0.ends in
-      let short = before c in
       let long : i < length (encode_utf8 c) = grind arith in (
         record { scalar = h.0.scalar; stands = h.0.stands; ends = omega arith },
         h.1 ∙ ap (λ (p : Decoded). p.size) (sym same),

@@ -24,7 +24,6 @@ head-feed b s e k h low high is =
     let quiet = name-quiet b (s + 8) h.quote (omega arith) h.name in
     let word = text-passes other b (codes "thread '") s h.opening refl k low in
     let tail = tail-plain b (h.quote + 1) e h.ends h.tail k in
-    let closing = h.closing in
     let far : s + 8 ≤ k = grind (arith, nat_tests) in
     let before : k < h.quote = grind arith in
     (far, λ i l u. quiet i l (omega arith))

@@ -115,7 +115,6 @@ occurs-known b xs at some = elim (cases_lt (length b) (at + length xs)) [
 
 name-known : (text : List ℕ) → Known (IsName text)
 name-known text =
-    let cases = cases_lt 0 (length text) in
     let is_some : Known (0 < length text) = grind arith in
     let utf8 = decided (is_utf8 text) (IsUtf8-from_is_utf8 text, is_utf8-from_IsUtf8 text) in
     let quotes = decided _ (Decides-by_and other (λ x. x ≢ 39) others (λ x. Decides-not (x == 39) (Decides-eqb x 39)) refl (λ x xs. refl) text) in
@@ -130,10 +129,7 @@ name-known text =
 -- whether a head stands at a place, and where it ends
 head-known : (b : List ℕ) (s e : ℕ) → Known (IsHead b s e)
 head-known b s e =
-    let front = cases_lt 0 s in
-    let feed = cases_eq (get_or b (s - 1) 0) 10 in
     let line : Known (IsLineStart b s) = grind arith in
-    let fits = cases_lt (length b) e in
     let ends : Known (e ≤ length b) = grind arith in
     let opening = occurs-known b (codes "thread '") s (omega arith) in
     mapped (λ h. record { line_start = h.0; opening = h.1.0; quote = h.1.1.1.0; name = h.1.1.1.1.0; closing = h.1.1.1.1.1.0; tail = h.1.1.1.1.1.1; ends = h.1.1.0 })

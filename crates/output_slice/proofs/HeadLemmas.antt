@@ -42,8 +42,6 @@ head-same b s e e' h k =
     let ko = head-order b s e' k in
     let hq = name-quiet b (s + 8) h.quote (omega arith) h.name k.quote in
     let kq = name-quiet b (s + 8) k.quote (omega arith) k.name h.quote in
-    let hc = h.closing in
-    let kc = k.closing in
     let quotes : k.quote ≡ h.quote = grind arith in
     tail-same b (h.quote + 1) e e' h.ends k.ends h.tail (subst (λ q. IsTail (part (q + 1) e' b)) quotes k.tail)
 

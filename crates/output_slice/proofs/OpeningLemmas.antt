@@ -17,18 +17,12 @@ opening-none b none s e h = none s (omega arith) (omega (arith, h.ends, head-ord
 -- no head starts behind the last opening
 last-start : (b : List ℕ) (at s e : ℕ) → IsLastOpening b (Some at) → IsHead b s e → s ≤ at
 last-start b at s e o h =
-    let later = o.0.after s in
-    let order = head-order b s e h in
-    let ends = h.ends in
-    let opening : IsOpening b s = (h.line_start, h.opening) in
     grind arith
 
 -- a head whose closing quote stands at q or before it ends on the line of q
 head-line-end : (b : List ℕ) (s e q end : ℕ) → (h : IsHead b s e) → h.quote ≤ q → q ≤ end → IsLineEnd b q end → e ≤ end
 head-line-end b s e q end h low up last =
     let plain = tail-plain b (h.quote + 1) e h.ends h.tail (end - 1) in
-    let ends = h.ends in
-    let closing = h.closing in
     grind arith
 
 module _ (b : List ℕ) (at : ℕ) (o : IsLastOpening b (Some at)) where
@@ -40,12 +34,6 @@ module _ (b : List ℕ) (at : ℕ) (o : IsLastOpening b (Some at)) where
       let order = head-order b s e h in
       let name = name-quiet b (s + 8) h.quote (omega arith) h.name in
       let quote : get_or b (at + 7) 0 ≡ 39 = o.1.1.reads 7 (omega arith) in
-      let low = last-start b at s e o h in
-      let feed = o.1.0 in
-      let before = head-feed b s e (at - 1) h in
-      let closing = h.closing in
-      let passed = name (at + 7) in
-      let past_q = name q in
       grind arith
 
   -- all heads end by the end of the line of the first quote behind the last opening

@@ -55,7 +55,6 @@ trimmed-part b x h letter =
       | inr past ↦ let same : h.0 ≡ s = omega arith in absurd (not_blank (drop s b) here (rw same at h.1.1))
     ] in
     let size = length-part b s h.0 (omega (arith, first.high)) in
-    let count : length x.bytes ≡ h.0 - s = ap length h.2 ∙ size in
     grind (arith, get_or-part)
 
 -- a widened start has an `E` or the `t` of the head

@@ -45,12 +45,6 @@ few-paid : (b : List ℕ) (old new place q word : ℕ) → (w : WithReads b old 
     → (1 < word → IsLineStart b (q - 7))
     → (tail : ℕ) × (tail + (q + 1) ≤ w.seen + 5) × (tail + 2 * (q + 1) ≤ 2 * w.seen + 2) × (new + word ≤ old + (3 * (q + 1) + tail))
 few-paid b old new place q word w short opened line =
-    let from = w.from in
-    let to = w.to in
-    let late = w.far in
-    let near = w.near in
-    let low = w.low in
-    let behind = λ (long : 1 < word). before-opening b old new place q w (opened (omega arith)) (line long) in
     let apart : w.before + word ≤ q + 1 = grind arith in
     let paid : w.tail + word + 2 * place ≤ 2 * (q + 1) = grind arith in
     elim w.few [

@@ -18,8 +18,6 @@ settled-first b rest h = h
 -- no head that starts at the place or after it starts before the next quote's word
 starts-late : (b : List ℕ) (place q s e : ℕ) → NoQuoteBetween b place q → place ≤ s → IsHead b s e → q ≤ s + 7
 starts-late b place q s e quiet late head =
-    let quote = head-quote b s e head in
-    let before = quiet (s + 7) in
     grind arith
 
 -- a quote that opens no head

@@ -17,8 +17,6 @@ module _ (b sign : List ℕ) (p e : ℕ) (quiet : IsQuietFrom b sign p) (is : e 
   finds-first None none = λ i low high h. let there = in-front i h in none i low (omega (arith, there.fits)) there
   finds-first (Some k) some =
       let whole = occurs-front-take b sign k e (omega arith) some.1 in
-      let fits = whole.fits in
-      let size = length-take e b in
       let high = some.0.high in (
         record { low = some.0.low; high = omega arith; before = λ i low up h. some.0.before i low up (in-front i h) },
         whole,
@@ -29,8 +27,6 @@ module _ (b sign : List ℕ) (p e : ℕ) (quiet : IsQuietFrom b sign p) (is : e 
   finds-last None none = λ i low high h. let there = in-front i h in none i low (omega (arith, there.fits)) there
   finds-last (Some k) some =
       let whole = occurs-front-take b sign k e (omega arith) some.1 in
-      let fits = whole.fits in
-      let size = length-take e b in
       let high = some.0.high in (
         record {
           low = some.0.low;
@@ -45,6 +41,5 @@ pub quiet-block : (b sign : List ℕ) (start end stop : ℕ) → IsQuietFrom b s
     → stop ≡ min (end + length sign) (length b) → ¬ Contains (part start stop b) sign → IsQuietFrom b sign start
 quiet-block b sign start end stop quiet order within is none i from h =
     let late = quiet i in
-    let fits = h.fits in
     let before : i < end = grind arith in
     none (i - start, occurs-in-part b sign i start stop from (omega arith) (omega arith) h)

@@ -49,9 +49,6 @@ module _ (b : List ℕ) (place quote close : ℕ) (opened : IsOpened b place quo
   closing-same s e here h =
       let order = head-order b s e h in
       let name = name-quiet b (s + 8) h.quote (omega arith) h.name close in
-      let before = closes.0.before h.quote in
-      let low = closes.0.low in
-      let closing = h.closing in
       let next = closes.1 in
       grind arith
 

@@ -86,7 +86,6 @@ NoDigitAt-paren : (b : List ℕ) (at : ℕ) → get_or b at 0 ≡ 41 → NoDigit
 NoDigitAt-paren b at is c h digit =
     let len = length-encode c in
     let some = len_utf8_bounds c in
-    let first = h.stands.reads 0 (omega arith) in
     let same = inside_one c [] (encode_utf8 c) 0 (sym (append-nil (encode_utf8 c))) (omega arith) in
     grind arith
 
@@ -131,10 +130,6 @@ IsTail-numbered b at e h =
     let d = h.run.digits in
     let number = encode_utf8_all d.chars in
     let end = codes ") panicked at " in
-    let dends = d.ends in
-    let hends = h.ends in
-    let hsome = h.some in
-    let fits = h.closes.fits in
     let both = length-append number end in
     let rest = occurs-both b number end (at + 2) d.stands (rw d.ends at h.closes) in
     let whole = occurs-both b (codes " (") (number ++ end) at h.opens rest in
@@ -236,8 +231,6 @@ pub ReadsUpTo-numbered : (b : List ℕ) (at close old mid mid' new : ℕ) (found
     → IsTextEnd b (codes ") panicked at ") close found → ReadsUpTo b at old new found
 ReadsUpTo-numbered b at close old mid mid' new found opens few digits some few' ascii r f =
     let t = text-read b (codes ") panicked at ") close mid' new found r f in
-    let more = t.2 in
-    let ends = digits.ends in
     let long : at + 3 ≤ close = omega arith in record {
       last = close + t.0;
       low = omega arith;

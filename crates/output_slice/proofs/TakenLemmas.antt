@@ -149,7 +149,6 @@ module _ (b : List ℕ) (from : ℕ) (x : HeadSpan) (xs : List HeadSpan) (first 
 
   taken-more : TakenFrom b from (x ∷ xs)
   taken-more =
-      let order = head-order b x.start x.stop first.head in
       let low = first.low in record {
         heads = All-cons (λ g. IsHead b g.start g.stop) x xs first.head h.heads;
         rising = AllPairs-cons (λ g k. g.start < k.start) x xs more-starts h.rising;

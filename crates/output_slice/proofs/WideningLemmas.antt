@@ -22,9 +22,6 @@ module _ (b : List ℕ) (s stop : ℕ) (low : stop ≤ s) (high : s ≤ length b
   -- an error line ends where the breaks begin
   stop-same : (j : ℕ) (h : IsErrorLine b s j) → h.stop ≡ stop
   stop-same j h =
-      let some = line-start b s j h in
-      let one : h.stop ≤ stop = stop-least b s stop h.stop h.within breaks h.text in
-      let two = stop-least b s h.stop stop low h.breaks in
       grind arith
 
   -- where the last line before begins with `Error:`
@@ -33,7 +30,6 @@ module _ (b : List ℕ) (s stop : ℕ) (low : stop ≤ s) (high : s ≤ length b
       → IsWidened b s (at + 1)
   widened-some at h starts =
       let last = last-byte 10 b stop (omega arith) at h in
-      let inside = h.0.high in
       inl (
         at,
         record {
@@ -55,22 +51,15 @@ module _ (b : List ℕ) (s stop : ℕ) (low : stop ≤ s) (high : s ≤ length b
     other : (j : ℕ) → ¬ IsErrorLine b s j
     other j line =
         let last = last-byte 10 b stop (omega arith) at h in
-        let start = line-start b s j line in
         let same = stop-same j line in
-        let past = last.2 j in
-        let before = line.one_line at in
         let here : j ≡ at = grind arith in
         none (dropped-occurs (take stop b) (codes "\nError:") at (rw same at rw here at line.begins))
 
 -- there is one error line at most before a place
 line-same : (b : List ℕ) (s j k : ℕ) → IsErrorLine b s j → IsErrorLine b s k → j ≡ k
 line-same b s j k g h =
-    let one : g.stop ≤ h.stop = stop-least b s h.stop g.stop g.within h.breaks g.text in
-    let two : h.stop ≤ g.stop = stop-least b s g.stop h.stop h.within g.breaks h.text in
     let first = line-start b s j g in
     let second = line-start b s k h in
-    let behind = g.one_line k in
-    let before = h.one_line j in
     grind arith
 
 -- widening gives one start

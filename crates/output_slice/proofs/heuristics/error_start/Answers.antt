@@ -8,12 +8,10 @@ returns-then-starts_with_str c =
 
 pub returns-in_err-feed : goal.returns-in_err-feed
 returns-in_err-feed c =
-    let f = c.if-starts_with_str.false in
     rw c.from_residual.ensures
     (first-none c.args.stderr.now (codes "Error: ") (λ h. let yes = c.starts_with_str.ensures.1 h in cc) c.in_err-feed.ensures)
 
 pub returns : goal.returns
 returns c =
-    let f = c.if-starts_with_str.false in
     first-later c.args.stderr.now (codes "Error: ") c.in_ok-feed.feed (λ h. let yes = c.starts_with_str.ensures.1 h in cc)
     c.in_ok-feed.ensures

@@ -11,6 +11,5 @@ returns-then-starts_with_str-clause-value c =
 pub returns-else-starts_with_str-clause-value : goal.returns-else-starts_with_str-clause-value
 returns-else-starts_with_str-clause-value c =
     let e = c.breaks_start.ensures in
-    let f = c.if-starts_with_str.false in
     widened-other c.args.stderr.now c.args.start c.breaks_start.result e.within c.requires e.breaks e.text c.in-Some.at c.in-Some.ensures
     (λ h. let yes = c.starts_with_str.ensures.1 (rw take_rest h) in cc)

@@ -6,5 +6,4 @@ pub loop-start-preserved : goal.loop-start-preserved
 loop-start-preserved c =
     let i = c.loop-start.invariant in
     let crosses = c.in-Some.ensures in
-    let low = crosses.low in
     (omega arith, crosses.opening.0, crossed-more c.args.bytes.now c.in-Some.start c.loop-start.cut c.args.at crosses i.2)

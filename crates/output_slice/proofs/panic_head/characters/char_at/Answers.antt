@@ -16,7 +16,6 @@ pub returns-in-Some : goal.returns-in-Some
 returns-in-Some g c =
     let i = c.loop-i.invariant in
     let e = rw i.0 at c.byte.ensures.value in
-    let size = length-set c.loop-i.buffer c.loop-i.i c.byte.result in
     let reads = buffer-more _ c.loop-i.buffer c.args.at c.loop-i.i c.byte.result (omega arith) i.4 e in
     let char = sym c.decode-found.ensures.char ∙ c.in-Some.is in
     let h = char-some _ (set c.loop-i.buffer c.loop-i.i c.byte.result) c.args.at c.args.stop c.loop-i.i (omega arith) (omega arith)
@@ -35,7 +34,6 @@ loop-i-preserved g c =
     let b = g.S.ByteSource.bytes c.args.source.now in
     let i = c.loop-i.invariant in
     let e = rw i.0 at c.byte.ensures.value in
-    let size = length-set c.loop-i.buffer c.loop-i.i c.byte.result in
     let reads = buffer-more b c.loop-i.buffer c.args.at c.loop-i.i c.byte.result (omega arith) i.4 e in
     let char = sym c.decode-found.ensures.char ∙ c.in_default.is in (
       c.byte.ensures.same ∙ i.0,

@@ -13,7 +13,6 @@ pub loop-at-preserved : goal.loop-at-preserved
 loop-at-preserved g c =
     let v = rw c.loop-at.invariant.0 at c.in-Some.ensures.value in
     let i = c.loop-at.invariant in
-    let ends = v.0.ends in
     let reads = c.in-Some.ensures.reads in
     let more = digits-more _ _ _ _ _ _ i.5 v.0 (c.is_digit.ensures.0 c.if-not-is_digit.false) v.1 in
     (c.in-Some.ensures.same ∙ i.0, i.1, omega arith, omega arith, omega arith, more)
@@ -21,7 +20,6 @@ loop-at-preserved g c =
 pub returns-then-not-is_digit-clause-run : goal.returns-then-not-is_digit-clause-run
 returns-then-not-is_digit-clause-run g c =
     let v = rw c.loop-at.invariant.0 at c.in-Some.ensures.value in
-    let f = c.if-not-is_digit.true in
     record {
       digits = c.loop-at.invariant.5;
       stops = λ x h d.

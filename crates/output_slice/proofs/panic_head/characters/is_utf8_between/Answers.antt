@@ -7,7 +7,6 @@ loop-at-preserved g c =
     let v = rw c.loop-at.invariant.0 at c.in-Some.ensures.value in
     let i = c.loop-at.invariant in
     let step = utf8-char (g.S.ByteSource.bytes c.args.source.now) c.loop-at.at c.args.to c.in-Some.field-0-0 c.in-Some.size v.0 v.1 in
-    let ends = v.0.ends in
     let reads = c.in-Some.ensures.reads in
     (c.in-Some.ensures.same ∙ i.0, omega arith, omega arith, omega arith, (λ u. step.0 (i.4.0 u), λ u. i.4.1 (step.1 u)))
 

@@ -6,7 +6,6 @@ use Rattle.output_slice.proofs.panic_head.ends.opened_head_end.Goals as goal
 pub returns-then-not-opens-clause-value : goal.returns-then-not-opens-clause-value
 returns-then-not-opens-clause-value g c =
     let v = c.opens.ensures.value in
-    let f = c.if-not-opens.true in
     IsOpenedHeadEnd-closed _ c.args.place c.args.quote (λ h. let yes = v.1 h in cc)
 
 pub returns-clause-value : goal.returns-clause-value
