@@ -3,7 +3,7 @@ use Rattle.std.specs.Prelude.{Bool}
 use Rattle.run_digest_devices.specs.declared.std_device.StdSource.{StdSource}
 use Rattle.run_digest_devices.specs.declared.std_device.StdSink.{StdSink}
 
--- the reader of a source, and whether a read of it has failed
+-- the reader of a source
 abbrev pub reader_of : {R : Type 0} → StdSource R → R
 reader_of s = s.reader
 
@@ -11,7 +11,7 @@ reader_of s = s.reader
 abbrev pub source_failed : {R : Type 0} → StdSource R → Bool
 source_failed s = s.failed
 
--- the writer of a sink, whether a write or a flush of it has failed, and whether a flush came after the last write
+-- the writer of a sink
 abbrev pub writer_of : {W : Type 0} → StdSink W → W
 writer_of s = s.writer
 

@@ -65,7 +65,7 @@ result_named ExecFail = result.ExecFail
 result_named Timeout = result.Timeout slow.Fail
 result_named TimeoutPass = result.Timeout slow.Pass
 
--- what a line after line 1 says: a script's result, or a test's results, the last one apart, and its flags
+-- what the line of a unit says: a script's result, or a test's results, the last one apart, and its flags
 pub data UnitLine : Type 0 where
   ScriptLine : ResultWord → UnitLine
   TestLine : (earlier : List ResultWord) → (last : ResultWord) → (is_slow : Bool) → (flaky_fails : Bool) → UnitLine

@@ -2,7 +2,8 @@
 //! nothing, and its contract is the law.
 ghost use Rattle.run_digest_engine.specs.Laws.{LinesAreCut, OneEntry, OneReading, OneStart, OneUnit};
 
-/// The lines of an input are the parts that join to it, each with one line feed, at its end.
+/// The lines of an input are the parts that join to it, each but perhaps the last with one line
+/// feed, at its end.
 pub fn lines_are_cut()
     ensures { LinesAreCut }
 {
