@@ -1,10 +1,7 @@
 -- The first and the last place of a byte, and bytes of texts that pass a test.
-use Rattle.std.proofs.Common.{true, ◌≡◌, ℕ, ◌+◌, ◌-◌, ◌<◌, ◌≤◌, Bool, List, length, get_or, take, drop, arith, length-drop, length-take, get_or-drop}
-use Rattle.std.specs.Prelude.{Some, None}
+use Rattle.std.proofs.Common.{true, ◌≡◌, ℕ, ◌+◌, ◌-◌, ◌<◌, ◌≤◌, Bool, List, length, get_or, take, drop, arith, length-drop, length-take, get_or-drop, Some, None, eq-eqb, get_or-take}
 use Rattle.std.specs.List.{list_all}
-use Rattle.std.proofs.lemmas.Bool.{eq-eqb, eqb-true}
 use Rattle.std.proofs.lemmas.List.Sums.{AllPass-from_list_all}
-use Rattle.std.proofs.lemmas.List.{get_or-take}
 use Rattle.bstr.specs.Find.{IsFirstByte, IsLastByte, is_byte, OccursAt}
 use Rattle.output_slice.specs.Steps.{AgreesFor, NoByteBetween}
 

@@ -1,6 +1,5 @@
 -- Which line starts a head crosses.
-use Rattle.std.proofs.Common.{◌≡◌, ℕ, ◌+◌, ◌-◌, ◌<◌, ◌≤◌, Bool, inl, inr, List, length, get_or, take, refl, arith}
-use Rattle.std.specs.Prelude.{codes, not, ◌==◌, Some, None}
+use Rattle.std.proofs.Common.{◌≡◌, ℕ, ◌+◌, ◌-◌, ◌<◌, ◌≤◌, Bool, inl, inr, List, length, get_or, take, refl, arith, codes, not, ◌==◌, Some, None}
 use Rattle.std.proofs.lemmas.Bool.{cases_lt}
 use Rattle.std.proofs.lemmas.Bool.Decides.{nat_tests}
 use Rattle.bstr.specs.Find.{IsLastByte, is_byte}
@@ -34,15 +33,12 @@ module _ (b : List ℕ) (c : ℕ) (within : c ≤ length b) (line : IsLineStart 
   cut-from none = record {
     within = within;
     line_start = line;
-    uncrossed = λ s e head low. uncrossed s e head low;
-  } where
-    uncrossed : (s e : ℕ) → IsHead b s e → s < c → e ≤ c
-    uncrossed s e head low =
-        let feed = line (omega arith) in
+    uncrossed = λ s e head low.
         let inside = head-feed b s e (c - 1) head in
         let crossed = none s in
         let opening : IsOpening b s = (head.line_start, head.opening) in
-        grind arith
+        grind arith;
+  }
 
   -- a line start without a quote before it is a cut
   pub cut-quiet : IsLastByte (is_byte 39) (take c b) None → IsCut b c
@@ -51,13 +47,11 @@ module _ (b : List ℕ) (c : ℕ) (within : c ≤ length b) (line : IsLineStart 
 
   -- so is one where the last quote before it does not open
   pub cut-closed : (q : ℕ) → IsLastByte (is_byte 39) (take c b) (Some q) → (7 ≤ q → ¬ IsOpening b (q - 7)) → IsCut b c
-  cut-closed q h closed = cut-from (λ s far opening quiet. closed-at s far opening quiet) where
-    closed-at : (s : ℕ) → s + 8 ≤ c → IsOpening b s → NoQuoteBetween b (s + 8) c → ⊥
-    closed-at s far opening quiet =
-        let last = last-byte 39 b c within q h in
-        let quote : get_or b (s + 7) 0 ≡ 39 = opening.1.reads 7 (omega arith) in
-        let at : s ≡ q - 7 = grind arith in
-        closed (grind arith) (rw at at opening)
+  cut-closed q h closed = cut-from (λ s far opening quiet.
+      let last = last-byte 39 b c within q h in
+      let quote = opening.1.reads 7 (omega arith) in
+      let at : s ≡ q - 7 = grind arith in
+      closed (grind arith) (rw at at opening))
 
   -- the last quote before c opens
   pub cut-crossed : (q : ℕ) → IsLastByte (is_byte 39) (take c b) (Some q) → 7 ≤ q → IsOpening b (q - 7)

@@ -1,6 +1,5 @@
 -- Bytes divide into lines in one way.
-use Rattle.std.proofs.Common.{◌≡◌, ◌≢◌, inl, inr, ℕ, suc, zero, ◌+◌, ◌-◌, ◌<◌, List, [], ◌∷◌, ◌++◌, length, get_or, refl, sym, ap, ◌∙◌, arith, append-nil}
-use Rattle.std.specs.Prelude.{All, AllPairs}
+use Rattle.std.proofs.Common.{◌≡◌, ◌≢◌, inl, inr, ℕ, suc, zero, ◌+◌, ◌-◌, ◌<◌, List, [], ◌∷◌, ◌++◌, length, get_or, refl, sym, ap, ◌∙◌, arith, append-nil, All, AllPairs}
 use Rattle.std.specs.List.{concat}
 use Rattle.std.proofs.lemmas.Bool.{cases_eq}
 use Rattle.std.proofs.lemmas.List.Elements.{All-cons, All-head, All-tail, All-nil}
@@ -42,22 +41,18 @@ more-lines x b ls h = elim (cases_eq x 10) [
     (x ∷ []) ∷ ls,
     record {
       joined = ap (λ t. x ∷ t) h.joined;
-      each = All-cons IsLine (x ∷ []) ls (record { some = omega arith; feed = λ k is. one k is }) h.each;
+      each = All-cons IsLine (x ∷ []) ls (record { some = omega arith; feed = λ k is. grind arith }) h.each;
       ends = AllPairs-cons Ended (x ∷ []) ls (λ k d low. feed) h.ends;
     },
   )
   | inr other ↦ before ls h other
 ] where
-  one : (k : ℕ) → get_or (x ∷ []) k 0 ≡ 10 → k + 1 ≡ 1
-  one zero is = omega arith
-  one (suc k) is = absurd (omega arith)
-
   before : (ls : List (List ℕ)) → AreLines b ls → x ≢ 10 → (lines : List (List ℕ)) × AreLines (x ∷ b) lines
   before [] h other = (
     (x ∷ []) ∷ [],
     record {
       joined = ap (λ t. x ∷ t) h.joined;
-      each = All-cons IsLine (x ∷ []) [] (record { some = omega arith; feed = one }) (All-nil _);
+      each = All-cons IsLine (x ∷ []) [] (record { some = omega arith; feed = λ k is. grind arith }) (All-nil _);
       ends = λ i j d low high. absurd (omega arith);
     },
   )
@@ -67,17 +62,13 @@ more-lines x b ls h = elim (cases_eq x 10) [
         (x ∷ l) ∷ ls,
         record {
           joined = ap (λ t. x ∷ t) h.joined;
-          each = All-cons IsLine (x ∷ l) ls (record { some = omega arith; feed = longer l line other }) (All-tail IsLine l ls h.each);
+          each = All-cons IsLine (x ∷ l) ls (record { some = omega arith; feed = λ k is. let before = line.feed (k - 1) in grind arith }) (All-tail IsLine l ls h.each);
           ends =
               AllPairs-cons Ended (x ∷ l) ls (λ k d low. last l some (h.ends 0 (suc k) d (omega arith) (omega arith)))
               (λ i j d low high. h.ends (suc i) (suc j) d (omega arith) (omega arith));
         },
       )
     where
-      longer : (l : List ℕ) → IsLine l → x ≢ 10 → (k : ℕ) → get_or (x ∷ l) k 0 ≡ 10 → k + 1 ≡ length (x ∷ l)
-      longer l line other zero is = absurd (other is)
-      longer l line other (suc k) is = omega (arith, line.feed k is)
-
       last : (l : List ℕ) → 0 < length l → get_or l (length l - 1) 0 ≡ 10 → get_or (x ∷ l) (length (x ∷ l) - 1) 0 ≡ 10
       last l some is = let place : length (x ∷ l) - 1 ≡ suc (length l - 1) = omega arith in rw place is
 

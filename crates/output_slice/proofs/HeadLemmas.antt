@@ -1,6 +1,5 @@
 -- Facts of heads.
-use Rattle.std.proofs.Common.{◌≡◌, ℕ, ◌+◌, ◌-◌, ◌<◌, ◌≤◌, Bool, List, length, get_or, refl, subst, arith, length-append}
-use Rattle.std.specs.Prelude.{codes, not, ◌==◌}
+use Rattle.std.proofs.Common.{◌≡◌, ℕ, ◌+◌, ◌-◌, ◌<◌, ◌≤◌, Bool, List, length, get_or, refl, subst, arith, length-append, codes, not, ◌==◌}
 use Rattle.std.proofs.lemmas.Bool.Decides.{nat_tests}
 use Rattle.std.proofs.lemmas.List.{get_or_past}
 use Rattle.bstr.specs.Text.{part}
@@ -17,10 +16,6 @@ name-quiet b i j high h k low up =
     let size = length-part b i j high in
     let other = h.no_quote (k - i) 0 (omega arith) in
     grind (arith, get_or-part)
-
--- the quote that opens a head
-pub head-quote : (b : List ℕ) (s e : ℕ) → IsHead b s e → get_or b (s + 7) 0 ≡ 39
-head-quote b s e h = h.opening.reads 7 (omega arith)
 
 -- a quote at or after the start is at or after the opening's
 pub head-letters : (b : List ℕ) (s e q : ℕ) → IsHead b s e → s ≤ q → get_or b q 0 ≡ 39 → s + 7 ≤ q

@@ -1,23 +1,16 @@
 -- Where all heads end.
-use Rattle.std.proofs.Common.{◌≡◌, ℕ, ◌+◌, ◌-◌, ◌<◌, ◌≤◌, ◌⊎◌, inl, inr, List, length, get_or, drop, arith}
-use Rattle.std.specs.Prelude.{Some, None}
+use Rattle.std.proofs.Common.{◌≡◌, ℕ, ◌+◌, ◌-◌, ◌<◌, ◌≤◌, ◌⊎◌, inl, inr, List, length, get_or, drop, arith, Some, None}
 use Rattle.bstr.specs.Find.{IsFirstByte, is_byte}
 use Rattle.output_slice.specs.Head.{IsHead}
 use Rattle.output_slice.specs.Steps.{IsLineEnd, NoQuoteBetween}
-use Rattle.output_slice.specs.Search.{AllHeadsEndBy, IsLastOpening, IsOpening}
+use Rattle.output_slice.specs.Search.{AllHeadsEndBy, IsLastOpening}
 use Rattle.output_slice.proofs.ByteLemmas.{first-byte, no-byte}
-use Rattle.output_slice.proofs.CrossLemmas.{head-feed}
 use Rattle.output_slice.proofs.HeadLemmas.{name-quiet, head-order}
 use Rattle.output_slice.proofs.TailLemmas.{tail-plain}
 
 -- where no head is opened there is none
 pub opening-none : (b : List ℕ) → IsLastOpening b None → (s e : ℕ) → IsHead b s e → ⊥
 opening-none b none s e h = none s (omega arith) (omega (arith, h.ends, head-order b s e h)) (h.line_start, h.opening)
-
--- no head starts behind the last opening
-last-start : (b : List ℕ) (at s e : ℕ) → IsLastOpening b (Some at) → IsHead b s e → s ≤ at
-last-start b at s e o h =
-    grind arith
 
 -- a head whose closing quote stands at q or before it ends on the line of q
 head-line-end : (b : List ℕ) (s e q end : ℕ) → (h : IsHead b s e) → h.quote ≤ q → q ≤ end → IsLineEnd b q end → e ≤ end

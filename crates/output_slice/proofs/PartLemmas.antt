@@ -8,6 +8,7 @@ use Rattle.std.proofs.lemmas.Bool.{cases_lt, cases_Bool}
 use Rattle.std.proofs.Math.ListN.{get_or-append}
 use Rattle.std.proofs.Math.Seq.{take-length}
 use Rattle.std.proofs.lemmas.List.{get_or-append-add, take-take}
+use Rattle.std.proofs.lemmas.Bool.Decides.{nat_tests}
 use Rattle.std.proofs.lemmas.List.Folds.{concat-append}
 use Rattle.output_slice.proofs.NoteLemmas.{length-concat}
 use Rattle.std.specs.Prelude.{nat_lt, ◌==◌, ◌&&◌, cond}
@@ -36,13 +37,9 @@ not_blank bs letter h = by_chars h.0 h.1 h.2 where
   by_chars [] all e = elim (rw e at letter) [ inl one ↦ omega arith | inr two ↦ omega arith ]
   by_chars (c ∷ cs) all e =
       let space = (All-head (λ x. IsScalar x × IsTrue (is_whitespace x)) c cs all).1 in
-      let past : length bs ≤ 0 → get_or bs 0 0 ≡ 0 = get_or_past bs 0 0 in
-      let same =
-      λ (low : get_or bs 0 0 < 128) (some : 0 < length bs). char_from_byte bs (encode_utf8_all cs) c e low some in
-      elim letter [
-        | inl one ↦ let is : c ≡ 69 = same (omega arith) (grind arith) ∙ one in absurd (cc (ap is_whitespace is))
-        | inr two ↦ let is : c ≡ 116 = same (omega arith) (grind arith) ∙ two in absurd (cc (ap is_whitespace is))
-      ]
+      let past = get_or_past bs 0 0 in
+      let is : c ≡ get_or bs 0 0 = char_from_byte bs (encode_utf8_all cs) c e (grind arith) (grind arith) in
+      elim letter [ inl one ↦ absurd (cc (ap is_whitespace (is ∙ one))) | inr two ↦ absurd (cc (ap is_whitespace (is ∙ two))) ]
 
 -- a trimmed slice that begins so is a part
 trimmed-part : (b : List ℕ) (x : Slice) → IsTrimmedSlice b x → IsLetterAt b x.start → IsPart b x
@@ -66,25 +63,9 @@ widened-letter b s e t head wide = elim wide [
 
 -- a line without its end is its front, and lacks two bytes at most
 line-front : (line : List ℕ)
-    → (m : ℕ) × ((m ≤ length line) × (length line ≤ m + 2) × (without_terminator line ≡ take m line))
-line-front line =
-    let n = length line in
-    let feed = nat_lt 0 n && get_or line (n - 1) 0 == 10 in
-    let short = take (n - 1) line in
-    let size : length short ≡ n - 1 = length-take-le (n - 1) line (omega arith) in
-    let cr = nat_lt 0 (length short) && get_or short (length short - 1) 0 == 13 in
-    elim (cases_Bool feed) [
-      | inl feeds ↦
-          let one : without_terminator line ≡ no_cr short = ap (λ t. cond t (no_cr short) line) feeds in
-          elim (cases_Bool cr) [
-            | inl returns ↦
-                let cut =
-                ap (λ t. cond t (take (length short - 1) short) short) returns ∙ ap (λ k. take (k - 1) short) size in
-                (n - 1 - 1, (omega arith, omega arith, one ∙ cut ∙ take-take (n - 1 - 1) (n - 1) line (omega arith)))
-            | inr other ↦ (n - 1, (omega arith, omega arith, one ∙ ap (λ t. cond t (take (length short - 1) short) short) other))
-          ]
-      | inr other ↦ (n, (omega arith, omega arith, ap (λ t. cond t (no_cr short) line) other ∙ sym (take-length line)))
-    ]
+    → (length (without_terminator line) ≤ length line) × (length line ≤ length (without_terminator line) + 2)
+    × ((k : ℕ) → k < length (without_terminator line) → get_or (without_terminator line) k 0 ≡ get_or line k 0)
+line-front line = grind (arith, nat_tests, get_or-take, length-take)
 
 -- a line that holds the note is a part, without its end too
 note-part : (b : List ℕ) (before : List (List ℕ)) (line : List ℕ) (rest : List (List ℕ)) (x : Slice)

@@ -1,6 +1,5 @@
 -- Each slice is the only one.
-use Rattle.std.proofs.Common.{◌≡◌, ℕ, ◌+◌, List, [], ◌∷◌, ◌++◌, length, refl, sym, ap, subst, ◌∙◌, arith}
-use Rattle.std.specs.Prelude.{All, Option, Some, None, MatchOption, IfSome, option_map, sum_by}
+use Rattle.std.proofs.Common.{◌≡◌, ℕ, ◌+◌, List, [], ◌∷◌, ◌++◌, length, refl, sym, ap, subst, ◌∙◌, arith, All, Option, Some, None, MatchOption, IfSome, option_map, sum_by}
 use Rattle.std.proofs.lemmas.List.Elements.{All-contains, All-head, All-tail, Contains-append_right}
 use Rattle.std.proofs.lemmas.Option.{same_Some}
 use Rattle.bstr.specs.Find.{IsFirst}
@@ -8,6 +7,7 @@ use Rattle.bstr.specs.Text.{part, lines_of, without_terminator}
 use Rattle.output_slice.specs.declared.panic_head.HeadSpan.{HeadSpan}
 use Rattle.output_slice.specs.Slices.{Slice, IsErrorStart, IsWidened, IsTrimmed, IsTrimmedSlice, IsPanicSlice, IsErrorSlice, IsNote, IsNoteLine}
 use Rattle.output_slice.specs.Extraction.{Extract, panic_slice, error_slice, note_line, OfStream, IsExtract}
+use Rattle.output_slice.specs.Lines.{AreLines}
 use Rattle.output_slice.proofs.DivisionLemmas.{AreLines-same}
 use Rattle.output_slice.proofs.TakenLemmas.{IsLastTaken-same}
 use Rattle.output_slice.proofs.WideningLemmas.{IsWidened-same}
@@ -45,18 +45,12 @@ IsPanicSlice-same b (Some x) (Some y) p q =
 
 -- there is one error slice
 pub IsErrorSlice-same : (b : List ℕ) (f g : Option Slice) → IsErrorSlice b f → IsErrorSlice b g → f ≡ g
-IsErrorSlice-same b f g p q =
-    let starts = IsFirst-same (IsErrorStart b) 0 (length b + 1) (option_map start f) (option_map start g) p.0 q.0 in
-    by_found f g starts p.1 q.1 where
-      start : Slice → ℕ
-      start x = x.start
-
-      by_found : (x y : Option Slice) → option_map start x ≡ option_map start y → IfSome x (IsTrimmedSlice b)
-          → IfSome y (IsTrimmedSlice b) → x ≡ y
-      by_found None None e one two = refl
-      by_found None (Some y) e one two = absurd (cc)
-      by_found (Some x) None e one two = absurd (cc)
-      by_found (Some x) (Some y) e one two = ap Some (IsTrimmedSlice-same b x y (same_Some x.start y.start e) one two)
+IsErrorSlice-same b None None p q = refl
+IsErrorSlice-same b None (Some y) p q = absurd (cc (IsFirst-same (IsErrorStart b) 0 (length b + 1) None (Some y.start) p.0 q.0))
+IsErrorSlice-same b (Some x) None p q = absurd (cc (IsFirst-same (IsErrorStart b) 0 (length b + 1) (Some x.start) None p.0 q.0))
+IsErrorSlice-same b (Some x) (Some y) p q =
+    let starts = IsFirst-same (IsErrorStart b) 0 (length b + 1) (Some x.start) (Some y.start) p.0 q.0 in
+    ap Some (IsTrimmedSlice-same b x y (same_Some x.start y.start starts) p.1 q.1)
 
 -- there is one first element for which P holds
 first-same : (P : List ℕ → Type 0) (xs ys : List (List ℕ)) (x y : List ℕ) (us vs : List (List ℕ))
@@ -82,21 +76,21 @@ none-first P all xs x us e none p =
     All-contains (λ z. ¬ P z) (xs ++ x ∷ us) x (rw e at none) among p
 
 -- there is one note line
-pub IsNoteLine-same : (b : List ℕ) (f g : Option Slice) → IsNoteLine b f → IsNoteLine b g → f ≡ g
-IsNoteLine-same b f g p q =
-    by_found f g (subst (Is f) (AreLines-same b p.0 p.1) p.2) (subst (Is g) (AreLines-same b q.0 q.1) q.2) where
-      Is : Option Slice → List (List ℕ) → Type 0
-      Is found lines = MatchOption found (All (λ line. ¬ IsNote line) lines)
-          (λ x. (before : List (List ℕ)) × (line : List ℕ) × (after : List (List ℕ)) × (lines ≡ before ++ line ∷ after)
-          × All (λ line. ¬ IsNote line) before × IsNote line × (x.start ≡ sum_by length before) × (x.bytes ≡ without_terminator line))
+lines-one : (b : List ℕ) (xs ys : List (List ℕ)) → AreLines b xs → AreLines b ys → xs ≡ ys
+lines-one b xs ys p q = AreLines-same b xs p ∙ sym (AreLines-same b ys q)
 
-      by_found : (x y : Option Slice) → Is x (lines_of b) → Is y (lines_of b) → x ≡ y
-      by_found None None one two = refl
-      by_found None (Some y) one two = absurd (none-first IsNote (lines_of b) two.0 two.1 two.2 two.3 one two.5)
-      by_found (Some x) None one two = absurd (none-first IsNote (lines_of b) one.0 one.1 one.2 one.3 two one.5)
-      by_found (Some x) (Some y) one two =
-          let same = first-same IsNote one.0 two.0 one.1 two.1 one.2 two.2 (sym one.3 ∙ two.3) one.4 two.4 one.5 two.5 in
-          ap Some (slice-same x y (one.6 ∙ ap (sum_by length) same.0 ∙ sym two.6) (one.7 ∙ ap without_terminator same.1 ∙ sym two.7))
+pub IsNoteLine-same : (b : List ℕ) (f g : Option Slice) → IsNoteLine b f → IsNoteLine b g → f ≡ g
+IsNoteLine-same b None None p q = refl
+IsNoteLine-same b None (Some y) p q =
+    absurd (none-first IsNote p.0 q.2.0 q.2.1 q.2.2 (lines-one b p.0 q.0 p.1 q.1 ∙ q.2.3) p.2 q.2.5)
+IsNoteLine-same b (Some x) None p q =
+    absurd (none-first IsNote q.0 p.2.0 p.2.1 p.2.2 (lines-one b q.0 p.0 q.1 p.1 ∙ p.2.3) q.2 p.2.5)
+IsNoteLine-same b (Some x) (Some y) p q =
+    let one = p.2 in
+    let two = q.2 in
+    let whole = sym one.3 ∙ lines-one b p.0 q.0 p.1 q.1 ∙ two.3 in
+    let same = first-same IsNote one.0 two.0 one.1 two.1 one.2 two.2 whole one.4 two.4 one.5 two.5 in
+    ap Some (slice-same x y (one.6 ∙ ap (sum_by length) same.0 ∙ sym two.6) (one.7 ∙ ap without_terminator same.1 ∙ sym two.7))
 
 -- what holds of each stream's bytes holds of a stream
 OfStream-same : (Is : List ℕ → Option Slice → Type 0) → ((b : List ℕ) (f g : Option Slice) → Is b f → Is b g → f ≡ g)

@@ -1,6 +1,5 @@
 -- The state of the counted search, and its reads.
-use Rattle.std.proofs.Common.{◌≡◌, ◌≢◌, ℕ, ◌+◌, ◌-◌, ◌*◌, ◌<◌, ◌≤◌, List, [], ◌∷◌, ◌++◌, length, get_or, refl, sym, arith, inl, inr}
-use Rattle.std.specs.Prelude.{Option, Some, None, MatchOption, IfSome, ◌^◌}
+use Rattle.std.proofs.Common.{◌≡◌, ◌≢◌, ℕ, ◌+◌, ◌-◌, ◌*◌, ◌<◌, ◌≤◌, List, [], ◌∷◌, ◌++◌, length, get_or, refl, sym, arith, inl, inr, Option, Some, None, MatchOption, IfSome, ◌^◌}
 use Rattle.std.proofs.lemmas.Bool.{cases_lt}
 use Rattle.std.proofs.lemmas.List.{get_or_push, length_push}
 use Rattle.std.proofs.lemmas.Option.{slice_get_read}
@@ -28,16 +27,6 @@ pub record WithReads (b : List ℕ) (old new place q : ℕ) : Type 0 where
   pub near : tail + 2 * place ≤ 2 * before + 2
   -- one read for each byte up to q, two more for each before the place, that tail, and what was read at q
   pub few : FewReads (q - place) (q + 1) seen (old + ((q + 1) + 2 * place + tail)) new
-
--- an opening lies behind the tail that was read before it
-before-opening : (b : List ℕ) (old new place q : ℕ) → (w : WithReads b old new place q) → place + 7 ≤ q
-    → IsLineStart b (q - 7)
-    → w.before + 7 ≤ q
-before-opening b old new place q w far line = grind arith
-
--- with more reads before, the same are still few
-few-more : (name at last old old' new : ℕ) → old ≤ old' → FewReads name at last old new → FewReads name at last old' new
-few-more name at last old old' new more few = grind arith
 
 -- three reads for each byte up to q pay for all but the tail behind q, the word before q included
 few-paid : (b : List ℕ) (old new place q word : ℕ) → (w : WithReads b old new place q) → word ≤ 8
@@ -152,17 +141,14 @@ searched-none b old new scanned tested place q close last h is fits reads none o
             plain = m.plain;
             before = w.seen;
             from = omega (arith, w.low);
-            to = next-seen c i;
+            to = let passed = w.plain c in grind arith;
             line = λ l. (omega arith, λ k low up. feed-free k low up);
             tail = p.0;
             far = p.1;
             near = p.2;
-            few = few-more (c - (q + 1)) (c + 1) m.last (scanned + read.0) (old + ((c + 1) + 2 * (q + 1) + p.0)) tested (omega arith) read.4;
+            few = grind (arith, read.4);
           }
         where
-          next-seen : (c : ℕ) → IsNextQuote b (q + 1) (Some c) → w.seen ≤ c
-          next-seen c i = let passed = w.plain c in grind arith
-
           feed-free : (k : ℕ) → q + 1 ≤ k + 1 → k < w.seen → get_or b k 0 ≢ 10
           feed-free k low up = let passed = w.plain k in let quote = h.is_next.1 in grind arith
 

@@ -4,7 +4,7 @@ use Rattle.output_slice.specs.declared.panic_head.HeadSpan.{HeadSpan}
 use Rattle.output_slice.specs.Head.{IsHead}
 use Rattle.output_slice.specs.Taken.{IsTaken}
 use Rattle.output_slice.specs.Steps.{NoQuoteBetween}
-use Rattle.output_slice.proofs.HeadLemmas.{head-quote, head-letters}
+use Rattle.output_slice.proofs.HeadLemmas.{head-letters}
 use Rattle.output_slice.proofs.TakenLemmas.{IsTaken-leftmost, Leftmost, leftmost-before}
 
 -- with those taken from `place` on they are those of all bytes

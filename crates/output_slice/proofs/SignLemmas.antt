@@ -1,7 +1,5 @@
 -- Where signs begin.
-use Rattle.std.proofs.Common.{◌≡◌, ℕ, ◌+◌, ◌-◌, ◌<◌, ◌≤◌, List, length, take, arith, length-take}
-use Rattle.std.specs.Prelude.{Option, None, Some, min}
-use Rattle.std.proofs.lemmas.List.{get_or-take}
+use Rattle.std.proofs.Common.{◌≡◌, ℕ, ◌+◌, ◌-◌, ◌<◌, ◌≤◌, List, length, take, arith, length-take, Option, None, Some, min, get_or-take}
 use Rattle.bstr.specs.Find.{OccursAt, FindsLastNeedle, FindsNeedle}
 use Rattle.bstr.specs.Text.{Contains, part}
 use Rattle.output_slice.specs.Signs.{IsQuietFrom}

@@ -1,6 +1,5 @@
 -- The first and the last line start at which a text stands, by the places of a line feed with the text behind it.
-use Rattle.std.proofs.Common.{◌≡◌, ℕ, ◌+◌, ◌-◌, ◌<◌, ◌⊎◌, inl, inr, List, [], ◌∷◌, length, subst, arith}
-use Rattle.std.specs.Prelude.{Some, None}
+use Rattle.std.proofs.Common.{◌≡◌, ℕ, ◌+◌, ◌-◌, ◌<◌, ◌⊎◌, inl, inr, List, [], ◌∷◌, length, subst, arith, Some, None}
 use Rattle.std.proofs.lemmas.Bool.{cases_lt}
 use Rattle.bstr.specs.Find.{OccursAt, IsFirst, IsLast, FindsNeedle, FindsLastNeedle}
 use Rattle.output_slice.specs.Head.{IsLineStart}
@@ -31,10 +30,7 @@ module _ (b xs : List ℕ) where
 
   -- no start is where the text stands neither at the front nor behind a line feed
   pub first-none : ¬ OccursAt b xs 0 → FindsNeedle b (10 ∷ xs) 0 None → IsFirst Starts 0 (length b + 1) None
-  first-none front none = λ s low high h. elim (start-cases s h) [
-    | inl here ↦ front here
-    | inr feed ↦ none (s - 1) (omega arith) (omega arith) feed.1
-  ]
+  first-none front none = λ s low high h. let cases = start-cases s h in let other = none (s - 1) in grind arith
 
   -- else the first is behind the first such line feed
   pub first-later : (i : ℕ) → ¬ OccursAt b xs 0 → FindsNeedle b (10 ∷ xs) 0 (Some i)
@@ -44,10 +40,7 @@ module _ (b xs : List ℕ) where
         record {
           low = omega arith;
           high = omega arith;
-          before = λ s low high start. elim (start-cases s start) [
-            | inl here ↦ front here
-            | inr feed ↦ let pos = feed.0 in h.0.before (s - 1) (omega arith) (omega arith) feed.1
-          ];
+          before = λ s low high start. let cases = start-cases s start in let other = h.0.before (s - 1) in grind arith;
         },
         feed-start i h.1,
       )
@@ -78,7 +71,4 @@ module _ (b xs : List ℕ) where
 
   -- or there is none
   pub last-none : FindsLastNeedle b (10 ∷ xs) None → ¬ OccursAt b xs 0 → IsLast Starts 0 (length b + 1) None
-  last-none none front = λ s low high h. elim (start-cases s h) [
-    | inl here ↦ front here
-    | inr feed ↦ none (s - 1) (omega arith) (omega arith) feed.1
-  ]
+  last-none none front = λ s low high h. let cases = start-cases s h in let other = none (s - 1) in grind arith

@@ -1,7 +1,5 @@
 -- What the steps of the counted search find.
-use Rattle.std.proofs.Common.{◌≡◌, ◌≢◌, ℕ, ◌+◌, ◌-◌, ◌<◌, ◌≤◌, List, length, get_or, subst, arith}
-use Rattle.std.specs.Prelude.{codes, Option, Some, None}
-use Rattle.std.specs.Str.{IsUtf8}
+use Rattle.std.proofs.Common.{◌≡◌, ◌≢◌, ℕ, ◌+◌, ◌-◌, ◌<◌, ◌≤◌, List, length, get_or, subst, arith, codes, Option, Some, None, IsUtf8}
 use Rattle.std.proofs.lemmas.List.Elements.{All-from_get_or}
 use Rattle.bstr.specs.Find.{OccursAt}
 use Rattle.bstr.specs.Text.{part}
@@ -9,17 +7,6 @@ use Rattle.output_slice.specs.Head.{IsLineStart, IsName, IsHead}
 use Rattle.output_slice.specs.Steps.{IsTailEnd, IsNamedHeadEnd, IsOpened, IsOpenedHeadEnd, IsNextQuote, NoQuoteBetween}
 use Rattle.output_slice.proofs.HeadLemmas.{name-quiet, head-order}
 use Rattle.output_slice.proofs.OccursLemmas.{get_or-part, length-part, occurs-both, occurs-byte, occurs-front}
-
--- bytes of UTF-8 without a quote, at least one, are a name
-pub name-from : (b : List ℕ) (i j : ℕ) → i < j → j ≤ length b → IsUtf8 (part i j b) → NoQuoteBetween b i j
-    → IsName (part i j b)
-name-from b i j low high utf8 quiet =
-    let size = length-part b i j high in record {
-      some = omega arith;
-      utf8 = utf8;
-      no_quote = All-from_get_or (λ x. x ≢ 39) (part i j b) 0
-          (λ k l. let other = quiet (i + k) in grind (arith, get_or-part));
-    }
 
 -- behind a name the head ends where its tail does
 pub IsNamedHeadEnd-name : (b : List ℕ) (quote close : ℕ) (found : Option ℕ) → IsName (part (quote + 1) close b)

@@ -1,9 +1,8 @@
 -- Tails of heads.
-use Rattle.std.proofs.Common.{◌≡◌, ℕ, ◌+◌, ◌-◌, ◌<◌, ◌≤◌, ◌⊎◌, Bool, true, List, [], ◌∷◌, ◌++◌, length, get_or, refl, sym, ap, ◌∙◌, arith, inl, inr, length-append, append-nil}
+use Rattle.std.proofs.Common.{◌≡◌, ℕ, ◌+◌, ◌-◌, ◌<◌, ◌≤◌, ◌⊎◌, Bool, true, List, [], ◌∷◌, ◌++◌, length, get_or, refl, sym, ap, ◌∙◌, arith, inl, inr, length-append, append-nil, encode_utf8_all}
 use Rattle.std.specs.Prelude.{codes, not, ◌==◌, ◌&&◌, All, Option, Some, None, IfSome}
 use Rattle.std.specs.List.{list_all}
 use Rattle.std.specs.Char.{encode_utf8, IsScalar}
-use Rattle.std.specs.Str.{encode_utf8_all}
 use Rattle.std.proofs.lemmas.Str.{inside_one, length-le-encodes, length-encode, len_utf8_bounds}
 use Rattle.std.proofs.lemmas.List.Elements.{All-head, All-tail}
 use Rattle.std.proofs.lemmas.List.Folds.{list_all-append}
@@ -26,11 +25,9 @@ is_plain x = not (x == 39) && not (x == 10)
 
 -- no byte of a digit is one
 digit-plain : (c : ℕ) → IsDigit c → list_all is_plain (encode_utf8 c) ≡ true
-digit-plain c digit = list_all-from_AllPass is_plain (encode_utf8 c) byte where
-  byte : (k d : ℕ) → k < length (encode_utf8 c) → is_plain (get_or (encode_utf8 c) k d) ≡ true
-  byte k d low =
-      let inside = inside_one c [] (encode_utf8 c) k (sym (append-nil (encode_utf8 c))) low in
-      rw (get_or_default (encode_utf8 c) k d 0 low) (grind (arith, nat_tests))
+digit-plain c digit = list_all-from_AllPass is_plain (encode_utf8 c) (λ k d low.
+    let inside = inside_one c [] (encode_utf8 c) k (sym (append-nil (encode_utf8 c))) low in
+    rw (get_or_default (encode_utf8 c) k d 0 low) (grind (arith, nat_tests)))
 
 digits-plain : (cs : List ℕ) → All (λ c. IsScalar c × IsDigit c) cs → list_all is_plain (encode_utf8_all cs) ≡ true
 digits-plain [] all = refl
@@ -43,9 +40,7 @@ digits-plain (c ∷ cs) all =
 text-plain : (text : List ℕ) → IsTail text → list_all is_plain text ≡ true
 text-plain text h = elim h [
   | inl plain ↦ ap (list_all is_plain) plain
-  | inr n ↦
-      let number : list_all is_plain n.0 ≡ true = ap (list_all is_plain) n.1.3 ∙ digits-plain n.1.0 n.1.2 in
-      ap (list_all is_plain) n.2 ∙ list_all-append is_plain n.0 (codes ") panicked at ") ∙ and_from _ _ number refl
+  | inr n ↦ simp (n.2, n.1.3, list_all-append, digits-plain n.1.0 n.1.2)
 ]
 
 -- where a tail stands there is neither
@@ -146,17 +141,13 @@ apart b at p q = omega (arith, p.reads 1 (omega arith), q.reads 1 (omega arith))
 -- one place has one tail
 pub tail-same : (b : List ℕ) (at e e' : ℕ) → e ≤ length b → e' ≤ length b → IsTail (part at e b) → IsTail (part at e' b)
     → e ≡ e'
-tail-same b at e e' high high' h k =
-    elim (tail_cases b at e high h) [
-      | inl p ↦ elim (tail_cases b at e' high' k) [
-        | inl q ↦ p.1 ∙ sym q.1
-        | inr q ↦ absurd (apart b at p.0 q.opens)
-      ]
-      | inr p ↦ elim (tail_cases b at e' high' k) [
-        | inl q ↦ absurd (apart b at q.0 p.opens)
-        | inr q ↦ p.ends ∙ ap (λ i. i + 14) (IsDigitRun-same b (at + 2) p.close q.close p.run q.run) ∙ sym q.ends
-      ]
-    ]
+tail-same b at e e' high high' h k = elim (tail_cases b at e high h) [
+  | inl p ↦ elim (tail_cases b at e' high' k) [ inl q ↦ p.1 ∙ sym q.1 | inr q ↦ absurd (apart b at p.0 q.opens) ]
+  | inr p ↦ elim (tail_cases b at e' high' k) [
+    | inl q ↦ absurd (apart b at q.0 p.opens)
+    | inr q ↦ p.ends ∙ ap (λ i. i + 14) (IsDigitRun-same b (at + 2) p.close q.close p.run q.run) ∙ sym q.ends
+  ]
+]
 
 -- the ways in which the search for a tail ends
 pub IsTailEnd-plain : (b : List ℕ) (at : ℕ) (found : Option ℕ) → ¬ OccursAt b (codes " (") at
@@ -218,8 +209,7 @@ ReadsUpTo-plain b at k old one two new found space few none few' r f =
           (agrees-plain b (codes "panicked at ") (at + 1) t.0 t.1 refl);
       far = omega arith;
       near = omega arith;
-      before = IfSome_then found {P = λ e. (e ≡ at + 1 + t.0) × (t.0 ≡ 12) × (new ≤ two + t.0)}
-          {Q = λ e. (at + 1 + t.0 ≤ e) × (at + 13 ≤ at + 1 + t.0) × (new + at ≤ old + (at + 1 + t.0) + 1)} t.3 (λ e h. omega arith);
+      before = grind (arith, t.3);
     }
 
 -- how far a numbered tail is read
@@ -240,7 +230,5 @@ ReadsUpTo-numbered b at close old mid mid' new found opens few digits some few' 
           (agrees-plain b (codes ") panicked at ") close t.0 t.1 refl));
       far = omega arith;
       near = omega arith;
-      before = IfSome_then found {P = λ e. (e ≡ close + t.0) × (t.0 ≡ 14) × (new ≤ mid' + t.0)}
-          {Q = λ e. (close + t.0 ≤ e) × (at + 13 ≤ close + t.0) × (new + at ≤ old + (close + t.0) + 1)} t.3
-          (λ e h. let first = t.1.reads 0 in grind arith);
+      before = let first = t.1.reads 0 in grind (arith, t.3);
     }

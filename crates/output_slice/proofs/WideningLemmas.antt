@@ -1,17 +1,10 @@
 -- Where a panic slice begins.
-use Rattle.std.proofs.Common.{◌≡◌, ℕ, ◌+◌, ◌-◌, ◌<◌, ◌≤◌, List, length, get_or, take, drop, refl, sym, ap, ◌∙◌, arith, inl, inr, length-take}
-use Rattle.std.specs.Prelude.{codes, Some}
-use Rattle.std.proofs.lemmas.List.{get_or-take}
+use Rattle.std.proofs.Common.{◌≡◌, ℕ, ◌+◌, ◌-◌, ◌<◌, ◌≤◌, List, length, get_or, take, drop, refl, sym, ap, ◌∙◌, arith, inl, inr, length-take, codes, Some, get_or-take}
 use Rattle.bstr.specs.Find.{OccursAt, IsLastByte, is_byte}
 use Rattle.output_slice.specs.Slices.{IsBreak, IsErrorLine, IsWidened}
 use Rattle.output_slice.specs.Steps.{AreBreaks}
 use Rattle.output_slice.proofs.ByteLemmas.{last-byte}
 use Rattle.output_slice.proofs.OccursLemmas.{dropped-occurs, occurs-dropped}
-
--- a text that ends before s ends where the breaks before s begin, or before that
-stop-least : (b : List ℕ) (s stop other : ℕ) → other ≤ s → AreBreaks b stop s → ¬ IsBreak (get_or b (other - 1) 0)
-    → other ≤ stop
-stop-least b s stop other within breaks text = grind arith
 
 -- an error line is not empty, and begins with a line feed
 line-start : (b : List ℕ) (s j : ℕ) (h : IsErrorLine b s j) → (j + 7 ≤ h.stop) × (get_or b j 0 ≡ 10)
@@ -64,13 +57,7 @@ line-same b s j k g h =
 
 -- widening gives one start
 pub IsWidened-same : (b : List ℕ) (s t u : ℕ) → IsWidened b s t → IsWidened b s u → t ≡ u
-IsWidened-same b s t u g h = elim g [
-  | inl x ↦ elim h [
-    | inl y ↦ x.2 ∙ ap (λ k. k + 1) (line-same b s x.0 y.0 x.1 y.1) ∙ sym y.2
-    | inr none ↦ absurd (none.0 x.0 x.1)
-  ]
-  | inr none ↦ elim h [
-    | inl y ↦ absurd (none.0 y.0 y.1)
-    | inr other ↦ none.1 ∙ sym other.1
-  ]
-]
+IsWidened-same b s t u (inl x) (inl y) = x.2 ∙ ap (λ k. k + 1) (line-same b s x.0 y.0 x.1 y.1) ∙ sym y.2
+IsWidened-same b s t u (inl x) (inr none) = absurd (none.0 x.0 x.1)
+IsWidened-same b s t u (inr none) (inl y) = absurd (none.0 y.0 y.1)
+IsWidened-same b s t u (inr none) (inr other) = none.1 ∙ sym other.1

@@ -1,6 +1,4 @@
-use Rattle.std.proofs.Common.{◌≡◌, ℕ, List, Bor}
-use Rattle.std.specs.Prelude.{codes, Option, None, Some}
-use Rattle.std.specs.Option.{unwrap_or}
+use Rattle.std.proofs.Common.{◌≡◌, ℕ, List, Bor, codes, Option, None, Some, unwrap_or}
 use Rattle.output_slice.specs.Signs.{IsNoteQuiet, IsQuietFrom}
 use Rattle.output_slice.proofs.OccursLemmas.{occurs-front}
 use Rattle.output_slice.proofs.heuristics.first_slice.Goals as goal

@@ -1,5 +1,4 @@
-use Rattle.std.proofs.Common.{take}
-use Rattle.std.specs.Prelude.{Some, None}
+use Rattle.std.proofs.Common.{take, Some, None}
 use Rattle.output_slice.proofs.CutLemmas.{last-within-front}
 use Rattle.output_slice.proofs.OccursLemmas.{occurs-front-take}
 use Rattle.output_slice.proofs.OpeningLemmas.{opening-none}

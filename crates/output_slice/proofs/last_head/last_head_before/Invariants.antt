@@ -1,5 +1,4 @@
-use Rattle.std.proofs.Common.{length}
-use Rattle.std.specs.Prelude.{Option, codes}
+use Rattle.std.proofs.Common.{length, Option, codes}
 use Rattle.output_slice.specs.declared.panic_head.HeadSpan.{HeadSpan}
 use Rattle.output_slice.specs.Signs.{IsQuietFrom}
 use Rattle.output_slice.specs.Taken.{IsLastTaken}

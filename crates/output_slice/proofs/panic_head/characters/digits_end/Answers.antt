@@ -1,6 +1,5 @@
-use Rattle.std.proofs.Common.{◌≡◌, refl, ◌∙◌, arith, subst}
+use Rattle.std.proofs.Common.{◌≡◌, refl, ◌∙◌, arith, subst, true}
 use Rattle.output_slice.specs.Head.{IsDigit}
-use Rattle.std.proofs.Common.{true}
 use Rattle.std.proofs.lemmas.Str.{len_utf8_bounds, length-encode}
 use Rattle.output_slice.proofs.CharLemmas.{char-same}
 use Rattle.output_slice.proofs.DigitLemmas.{digits-none, digits-more}

@@ -1,5 +1,4 @@
-use Rattle.std.proofs.Common.{◌≡◌, ◌+◌, ◌-◌, ◌≤◌, ◌↔◌}
-use Rattle.std.specs.Str.{IsUtf8}
+use Rattle.std.proofs.Common.{◌≡◌, ◌+◌, ◌-◌, ◌≤◌, ◌↔◌, IsUtf8}
 use Rattle.bstr.specs.Text.{part}
 use Rattle.output_slice.proofs.panic_head.characters.is_utf8_between.Given as goal
 

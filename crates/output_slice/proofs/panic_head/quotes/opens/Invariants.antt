@@ -1,5 +1,4 @@
-use Rattle.std.proofs.Common.{◌≡◌, ◌+◌, ◌<◌, ◌≤◌, ℕ, get_or}
-use Rattle.std.specs.Prelude.{codes}
+use Rattle.std.proofs.Common.{◌≡◌, ◌+◌, ◌<◌, ◌≤◌, ℕ, get_or, codes}
 use Rattle.output_slice.specs.Head.{IsLineStart}
 use Rattle.output_slice.proofs.panic_head.quotes.opens.Given as goal
 
