@@ -4,7 +4,7 @@ use Rattle.std.specs.Prelude.{IsSome, Option, Some, None, map}
 use Rattle.std.proofs.lemmas.Bool.{cases_lt}
 use Rattle.std.proofs.lemmas.List.{length-map, get_or-append-add}
 use Rattle.std.proofs.lemmas.List.Elements.{All-weaker}
-use Rattle.std.proofs.lemmas.Option.{slice_get_read, slice_get-map, slice_get_within, get_or_from_slice_get}
+use Rattle.std.proofs.lemmas.Option.{slice_get-get_or, slice_get_read, slice_get-map, slice_get_within, get_or_from_slice_get}
 use Rattle.output_slice.specs.declared.panic_head.HeadSpan.{HeadSpan}
 use Rattle.output_slice.specs.Head.{IsHead}
 use Rattle.output_slice.specs.Taken.{IsTaken, IsLastTaken, last_of}
@@ -12,8 +12,8 @@ use Rattle.output_slice.specs.Cut.{IsCut, shifted}
 use Rattle.output_slice.specs.Search.{AllHeadsEndBy}
 use Rattle.output_slice.proofs.HeadLemmas.{head-order}
 use Rattle.output_slice.proofs.MoveLemmas.{head-of-back, back-of-head, head-of-front, front-of-head}
-use Rattle.output_slice.proofs.ExistLemmas.{IsTaken-exists}
-use Rattle.output_slice.proofs.TakenLemmas.{IsLastTaken-head, IsTaken-leftmost, IsTaken-nil, Leftmost, leftmost-before}
+use Rattle.output_slice.proofs.ExistLemmas.{IsTaken-exists, leftmost-taken}
+use Rattle.output_slice.proofs.TakenLemmas.{IsLastTaken-head, IsTaken-from_leftmost, IsTaken-nil, Leftmost, leftmost-before}
 
 module _ (b : List ℕ) (c : ℕ) (cut : IsCut b c) where
   -- a head behind the cut is one of what stands there
@@ -69,18 +69,13 @@ module _ (b : List ℕ) (c : ℕ) (cut : IsCut b c) where
 pub divides : (b : List ℕ) (c : ℕ) (xs ys : List HeadSpan) → IsCut b c → IsTaken (take c b) xs → IsTaken (drop c b) ys
     → IsTaken b (xs ++ map (shifted c) ys)
 divides b c xs ys cut front back =
-    let before = (IsTaken-leftmost (take c b) xs).0 front in
-    let behind = (IsTaken-leftmost (drop c b) ys).0 back in
-    (IsTaken-leftmost b (xs ++ map (shifted c) ys)).1 (leftmost-joined b c cut xs ys 0 (omega arith) before behind)
+    let before = leftmost-taken (take c b) xs front in
+    IsTaken-from_leftmost b (xs ++ map (shifted c) ys) (leftmost-joined b c cut xs ys 0 (omega arith) before (leftmost-taken (drop c b) ys back))
 
 -- the last of two lists is the last of the second, if that has one
 last_of-append : (xs ys : List HeadSpan) (h : HeadSpan) → Some h ≡ last_of ys → Some h ≡ last_of (xs ++ ys)
 last_of-append xs ys h e =
-    let low = slice_get_within ys (length ys - 1) h (sym e) in
-    let read = get_or_from_slice_get ys (length ys - 1) h h (sym e) in
-    let size = length-append xs ys in
-    let place : length (xs ++ ys) - 1 ≡ length xs + (length ys - 1) = omega arith in
-    sym (slice_get_read (xs ++ ys) _ _ h refl (omega arith) (sym (rw place (get_or-append-add xs ys (length ys - 1) h ∙ read))))
+    grind (arith, length-append, get_or-append-add, slice_get-get_or, slice_get_within ys (length ys - 1) h (sym e), get_or_from_slice_get ys (length ys - 1) h h (sym e))
 
 -- the last of a shifted list
 last_of-map : (c : ℕ) (ys : List HeadSpan) (h : HeadSpan) → Some h ≡ last_of ys

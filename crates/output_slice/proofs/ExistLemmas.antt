@@ -17,7 +17,7 @@ use Rattle.output_slice.specs.Head.{IsName, IsDigit, IsHead, IsLineStart, IsNumb
 use Rattle.output_slice.specs.Taken.{IsTaken}
 use Rattle.output_slice.proofs.HeadLemmas.{head-order}
 use Rattle.output_slice.proofs.OccursLemmas.{occurs-part, part-occurs}
-use Rattle.output_slice.proofs.TakenLemmas.{IsTaken-leftmost, Leftmost}
+use Rattle.output_slice.proofs.TakenLemmas.{IsTaken-from_leftmost, IsTaken-same, Leftmost}
 
 -- what holds, or does not
 abbrev Known : Type 0 → Type 0
@@ -159,4 +159,10 @@ heads-from (suc n) b from done = elim (first (λ s. (e : ℕ) × IsHead b s e) (
 
 -- there is a list of taken heads
 pub IsTaken-exists : (b : List ℕ) → (taken : List HeadSpan) × IsTaken b taken
-IsTaken-exists b = let heads = heads-from (length b + 1) b 0 (omega arith) in (heads.0, (IsTaken-leftmost b heads.0).1 heads.1)
+IsTaken-exists b = let heads = heads-from (length b + 1) b 0 (omega arith) in (heads.0, IsTaken-from_leftmost b heads.0 heads.1)
+
+-- the taken heads are taken leftmost first
+pub leftmost-taken : (b : List ℕ) (xs : List HeadSpan) → IsTaken b xs → Leftmost b 0 xs
+leftmost-taken b xs h =
+    let heads = heads-from (length b + 1) b 0 (omega arith) in
+    subst (Leftmost b 0) (IsTaken-same b heads.0 xs (IsTaken-from_leftmost b heads.0 heads.1) h) heads.1

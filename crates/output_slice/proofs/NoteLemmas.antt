@@ -103,25 +103,18 @@ module _ (b : List ℕ) (at s e : ℕ) (found : FindsNeedle b (codes "note: test
       lines-round b s e (omega arith) high line (λ k l u. let one = front k in let two = quiet k in grind arith)
       (λ less. let end = last less in (omega arith, end.1))
 
-  is-note : IsNote (part s e b)
-  is-note = let long = inside in (at - s, occurs-in-part b _ at s e low (omega arith) high here)
-
-  start-is : s ≡ sum_by length (lines_of (take s b))
-  start-is = sym (length-take-le s b (omega arith)) ∙ sym (ap length (concat-lines_of (take s b))) ∙ length-concat (lines_of (take s b))
-
-  none-before : All (λ line. ¬ IsNote line) (lines_of (take s b))
-  none-before = none-in (codes "note: test did not panic as expected") (take s b) (λ h.
-      let fits = h.1.fits in
-      let size = length-take s b in
-      found.0.before h.0 (omega arith) (omega arith) (occurs-front-take b _ h.0 s (omega arith) h.1))
-
   -- the line round the first note is the note line
   pub note-line : IsNoteLine b (Some (record { start = s; bytes = without_terminator (part s e b) }))
-  note-line = (
-    lines_of b,
-    AreLines-lines_of b,
-    (lines_of (take s b), part s e b, lines_of (drop (e - s) (drop s b)), lines-are, none-before, is-note, start-is, refl),
-  )
+  note-line =
+      let long = inside in
+      let before = take s b in
+      let none = none-in (codes "note: test did not panic as expected") before (λ h.
+      let fits = h.1.fits in
+      let size = length-take s b in
+      found.0.before h.0 (omega arith) (omega arith) (occurs-front-take b _ h.0 s (omega arith) h.1)) in
+      let start = sym (length-take-le s b (omega arith)) ∙ sym (ap length (concat-lines_of before)) ∙ length-concat (lines_of before) in
+      let is_note : IsNote (part s e b) = (at - s, occurs-in-part b _ at s e low (omega arith) high here) in
+      (lines_of b, AreLines-lines_of b, (lines_of before, part s e b, lines_of (drop (e - s) (drop s b)), lines-are, none, is_note, start, refl))
 
 -- without a note there is no note line
 pub note-none : (b : List ℕ) → FindsNeedle b (codes "note: test did not panic as expected") 0 None → IsNoteLine b None

@@ -30,22 +30,10 @@ module _ (b : List ℕ) (at : ℕ) (o : IsLastOpening b (Some at)) where
       grind arith
 
   -- all heads end by the end of the line of the first quote behind the last opening
-  window-end : (q end : ℕ) → at + 8 ≤ q → (get_or b q 0 ≡ 39) ⊎ NoQuoteBetween b (at + 8) (length b) → q ≤ end
+  pub window-end : (q end : ℕ) → at + 8 ≤ q → (get_or b q 0 ≡ 39) ⊎ NoQuoteBetween b (at + 8) (length b) → q ≤ end
       → IsLineEnd b q end → AllHeadsEndBy b end
   window-end q end far next up last s e h =
       let quote = opening-quote q s e far next h in
       let line = head-line-end b s e q end h in
       grind arith
 
-  -- where there is such a quote, and where there is none
-  pub window-end-some : (gap end : ℕ) → IsFirstByte (is_byte 39) (drop (at + 8) b) (Some gap) → at + 8 + gap ≤ end
-      → IsLineEnd b (at + 8 + gap) end → AllHeadsEndBy b end
-  window-end-some gap end h up last =
-      let quote = first-byte 39 b (at + 8) o.1.1.fits gap h in
-      window-end (at + 8 + gap) end (omega arith) (inl quote.1) up last
-
-  pub window-end-none : (end : ℕ) → IsFirstByte (is_byte 39) (drop (at + 8) b) None → at + 8 ≤ end
-      → IsLineEnd b (at + 8) end
-      → AllHeadsEndBy b end
-  window-end-none end h up last =
-      window-end (at + 8) end (omega arith) (inr (no-byte 39 b (at + 8) o.1.1.fits h)) up last

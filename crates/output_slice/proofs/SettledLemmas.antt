@@ -5,7 +5,7 @@ use Rattle.output_slice.specs.Head.{IsHead}
 use Rattle.output_slice.specs.Taken.{IsTaken}
 use Rattle.output_slice.specs.Steps.{NoQuoteBetween}
 use Rattle.output_slice.proofs.HeadLemmas.{head-letters}
-use Rattle.output_slice.proofs.TakenLemmas.{IsTaken-leftmost, Leftmost, leftmost-before}
+use Rattle.output_slice.proofs.TakenLemmas.{IsTaken-from_leftmost, Leftmost, leftmost-before}
 
 -- with those taken from `place` on they are those of all bytes
 abbrev pub Settled : List ℕ → ℕ → List HeadSpan → Type 0
@@ -46,6 +46,6 @@ settled-head b place q taken x h quiet new here head rest r =
 -- no quote is left
 pub settled-done : (b : List ℕ) (place : ℕ) (taken : List HeadSpan) → Settled b place taken
     → NoQuoteBetween b place (length b) → IsTaken b taken
-settled-done b place taken h quiet = (IsTaken-leftmost b taken).1 (rw append-nil at (h [] none)) where
+settled-done b place taken h quiet = IsTaken-from_leftmost b taken (rw append-nil at (h [] none)) where
   none : (s e : ℕ) → place ≤ s → ¬ IsHead b s e
   none s e low head = let late = starts-late b place (length b) s e quiet low head in omega (arith, head.opening.fits)

@@ -90,28 +90,26 @@ pub tail_cases : (b : List ℕ) (at e : ℕ) → e ≤ length b → IsTail (part
 tail_cases b at e high h = elim h [
   | inl plain ↦ inl (part-occurs b (codes " panicked at ") at e plain high (omega arith))
   | inr n ↦
-      let number = n.0 in
       let end = codes ") panicked at " in
-      let all = part-occurs b (codes " (" ++ (number ++ end)) at e n.2 high (omega arith) in
-      let rest : OccursAt b (number ++ end) (at + 2) = occurs-back b (codes " (") (number ++ end) at all.0 in
-      let closes : OccursAt b end (at + 2 + length number) = occurs-back b number end (at + 2) rest in
-      let paren : get_or b (at + 2 + length number) 0 ≡ 41 = grind (arith, closes.reads 0) in
-      let some : 0 < length number = omega (arith, length-le-encodes n.1.0, ap length n.1.3, n.1.1) in
+      let all = part-occurs b (codes " (" ++ (n.0 ++ end)) at e n.2 high (omega arith) in
+      let rest = occurs-back b (codes " (") (n.0 ++ end) at all.0 in
+      let closes : OccursAt b end (at + 2 + length n.0) = occurs-back b n.0 end (at + 2) rest in
+      let paren = closes.reads 0 in
       inr (record {
-        close = at + 2 + length number;
-        opens = occurs-front b (codes " (") (number ++ end) at all.0;
+        close = at + 2 + length n.0;
+        opens = occurs-front b (codes " (") (n.0 ++ end) at all.0;
         run = record {
           digits = record {
             chars = n.1.0;
             digits = n.1.2;
-            stands = rw n.1.3 at (occurs-front b number end (at + 2) rest);
+            stands = rw n.1.3 at (occurs-front b n.0 end (at + 2) rest);
             ends = ap (λ t. at + 2 + length t) n.1.3;
           };
-          stops = NoDigitAt-paren b _ paren;
+          stops = NoDigitAt-paren b _ (grind arith);
         };
-        some = omega arith;
+        some = omega (arith, length-le-encodes n.1.0, ap length n.1.3, n.1.1);
         closes = closes;
-        ends = omega (arith, all.1, length-append number end);
+        ends = omega (arith, all.1, length-append n.0 end);
       })
 ]
 

@@ -1,5 +1,5 @@
 -- There is one list of taken heads.
-use Rattle.std.proofs.Common.{◌≡◌, ℕ, suc, ◌-◌, ◌<◌, ◌≤◌, ◌⊎◌, ◌↔◌, List, [], ◌∷◌, length, get_or, refl, sym, ap, subst, ◌∙◌, arith, inl, inr}
+use Rattle.std.proofs.Common.{◌≡◌, ℕ, suc, ◌+◌, ◌-◌, ◌<◌, ◌≤◌, ◌⊎◌, ◌↔◌, zero, List, [], ◌∷◌, length, get_or, refl, sym, ap, subst, ◌∙◌, arith, inl, inr}
 use Rattle.std.specs.Prelude.{All, AllPairs, Contains, Option, Some, None, IsSome, is_some}
 use Rattle.std.proofs.lemmas.Bool.{cases_lt}
 use Rattle.std.proofs.lemmas.List.Elements.{All-cons, All-head, All-tail, All-nil, All-contains, All-weaker, Contains-get_or}
@@ -26,47 +26,6 @@ contains-later x y xs h = (suc h.0, omega (arith, h.1), h.2)
 contains-cases : (x y : HeadSpan) (xs : List HeadSpan) → Contains (x ∷ xs) y → (x ≡ y) ⊎ Contains xs y
 contains-cases x y xs h = grind arith
 
-module _ (b : List ℕ) (from : ℕ) (x : HeadSpan) (xs : List HeadSpan) (h : TakenFrom b from (x ∷ xs)) where
-  later_starts : All (λ g. x.start < g.start) xs
-  later_starts = λ k d l. h.rising 0 (suc k) d (omega arith) (omega (arith, l))
-
-  starts : All (λ g. x.start ≤ g.start) (x ∷ xs)
-  starts = All-cons (λ g. x.start ≤ g.start) x xs (omega arith) (λ k d l. omega (arith, later_starts k d l))
-
-  -- the first of them is the first head there
-  first_least : (y : HeadSpan) → from ≤ y.start → IsHead b y.start y.stop → x.start ≤ y.start
-  first_least y low head = elim (cases_lt y.start x.start) [
-    | inl less ↦
-        let none : All (λ g. g.start < y.start → g.stop ≤ y.start) (x ∷ xs) =
-        λ k d l before. absurd (omega (arith, starts k d l)) in
-        All-contains (λ g. x.start ≤ g.start) (x ∷ xs) y starts ((h.rule y low head).1 none)
-    | inr more ↦ more
-  ]
-
-  rest : TakenFrom b x.stop xs
-  rest =
-      let head_is = All-head (λ g. IsHead b g.start g.stop) x xs h.heads in
-      let order = head-order b x.start x.stop head_is in
-      let begins = All-head (λ g. from ≤ g.start) x xs h.low in record {
-        heads = All-tail (λ g. IsHead b g.start g.stop) x xs h.heads;
-        rising = λ i j d l high. h.rising (suc i) (suc j) d (omega arith) (omega (arith, high));
-        low = λ k d l.
-            let g = get_or xs k d in
-            let among : Contains (x ∷ xs) g = contains-later x g xs (Contains-get_or xs k d l) in
-            let from_low : from ≤ g.start = h.low (suc k) d (omega (arith, l)) in
-            let g_head : IsHead b g.start g.stop = h.heads (suc k) d (omega (arith, l)) in
-            All-head (λ k. k.start < g.start → k.stop ≤ g.start) x xs ((h.rule g from_low g_head).0 among) (later_starts k d l);
-        rule = λ y low y_head.
-            let P = λ (g : HeadSpan). g.start < y.start → g.stop ≤ y.start in
-            let r = h.rule y (omega arith) y_head in (
-              λ among. All-tail P x xs (r.0 (contains-later x y xs among)),
-              λ all. elim (contains-cases x y xs (r.1 (All-cons P x xs (λ before. low) all))) [
-                | inl same ↦ let starts_same = ap (λ (g : HeadSpan). g.start) same in absurd (omega arith)
-                | inr among ↦ among
-              ],
-            );
-      }
-
 -- x is the first head that starts at `from` or after it
 pub record IsFirstHead (b : List ℕ) (from : ℕ) (x : HeadSpan) : Type 0 where
   pub head : IsHead b x.start x.stop
@@ -78,20 +37,6 @@ abbrev pub Leftmost : List ℕ → ℕ → List HeadSpan → Type 0
 Leftmost b from [] = (s e : ℕ) → from ≤ s → ¬ IsHead b s e
 Leftmost b from (x ∷ xs) = IsFirstHead b from x × Leftmost b x.stop xs
 
--- there is one such list
-leftmost-same : (b : List ℕ) (from : ℕ) (xs ys : List HeadSpan) → Leftmost b from xs → Leftmost b from ys → xs ≡ ys
-leftmost-same b from [] [] h k = refl
-leftmost-same b from [] (y ∷ ys) h k = absurd (h y.start y.stop k.0.low k.0.head)
-leftmost-same b from (x ∷ xs) [] h k = absurd (k x.start x.stop h.0.low h.0.head)
-leftmost-same b from (x ∷ xs) (y ∷ ys) h k =
-    let one = h.0.least y.start y.stop k.0.low k.0.head in
-    let two = k.0.least x.start x.stop h.0.low h.0.head in
-    let at : y.start ≡ x.start = omega arith in
-    let ends = head-same b x.start x.stop y.stop h.0.head (subst (λ s. IsHead b s y.stop) at k.0.head) in
-    let same = span-same x y (sym at) ends in
-    let later = leftmost-same b x.stop xs ys h.1 (subst (λ s. Leftmost b s ys) (sym ends) k.1) in
-    cc
-
 -- heads that start between two places do not matter where there are none
 pub leftmost-before : (b : List ℕ) (place later : ℕ) (xs : List HeadSpan) → place ≤ later
     → ((s e : ℕ) → place ≤ s → IsHead b s e → later ≤ s) → Leftmost b later xs → Leftmost b place xs
@@ -101,21 +46,7 @@ leftmost-before b place later (x ∷ xs) order none h = (
   h.1,
 )
 
--- the taken heads are taken leftmost first
-leftmost-taken : (b : List ℕ) (from : ℕ) (xs : List HeadSpan) → TakenFrom b from xs → Leftmost b from xs
-leftmost-taken b from [] h = λ s e low head.
-    let among = (h.rule (record { start = s; stop = e }) low head).1 (All-nil _) in
-    omega (arith, among.1)
-leftmost-taken b from (x ∷ xs) h = (
-  record {
-    head = All-head (λ g. IsHead b g.start g.stop) x xs h.heads;
-    low = All-head (λ g. from ≤ g.start) x xs h.low;
-    least = λ s e low head. first_least b from x xs h (record { start = s; stop = e }) low head;
-  },
-  leftmost-taken b x.stop xs (rest b from x xs h),
-)
-
--- and those that are, are the taken ones
+-- those that are taken leftmost first are the taken ones
 module _ (b : List ℕ) (from : ℕ) (x : HeadSpan) (xs : List HeadSpan) (first : IsFirstHead b from x) (h : TakenFrom b x.stop xs) where
   more-starts : All (λ g. x.start < g.start) xs
   more-starts =
@@ -166,17 +97,57 @@ taken-leftmost b from [] h = record {
 }
 taken-leftmost b from (x ∷ xs) h = taken-more b from x xs h.0 (taken-leftmost b x.stop xs h.1)
 
-pub IsTaken-leftmost : (b : List ℕ) (xs : List HeadSpan) → IsTaken b xs ↔ Leftmost b 0 xs
-IsTaken-leftmost b xs = (
-  λ h. leftmost-taken b 0 xs
-      (record { heads = h.heads; rising = h.rising; low = λ k d l. omega arith; rule = λ y low head. h.rule y head }),
-  λ h. let t = taken-leftmost b 0 xs h in
-      record { heads = t.heads; rising = t.rising; rule = λ y head. t.rule y (omega arith) head },
-)
+pub IsTaken-from_leftmost : (b : List ℕ) (xs : List HeadSpan) → Leftmost b 0 xs → IsTaken b xs
+IsTaken-from_leftmost b xs h =
+    let t = taken-leftmost b 0 xs h in
+    record { heads = t.heads; rising = t.rising; rule = λ y head. t.rule y (omega arith) head }
+
+-- two lists by the rule have the same heads
+same-heads : (n : ℕ) (b : List ℕ) (xs ys : List HeadSpan) → IsTaken b xs → IsTaken b ys → (h : HeadSpan) → h.start < n
+    → Contains xs h → Contains ys h
+same-heads zero b xs ys p q h low among = absurd (omega arith)
+same-heads (suc n) b xs ys p q h low among =
+    let head = All-contains (λ g. IsHead b g.start g.stop) xs h p.heads among in
+    (q.rule h head).1 (λ k d l before.
+      let earlier = same-heads n b ys xs q p (get_or ys k d) (omega arith) (Contains-get_or ys k d l) in
+      All-contains (λ g. g.start < h.start → g.stop ≤ h.start) xs (get_or ys k d) ((p.rule h head).0 among) earlier before)
+
+-- lists by rising start with the same heads are the same
+abbrev Rising : List HeadSpan → Type 0
+Rising = AllPairs (λ g h. g.start < h.start)
+
+rest-starts : (x : HeadSpan) (xs : List HeadSpan) (h : HeadSpan) → Rising (x ∷ xs) → Contains xs h → x.start < h.start
+rest-starts x xs h rising = All-contains (λ g. x.start < g.start) xs h (λ k d l. rising 0 (suc k) d (omega arith) (omega (arith, l)))
+
+same-rest : (x : HeadSpan) (xs ys : List HeadSpan) → Rising (x ∷ xs) → ((h : HeadSpan) → Contains (x ∷ xs) h → Contains (x ∷ ys) h)
+    → (h : HeadSpan) → Contains xs h → Contains ys h
+same-rest x xs ys rising to h among = elim (contains-cases x h ys (to h (contains-later x h xs among))) [
+  | inl same ↦ absurd (omega (arith, rest-starts x xs h rising among, ap (λ (g : HeadSpan). g.start) same))
+  | inr more ↦ more
+]
+
+rising-same : (xs ys : List HeadSpan) → Rising xs → Rising ys → ((h : HeadSpan) → Contains xs h ↔ Contains ys h) → xs ≡ ys
+rising-same [] [] p q same = refl
+rising-same [] (y ∷ ys) p q same = absurd (omega (arith, ((same y).1 (0, omega arith, refl)).1))
+rising-same (x ∷ xs) [] p q same = absurd (omega (arith, ((same x).0 (0, omega arith, refl)).1))
+rising-same (x ∷ xs) (y ∷ ys) p q same =
+    let heads : x ≡ y = elim (contains-cases y x ys ((same x).0 (0, omega arith, refl))) [
+      | inl is ↦ sym is
+      | inr after ↦ elim (contains-cases x y xs ((same y).1 (0, omega arith, refl))) [
+        | inl is ↦ is
+        | inr before ↦ absurd (omega (arith, rest-starts y ys x q after, rest-starts x xs y p before))
+      ]
+    ] in
+    let to = same-rest x xs ys p (λ h among. subst (λ z. Contains (z ∷ ys) h) (sym heads) ((same h).0 among)) in
+    let back = same-rest y ys xs q (λ h among. subst (λ z. Contains (z ∷ xs) h) heads ((same h).1 among)) in
+    let tails = rising-same xs ys (λ i j d l u. p (suc i) (suc j) d (omega arith) (omega arith))
+    (λ i j d l u. q (suc i) (suc j) d (omega arith) (omega arith)) (λ h. (to h, back h)) in
+    cc
 
 -- there is one list of taken heads
 pub IsTaken-same : (b : List ℕ) (xs ys : List HeadSpan) → IsTaken b xs → IsTaken b ys → xs ≡ ys
-IsTaken-same b xs ys h k = leftmost-same b 0 xs ys ((IsTaken-leftmost b xs).0 h) ((IsTaken-leftmost b ys).0 k)
+IsTaken-same b xs ys p q = rising-same xs ys p.rising q.rising (λ h.
+    (same-heads (h.start + 1) b xs ys p q h (omega arith), same-heads (h.start + 1) b ys xs q p h (omega arith)))
 
 -- there is one last taken head
 pub IsLastTaken-same : (b : List ℕ) (f g : Option HeadSpan) → IsLastTaken b f → IsLastTaken b g → f ≡ g
@@ -214,7 +185,7 @@ IsLastTaken-some b found last = rw last.2 (IsTaken-some b last.0 last.1)
 
 -- where there is no head, none is taken
 pub IsTaken-nil : (b : List ℕ) → ((s e : ℕ) → ¬ IsHead b s e) → IsTaken b []
-IsTaken-nil b none = (IsTaken-leftmost b []).1 (λ s e low. none s e)
+IsTaken-nil b none = IsTaken-from_leftmost b [] (λ s e low. none s e)
 
 pub IsLastTaken-none : (b : List ℕ) → ((s e : ℕ) → ¬ IsHead b s e) → IsLastTaken b None
 IsLastTaken-none b none = ([], IsTaken-nil b none, refl)
