@@ -1,5 +1,5 @@
 -- The taken heads on either side of a cut.
-use Rattle.std.proofs.Common.{refl, ◌≡◌, ℕ, ◌+◌, ◌-◌, ◌<◌, ◌≤◌, ◌↔◌, List, [], ◌∷◌, ◌++◌, length, take, drop, sym, subst, ◌∙◌, ◌⊎◌, inl, inr, arith, length-append, length-drop, append-nil, add-zero}
+use Rattle.std.proofs.Common.{refl, ◌≡◌, ℕ, ◌+◌, ◌-◌, ◌<◌, ◌≤◌, ◌↔◌, List, [], ◌∷◌, ◌++◌, length, get_or, take, drop, sym, subst, ◌∙◌, ◌⊎◌, inl, inr, arith, length-append, length-drop, append-nil, add-zero}
 use Rattle.std.specs.Prelude.{IsSome, Option, Some, None, map}
 use Rattle.std.proofs.lemmas.Bool.{cases_lt}
 use Rattle.std.proofs.lemmas.List.{length-map, get_or-append-add}
@@ -37,33 +37,25 @@ module _ (b : List ℕ) (c : ℕ) (cut : IsCut b c) where
     leftmost-shifted ys y.stop h.1,
   )
 
+  -- a head that begins before the cut is one of what stands there
+  before : (s e : ℕ) → IsHead b s e → s < c → IsHead (take c b) s e
+  before s e head early = front-of-head b c s e cut.within head (cut.uncrossed s e head early)
+
   -- the taken heads before the cut, then those
   leftmost-joined : (xs ys : List HeadSpan) (from : ℕ) → from ≤ c → Leftmost (take c b) from xs
       → Leftmost (drop c b) 0 ys
       → Leftmost b from (xs ++ map (shifted c) ys)
   leftmost-joined [] ys from low h k =
-      let later = subst (λ i. Leftmost b i (map (shifted c) ys)) (add-zero c) (leftmost-shifted ys 0 k) in
-      leftmost-before b from c (map (shifted c) ys) low past later where
-        past : (s e : ℕ) → from ≤ s → IsHead b s e → c ≤ s
-        past s e near head = elim (cases_lt s c) [
-          | inl early ↦ absurd (h s e near (front-of-head b c s e cut.within head (cut.uncrossed s e head early)))
-          | inr late ↦ late
-        ]
+      leftmost-before b from c (map (shifted c) ys) low
+      (λ s e near head. elim (cases_lt s c) [ inl early ↦ absurd (h s e near (before s e head early)) | inr late ↦ late ])
+      (rw add-zero at (leftmost-shifted ys 0 k))
   leftmost-joined (x ∷ xs) ys from low h k =
       let whole = head-of-front b c x.start x.stop cut.within h.0.head in
+      let least = λ (s e : ℕ) (near : from ≤ s) (head : IsHead b s e) (early : s < c). h.0.least s e near (before s e head early) in
       let order = head-order b x.start x.stop whole.0 in (
-        record { head = whole.0; low = h.0.low; least = λ s e near head. least s e near head (cases_lt s c) },
+        record { head = whole.0; low = h.0.low; least = λ s e near head. let cases = cases_lt s c in let first = least s e near head in grind arith },
         leftmost-joined xs ys x.stop whole.1 h.1 k,
       )
-    where
-      least : (s e : ℕ) → from ≤ s → IsHead b s e → (s < c) ⊎ (c ≤ s) → x.start ≤ s
-      least s e near head (inl early) =
-          h.0.least s e near (front-of-head b c s e cut.within head (cut.uncrossed s e head early))
-      least s e near head (inr late) =
-          let whole = head-of-front b c x.start x.stop cut.within h.0.head in
-          let order = head-order b x.start x.stop whole.0 in
-          let high = whole.1 in
-          omega arith
 
 -- the taken heads before a cut, then those behind it, shifted
 pub divides : (b : List ℕ) (c : ℕ) (xs ys : List HeadSpan) → IsCut b c → IsTaken (take c b) xs → IsTaken (drop c b) ys
@@ -118,8 +110,7 @@ last-within-front b e found high ends last =
     let h = last.1 in (
       last.0,
       record {
-        heads = All-weaker (λ h. IsHead (take e b) h.start h.stop) (λ h. IsHead b h.start h.stop)
-            (λ h is. (head-of-front b e h.start h.stop high is).0) last.0 h.heads;
+        heads = λ k d l. (head-of-front b e (get_or last.0 k d).start (get_or last.0 k d).stop high (h.heads k d l)).0;
         rising = h.rising;
         rule = λ x is. h.rule x (front-of-head b e x.start x.stop high is (ends x.start x.stop is));
       },

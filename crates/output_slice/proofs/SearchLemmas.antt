@@ -2,7 +2,7 @@
 use Rattle.std.proofs.Common.{◌≡◌, ◌≢◌, ℕ, ◌+◌, ◌-◌, ◌*◌, ◌<◌, ◌≤◌, List, [], ◌∷◌, ◌++◌, length, get_or, refl, sym, arith, inl, inr, Option, Some, None, MatchOption, IfSome, ◌^◌}
 use Rattle.std.proofs.lemmas.Bool.{cases_lt}
 use Rattle.std.proofs.lemmas.List.{get_or_push, length_push}
-use Rattle.std.proofs.lemmas.Option.{slice_get_read}
+use Rattle.std.proofs.lemmas.Option.{slice_get-get_or}
 use Rattle.output_slice.specs.declared.panic_head.HeadSpan.{HeadSpan}
 use Rattle.output_slice.specs.Head.{IsLineStart}
 use Rattle.output_slice.specs.Taken.{last_of}
@@ -78,9 +78,7 @@ pub record Searched (b : List ℕ) (old new place : ℕ) (next : Option ℕ) (la
 
 -- the last of a list and one more
 last_of-push : (xs : List HeadSpan) (x : HeadSpan) → last_of (xs ++ x ∷ []) ≡ Some x
-last_of-push xs x =
-    let size = length_push xs x in
-    slice_get_read (xs ++ x ∷ []) _ _ x refl (omega arith) (sym (get_or_push xs x x _ (omega arith)))
+last_of-push xs x = grind (arith, length_push, get_or_push, slice_get-get_or (xs ++ x ∷ []) (length xs) x)
 
 -- the start of the search
 pub searched-first : (b : List ℕ) (old new : ℕ) (next : Option ℕ) → IsNextQuote b 0 next
@@ -128,8 +126,7 @@ searched-none b old new scanned tested place q close last h is fits reads none o
           → HeadReads b q scanned tested n None
           → NextReads b old tested (q + 1) n
       by_close None i r m =
-          let p =
-          few-paid b old new place q 0 w (omega arith) (λ some. absurd (omega arith)) (λ some. absurd (omega arith)) in
+          let p = few-paid b old new place q 0 w (omega arith) (λ some. absurd (omega arith)) (λ some. absurd (omega arith)) in
           let high = w.high in
           omega arith
       by_close (Some c) i r m =
@@ -142,15 +139,12 @@ searched-none b old new scanned tested place q close last h is fits reads none o
             before = w.seen;
             from = omega (arith, w.low);
             to = let passed = w.plain c in grind arith;
-            line = λ l. (omega arith, λ k low up. feed-free k low up);
+            line = λ l. (omega arith, λ k low up. let passed = w.plain k in let quote = h.is_next.1 in grind arith);
             tail = p.0;
             far = p.1;
             near = p.2;
             few = grind (arith, read.4);
           }
-        where
-          feed-free : (k : ℕ) → q + 1 ≤ k + 1 → k < w.seen → get_or b k 0 ≢ 10
-          feed-free k low up = let passed = w.plain k in let quote = h.is_next.1 in grind arith
 
 -- a step at a quote that opens a head
 pub searched-found : (b : List ℕ) (old new scanned tested ended place q e : ℕ) (close next : Option ℕ) (last : Option HeadSpan)

@@ -3,7 +3,7 @@ use Rattle.std.proofs.Common.{◌≡◌, ℕ, zero, suc, ◌+◌, ◌-◌, ◌<�
 use Rattle.std.specs.Prelude.{All, Option, Some, None, IsTrue, ◌==◌, ◌||◌}
 use Rattle.std.specs.Char.{encode_utf8, IsScalar, is_whitespace}
 use Rattle.std.specs.Str.{encode_utf8_all}
-use Rattle.std.proofs.lemmas.Bool.{cases_lt, cases_Bool}
+use Rattle.std.proofs.lemmas.Bool.{cases_lt, cases_eq, cases_Bool}
 use Rattle.std.proofs.lemmas.List.Elements.{All-cons, All-head, All-tail, All-nil}
 use Rattle.bstr.specs.Trim.{kept_end, trim_end_by}
 use Rattle.bstr.specs.Utf8.{Decoded, decoded, continues, good, bad, or_replacement, pieces, spans_from}
@@ -25,13 +25,10 @@ tail-at : (bs : List ℕ) (k : ℕ) → 0 < length bs → 0 < k → k < (decoded
 tail-at bs k some pos below =
     let tail = tail-continues (length bs) (get_or bs 0 0) (get_or bs 1 0) (get_or bs 2 0) (get_or bs 3 0) in
     let bounds = piece-bounds bs some in
-    elim (cases_lt k 2) [
-      | inl low ↦ let is : k ≡ 1 = omega arith in rw is (tail.0 (omega arith))
-      | inr more ↦ elim (cases_lt k 3) [
-        | inl low ↦ let is : k ≡ 2 = omega arith in rw is (tail.1 (omega arith))
-        | inr top ↦ let is : k ≡ 3 = omega arith in rw is (tail.2 (omega arith))
-      ]
-    ]
+    let one = cases_eq k 1 in
+    let two = cases_eq k 2 in
+    let three = cases_eq k 3 in
+    grind arith
 
 module _ (t : ℕ → Bool) (other : t 65533 ≡ false) where
   -- a character that passes in front of such text
@@ -220,17 +217,11 @@ module _ (b : List ℕ) (s r : ℕ) (low : s ≤ length b) (is : r ≡ length (t
       let count = size in
       let xs = take s b in
       let last = get_or b (r - 1) 0 in
-      let same : get_or xs (h.0 - 1) 0 ≡ last =
-      get_or-take s b (h.0 - 1) 0 (omega arith) ∙ ap (λ k. get_or b (k - 1) 0) (sym count.0) in
       let next : suc (h.0 - 1) ≡ h.0 = omega arith in
-      let cons : drop (h.0 - 1) xs ≡ last ∷ drop h.0 xs =
-      drop-cons xs (h.0 - 1) 0 (omega arith) ∙ ap (λ k. get_or xs (h.0 - 1) 0 ∷ drop k xs) next ∙ ap (λ x. x ∷ drop h.0 xs) same in
-      let front : drop (h.0 - 1) xs ≡ encode_utf8 last ++ drop h.0 xs =
-      cons ∙ ap (λ x. x ++ drop h.0 xs) (sym (break-byte last break)) in
+      let same : get_or xs (h.0 - 1) 0 ≡ last = grind (arith, get_or-take) in
+      let cons = drop-cons xs (h.0 - 1) 0 (omega arith) in
+      let front : drop (h.0 - 1) xs ≡ encode_utf8 last ++ drop h.0 xs = rw (break-byte last break) (rw (← same) (rw next at cons)) in
       h.4 (h.0 - 1) (omega arith)
-      (pass-step is_break refl (drop (h.0 - 1) xs) last (drop h.0 xs) (scalar last break) (passes last break) front h.3) where
+      (pass-step is_break refl (drop (h.0 - 1) xs) last (drop h.0 xs) (scalar last break) (grind (arith, nat_tests)) front h.3) where
         scalar : (c : ℕ) → IsBreak c → IsScalar c
         scalar c h = elim h [ inl feed ↦ rw feed refl | inr carriage ↦ rw carriage refl ]
-
-        passes : (c : ℕ) → IsBreak c → is_break c ≡ true
-        passes c h = elim h [ inl feed ↦ ap is_break feed | inr carriage ↦ ap is_break carriage ]

@@ -1,11 +1,11 @@
 use Rattle.std.proofs.Common.{◌≡◌, ℕ, List, ap, ◌∙◌, arith, subst, None, Option}
 use Rattle.output_slice.specs.declared.panic_head.HeadSpan.{HeadSpan}
-use Rattle.output_slice.specs.Taken.{IsTaken, last_of}
+use Rattle.output_slice.specs.Taken.{IsLastTaken}
 use Rattle.output_slice.specs.Steps.{IsNextQuote}
 use Rattle.output_slice.proofs.SearchLemmas.{Searched, searched-first, searched-none, searched-found}
 use Rattle.output_slice.proofs.SettledLemmas.{settled-done}
 use Rattle.output_slice.proofs.StepLemmas.{opened-order}
-use Rattle.output_slice.proofs.TakenLemmas.{IsTaken-same, IsTaken-some}
+use Rattle.output_slice.proofs.TakenLemmas.{IsLastTaken-only, IsLastTaken-some}
 use Rattle.output_slice.proofs.panic_head.last_panic_head.Goals as goal
 
 pub loop-next-init : goal.loop-next-init
@@ -52,22 +52,15 @@ loop-next-preserved g c =
     )
 
 done : (b : List ℕ) (old new place : ℕ) (next : Option ℕ) (last : Option HeadSpan) → next ≡ None
-    → (h : Searched b old new place next last) → IsTaken b h.taken
+    → Searched b old new place next last → IsLastTaken b last
 done b old new place next last none h =
-    settled-done b place h.taken h.settled (subst (IsNextQuote b place) none h.is_next)
+    (h.taken, settled-done b place h.taken h.settled (subst (IsNextQuote b place) none h.is_next), h.is_last)
 
 pub returns-clause-last : goal.returns-clause-last
-returns-clause-last g c =
-    let h = c.loop-next.invariant.1 in
-    (h.taken, done _ _ _ _ _ _ c.in_default.is h, h.is_last)
+returns-clause-last g c = done _ _ _ _ _ _ c.in_default.is c.loop-next.invariant.1
 
 pub returns-clause-only : goal.returns-clause-only
-returns-clause-only g c = λ taken is.
-    let h = c.loop-next.invariant.1 in
-    h.is_last ∙ ap last_of (IsTaken-same _ h.taken taken (done _ _ _ _ _ _ c.in_default.is h) is)
+returns-clause-only g c = λ taken is. IsLastTaken-only _ _ taken (done _ _ _ _ _ _ c.in_default.is c.loop-next.invariant.1) is
 
 pub returns-clause-found : goal.returns-clause-found
-returns-clause-found g c =
-    let h = c.loop-next.invariant.1 in
-    let e = IsTaken-some _ h.taken (done _ _ _ _ _ _ c.in_default.is h) in
-    rw h.is_last e
+returns-clause-found g c = IsLastTaken-some _ _ (done _ _ _ _ _ _ c.in_default.is c.loop-next.invariant.1)
