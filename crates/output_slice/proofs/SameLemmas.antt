@@ -57,16 +57,13 @@ first-same : (P : List ℕ → Type 0) (xs ys : List (List ℕ)) (x y : List ℕ
     → xs ++ x ∷ us ≡ ys ++ y ∷ vs
     → All (λ z. ¬ P z) xs → All (λ z. ¬ P z) ys → P x → P y → (xs ≡ ys) × (x ≡ y)
 first-same P [] [] x y us vs e none one p q = (refl, cc)
-first-same P [] (z ∷ zs) x y us vs e none one p q =
-    let same : x ≡ z = cc in absurd (All-head (λ w. ¬ P w) z zs one (subst P same p))
-first-same P (z ∷ zs) [] x y us vs e none one p q =
-    let same : y ≡ z = cc in absurd (All-head (λ w. ¬ P w) z zs none (subst P same q))
+first-same P [] (z ∷ zs) x y us vs e none one p q = absurd (All-head (λ w. ¬ P w) z zs one (subst P (cc) p))
+first-same P (z ∷ zs) [] x y us vs e none one p q = absurd (All-head (λ w. ¬ P w) z zs none (subst P (cc) q))
 first-same P (z ∷ zs) (w ∷ ws) x y us vs e none one p q =
-    let heads : z ≡ w = cc in
     let tails : zs ++ x ∷ us ≡ ws ++ y ∷ vs = cc in
     let rest =
     first-same P zs ws x y us vs tails (All-tail (λ v. ¬ P v) z zs none) (All-tail (λ v. ¬ P v) w ws one) p q in
-    (ap (λ v. v ∷ zs) heads ∙ ap (λ vs. w ∷ vs) rest.0, rest.1)
+    (cc, rest.1)
 
 -- where P holds for none, it holds for no first one
 none-first : (P : List ℕ → Type 0) (all xs : List (List ℕ)) (x : List ℕ) (us : List (List ℕ)) → all ≡ xs ++ x ∷ us

@@ -39,21 +39,19 @@ module _ (t : ℕ → Bool) (other : t 65533 ≡ false) where
       (c ∷ h.0, all, e ∙ ap (λ text. encode_utf8 c ++ text) h.2)
 
   -- the first character of such text, and the rest
-  pass-rest : (bs : List ℕ) → 0 < length bs → AllPass t bs
-      → ((c : ℕ) × ((decoded bs).char ≡ Some c) × (t c ≡ true)) × AllPass t (drop (decoded bs).size bs)
+  abbrev PassesFirst : List ℕ → Type 0
+  PassesFirst bs = ((c : ℕ) × ((decoded bs).char ≡ Some c) × (t c ≡ true)) × AllPass t (drop (decoded bs).size bs)
+
+  pass-rest : (bs : List ℕ) → 0 < length bs → AllPass t bs → PassesFirst bs
   pass-rest bs some h = by_chars h.0 h.1 h.2 where
-    by_chars : (cs : List ℕ) → All (λ c. IsScalar c × IsTrue (t c)) cs → bs ≡ encode_utf8_all cs
-        → ((c : ℕ) × ((decoded bs).char ≡ Some c) × (t c ≡ true)) × AllPass t (drop (decoded bs).size bs)
+    by_chars : (cs : List ℕ) → All (λ c. IsScalar c × IsTrue (t c)) cs → bs ≡ encode_utf8_all cs → PassesFirst bs
     by_chars [] all e = absurd (omega (arith, ap length e))
     by_chars (c ∷ cs) all e =
         let P = λ (x : ℕ). IsScalar x × IsTrue (t x) in
         let first = All-head P c cs all in
-        let read : decoded bs ≡ good c (length (encode_utf8 c)) =
-        ap decoded e ∙ decoded-encode c (encode_utf8_all cs) first.0 in
-        let rest : drop (decoded bs).size bs ≡ encode_utf8_all cs =
-        ap (λ (p : Decoded). drop p.size bs) read ∙ ap (drop (length (encode_utf8 c))) e
-        ∙ drop_at (encode_utf8 c) (encode_utf8_all cs) (length (encode_utf8 c)) refl in
-        ((c, ap (λ (p : Decoded). p.char) read, first.1), (cs, All-tail P c cs all, rest))
+        let read : decoded bs ≡ good c (length (encode_utf8 c)) = ap decoded e ∙ decoded-encode c (encode_utf8_all cs) first.0 in
+        let rest = drop_at (encode_utf8 c) (encode_utf8_all cs) (length (encode_utf8 c)) refl in
+        ((c, ap (λ (p : Decoded). p.char) read, first.1), (cs, All-tail P c cs all, rw read (rw e rest)))
 
   -- no such text begins inside a piece
   pass-inside : (bs : List ℕ) (i : ℕ) → 0 < length bs → 0 < i → i < (decoded bs).size → AllPass t (drop i bs) → ⊥
@@ -121,32 +119,25 @@ module _ (t : ℕ → Bool) (other : t 65533 ≡ false) where
       let rest = drop s bs in
       let size = length-drop s bs in
       let test = t (or_replacement p.char) in
-      let more = λ (e : ℕ). kept_end t e (spans_from (off + s) (pieces rest)) in
-      let step : kept_end t end (spans_from off (pieces bs)) ≡ more (cond test end (off + s)) =
-      ap (λ ps. kept_end t end (spans_from off ps)) (pieces-step bs (omega arith)) in
       elim (cases_Bool test) [
         | inl space ↦
             let some = space-some p.char space in
             let spelled = SpellsChar-decoded bs some.0 some.1.0 in
-            let e : kept_end t end (spans_from off (pieces bs)) ≡ more end =
-            step ∙ ap (λ x. more (cond x end (off + s))) space in
-            rw e (elim (kept f rest (omega arith) (off + s) end) [
+            rw (pieces-step bs (omega arith)) (rw (space, kept_end, spans_from) (elim (kept f rest (omega arith) (off + s) end) [
               | inl blank ↦ inl (pass-step bs some.0 rest spelled.scalar some.1.1 spelled.bytes blank.0, blank.1)
-              | inr at ↦ kept-join bs off end (more end) at.0 (omega arith) at.1.2 at.1.1 at.1.3 at.1.4
+              | inr at ↦ kept-join bs off end _ at.0 (omega arith) at.1.2 at.1.1 at.1.3 at.1.4
                   (λ whole. at.1.4 0 at.1.0 (pass-rest bs (omega arith) whole).1)
-            ])
+            ]))
         | inr other ↦
-            let e : kept_end t end (spans_from off (pieces bs)) ≡ more (off + s) =
-            step ∙ ap (λ x. more (cond x end (off + s))) other in
             let apart : ¬ AllPass t bs = λ whole.
             let first = (pass-rest bs (omega arith) whole).0 in
             let space : test ≡ true = ap (λ o. t (or_replacement o)) first.1 ∙ first.2 in
             absurd (cc) in
-            rw e (elim (kept f rest (omega arith) (off + s) (off + s)) [
-              | inl blank ↦ kept-join bs off end (more (off + s)) 0 (omega arith) (omega (arith, blank.1)) (omega arith) blank.0
+            rw (pieces-step bs (omega arith)) (rw (other, kept_end, spans_from) (elim (kept f rest (omega arith) (off + s) (off + s)) [
+              | inl blank ↦ kept-join bs off end _ 0 (omega arith) (omega (arith, blank.1)) (omega arith) blank.0
                   (λ i low. absurd (omega arith)) apart
-              | inr at ↦ kept-join bs off end (more (off + s)) at.0 (omega arith) at.1.2 at.1.1 at.1.3 at.1.4 apart
-            ])
+              | inr at ↦ kept-join bs off end _ at.0 (omega arith) at.1.2 at.1.1 at.1.3 at.1.4 apart
+            ]))
       ]
 
   -- what is left is the front up to the least place behind which all characters pass
