@@ -64,13 +64,11 @@ more-lines x b ls h = elim (cases_eq x 10) [
           joined = ap (λ t. x ∷ t) h.joined;
           each = All-cons IsLine (x ∷ l) ls (record { some = omega arith; feed = λ k is. let before = line.feed (k - 1) in grind arith }) (All-tail IsLine l ls h.each);
           ends =
-              AllPairs-cons Ended (x ∷ l) ls (λ k d low. last l some (h.ends 0 (suc k) d (omega arith) (omega arith)))
+              AllPairs-cons Ended (x ∷ l) ls (λ k d low.
+                let place : length (x ∷ l) - 1 ≡ suc (length l - 1) = omega arith in rw place (h.ends 0 (suc k) d (omega arith) (omega arith)))
               (λ i j d low high. h.ends (suc i) (suc j) d (omega arith) (omega arith));
         },
       )
-    where
-      last : (l : List ℕ) → 0 < length l → get_or l (length l - 1) 0 ≡ 10 → get_or (x ∷ l) (length (x ∷ l) - 1) 0 ≡ 10
-      last l some is = let place : length (x ∷ l) - 1 ≡ suc (length l - 1) = omega arith in rw place is
 
 -- the lines are a division
 pub AreLines-lines_of : (b : List ℕ) → AreLines b (lines_of b)

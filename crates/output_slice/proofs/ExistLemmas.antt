@@ -8,6 +8,7 @@ use Rattle.std.proofs.lemmas.List.Elements.{All-weaker}
 use Rattle.std.proofs.lemmas.Slice.Eq.{bytes_eq-Decides}
 use Rattle.std.proofs.lemmas.Str.{IsUtf8-from_is_utf8, chars-encodes, is_utf8-from_IsUtf8}
 use Rattle.std.specs.Char.{IsScalar}
+use Rattle.std.specs.List.{list_all}
 use Rattle.std.specs.Str.{is_utf8}
 use Rattle.bstr.specs.Find.{OccursAt}
 use Rattle.bstr.specs.Text.{part}
@@ -63,13 +64,9 @@ same-known xs ys = decided _ (bytes_eq-Decides xs ys)
 -- whether characters are digits
 
 digits-known : (cs : List ℕ) → Known (All (λ c. IsScalar c × IsDigit c) cs)
-digits-known cs = decided _ (Decides-by_and test (λ c. IsScalar c × IsDigit c) tests each refl (λ x xs. refl) cs) where
+digits-known cs = decided _ (Decides-by_and test (λ c. IsScalar c × IsDigit c) (list_all test) each refl (λ x xs. refl) cs) where
   test : ℕ → Bool
   test c = scalar c && (nat_le 48 c && nat_le c 57 || nat_le 128 c && is_digit_char c)
-
-  tests : List ℕ → Bool
-  tests [] = true
-  tests (c ∷ cs) = test c && tests cs
 
   each : (c : ℕ) → Decides (test c) (IsScalar c × IsDigit c)
   each c = Decides-and (scalar c) _ (λ t. t, λ t. t) (Decides-or (nat_le 48 c && nat_le c 57) (nat_le 128 c && is_digit_char c)
@@ -117,14 +114,10 @@ name-known : (text : List ℕ) → Known (IsName text)
 name-known text =
     let is_some : Known (0 < length text) = grind arith in
     let utf8 = decided (is_utf8 text) (IsUtf8-from_is_utf8 text, is_utf8-from_IsUtf8 text) in
-    let quotes = decided _ (Decides-by_and other (λ x. x ≢ 39) others (λ x. Decides-not (x == 39) (Decides-eqb x 39)) refl (λ x xs. refl) text) in
+    let quotes = decided _ (Decides-by_and other (λ x. x ≢ 39) (list_all other) (λ x. Decides-not (x == 39) (Decides-eqb x 39)) refl (λ x xs. refl) text) in
     mapped (λ h. record { some = h.0; utf8 = h.1.0; no_quote = h.1.1 }) (λ h. (h.some, (h.utf8, h.no_quote))) (both is_some (both utf8 quotes)) where
       other : ℕ → Bool
       other x = not (x == 39)
-
-      others : List ℕ → Bool
-      others [] = true
-      others (x ∷ xs) = other x && others xs
 
 -- whether a head stands at a place, and where it ends
 head-known : (b : List ℕ) (s e : ℕ) → Known (IsHead b s e)

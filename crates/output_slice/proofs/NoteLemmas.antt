@@ -31,10 +31,7 @@ contains-left : (t xs ys : List ℕ) → Contains xs t → Contains (xs ++ ys) t
 contains-left t xs ys h = let at = h.1 in (h.0, grind (arith, get_or-append, length-append))
 
 contains-right : (t xs ys : List ℕ) → Contains ys t → Contains (xs ++ ys) t
-contains-right t xs ys h = let at = h.1 in (length xs + h.0, moved) where
-  moved : OccursAt (xs ++ ys) t (length xs + h.0)
-  moved = occurs-moved ys (xs ++ ys) t h.0 (length xs + h.0) h.1 (omega (arith, h.1.fits, length-append xs ys))
-      (λ n l. ap (λ k. get_or (xs ++ ys) k 0) (omega arith) ∙ get_or-append-add xs ys (h.0 + n) 0)
+contains-right t xs ys h = let at = h.1 in (length xs + h.0, grind (arith, get_or-append-add, length-append))
 
 -- a text that stands in none of the joined bytes stands in no line
 none-in-lines : (t : List ℕ) (ls : List (List ℕ)) → ¬ Contains (concat ls) t → All (λ line. ¬ Contains line t) ls

@@ -12,12 +12,6 @@ use Rattle.output_slice.proofs.TailLemmas.{tail-plain}
 pub opening-none : (b : List ℕ) → IsLastOpening b None → (s e : ℕ) → IsHead b s e → ⊥
 opening-none b none s e h = none s (omega arith) (omega (arith, h.ends, head-order b s e h)) (h.line_start, h.opening)
 
--- a head whose closing quote stands at q or before it ends on the line of q
-head-line-end : (b : List ℕ) (s e q end : ℕ) → (h : IsHead b s e) → h.quote ≤ q → q ≤ end → IsLineEnd b q end → e ≤ end
-head-line-end b s e q end h low up last =
-    let plain = tail-plain b (h.quote + 1) e h.ends h.tail (end - 1) in
-    grind arith
-
 module _ (b : List ℕ) (at : ℕ) (o : IsLastOpening b (Some at)) where
   -- the closing quote of a head that ends behind the last opening
   opening-quote : (q s e : ℕ) → at + 8 ≤ q → (get_or b q 0 ≡ 39) ⊎ NoQuoteBetween b (at + 8) (length b)
@@ -34,6 +28,6 @@ module _ (b : List ℕ) (at : ℕ) (o : IsLastOpening b (Some at)) where
       → IsLineEnd b q end → AllHeadsEndBy b end
   window-end q end far next up last s e h =
       let quote = opening-quote q s e far next h in
-      let line = head-line-end b s e q end h in
+      let plain = tail-plain b (h.quote + 1) e h.ends h.tail (end - 1) in
       grind arith
 

@@ -157,11 +157,12 @@ IsTailEnd-plain b at (Some e) none h = rw h.1 (IsTail-plain b at h.0)
 pub IsTailEnd-split : (b : List ℕ) (at : ℕ) (found : Option ℕ) → OccursAt b (codes " ") at
     → ¬ OccursAt b (codes "(") (at + 1)
     → IsTextEnd b (codes "panicked at ") (at + 1) found → IsTailEnd b at found
-IsTailEnd-split b at found space none f =
-    IsTailEnd-plain b at found (λ h. none (occurs-back b (codes " ") (codes "(") at h)) (joined found f) where
-      joined : (o : Option ℕ) → IsTextEnd b (codes "panicked at ") (at + 1) o → IsTextEnd b (codes " panicked at ") at o
-      joined None f = λ h. f (occurs-back b (codes " ") (codes "panicked at ") at h)
-      joined (Some e) f = (occurs-both b (codes " ") (codes "panicked at ") at space f.0, omega (arith, f.1))
+IsTailEnd-split b at None space none f =
+    IsTailEnd-plain b at None (λ h. none (occurs-back b (codes " ") (codes "(") at h))
+    (λ h. f (occurs-back b (codes " ") (codes "panicked at ") at h))
+IsTailEnd-split b at (Some e) space none f =
+    IsTailEnd-plain b at (Some e) (λ h. none (occurs-back b (codes " ") (codes "(") at h))
+    (occurs-both b (codes " ") (codes "panicked at ") at space f.0, omega (arith, f.1))
 
 -- no tail stands where no digit stands between the parentheses
 pub IsTailEnd-none : (b : List ℕ) (at close : ℕ)

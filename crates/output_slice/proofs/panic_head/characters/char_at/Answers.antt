@@ -2,15 +2,11 @@ use Rattle.std.proofs.Common.{[], ◌∷◌, ◌≡◌, ◌+◌, ◌<◌, ℕ, L
 use Rattle.output_slice.proofs.CharLemmas.{one-byte, buffer-more, char-some, char-none, char-short}
 use Rattle.output_slice.proofs.panic_head.characters.char_at.Goals as goal
 
-first-read : (b : List ℕ) (at v : ℕ) → v ≡ get_or b at 0 → (k : ℕ) → k < 1
-    → get_or (v ∷ 0 ∷ 0 ∷ 0 ∷ []) k 0 ≡ get_or b (at + k) 0
-first-read b at v is k low = grind arith
-
 pub loop-i-init : goal.loop-i-init
 loop-i-init g c =
     let b = g.S.ByteSource.bytes c.args.source.now in
     let e = c.byte-first.ensures in
-    (e.same, omega arith, refl, λ x. one-byte b c.args.at x (omega arith), first-read b c.args.at c.byte-first.result e.value)
+    (e.same, omega arith, refl, λ x. one-byte b c.args.at x (omega arith), λ k low. let first = e.value in grind arith)
 
 pub returns-in-Some : goal.returns-in-Some
 returns-in-Some g c =
