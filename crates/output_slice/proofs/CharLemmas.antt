@@ -1,5 +1,5 @@
--- The character that stands at a place.
-use Rattle.std.proofs.Common.{set, get_or-set_other, get_or-set_same, true, ◌↔◌, ◌≡◌, ℕ, ◌+◌, ◌-◌, ◌<◌, ◌≤◌, min, List, [], ◌∷◌, ◌++◌, length, get_or, take, drop, sym, ap, ◌∙◌, arith, length-append}
+-- The character that stands at a place, and digits one after the other.
+use Rattle.std.proofs.Common.{set, get_or-set_other, get_or-set_same, true, ◌↔◌, ◌≡◌, ℕ, ◌+◌, ◌-◌, ◌<◌, ◌≤◌, min, List, [], ◌∷◌, ◌++◌, length, get_or, take, drop, sym, ap, ◌∙◌, arith, length-append, refl, append_assoc, append-nil, All, encode_utf8_all}
 use Rattle.std.specs.Prelude.{Some, None}
 use Rattle.std.specs.Char.{encode_utf8, IsScalar}
 use Rattle.std.specs.Str.{IsUtf8, encode_utf8_all}
@@ -7,14 +7,16 @@ use Rattle.std.proofs.Math.Seq.{take-append-add}
 use Rattle.std.proofs.lemmas.Bool.{and_parts}
 use Rattle.std.proofs.lemmas.List.{get_or-take, length-take-le}
 use Rattle.std.proofs.lemmas.List.Prefix.{front_from_reads, front_reads}
-use Rattle.std.proofs.lemmas.Str.{encode_ascii, encode_same, length-encode, len_utf8_bounds, IsUtf8-append, IsUtf8-encode, IsUtf8-past_char}
+use Rattle.std.proofs.lemmas.Str.{encode_ascii, encode_same, length-encode, len_utf8_bounds, IsUtf8-append, IsUtf8-encode, IsUtf8-past_char, encodes-append}
+use Rattle.std.proofs.lemmas.List.Elements.{All-push, All-nil, All-head, All-tail}
 use Rattle.bstr.specs.Text.{part}
 use Rattle.bstr.specs.Utf8.{Decoded, decoded}
 use Rattle.bstr.proofs.lemmas.EncodeLemmas.{decoded-encode}
 use Rattle.bstr.proofs.lemmas.PieceLemmas.{piece-bounds, decoded_by-cut}
 use Rattle.bstr.proofs.lemmas.SoundLemmas.{SpellsChar-decoded}
-use Rattle.output_slice.specs.Steps.{IsCharAt}
-use Rattle.output_slice.proofs.OccursLemmas.{get_or-part, length-part, occurs-drop}
+use Rattle.output_slice.specs.Steps.{IsCharAt, AreDigits, IsDigitRun}
+use Rattle.output_slice.specs.Head.{IsDigit}
+use Rattle.output_slice.proofs.OccursLemmas.{get_or-part, length-part, occurs-drop, occurs-both, drop-occurs}
 use lib.Utf8.{scalars}
 
 -- a part that begins with a character
@@ -150,3 +152,63 @@ module _ (b buffer : List ℕ) (at stop i : ℕ) (four : length buffer ≡ 4) (s
 pub char-short : (b : List ℕ) (at stop i c : ℕ) → min (stop - at) 4 ≤ i → IsCharAt b at stop c
     → IsCharAt b at (at + i) c
 char-short b at stop i c far h = grind (arith, len_utf8_bounds, length-encode)
+
+-- no digits stand from a place to itself
+pub digits-none : (b : List ℕ) (from : ℕ) → from ≤ length b → AreDigits b from from
+digits-none b from low = record {
+  chars = [];
+  digits = All-nil _;
+  stands = record { fits = omega arith; reads = λ j l. absurd (omega arith) };
+  ends = omega arith;
+}
+
+-- one more digit behind digits
+pub digits-more : (b : List ℕ) (from at to c n : ℕ) → AreDigits b from at → IsCharAt b at to c → IsDigit c
+    → n ≡ length (encode_utf8 c) → AreDigits b from (at + n)
+digits-more b from at to c n h k is size =
+    let cs = h.chars in
+    let ends = h.ends in
+    let whole : encode_utf8_all (cs ++ c ∷ []) ≡ encode_utf8_all cs ++ encode_utf8 c =
+    encodes-append cs (c ∷ []) ∙ ap (λ t. encode_utf8_all cs ++ t) (append-nil (encode_utf8 c)) in record {
+      chars = cs ++ c ∷ [];
+      digits = All-push (λ x. IsScalar x × IsDigit x) cs c h.digits (k.scalar, is);
+      stands = rw whole (occurs-both b (encode_utf8_all cs) (encode_utf8 c) from h.stands (rw h.ends at k.stands));
+      ends = rw whole (omega (arith, length-append (encode_utf8_all cs) (encode_utf8 c)));
+    }
+
+-- the text does not begin with a digit
+abbrev Stops : List ℕ → Type 0
+Stops text = (c : ℕ) (rest : List ℕ) → IsScalar c → IsDigit c → text ≡ encode_utf8 c ++ rest → ⊥
+
+-- text begins with one run of digits
+runs-same : (cs ds r q : List ℕ) → All (λ x. IsScalar x × IsDigit x) cs → All (λ x. IsScalar x × IsDigit x) ds
+    → Stops r → Stops q → encode_utf8_all cs ++ r ≡ encode_utf8_all ds ++ q → cs ≡ ds
+runs-same [] [] r q ac ad nr nq e = refl
+runs-same [] (d ∷ ds) r q ac ad nr nq e =
+    let first = All-head (λ x. IsScalar x × IsDigit x) d ds ad in
+    absurd (nr d (encode_utf8_all ds ++ q) first.0 first.1 (rw append_assoc at e))
+runs-same (c ∷ cs) [] r q ac ad nr nq e =
+    let first = All-head (λ x. IsScalar x × IsDigit x) c cs ac in
+    absurd (nq c (encode_utf8_all cs ++ r) first.0 first.1 (rw append_assoc at (sym e)))
+runs-same (c ∷ cs) (d ∷ ds) r q ac ad nr nq e =
+    let heads = encode_same c d (encode_utf8_all cs ++ r) (encode_utf8_all ds ++ q) (simp append_assoc at e) in
+    let P = λ (x : ℕ). IsScalar x × IsDigit x in
+    let later = runs-same cs ds r q (All-tail P c cs ac) (All-tail P d ds ad) nr nq heads.1 in
+    cc (heads.0, later)
+
+-- so a run of digits ends at one place
+pub IsDigitRun-same : (b : List ℕ) (from to to' : ℕ) → IsDigitRun b from to → IsDigitRun b from to' → to ≡ to'
+IsDigitRun-same b from to to' h k =
+    let split =
+    λ (at : ℕ) (run : IsDigitRun b from at). occurs-drop b (encode_utf8_all run.digits.chars) from run.digits.stands in
+    let same = runs-same h.digits.chars k.digits.chars _ _ h.digits.digits k.digits.digits
+    (stops h) (stops k) (sym (split to h) ∙ split to' k) in
+    h.digits.ends ∙ ap (λ cs. from + length (encode_utf8_all cs)) same ∙ sym k.digits.ends where
+      stops : {at : ℕ} → (run : IsDigitRun b from at)
+          → Stops (drop (from + length (encode_utf8_all run.digits.chars)) b)
+      stops {at} run c rest scalar digit e =
+          let here : drop at b ≡ encode_utf8 c ++ rest = ap (λ i. drop i b) run.digits.ends ∙ e in
+          let len = length-encode c in
+          let some = len_utf8_bounds c in
+          let stands = drop-occurs b (encode_utf8 c) at rest here (omega arith) in
+          run.stops c (record { scalar = scalar; stands = stands; ends = stands.fits }) digit

@@ -1,19 +1,77 @@
--- The taken heads on either side of a cut.
-use Rattle.std.proofs.Common.{refl, ◌≡◌, ℕ, ◌+◌, ◌-◌, ◌<◌, ◌≤◌, ◌↔◌, List, [], ◌∷◌, ◌++◌, length, get_or, take, drop, sym, subst, ◌∙◌, ◌⊎◌, inl, inr, arith, length-append, length-drop, append-nil, add-zero}
+-- Heads in parts of the bytes, and the taken heads on either side of a cut.
+use Rattle.std.proofs.Common.{refl, ◌≡◌, ℕ, ◌+◌, ◌-◌, ◌<◌, ◌≤◌, ◌↔◌, List, [], ◌∷◌, ◌++◌, length, get_or, take, drop, sym, subst, ◌∙◌, ◌⊎◌, inl, inr, arith, length-append, length-drop, append-nil, add-zero, ext_get_or, get_or-drop, length-take, get_or-take}
 use Rattle.std.specs.Prelude.{IsSome, Option, Some, None, map}
 use Rattle.std.proofs.lemmas.Bool.{cases_lt}
 use Rattle.std.proofs.lemmas.List.{length-map, get_or-append-add}
 use Rattle.std.proofs.lemmas.List.Elements.{All-weaker}
 use Rattle.std.proofs.lemmas.Option.{slice_get-get_or, slice_get_read, slice_get-map, slice_get_within, get_or_from_slice_get}
+use Rattle.bstr.specs.Text.{part}
 use Rattle.output_slice.specs.declared.panic_head.HeadSpan.{HeadSpan}
-use Rattle.output_slice.specs.Head.{IsHead}
+use Rattle.output_slice.specs.Head.{IsHead, IsLineStart}
 use Rattle.output_slice.specs.Taken.{IsTaken, IsLastTaken, last_of}
 use Rattle.output_slice.specs.Cut.{IsCut, shifted}
 use Rattle.output_slice.specs.Search.{AllHeadsEndBy}
-use Rattle.output_slice.proofs.HeadLemmas.{head-order}
-use Rattle.output_slice.proofs.MoveLemmas.{head-of-back, back-of-head, head-of-front, front-of-head}
+use Rattle.output_slice.proofs.StepLemmas.{head-order}
 use Rattle.output_slice.proofs.ExistLemmas.{IsTaken-exists, leftmost-taken}
 use Rattle.output_slice.proofs.TakenLemmas.{IsLastTaken-head, IsTaken-from_leftmost, IsTaken-nil, Leftmost, leftmost-before}
+use Rattle.output_slice.proofs.OccursLemmas.{get_or-part, length-part, occurs-moved}
+
+-- parts that read the same are the same
+part-moved : (a b : List ℕ) (i j k l : ℕ) → j ≤ length a → l ≤ length b → l - k ≡ j - i
+    → ((n : ℕ) → n < j - i → get_or b (k + n) 0 ≡ get_or a (i + n) 0) → part i j a ≡ part k l b
+part-moved a b i j k l high high' size reads =
+    ext_get_or 0 (part i j a) (part k l b) (grind (arith, length-part)) (λ n low. grind (arith, get_or-part, length-part, reads n))
+
+-- the bytes of a head are a head wherever they stand at a line start
+head-moved : (a b : List ℕ) (s e t f : ℕ) → IsHead a s e → f ≡ t + (e - s) → f ≤ length b → IsLineStart b t
+    → ((n : ℕ) → n < e - s → get_or b (t + n) 0 ≡ get_or a (s + n) 0) → IsHead b t f
+head-moved a b s e t f h size high line reads =
+    let order = head-order a s e h in
+    let ends = h.ends in
+    let q = t + (h.quote - s) in
+    let name = part-moved a b (s + 8) h.quote (t + 8) q (omega arith) (omega arith) (omega arith) (λ n low. let same = reads (8 + n) in grind arith) in
+    let tail = part-moved a b (h.quote + 1) e (q + 1) f ends high (omega arith) (λ n low. let same = reads (h.quote + 1 - s + n) in grind arith) in
+    let close = reads (h.quote - s) in record {
+      line_start = line;
+      opening = occurs-moved a b _ s t h.opening (omega arith) (λ n low. reads n (omega arith));
+      quote = q;
+      name = rw name at h.name;
+      closing = grind arith;
+      tail = rw tail at h.tail;
+      ends = high;
+    }
+
+module _ (b : List ℕ) (c s e : ℕ) (within : c ≤ length b) where
+  -- a head of what follows a line start is one of the whole, and back
+  pub head-of-back : IsLineStart b c → IsHead (drop c b) s e → IsHead b (c + s) (c + e)
+  head-of-back line h =
+      let order = head-order (drop c b) s e h in
+      let size = length-drop c b in
+      head-moved (drop c b) b s e (c + s) (c + e) h (omega arith) (omega arith)
+      (λ pos. grind (arith, get_or-drop)) (λ n low. grind (arith, get_or-drop))
+
+  pub back-of-head : IsHead b (c + s) (c + e) → IsHead (drop c b) s e
+  back-of-head h =
+      let order = head-order b (c + s) (c + e) h in
+      let size = length-drop c b in
+      head-moved b (drop c b) (c + s) (c + e) s e h (omega arith) (omega arith)
+      (λ pos. grind (arith, get_or-drop)) (λ n low. grind (arith, get_or-drop))
+
+  -- a head of the front is one of the whole, and back, if it ends there
+  pub head-of-front : IsHead (take c b) s e → IsHead b s e × (e ≤ c)
+  head-of-front h =
+      let order = head-order (take c b) s e h in
+      let size = length-take c b in
+      let whole = head-moved (take c b) b s e s e h (omega arith) (omega arith)
+      (λ pos. grind (arith, get_or-take)) (λ n low. grind (arith, get_or-take)) in
+      (whole, omega arith)
+
+  pub front-of-head : IsHead b s e → e ≤ c → IsHead (take c b) s e
+  front-of-head h high =
+      let order = head-order b s e h in
+      let size = length-take c b in
+      head-moved b (take c b) s e s e h (omega arith) (omega arith)
+      (λ pos. grind (arith, get_or-take)) (λ n low. grind (arith, get_or-take))
 
 module _ (b : List ℕ) (c : ℕ) (cut : IsCut b c) where
   -- a head behind the cut is one of what stands there

@@ -16,7 +16,7 @@ use Rattle.unicode.specs.Perl.{is_digit_char}
 use Rattle.output_slice.specs.declared.panic_head.HeadSpan.{HeadSpan}
 use Rattle.output_slice.specs.Head.{IsName, IsDigit, IsHead, IsLineStart, IsNumber, IsTail}
 use Rattle.output_slice.specs.Taken.{IsTaken}
-use Rattle.output_slice.proofs.HeadLemmas.{head-order}
+use Rattle.output_slice.proofs.StepLemmas.{head-order}
 use Rattle.output_slice.proofs.OccursLemmas.{occurs-part, part-occurs}
 use Rattle.output_slice.proofs.TakenLemmas.{IsTaken-from_leftmost, IsTaken-same, Leftmost}
 

@@ -1,10 +1,7 @@
 mod OccursLemmas
 mod CharLemmas
-mod DigitLemmas
 mod TailLemmas
-mod HeadLemmas
 mod StepLemmas
-mod SettledLemmas
 mod SearchLemmas
 mod TakenLemmas
 mod TrimLemmas
@@ -13,11 +10,7 @@ mod DivisionLemmas
 mod NoteLemmas
 mod PartLemmas
 mod SameLemmas
-mod MoveLemmas
 mod ExistLemmas
 mod CutLemmas
-mod CrossLemmas
 mod OpeningLemmas
-mod SignLemmas
-mod ByteLemmas
 mod StartLemmas

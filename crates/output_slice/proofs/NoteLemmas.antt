@@ -16,9 +16,8 @@ use Rattle.output_slice.specs.Head.{IsLineStart}
 use Rattle.output_slice.specs.Lines.{IsLine}
 use Rattle.output_slice.specs.Slices.{IsNote, IsNoteLine}
 use Rattle.output_slice.specs.Steps.{IsLineEnd, NoFeedBetween}
-use Rattle.output_slice.proofs.ByteLemmas.{text-passes}
 use Rattle.output_slice.proofs.DivisionLemmas.{AreLines-lines_of, line-alone}
-use Rattle.output_slice.proofs.OccursLemmas.{get_or-part, length-part, occurs-front-take, occurs-in-part, occurs-moved}
+use Rattle.output_slice.proofs.OccursLemmas.{get_or-part, length-part, occurs-front-take, occurs-in-part, occurs-moved, text-passes}
 
 -- the length of joined lines is the sum of their lengths
 pub length-concat : (xs : List (List ℕ)) → length (concat xs) ≡ sum_by length xs

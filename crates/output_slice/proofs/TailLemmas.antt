@@ -15,9 +15,8 @@ use Rattle.bstr.specs.Find.{OccursAt}
 use Rattle.bstr.specs.Text.{part}
 use Rattle.output_slice.specs.Head.{IsDigit, IsTail}
 use Rattle.output_slice.specs.Steps.{AreDigits, ArePlain, IsDigitRun, NoDigitAt, IsTailEnd, IsTextEnd, AgreesFor, ReadsUpTo, TextReads}
-use Rattle.output_slice.proofs.ByteLemmas.{agrees, agrees-passes}
-use Rattle.output_slice.proofs.DigitLemmas.{IsDigitRun-same}
-use Rattle.output_slice.proofs.OccursLemmas.{get_or-part, length-part, occurs-front, occurs-back, occurs-both, occurs-part, part-occurs}
+use Rattle.output_slice.proofs.CharLemmas.{IsDigitRun-same}
+use Rattle.output_slice.proofs.OccursLemmas.{get_or-part, length-part, occurs-front, occurs-back, occurs-both, occurs-part, part-occurs, agrees, agrees-passes}
 
 -- the byte is neither a quote nor a line feed
 abbrev is_plain : ℕ → Bool

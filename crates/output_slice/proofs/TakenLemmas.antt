@@ -8,7 +8,7 @@ use Rattle.std.proofs.lemmas.Option.{slice_get-get_or, slice_get_within, get_or_
 use Rattle.output_slice.specs.declared.panic_head.HeadSpan.{HeadSpan}
 use Rattle.output_slice.specs.Head.{IsHead}
 use Rattle.output_slice.specs.Taken.{IsTaken, IsLastTaken, last_of}
-use Rattle.output_slice.proofs.HeadLemmas.{head-order, head-same, span-same}
+use Rattle.output_slice.proofs.StepLemmas.{head-order, head-same, span-same}
 
 -- the taken heads that start at `from` or after it
 record TakenFrom (b : List ℕ) (from : ℕ) (taken : List HeadSpan) : Type 0 where

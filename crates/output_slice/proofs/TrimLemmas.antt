@@ -60,13 +60,11 @@ module _ (t : ℕ → Bool) (other : t 65533 ≡ false) where
       let xs = drop i bs in
       let size = length-drop i bs in
       let more : 0 < length xs = omega arith in
-      let first : get_or xs 0 0 ≡ get_or bs i 0 = get_or-drop i bs 0 0 ∙ ap (λ k. get_or bs k 0) (add-zero i) in
-      let continued : continues (get_or xs 0 0) ≡ true = ap continues first ∙ tail-at bs i some pos below in
-      let alone : decoded xs ≡ bad 1 =
+      let continued : continues (get_or xs 0 0) ≡ true = rw (get_or-drop, add-zero) (tail-at bs i some pos below) in
+      let alone =
       continuation-alone (length xs) (get_or xs 0 0) (get_or xs 1 0) (get_or xs 2 0) (get_or xs 3 0) more continued in
       let found = (pass-rest xs more h).0.1 in
-      let none : (decoded xs).char ≡ None = ap (λ (p : Decoded). p.char) alone in
-      absurd (cc)
+      absurd (cc (ap (λ (p : Decoded). p.char) alone))
 
   -- what the last kept character says
   abbrev Kept : List ℕ → ℕ → ℕ → ℕ → Type 0

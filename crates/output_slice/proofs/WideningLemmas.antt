@@ -3,8 +3,7 @@ use Rattle.std.proofs.Common.{◌≡◌, ℕ, ◌+◌, ◌-◌, ◌<◌, ◌≤�
 use Rattle.bstr.specs.Find.{OccursAt, IsLastByte, is_byte}
 use Rattle.output_slice.specs.Slices.{IsBreak, IsErrorLine, IsWidened}
 use Rattle.output_slice.specs.Steps.{AreBreaks}
-use Rattle.output_slice.proofs.ByteLemmas.{last-byte}
-use Rattle.output_slice.proofs.OccursLemmas.{dropped-occurs, occurs-dropped}
+use Rattle.output_slice.proofs.OccursLemmas.{dropped-occurs, occurs-dropped, last-byte}
 
 -- an error line is not empty, and begins with a line feed
 line-start : (b : List ℕ) (s j : ℕ) (h : IsErrorLine b s j) → (j + 7 ≤ h.stop) × (get_or b j 0 ≡ 10)

@@ -1,6 +1,6 @@
 use Rattle.std.proofs.Common.{◌+◌, arith, inl, inr}
 use Rattle.std.proofs.lemmas.List.{take_rest}
-use Rattle.output_slice.proofs.ByteLemmas.{first-byte, no-byte}
+use Rattle.output_slice.proofs.OccursLemmas.{first-byte, no-byte}
 use Rattle.output_slice.proofs.OpeningLemmas.{window-end}
 use Rattle.output_slice.proofs.last_head.window_end.Goals as goal
 

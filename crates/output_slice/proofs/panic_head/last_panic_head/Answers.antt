@@ -2,8 +2,7 @@ use Rattle.std.proofs.Common.{◌≡◌, ℕ, List, ap, ◌∙◌, arith, subst,
 use Rattle.output_slice.specs.declared.panic_head.HeadSpan.{HeadSpan}
 use Rattle.output_slice.specs.Taken.{IsLastTaken}
 use Rattle.output_slice.specs.Steps.{IsNextQuote}
-use Rattle.output_slice.proofs.SearchLemmas.{Searched, searched-first, searched-none, searched-found}
-use Rattle.output_slice.proofs.SettledLemmas.{settled-done}
+use Rattle.output_slice.proofs.SearchLemmas.{Searched, searched-first, searched-none, searched-found, settled-done}
 use Rattle.output_slice.proofs.StepLemmas.{opened-order}
 use Rattle.output_slice.proofs.TakenLemmas.{IsLastTaken-only, IsLastTaken-some}
 use Rattle.output_slice.proofs.panic_head.last_panic_head.Goals as goal
