@@ -156,11 +156,6 @@ last-within b c h within last =
     let order = head-order (drop c b) h.start h.stop head in
     grind (arith, length-drop)
 
--- the clause of the search where it finds none
-pub no-head : (b : List ℕ) (found : Option HeadSpan) → found ≡ None → IsSome found ↔ ((s : ℕ) × (e : ℕ) × IsHead b s e)
-    → (s e : ℕ) → ¬ IsHead b s e
-no-head b found is h s e head = let some = h.1 (s, e, head) in grind arith
-
 -- bytes behind every head change nothing
 pub last-within-front : (b : List ℕ) (e : ℕ) (found : Option HeadSpan) → e ≤ length b → AllHeadsEndBy b e
     → IsLastTaken (take e b) found → IsLastTaken b found

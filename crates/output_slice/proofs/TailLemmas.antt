@@ -112,25 +112,6 @@ tail_cases b at e high h = elim h [
       })
 ]
 
--- what is plain, and what is numbered, is a tail
-pub IsTail-plain : (b : List ℕ) (at : ℕ) → OccursAt b (codes " panicked at ") at
-    → (at + 13 ≤ length b) × IsTail (part at (at + 13) b)
-IsTail-plain b at h = (h.fits, inl (occurs-part b (codes " panicked at ") at (at + 13) h refl))
-
-pub IsTail-numbered : (b : List ℕ) (at e : ℕ) → IsNumbered b at e → (e ≤ length b) × IsTail (part at e b)
-IsTail-numbered b at e h =
-    let d = h.run.digits in
-    let number = encode_utf8_all d.chars in
-    let end = codes ") panicked at " in
-    let both = length-append number end in
-    let rest = occurs-both b number end (at + 2) d.stands (rw d.ends at h.closes) in
-    let whole = occurs-both b (codes " (") (number ++ end) at h.opens rest in
-    let some : 0 < length d.chars = chars-some d.chars (omega arith) in
-    (omega arith, inr (number, (d.chars, some, d.digits, refl), occurs-part b _ at e whole (omega arith))) where
-      chars-some : (cs : List ℕ) → 0 < length (encode_utf8_all cs) → 0 < length cs
-      chars-some [] low = low
-      chars-some (c ∷ cs) low = omega arith
-
 -- a plain tail is not numbered
 apart : (b : List ℕ) (at : ℕ) → OccursAt b (codes " panicked at ") at → OccursAt b (codes " (") at → ⊥
 apart b at p q = omega (arith, p.reads 1 (omega arith), q.reads 1 (omega arith))
@@ -146,22 +127,17 @@ tail-same b at e e' high high' h k = elim (tail_cases b at e high h) [
   ]
 ]
 
--- the ways in which the search for a tail ends
-pub IsTailEnd-plain : (b : List ℕ) (at : ℕ) (found : Option ℕ) → ¬ OccursAt b (codes " (") at
-    → IsTextEnd b (codes " panicked at ") at found → IsTailEnd b at found
-IsTailEnd-plain b at None none h = λ e high tail. let cases = tail_cases b at e high tail in grind arith
-IsTailEnd-plain b at (Some e) none h = rw h.1 (IsTail-plain b at h.0)
-
--- a plain tail in two parts
+-- the ways in which the search for a tail ends: a plain tail in two parts
 pub IsTailEnd-split : (b : List ℕ) (at : ℕ) (found : Option ℕ) → OccursAt b (codes " ") at
     → ¬ OccursAt b (codes "(") (at + 1)
     → IsTextEnd b (codes "panicked at ") (at + 1) found → IsTailEnd b at found
-IsTailEnd-split b at None space none f =
-    IsTailEnd-plain b at None (λ h. none (occurs-back b (codes " ") (codes "(") at h))
-    (λ h. f (occurs-back b (codes " ") (codes "panicked at ") at h))
+IsTailEnd-split b at None space none f = λ e high tail. elim (tail_cases b at e high tail) [
+  | inl p ↦ f (occurs-back b (codes " ") (codes "panicked at ") at p.0)
+  | inr q ↦ none (occurs-back b (codes " ") (codes "(") at q.opens)
+]
 IsTailEnd-split b at (Some e) space none f =
-    IsTailEnd-plain b at (Some e) (λ h. none (occurs-back b (codes " ") (codes "(") at h))
-    (occurs-both b (codes " ") (codes "panicked at ") at space f.0, omega (arith, f.1))
+    let whole = occurs-both b (codes " ") (codes "panicked at ") at space f.0 in
+    (omega (arith, f.1, whole.fits), inl (occurs-part b (codes " panicked at ") at e whole (omega (arith, f.1))))
 
 -- no tail stands where no digit stands between the parentheses
 pub IsTailEnd-none : (b : List ℕ) (at close : ℕ)
@@ -181,8 +157,17 @@ IsTailEnd-numbered b at close None opens run is h = λ e high tail. elim (tail_c
   | inr q ↦ h (rw (IsDigitRun-same b (at + 2) close q.close run q.run) q.closes)
 ]
 IsTailEnd-numbered b at close (Some e) opens run is h =
-    let ends = run.digits.ends in
-    IsTail-numbered b at e (record { close = close; opens = opens; run = run; some = omega arith; closes = h.0; ends = h.1 })
+    let d = run.digits in
+    let number = encode_utf8_all d.chars in
+    let end = codes ") panicked at " in
+    let both = length-append number end in
+    let rest = occurs-both b number end (at + 2) d.stands (rw d.ends at h.0) in
+    let whole = occurs-both b (codes " (") (number ++ end) at opens rest in
+    let some = chars-some d.chars (omega arith) in
+    (omega arith, inr (number, (d.chars, some, d.digits, refl), occurs-part b _ at e whole (omega arith))) where
+      chars-some : (cs : List ℕ) → 0 < length (encode_utf8_all cs) → 0 < length cs
+      chars-some [] low = low
+      chars-some (c ∷ cs) low = omega arith
 
 -- how far a text is read that is found, or is not
 text-read : (b text : List ℕ) (at old new : ℕ) (found : Option ℕ) → TextReads b text at old new found
