@@ -79,13 +79,10 @@ wide_char : (b : List ℕ) (at stop c : ℕ) → IsCharAt b at stop c → 128 �
 wide_char b at stop c h past = grind (arith, encode_ascii, length-encode)
 
 -- UTF-8 is empty or begins with a character
-first-utf8 : (bs : List ℕ) → IsUtf8 bs → 0 < length bs
+first-utf8 : (cs bs : List ℕ) → scalars cs ≡ true → encode_utf8_all cs ≡ bs → 0 < length bs
     → (c : ℕ) × ((rest : List ℕ) × (IsScalar c × (bs ≡ encode_utf8 c ++ rest)))
-first-utf8 bs h some = by_chars h.0 h.1.0 h.1.1 where
-  by_chars : (cs : List ℕ) → scalars cs ≡ true → encode_utf8_all cs ≡ bs
-      → (c : ℕ) × ((rest : List ℕ) × (IsScalar c × (bs ≡ encode_utf8 c ++ rest)))
-  by_chars [] all e = absurd (omega (arith, ap length e))
-  by_chars (c ∷ cs) all e = (c, (encode_utf8_all cs, ((and_parts _ _ all).0, sym e)))
+first-utf8 [] bs all e some = absurd (omega (arith, ap length e))
+first-utf8 (c ∷ cs) bs all e some = (c, (encode_utf8_all cs, ((and_parts _ _ all).0, sym e)))
 
 -- a part that begins with a character is UTF-8 exactly where the rest is
 pub utf8-char : (b : List ℕ) (at to c n : ℕ) → IsCharAt b at to c → n ≡ length (encode_utf8 c)
@@ -106,7 +103,7 @@ pub char-utf8 : (b : List ℕ) (at to : ℕ) → at < to → to ≤ length b →
     → (c : ℕ) × IsCharAt b at to c
 char-utf8 b at to low high h =
     let size = length-part b at to high in
-    let first = first-utf8 (part at to b) h (omega arith) in
+    let first = first-utf8 h.0 (part at to b) h.1.0 h.1.1 (omega arith) in
     (first.0, part-front b first.1.0 at to first.0 first.1.1.0 first.1.1.1 high)
 
 -- at one place stands one character

@@ -76,8 +76,3 @@ AreLines-lines_of b = let some = divided b in rw (AreLines-same b some.0 some.1)
   divided : (b : List ℕ) → (lines : List (List ℕ)) × AreLines b lines
   divided [] = ([], record { joined = refl; each = All-nil _; ends = λ i j d low high. absurd (omega arith) })
   divided (x ∷ b) = let rest = divided b in more-lines x b rest.0 rest.1
-
--- there is one division into lines
-pub lines-exist : (b : List ℕ)
-    → (lines : List (List ℕ)) × AreLines b lines × ((other : List (List ℕ)) → AreLines b other → other ≡ lines)
-lines-exist b = (lines_of b, AreLines-lines_of b, AreLines-same b)

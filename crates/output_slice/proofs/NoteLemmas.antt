@@ -53,7 +53,7 @@ lines-round b s e low high line quiet last =
     let left = length-drop s b in
     let rest = drop (e - s) (drop s b) in
     let before : EndsLine (take s b) = grind (arith, get_or-take) in
-    let is_line : IsLine (part s e b) = record { some = omega arith; feed = λ k is. feed-last k is } in
+    let is_line : IsLine (part s e b) = record { some = omega arith; feed = λ k is. let past = get_or_past (part s e b) k 0 in let other = quiet (s + k) in grind (arith, get_or-part) } in
     let behind = split (cases_lt e (length b)) ∙ ap (λ ls. ls ++ lines_of rest) (line-alone _ is_line) in
     lines-cut s b before ∙ ap (λ ls. lines_of (take s b) ++ ls) behind where
       lines-cut : (n : ℕ) (xs : List ℕ) → EndsLine (take n xs)
@@ -61,13 +61,6 @@ lines-round b s e low high line quiet last =
       lines-cut n xs ends =
           ap lines_of (sym (take-append-drop n xs))
           ∙ lines-append (length (take n xs)) (take n xs) (drop n xs) (omega arith) ends
-
-      feed-last : (k : ℕ) → get_or (part s e b) k 0 ≡ 10 → k + 1 ≡ length (part s e b)
-      feed-last k is =
-          let size = length-part b s e high in
-          let past = get_or_past (part s e b) k 0 in
-          let other = quiet (s + k) in
-          grind (arith, get_or-part)
 
       split : (e < length b) ⊎ (length b ≤ e)
           → lines_of (drop s b) ≡ lines_of (part s e b) ++ lines_of (drop (e - s) (drop s b))

@@ -31,15 +31,13 @@ abbrev IsLetterAt : List ℕ → ℕ → Type 0
 IsLetterAt b s = (get_or b s 0 ≡ 69) ⊎ (get_or b s 0 ≡ 116)
 
 -- text that begins so is not blank
-not_blank : (bs : List ℕ) → IsLetterAt bs 0 → ¬ IsBlank bs
-not_blank bs letter h = by_chars h.0 h.1 h.2 where
-  by_chars : (cs : List ℕ) → All (λ c. IsScalar c × IsTrue (is_whitespace c)) cs → bs ≡ encode_utf8_all cs → ⊥
-  by_chars [] all e = elim (rw e at letter) [ inl one ↦ omega arith | inr two ↦ omega arith ]
-  by_chars (c ∷ cs) all e =
-      let space = (All-head (λ x. IsScalar x × IsTrue (is_whitespace x)) c cs all).1 in
-      let past = get_or_past bs 0 0 in
-      let is : c ≡ get_or bs 0 0 = char_from_byte bs (encode_utf8_all cs) c e (grind arith) (grind arith) in
-      elim letter [ inl one ↦ absurd (cc (ap is_whitespace (is ∙ one))) | inr two ↦ absurd (cc (ap is_whitespace (is ∙ two))) ]
+not_blank : (cs bs : List ℕ) → IsLetterAt bs 0 → All (λ c. IsScalar c × IsTrue (is_whitespace c)) cs → bs ≡ encode_utf8_all cs → ⊥
+not_blank [] bs letter all e = elim (rw e at letter) [ inl one ↦ omega arith | inr two ↦ omega arith ]
+not_blank (c ∷ cs) bs letter all e =
+    let space = (All-head (λ x. IsScalar x × IsTrue (is_whitespace x)) c cs all).1 in
+    let past = get_or_past bs 0 0 in
+    let is : c ≡ get_or bs 0 0 = char_from_byte bs (encode_utf8_all cs) c e (grind arith) (grind arith) in
+    elim letter [ inl one ↦ absurd (cc (ap is_whitespace (is ∙ one))) | inr two ↦ absurd (cc (ap is_whitespace (is ∙ two))) ]
 
 -- a trimmed slice that begins so is a part
 trimmed-part : (b : List ℕ) (x : Slice) → IsTrimmedSlice b x → IsLetterAt b x.start → IsPart b x
@@ -49,7 +47,7 @@ trimmed-part b x h letter =
     let here : IsLetterAt (drop s b) 0 = grind (arith, get_or-drop) in
     let longer : s < h.0 = elim (cases_lt s h.0) [
       | inl low ↦ low
-      | inr past ↦ let same : h.0 ≡ s = omega arith in absurd (not_blank (drop s b) here (rw same at h.1.1))
+      | inr past ↦ let same : h.0 ≡ s = omega arith in let blank = rw same at h.1.1 in absurd (not_blank blank.0 (drop s b) here blank.1 blank.2)
     ] in
     let size = length-part b s h.0 (omega (arith, first.high)) in
     grind (arith, get_or-part)

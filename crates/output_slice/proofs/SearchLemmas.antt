@@ -20,8 +20,7 @@ settled-first b rest h = h
 
 -- no head that starts at the place or after it starts before the next quote's word
 starts-late : (b : List ℕ) (place q s e : ℕ) → NoQuoteBetween b place q → place ≤ s → IsHead b s e → q ≤ s + 7
-starts-late b place q s e quiet late head =
-    grind arith
+starts-late b place q s e quiet late head = grind arith
 
 -- a quote that opens no head
 pub settled-none : (b : List ℕ) (place q : ℕ) (taken : List HeadSpan) → Settled b place taken → place ≤ q

@@ -183,16 +183,12 @@ break-bytes (c ∷ cs) all =
 
 -- where the breaks at the end of what stands before s begin
 module _ (b : List ℕ) (s r : ℕ) (low : s ≤ length b) (is : r ≡ length (trim_end_by is_break (take s b))) where
-  left : (n : ℕ) × (n ≤ length (take s b)) × (trim_end_by is_break (take s b) ≡ take n (take s b)) × AllPass is_break (drop n (take s b))
-      × ((i : ℕ) → i < n → ¬ AllPass is_break (drop i (take s b)))
-  left = trim_end_by-least is_break refl (take s b)
-
-  size : (r ≡ left.0) × (length (take s b) ≡ s)
-  size = let h = left in (is ∙ ap length h.2 ∙ length-take-le h.0 (take s b) h.1, length-take-le s b low)
+  size : (r ≡ (trim_end_by-least is_break refl (take s b)).0) × (length (take s b) ≡ s)
+  size = let h = trim_end_by-least is_break refl (take s b) in (is ∙ ap length h.2 ∙ length-take-le h.0 (take s b) h.1, length-take-le s b low)
 
   pub breaks-trimmed : AreBreaks b r s
   breaks-trimmed i more less =
-      let h = left in
+      let h = trim_end_by-least is_break refl (take s b) in
       let count = size in
       let rest = length-drop h.0 (take s b) in
       let at = break-bytes h.3.0 h.3.1 (i - h.0) 0 (omega (arith, ap length h.3.2)) in
@@ -202,7 +198,7 @@ module _ (b : List ℕ) (s r : ℕ) (low : s ≤ length b) (is : r ≡ length (t
 
   pub text-trimmed : 0 < r → ¬ IsBreak (get_or b (r - 1) 0)
   text-trimmed some break =
-      let h = left in
+      let h = trim_end_by-least is_break refl (take s b) in
       let count = size in
       let xs = take s b in
       let last = get_or b (r - 1) 0 in

@@ -13,8 +13,7 @@ module _ (b : List ℕ) (s stop : ℕ) (low : stop ≤ s) (high : s ≤ length b
     (text : 0 < stop → ¬ IsBreak (get_or b (stop - 1) 0)) where
   -- an error line ends where the breaks begin
   stop-same : (j : ℕ) (h : IsErrorLine b s j) → h.stop ≡ stop
-  stop-same j h =
-      grind arith
+  stop-same j h = grind arith
 
   -- where the last line before begins with `Error:`
   pub widened-some : (at : ℕ) → IsLastByte (is_byte 10) (take stop b) (Some at)
@@ -39,13 +38,11 @@ module _ (b : List ℕ) (s stop : ℕ) (low : stop ≤ s) (high : s ≤ length b
   pub widened-other : (at : ℕ) → IsLastByte (is_byte 10) (take stop b) (Some at)
       → ¬ OccursAt (drop at (take stop b)) (codes "\nError:") 0
       → IsWidened b s s
-  widened-other at h none = inr (λ j line. other j line, refl) where
-    other : (j : ℕ) → ¬ IsErrorLine b s j
-    other j line =
-        let last = last-byte 10 b stop (omega arith) at h in
-        let same = stop-same j line in
-        let here : j ≡ at = grind arith in
-        none (dropped-occurs (take stop b) (codes "\nError:") at (rw same at rw here at line.begins))
+  widened-other at h none = inr (λ j line.
+      let last = last-byte 10 b stop (omega arith) at h in
+      let same = stop-same j line in
+      let here : j ≡ at = grind arith in
+      none (dropped-occurs (take stop b) (codes "\nError:") at (rw same at rw here at line.begins)), refl)
 
 -- there is one error line at most before a place
 line-same : (b : List ℕ) (s j k : ℕ) → IsErrorLine b s j → IsErrorLine b s k → j ≡ k
