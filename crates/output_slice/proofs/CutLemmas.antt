@@ -12,8 +12,7 @@ use Rattle.output_slice.specs.Taken.{IsTaken, IsLastTaken, last_of}
 use Rattle.output_slice.specs.Cut.{IsCut, shifted}
 use Rattle.output_slice.specs.Search.{AllHeadsEndBy}
 use Rattle.output_slice.proofs.StepLemmas.{head-order}
-use Rattle.output_slice.proofs.ExistLemmas.{IsTaken-exists, leftmost-taken}
-use Rattle.output_slice.proofs.TakenLemmas.{IsLastTaken-head, IsTaken-from_leftmost, IsTaken-nil, Leftmost, leftmost-before}
+use Rattle.output_slice.proofs.TakenLemmas.{IsLastTaken-head, IsTaken-from_leftmost, IsTaken-nil, Leftmost, leftmost-before, IsTaken-exists, leftmost-taken}
 use Rattle.output_slice.proofs.OccursLemmas.{get_or-part, length-part, occurs-moved}
 
 -- parts that read the same are the same

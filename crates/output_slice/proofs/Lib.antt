@@ -7,10 +7,7 @@ mod TakenLemmas
 mod TrimLemmas
 mod WideningLemmas
 mod DivisionLemmas
-mod NoteLemmas
-mod PartLemmas
 mod SameLemmas
-mod ExistLemmas
 mod CutLemmas
 mod OpeningLemmas
 mod StartLemmas

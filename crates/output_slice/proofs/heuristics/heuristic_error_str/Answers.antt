@@ -1,6 +1,5 @@
 use Rattle.output_slice.specs.Slices.{IsErrorSlice}
-use Rattle.output_slice.proofs.PartLemmas.{IsErrorSlice-part, found-part}
-use Rattle.output_slice.proofs.SameLemmas.{IsErrorSlice-same}
+use Rattle.output_slice.proofs.SameLemmas.{IsErrorSlice-same, IsErrorSlice-part, found-part}
 use Rattle.output_slice.proofs.heuristics.heuristic_error_str.Goals as goal
 
 pub returns-clause-only : goal.returns-clause-only

@@ -1,6 +1,5 @@
 use Rattle.output_slice.specs.Slices.{IsPanicSlice}
-use Rattle.output_slice.proofs.PartLemmas.{IsPanicSlice-part, found-part}
-use Rattle.output_slice.proofs.SameLemmas.{IsPanicSlice-same}
+use Rattle.output_slice.proofs.SameLemmas.{IsPanicSlice-same, IsPanicSlice-part, found-part}
 use Rattle.output_slice.proofs.heuristics.heuristic_panic_message.Goals as goal
 
 pub returns-clause-only : goal.returns-clause-only

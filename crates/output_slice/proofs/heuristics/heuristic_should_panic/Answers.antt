@@ -1,6 +1,5 @@
 use Rattle.output_slice.specs.Slices.{IsNoteLine}
-use Rattle.output_slice.proofs.PartLemmas.{IsNoteLine-part, found-part}
-use Rattle.output_slice.proofs.SameLemmas.{IsNoteLine-same}
+use Rattle.output_slice.proofs.SameLemmas.{IsNoteLine-same, IsNoteLine-part, found-part}
 use Rattle.output_slice.proofs.heuristics.heuristic_should_panic.Goals as goal
 
 pub returns-clause-only : goal.returns-clause-only

@@ -1,4 +1,4 @@
-use Rattle.output_slice.proofs.NoteLemmas.{note-none, note-line}
+use Rattle.output_slice.proofs.DivisionLemmas.{note-none, note-line}
 use Rattle.output_slice.proofs.heuristics.should_panic_before.Goals as goal
 
 pub returns-in_err-at : goal.returns-in_err-at

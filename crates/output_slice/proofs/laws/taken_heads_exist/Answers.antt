@@ -1,5 +1,4 @@
-use Rattle.output_slice.proofs.TakenLemmas.{IsTaken-same}
-use Rattle.output_slice.proofs.ExistLemmas.{IsTaken-exists}
+use Rattle.output_slice.proofs.TakenLemmas.{IsTaken-same, IsTaken-exists}
 use Rattle.output_slice.proofs.laws.taken_heads_exist.Goals as goal
 
 pub returns : goal.returns

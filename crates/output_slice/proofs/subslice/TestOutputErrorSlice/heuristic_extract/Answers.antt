@@ -1,5 +1,4 @@
-use Rattle.output_slice.proofs.PartLemmas.{IsExtract-part}
-use Rattle.output_slice.proofs.SameLemmas.{IsExtract-same}
+use Rattle.output_slice.proofs.SameLemmas.{IsExtract-same, IsExtract-part}
 use Rattle.output_slice.proofs.subslice.TestOutputErrorSlice.heuristic_extract.Goals as goal
 
 pub returns-clause-only : goal.returns-clause-only
