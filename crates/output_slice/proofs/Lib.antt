@@ -5,7 +5,6 @@ mod StepLemmas
 mod SearchLemmas
 mod TakenLemmas
 mod TrimLemmas
-mod WideningLemmas
 mod DivisionLemmas
 mod SameLemmas
 mod CutLemmas

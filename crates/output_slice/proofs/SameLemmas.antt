@@ -26,7 +26,7 @@ use Rattle.output_slice.specs.Head.{IsHead}
 use Rattle.output_slice.specs.Shown.{slice_of, extract_of}
 use Rattle.output_slice.proofs.DivisionLemmas.{AreLines-same, length-concat}
 use Rattle.output_slice.proofs.TakenLemmas.{IsLastTaken-same, IsLastTaken-head}
-use Rattle.output_slice.proofs.WideningLemmas.{IsWidened-same}
+use Rattle.output_slice.proofs.TrimLemmas.{IsWidened-same}
 use Rattle.output_slice.proofs.OccursLemmas.{length-part, get_or-part}
 
 -- an `E` stands at the place, or a `t`

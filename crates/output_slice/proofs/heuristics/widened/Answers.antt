@@ -1,5 +1,5 @@
 use Rattle.std.proofs.lemmas.List.{take_rest}
-use Rattle.output_slice.proofs.WideningLemmas.{widened-some, widened-other}
+use Rattle.output_slice.proofs.TrimLemmas.{widened-some, widened-other}
 use Rattle.output_slice.proofs.heuristics.widened.Goals as goal
 
 pub returns-then-starts_with_str-clause-value : goal.returns-then-starts_with_str-clause-value

@@ -21,7 +21,6 @@ loop-next-smaller-in-Some-opened_head_end g c =
 
 pub loop-next-preserved-in-Some-opened_head_end : goal.loop-next-preserved-in-Some-opened_head_end
 loop-next-preserved-in-Some-opened_head_end g c =
-    let b = g.S.ByteSource.bytes c.args.source.now in
     let one = c.loop-next.invariant.0 in
     let two = c.next_quote-close.ensures.same ∙ one in
     let three = c.opened_head_end.ensures.same ∙ two in
@@ -31,13 +30,12 @@ loop-next-preserved-in-Some-opened_head_end g c =
     let r = rw two at c.in-Some-opened_head_end.ensures.reads in
     let m = c.next_quote-next-in-Some-opened_head_end.ensures in (
       m.same ∙ three,
-      searched-found b _ _ _ _ _ c.loop-next.place c.in-Some.quote c.in-Some-opened_head_end.stop c.next_quote-close.result
+      searched-found _ _ _ _ _ _ c.loop-next.place c.in-Some.quote c.in-Some-opened_head_end.stop c.next_quote-close.result
           c.next_quote-next-in-Some-opened_head_end.result c.loop-next.last h (rw one at n.found) (rw one at n.reads) v r (rw three at m.found) m.fits (rw three at m.reads),
     )
 
 pub loop-next-preserved : goal.loop-next-preserved
 loop-next-preserved g c =
-    let b = g.S.ByteSource.bytes c.args.source.now in
     let one = c.loop-next.invariant.0 in
     let two = c.next_quote-close.ensures.same ∙ one in
     let three = c.opened_head_end.ensures.same ∙ two in
@@ -46,7 +44,7 @@ loop-next-preserved g c =
     let v = rw two at c.in-None.ensures.value in
     let r = rw two at c.in-None.ensures.reads in (
       three,
-      searched-none b _ _ _ _ c.loop-next.place c.in-Some.quote c.next_quote-close.result c.loop-next.last
+      searched-none _ _ _ _ _ c.loop-next.place c.in-Some.quote c.next_quote-close.result c.loop-next.last
           h (rw one at n.found) n.fits (rw one at n.reads) v c.opened_head_end.ensures.opened (rw two at c.opened_head_end.ensures.line) r,
     )
 

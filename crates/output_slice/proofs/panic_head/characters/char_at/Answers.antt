@@ -4,9 +4,8 @@ use Rattle.output_slice.proofs.panic_head.characters.char_at.Goals as goal
 
 pub loop-i-init : goal.loop-i-init
 loop-i-init g c =
-    let b = g.S.ByteSource.bytes c.args.source.now in
     let e = c.byte-first.ensures in
-    (e.same, omega arith, refl, λ x. one-byte b c.args.at x (omega arith), λ k low. let first = e.value in grind arith)
+    (e.same, omega arith, refl, λ x. one-byte _ c.args.at x (omega arith), λ k low. let first = e.value in grind arith)
 
 pub returns-in-Some : goal.returns-in-Some
 returns-in-Some g c =
@@ -42,5 +41,4 @@ loop-i-preserved g c =
 
 pub returns-clause-value : goal.returns-clause-value
 returns-clause-value g c = λ x h.
-    let b = g.S.ByteSource.bytes c.args.source.now in
-    c.loop-i.invariant.3 x (char-short b c.args.at c.args.stop c.loop-i.i x (omega arith) h)
+    c.loop-i.invariant.3 x (char-short _ c.args.at c.args.stop c.loop-i.i x (omega arith) h)
