@@ -1,10 +1,9 @@
 -- Heads in parts of the bytes, and the taken heads on either side of a cut.
-use Rattle.std.proofs.Common.{refl, ◌≡◌, ℕ, ◌+◌, ◌-◌, ◌<◌, ◌≤◌, ◌↔◌, List, [], ◌∷◌, ◌++◌, length, get_or, take, drop, sym, subst, ◌∙◌, ◌⊎◌, inl, inr, arith, length-append, length-drop, append-nil, add-zero, ext_get_or, get_or-drop, length-take, get_or-take}
-use Rattle.std.specs.Prelude.{IsSome, Option, Some, None, map}
+use Rattle.std.proofs.Common.{◌≡◌, ℕ, ◌+◌, ◌-◌, ◌<◌, ◌≤◌, List, [], ◌∷◌, ◌++◌, length, get_or, take, drop, sym, subst, inl, inr, arith, length-append, length-drop, append-nil, add-zero, ext_get_or, get_or-drop, length-take, get_or-take}
+use Rattle.std.specs.Prelude.{Option, Some, map}
 use Rattle.std.proofs.lemmas.Bool.{cases_lt}
 use Rattle.std.proofs.lemmas.List.{length-map, get_or-append-add}
-use Rattle.std.proofs.lemmas.List.Elements.{All-weaker}
-use Rattle.std.proofs.lemmas.Option.{slice_get-get_or, slice_get_read, slice_get-map, slice_get_within, get_or_from_slice_get}
+use Rattle.std.proofs.lemmas.Option.{slice_get-get_or, slice_get-map, slice_get_within, get_or_from_slice_get}
 use Rattle.bstr.specs.Text.{part}
 use Rattle.output_slice.specs.declared.panic_head.HeadSpan.{HeadSpan}
 use Rattle.output_slice.specs.Head.{IsHead, IsLineStart}

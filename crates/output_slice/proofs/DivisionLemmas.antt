@@ -1,5 +1,5 @@
 -- Bytes divide into lines in one way, and the line of the first note.
-use Rattle.std.proofs.Common.{◌≡◌, ◌≢◌, inl, inr, ℕ, suc, zero, ◌+◌, ◌-◌, ◌<◌, List, [], ◌∷◌, ◌++◌, length, get_or, refl, sym, ap, ◌∙◌, arith, append-nil, All, AllPairs, ◌≤◌, ◌⊎◌, take, drop, subst, length-append, length-drop, length-take, take-append-drop}
+use Rattle.std.proofs.Common.{◌≡◌, ◌≢◌, inl, inr, ℕ, suc, ◌+◌, ◌-◌, ◌<◌, List, [], ◌∷◌, ◌++◌, length, get_or, refl, sym, ap, ◌∙◌, arith, append-nil, All, AllPairs, ◌≤◌, ◌⊎◌, take, drop, subst, length-append, length-drop, length-take, take-append-drop}
 use Rattle.std.specs.List.{concat}
 use Rattle.std.proofs.lemmas.Bool.{cases_eq, cases_lt}
 use Rattle.std.proofs.lemmas.List.Elements.{All-cons, All-head, All-tail, All-nil}
@@ -17,7 +17,7 @@ use Rattle.output_slice.specs.Lines.{IsLine, AreLines}
 use Rattle.output_slice.specs.Head.{IsLineStart}
 use Rattle.output_slice.specs.Slices.{IsNote, IsNoteLine}
 use Rattle.output_slice.specs.Steps.{IsLineEnd, NoFeedBetween}
-use Rattle.output_slice.proofs.OccursLemmas.{get_or-part, length-part, occurs-front-take, occurs-in-part, occurs-moved, text-passes}
+use Rattle.output_slice.proofs.OccursLemmas.{get_or-part, length-part, occurs-front-take, occurs-in-part, text-passes}
 
 -- the line ends with a line feed
 abbrev Ended : List ℕ → List ℕ → Type 0
@@ -76,7 +76,7 @@ more-lines x b ls h = elim (cases_eq x 10) [
           each = All-cons IsLine (x ∷ l) ls (record { some = omega arith; feed = λ k is. let before = line.feed (k - 1) in grind arith }) (All-tail IsLine l ls h.each);
           ends =
               AllPairs-cons Ended (x ∷ l) ls (λ k d low.
-                let place : length (x ∷ l) - 1 ≡ suc (length l - 1) = omega arith in rw place (h.ends 0 (suc k) d (omega arith) (omega arith)))
+              let place : length (x ∷ l) - 1 ≡ suc (length l - 1) = omega arith in rw place (h.ends 0 (suc k) d (omega arith) (omega arith)))
               (λ i j d low high. h.ends (suc i) (suc j) d (omega arith) (omega arith));
         },
       )

@@ -1,13 +1,13 @@
 -- Which line starts a head crosses, and where all heads end.
-use Rattle.std.proofs.Common.{◌≡◌, ℕ, ◌+◌, ◌-◌, ◌<◌, ◌≤◌, ◌⊎◌, inl, inr, List, length, get_or, drop, arith, Some, None, Bool, take, refl, codes, not, ◌==◌}
+use Rattle.std.proofs.Common.{◌≡◌, ℕ, ◌+◌, ◌-◌, ◌<◌, ◌≤◌, ◌⊎◌, inl, inr, List, length, get_or, arith, Some, None, Bool, take, refl, codes, not, ◌==◌}
 use Rattle.std.proofs.lemmas.Bool.{cases_lt}
 use Rattle.std.proofs.lemmas.Bool.Decides.{nat_tests}
-use Rattle.bstr.specs.Find.{IsFirstByte, is_byte, IsLastByte}
+use Rattle.bstr.specs.Find.{is_byte, IsLastByte}
 use Rattle.output_slice.specs.Head.{IsHead, IsLineStart}
 use Rattle.output_slice.specs.Steps.{IsLineEnd, NoQuoteBetween}
 use Rattle.output_slice.specs.Search.{AllHeadsEndBy, IsLastOpening, IsOpening, MayAllBeCrossed, MayCross}
 use Rattle.output_slice.specs.Cut.{IsCut}
-use Rattle.output_slice.proofs.OccursLemmas.{first-byte, no-byte, last-byte, no-last-byte, text-passes}
+use Rattle.output_slice.proofs.OccursLemmas.{last-byte, no-last-byte, text-passes}
 use Rattle.output_slice.proofs.StepLemmas.{name-quiet, head-order}
 use Rattle.output_slice.proofs.TailLemmas.{tail-plain}
 

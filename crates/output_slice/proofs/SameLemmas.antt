@@ -1,22 +1,21 @@
 -- Each slice is a part of its parent and not empty, and is the only one.
-use Rattle.std.proofs.Common.{◌≡◌, ℕ, ◌+◌, List, [], ◌∷◌, ◌++◌, length, refl, sym, ap, subst, ◌∙◌, arith, All, Option, Some, None, MatchOption, IfSome, option_map, sum_by, ◌-◌, ◌<◌, ◌≤◌, get_or, take, drop, length-append, get_or-drop, length-take, ◌⊎◌, inl, inr}
+use Rattle.std.proofs.Common.{◌≡◌, ℕ, ◌+◌, List, [], ◌∷◌, ◌++◌, length, refl, sym, ap, subst, ◌∙◌, arith, All, Option, Some, None, IfSome, option_map, sum_by, ◌<◌, ◌≤◌, get_or, drop, length-append, get_or-drop, length-take, ◌⊎◌, inl, inr}
 use Rattle.std.proofs.lemmas.List.Elements.{All-contains, All-head, All-tail, Contains-append_right}
 use Rattle.std.proofs.lemmas.Option.{same_Some}
-use Rattle.std.specs.Prelude.{Option, Some, None, IfSome, All, IsTrue, sum_by, option_map, nat_lt, ◌==◌, ◌&&◌, cond}
+use Rattle.std.specs.Prelude.{Option, Some, None, IfSome, All, IsTrue, sum_by, option_map}
 use Rattle.std.specs.Char.{IsScalar, is_whitespace}
 use Rattle.std.specs.Str.{encode_utf8_all}
 use Rattle.std.specs.List.{concat}
-use Rattle.std.proofs.lemmas.Bool.{cases_lt, cases_Bool}
+use Rattle.std.proofs.lemmas.Bool.{cases_lt}
 use Rattle.std.proofs.Math.ListN.{get_or-append}
-use Rattle.std.proofs.Math.Seq.{take-length}
-use Rattle.std.proofs.lemmas.List.{get_or-append-add, take-take, get_or-take, length-take-le, get_or_past}
+use Rattle.std.proofs.lemmas.List.{get_or-append-add, get_or-take, length-take-le, get_or_past}
 use Rattle.std.proofs.lemmas.Bool.Decides.{nat_tests}
 use Rattle.std.proofs.lemmas.List.Folds.{concat-append}
 use Rattle.std.proofs.lemmas.Str.{char_from_byte}
 use Rattle.bstr.specs.Find.{IsFirst}
-use Rattle.bstr.specs.Text.{part, lines_of, without_terminator, no_cr}
+use Rattle.bstr.specs.Text.{part, without_terminator}
 use Rattle.output_slice.specs.declared.panic_head.HeadSpan.{HeadSpan}
-use Rattle.output_slice.specs.Slices.{Slice, IsErrorStart, IsWidened, IsTrimmed, IsTrimmedSlice, IsPanicSlice, IsErrorSlice, IsNote, IsNoteLine, IsPart, IsBlank}
+use Rattle.output_slice.specs.Slices.{Slice, IsErrorStart, IsWidened, IsTrimmed, IsTrimmedSlice, IsPanicSlice, IsErrorSlice, IsNote, IsNoteLine, IsPart}
 use Rattle.output_slice.specs.Extraction.{Extract, panic_slice, error_slice, note_line, OfStream, IsExtract, IsPartOf, LiesIn}
 use Rattle.output_slice.specs.Lines.{AreLines}
 use Rattle.output_slice.specs.declared.subslice.ByteSubslice.{ByteSubslice}

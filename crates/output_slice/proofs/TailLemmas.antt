@@ -10,7 +10,6 @@ use Rattle.std.proofs.lemmas.List.Sums.{AllPass-from_list_all, list_all-from_All
 use Rattle.std.proofs.lemmas.Bool.{and_from}
 use Rattle.std.proofs.lemmas.Bool.Decides.{nat_tests}
 use Rattle.std.proofs.lemmas.List.{get_or_default}
-use Rattle.std.proofs.lemmas.Option.{IfSome_then}
 use Rattle.bstr.specs.Find.{OccursAt}
 use Rattle.bstr.specs.Text.{part}
 use Rattle.output_slice.specs.Head.{IsDigit, IsTail}

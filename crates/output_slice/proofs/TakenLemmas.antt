@@ -1,5 +1,5 @@
 -- There is one list of taken heads.
-use Rattle.std.proofs.Common.{◌≡◌, ℕ, suc, ◌+◌, ◌-◌, ◌<◌, ◌≤◌, ◌⊎◌, ◌↔◌, zero, List, [], ◌∷◌, length, get_or, refl, sym, ap, subst, ◌∙◌, arith, inl, inr, ◌≢◌, ◌==◌, Bool, true, not, nat_le, ◌&&◌, ◌||◌, codes, All, Decides, ◌++◌, chars, encode_utf8_all, length-append, take_at}
+use Rattle.std.proofs.Common.{◌≡◌, ℕ, suc, ◌+◌, ◌-◌, ◌<◌, ◌≤◌, ◌⊎◌, ◌↔◌, zero, List, [], ◌∷◌, length, get_or, refl, sym, ap, subst, ◌∙◌, arith, inl, inr, ◌≢◌, ◌==◌, Bool, not, nat_le, ◌&&◌, ◌||◌, codes, All, Decides, ◌++◌, chars, encode_utf8_all, length-append, take_at}
 use Rattle.std.specs.Prelude.{All, AllPairs, Contains, Option, Some, None, IsSome, is_some}
 use Rattle.std.proofs.lemmas.Bool.{cases_lt, cases_eq, cases_Bool, le-leb, leb-true}
 use Rattle.std.proofs.lemmas.List.Elements.{All-cons, All-head, All-tail, All-nil, All-contains, All-weaker, Contains-get_or}
@@ -121,8 +121,8 @@ same-heads zero b xs ys p q h low among = absurd (omega arith)
 same-heads (suc n) b xs ys p q h low among =
     let head = All-contains (λ g. IsHead b g.start g.stop) xs h p.heads among in
     (q.rule h head).1 (λ k d l before.
-      let earlier = same-heads n b ys xs q p (get_or ys k d) (omega arith) (Contains-get_or ys k d l) in
-      All-contains (λ g. g.start < h.start → g.stop ≤ h.start) xs (get_or ys k d) ((p.rule h head).0 among) earlier before)
+    let earlier = same-heads n b ys xs q p (get_or ys k d) (omega arith) (Contains-get_or ys k d l) in
+    All-contains (λ g. g.start < h.start → g.stop ≤ h.start) xs (get_or ys k d) ((p.rule h head).0 among) earlier before)
 
 -- lists by rising start with the same heads are the same
 abbrev Rising : List HeadSpan → Type 0

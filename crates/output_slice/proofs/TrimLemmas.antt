@@ -1,5 +1,5 @@
 -- Where a panic slice begins, and what is left when white space is trimmed at the end.
-use Rattle.std.proofs.Common.{◌≡◌, ℕ, zero, suc, ◌+◌, ◌-◌, ◌<◌, ◌≤◌, ◌⊎◌, Bool, true, false, cond, List, [], ◌∷◌, ◌++◌, length, get_or, take, drop, refl, sym, ap, subst, ◌∙◌, arith, inl, inr, length-drop, drop-drop, get_or-drop, add-zero, zero-add, drop-cons, drop_at, length-take, codes, Some, get_or-take}
+use Rattle.std.proofs.Common.{◌≡◌, ℕ, zero, suc, ◌+◌, ◌-◌, ◌<◌, ◌≤◌, ◌⊎◌, Bool, true, false, List, [], ◌∷◌, ◌++◌, length, get_or, take, drop, refl, sym, ap, subst, ◌∙◌, arith, inl, inr, length-drop, drop-drop, get_or-drop, add-zero, zero-add, drop-cons, drop_at, length-take, codes, Some, get_or-take}
 use Rattle.std.specs.Prelude.{All, Option, Some, None, IsTrue, ◌==◌, ◌||◌}
 use Rattle.std.specs.Char.{encode_utf8, IsScalar, is_whitespace}
 use Rattle.std.specs.Str.{encode_utf8_all}
@@ -9,7 +9,7 @@ use Rattle.std.proofs.lemmas.Bool.Decides.{nat_tests}
 use Rattle.std.proofs.lemmas.List.{get_or-take, length-take-le}
 use Rattle.std.proofs.lemmas.Str.{encode_ascii}
 use Rattle.bstr.specs.Trim.{kept_end, trim_end_by}
-use Rattle.bstr.specs.Utf8.{Decoded, decoded, continues, good, bad, or_replacement, pieces, spans_from}
+use Rattle.bstr.specs.Utf8.{Decoded, decoded, continues, good, or_replacement, pieces, spans_from}
 use Rattle.bstr.proofs.lemmas.EncodeLemmas.{decoded-encode}
 use Rattle.bstr.proofs.lemmas.SoundLemmas.{SpellsChar-decoded}
 use Rattle.bstr.proofs.lemmas.PieceLemmas.{piece-bounds, pieces-nil, pieces-step, tail-continues, continuation-alone}
@@ -51,11 +51,14 @@ module _ (b : List ℕ) (s stop : ℕ) (low : stop ≤ s) (high : s ≤ length b
   pub widened-other : (at : ℕ) → IsLastByte (is_byte 10) (take stop b) (Some at)
       → ¬ OccursAt (drop at (take stop b)) (codes "\nError:") 0
       → IsWidened b s s
-  widened-other at h none = inr (λ j line.
-      let last = last-byte 10 b stop (omega arith) at h in
-      let same = stop-same j line in
-      let here : j ≡ at = grind arith in
-      none (dropped-occurs (take stop b) (codes "\nError:") at (rw same at rw here at line.begins)), refl)
+  widened-other at h none = inr (
+    λ j line.
+        let last = last-byte 10 b stop (omega arith) at h in
+        let same = stop-same j line in
+        let here : j ≡ at = grind arith in
+        none (dropped-occurs (take stop b) (codes "\nError:") at (rw same at rw here at line.begins)),
+    refl,
+  )
 
 -- there is one error line at most before a place
 line-same : (b : List ℕ) (s j k : ℕ) → IsErrorLine b s j → IsErrorLine b s k → j ≡ k

@@ -1,4 +1,4 @@
-use Rattle.std.proofs.Common.{◌≡◌, ℕ, List, ap, ◌∙◌, arith, subst, None, Option}
+use Rattle.std.proofs.Common.{◌≡◌, ℕ, List, ◌∙◌, arith, subst, None, Option}
 use Rattle.output_slice.specs.declared.panic_head.HeadSpan.{HeadSpan}
 use Rattle.output_slice.specs.Taken.{IsLastTaken}
 use Rattle.output_slice.specs.Steps.{IsNextQuote}

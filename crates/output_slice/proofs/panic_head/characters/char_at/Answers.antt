@@ -1,4 +1,4 @@
-use Rattle.std.proofs.Common.{[], ◌∷◌, ◌≡◌, ◌+◌, ◌<◌, ℕ, List, get_or, set, sym, ◌∙◌, arith, refl}
+use Rattle.std.proofs.Common.{set, sym, ◌∙◌, arith, refl}
 use Rattle.output_slice.proofs.CharLemmas.{one-byte, buffer-more, char-some, char-none, char-short}
 use Rattle.output_slice.proofs.panic_head.characters.char_at.Goals as goal
 
