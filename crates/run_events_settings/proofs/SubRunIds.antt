@@ -52,11 +52,11 @@ written_id (Ok s) run m n e h = h ∙ sym (append_assoc (hyphenated_text lower r
 written_id (Err x) run m n e h = tt
 
 -- and it is the id of nothing else
-pub written_alone : {E : Type 0} (r : Result (String Global) E) (run : List ℕ) (m n : ℕ) → m < 2 ^ 32 → m ≡ n
+pub written_alone : {E : Type 0} (r : Result (String Global) E) (run : List ℕ) (m n : ℕ) → IsRunId run → m < 2 ^ 32 → m ≡ n
     → IfOk r (λ s. string_bytes s ≡ hyphenated_text lower run ++ (codes ":@stress-" ++ decimal m))
     → IfOk r (λ s. TellsApart (string_bytes s) run n)
-written_alone {E = E} (Ok s) run m n small e h = λ other count id other_id small_count.
+written_alone {E = E} (Ok s) run m n id small e h = λ other count other_id small_count.
     let is_id : string_bytes s ≡ sub_run_id run n = written_id {E = E} (Ok s) run m n e h in
     let small_n : n < 2 ^ 32 = omega arith in
     rw is_id (ids_tell_apart run other n count id other_id small_n small_count)
-written_alone (Err x) run m n small e h = tt
+written_alone (Err x) run m n id small e h = tt

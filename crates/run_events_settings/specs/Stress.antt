@@ -48,9 +48,9 @@ pub record IsRunId (id : List ℕ) : Type 0 where
   pub bytes : length id ≡ 16
   pub in_range : All (λ b. b < 256) id
 
--- where run ids have sixteen bytes, a text is the id of this run and count alone: it is that of another exactly where both are the same
+-- a text is the id of this run and count alone: it is that of another exactly where both are the same
 abbrev pub TellsApart : List ℕ → List ℕ → ℕ → Type 0
-TellsApart text run_id completed = (run : List ℕ) (count : ℕ) → IsRunId run_id → IsRunId run → count < 2 ^ 32
+TellsApart text run_id completed = (run : List ℕ) (count : ℕ) → IsRunId run → count < 2 ^ 32
     → (text ≡ sub_run_id run count) ↔ ((run_id ≡ run) × (completed ≡ count))
 
 -- the total a is at most b, where an unknown total is the least

@@ -1,7 +1,7 @@
 //! How far a repeated run is.
 
 ghost use Rattle.std.specs.Prelude.{◌≡◌, IfOk, option_map, string_bytes};
-ghost use Rattle.run_events_settings.specs.Stress.{TellsApart, completed_of, left_of, remaining_of, sub_run_id};
+ghost use Rattle.run_events_settings.specs.Stress.{IsRunId, TellsApart, completed_of, left_of, remaining_of, sub_run_id};
 
 use crate::stress::NonZeroDuration;
 use std::alloc::{AllocError, Global};
@@ -96,9 +96,13 @@ impl StressProgress {
     ///
     /// The only error is that no memory is left.
     pub fn unique_id(&self, alloc: Global, run_id: Uuid) -> Result<String, AllocError>
-        ensures text { IfOk result (λ text. string_bytes text ≡ sub_run_id run_id (completed_of self.now)) }
-        ensures tells_apart { IfOk result (λ text. TellsApart (string_bytes text) run_id (completed_of self.now)) }
+        ensures text { IfOk result (λ text. string_bytes text
+            ≡ sub_run_id run_id (completed_of self.now)) }
+        ensures tells_apart { IfOk result (λ text. TellsApart (string_bytes text) run_id
+            (completed_of self.now)) }
     {
+        // That no other id has this text stands on the bytes of this one.
+        let _greatest = greatest_of(run_id.as_bytes());
         let completed = self.completed();
         format!(in alloc; "{run_id}:@stress-{completed}")
     }
@@ -113,4 +117,12 @@ impl StressProgress {
             }
         }
     }
+}
+
+/// The greatest of the bytes of a run's id. It is asked for its contract alone: there are sixteen
+/// bytes, as the type of the argument says.
+fn greatest_of(id: &[u8; 16]) -> Option<u8>
+    ensures { IsRunId id.now }
+{
+    id.iter().copied().max()
 }

@@ -6,4 +6,5 @@ returns-clause-text c = written_id c.format.result c.args.run_id _ _ c.completed
 
 pub returns-clause-tells_apart : goal.returns-clause-tells_apart
 returns-clause-tells_apart c =
-    written_alone c.format.result c.args.run_id _ _ c.completed-completed.type_inv c.completed-completed.ensures c.format.ensures.ok
+    let id = rw c.as_bytes.ensures at c.greatest_of-greatest.ensures in
+    written_alone c.format.result c.args.run_id _ _ id c.completed-completed.type_inv c.completed-completed.ensures c.format.ensures.ok
