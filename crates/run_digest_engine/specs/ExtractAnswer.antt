@@ -39,3 +39,8 @@ AnswersExtract (Err faults.Read) old new input = Unit {0}
 AnswersExtract (Err faults.OutOfMemory) old new input = Unit {0}
 AnswersExtract (Err faults.BadWord) old new input = ⊥
 AnswersExtract (Err (faults.BadLine number)) old new input = ⊥
+
+-- what was written and answered is what anything says that is extracted of the input: so there is no other
+abbrev pub TellsEachExtract : Bool → Option (List ℕ) → Option (List ℕ) → List ℕ → Type 0
+TellsEachExtract success old new input =
+    (found : Option Extract) → IsExtracted input found → Appends old new (extract_text found) × (success ≡ is_some found)

@@ -1,10 +1,11 @@
 //! Extracting: from a test's output to the part of it that says why the test failed.
 
-ghost use Rattle.std.specs.Prelude.{◌≡◌, ◌↔◌, ◌⊎◌, true, false, IfErr, IfOk, IfSome, OnOk, IsErrOf, option_map, string_bytes};
+ghost use Rattle.std.specs.Prelude.{◌≡◌, ◌↔◌, ◌⊎◌, true, false, IfErr, IfOk, IfSome, OnOk, IsErrOf, Option, option_map, string_bytes};
+ghost use Rattle.run_events.specs.Extraction.{Extract};
 ghost use Rattle.run_events.specs.Shown.{extract_of};
 ghost use Rattle.run_digest_devices.specs.declared.fault.Fault.TheVariants as faults;
 ghost use Rattle.run_digest_engine.specs.Answer.{KeepsSink, ReadsToEnd};
-ghost use Rattle.run_digest_engine.specs.ExtractAnswer.{AnswersExtract, IsExtracted, extract_text, heading};
+ghost use Rattle.run_digest_engine.specs.ExtractAnswer.{AnswersExtract, IsExtracted, TellsEachExtract, extract_text, heading};
 
 use run_digest_devices::device::{Sink, Source};
 use run_digest_devices::fault::Fault;
@@ -26,7 +27,9 @@ fn heading_of(alloc: Global, kind: &str, start: usize, len: usize) -> Result<Str
 
 /// The part of combined output that says why a test failed, at most [`MAX_SLICE`] bytes of it.
 fn extracted(output: &[u8]) -> Option<TestOutputErrorSlice<'_>>
-    ensures { IsExtracted output.now (option_map extract_of result) }
+    ensures value { IsExtracted output.now (option_map extract_of result) }
+    ensures only { (found : Option Extract) → IsExtracted output.now found
+        → found ≡ option_map extract_of result }
 {
     let limit = NonZero::<usize>::new(MAX_SLICE).unwrap();
     TestOutputErrorSlice::heuristic_extract_capped(Some(output), Some(output), limit)
@@ -83,6 +86,10 @@ pub fn extract<R: Source, W: Sink>(
     ensures flushed { OnOk result (W.flushed sink.new ≡ true) }
     ensures answer { IfSome (R.left source.old)
         (λ input. AnswersExtract result (W.written sink.old) (W.written sink.new) input) }
+
+    // Of an input nothing else is extracted: where the answer is `false`, there is nothing.
+    ensures only { IfOk result (λ success. IfSome (R.left source.old)
+        (λ input. TellsEachExtract success (W.written sink.old) (W.written sink.new) input)) }
 {
     let bytes = read_all(alloc, source)?;
     let output = bytes.as_slice();

@@ -1,0 +1,8 @@
+use Rattle.std.proofs.Common.{rules, ◌≡◌, ℕ, sym}
+use Rattle.std.specs.Int.NonZero.{non_zero_usize_get}
+use Rattle.run_digest_engine.proofs.extract.extracted.Goals as goal
+
+pub returns-clause-only : goal.returns-clause-only
+returns-clause-only c found extract =
+    let limit : non_zero_usize_get c.unwrap-limit.result ≡ 4096 = search rules in
+    c.heuristic_extract_capped.ensures.only found (rw limit extract)
