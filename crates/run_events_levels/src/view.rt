@@ -32,11 +32,13 @@ impl TestView<'_> {
     pub fn status_level(&self) -> StatusLevel
         ensures { level_of (said_of self.now) ≡ Some result }
     {
-        match self.result {
-            _ if self.result.is_success() && self.attempts > 1 => match self.flaky_result {
+        if self.result.is_success() && self.attempts > 1 {
+            return match self.flaky_result {
                 FlakyResult::Pass => StatusLevel::Retry,
                 FlakyResult::Fail => StatusLevel::Fail,
-            },
+            };
+        }
+        match self.result {
             ExecutionResultDescription::Pass => StatusLevel::Pass,
             ExecutionResultDescription::Leak {
                 result: LeakTimeoutResult::Pass,
@@ -53,12 +55,16 @@ impl TestView<'_> {
     pub fn final_status_level(&self) -> FinalStatusLevel
         ensures { final_level_of (said_of self.now) ≡ Some result }
     {
-        match self.result {
-            _ if self.result.is_success() && self.attempts > 1 => match self.flaky_result {
+        if self.result.is_success() && self.attempts > 1 {
+            return match self.flaky_result {
                 FlakyResult::Pass => FinalStatusLevel::Flaky,
                 FlakyResult::Fail => FinalStatusLevel::Fail,
-            },
-            _ if self.result.is_success() && self.is_slow => FinalStatusLevel::Slow,
+            };
+        }
+        if self.result.is_success() && self.is_slow {
+            return FinalStatusLevel::Slow;
+        }
+        match self.result {
             ExecutionResultDescription::Pass => FinalStatusLevel::Pass,
             ExecutionResultDescription::Leak {
                 result: LeakTimeoutResult::Pass,
