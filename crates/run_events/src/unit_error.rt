@@ -61,11 +61,13 @@ impl<'a> UnitErrorDescription<'a> {
         ensures kind { kind_of result ≡ kind }
         ensures errors { all_errors result ≡ errors_of output.now (described_slice result) }
         ensures exec_fail { exec_fail_errors result ≡ exec_fail_of output.now }
-        ensures child_process { child_process_errors result ≡ child_process_of output.now (described_slice result) }
+        ensures child_process { child_process_errors result
+            ≡ child_process_of output.now (described_slice result) }
         ensures slice { IsSliceOf kind output.now (described_slice result) }
 
         // Whatever is the slice equals the description's, so `None` says that there is none.
-        ensures only { (found : Option Extract) → IsSliceOf kind output.now found → found ≡ described_slice result }
+        ensures only { (found : Option Extract) → IsSliceOf kind output.now found
+            → found ≡ described_slice result }
         ensures part { IfSome (described_slice result) (LiesInOutput output.now) }
     {
         match output {
@@ -108,7 +110,8 @@ impl<'a> UnitErrorDescription<'a> {
         &self,
         alloc: Global,
     ) -> Result<Option<ErrorList<UnitError<'a>>>, AllocError>
-        ensures list { IfOk result (IsListOf (executing_text (kind_of self.now)) (all_errors self.now)) }
+        ensures list { IfOk result (IsListOf (executing_text (kind_of self.now))
+            (all_errors self.now)) }
         ensures empty { all_errors self.now ≡ [] → IsOk result }
     {
         let mut errors = Vec::new(alloc);
@@ -124,7 +127,8 @@ impl<'a> UnitErrorDescription<'a> {
         &self,
         alloc: Global,
     ) -> Result<Option<ErrorList<UnitError<'a>>>, AllocError>
-        ensures list { IfOk result (IsListOf (executing_text (kind_of self.now)) (exec_fail_errors self.now)) }
+        ensures list { IfOk result (IsListOf (executing_text (kind_of self.now))
+            (exec_fail_errors self.now)) }
         ensures empty { exec_fail_errors self.now ≡ [] → IsOk result }
     {
         let mut exec_fail = Vec::new(alloc);
@@ -139,7 +143,8 @@ impl<'a> UnitErrorDescription<'a> {
         &self,
         alloc: Global,
     ) -> Result<Option<ErrorList<UnitError<'a>>>, AllocError>
-        ensures list { IfOk result (IsListOf (executing_text (kind_of self.now)) (child_process_errors self.now)) }
+        ensures list { IfOk result (IsListOf (executing_text (kind_of self.now))
+            (child_process_errors self.now)) }
         ensures empty { child_process_errors self.now ≡ [] → IsOk result }
     {
         let mut child_process = Vec::new(alloc);
@@ -148,7 +153,8 @@ impl<'a> UnitErrorDescription<'a> {
     }
 
     fn push_exec_fail(&self, errors: &mut Vec<UnitError<'a>>) -> Result<(), AllocError>
-        ensures ok { OnOk result (map error_seen errors.new.items ≡ map error_seen errors.old.items ++ exec_fail_errors self.now) }
+        ensures ok { OnOk result (map error_seen errors.new.items
+            ≡ map error_seen errors.old.items ++ exec_fail_errors self.now) }
         ensures empty { exec_fail_errors self.now ≡ [] → IsOk result }
     {
         if let Some(error) = self.start_error {
@@ -161,7 +167,8 @@ impl<'a> UnitErrorDescription<'a> {
     }
 
     fn push_child_process(&self, errors: &mut Vec<UnitError<'a>>) -> Result<(), AllocError>
-        ensures ok { OnOk result (map error_seen errors.new.items ≡ map error_seen errors.old.items ++ child_process_errors self.now) }
+        ensures ok { OnOk result (map error_seen errors.new.items
+            ≡ map error_seen errors.old.items ++ child_process_errors self.now) }
         ensures empty { child_process_errors self.now ≡ [] → IsOk result }
     {
         if let Some(abort) = self.abort {
@@ -178,7 +185,8 @@ fn push_output_errors<'a>(
     list: &'a ErrorList<ChildErrorDescription>,
     errors: &mut Vec<UnitError<'a>>,
 ) -> Result<(), AllocError>
-    ensures ok { OnOk result (map error_seen errors.new.items ≡ map error_seen errors.old.items ++ map output_error list.now.items) }
+    ensures ok { OnOk result (map error_seen errors.new.items
+        ≡ map error_seen errors.old.items ++ map output_error list.now.items) }
     ensures empty { list.now.items ≡ [] → IsOk result }
 {
     for error in list.iter() {
@@ -199,7 +207,8 @@ fn failed_test(kind: UnitKind, end: &Option<ExecutionResultDescription>) -> bool
 
 /// The abort of a failure.
 fn abort_of(end: &ExecutionResultDescription) -> Option<UnitAbortDescription<'_>>
-    ensures { option_to_list (option_map (λ a. abort_error a.description.now a.leaked) result) ≡ aborts_in end.now }
+    ensures { option_to_list (option_map (λ a. abort_error a.description.now a.leaked) result)
+        ≡ aborts_in end.now }
 {
     match end {
         ExecutionResultDescription::Fail {
@@ -217,7 +226,8 @@ fn abort_of(end: &ExecutionResultDescription) -> Option<UnitAbortDescription<'_>
 fn extracted(output: &ChildOutputDescription) -> Option<TestOutputErrorSlice<'_>>
     requires { IsLoaded output.now }
     ensures value { IsExtractOf output.now (option_map extract_of result) }
-    ensures only { (found : Option Extract) → IsExtractOf output.now found → found ≡ option_map extract_of result }
+    ensures only { (found : Option Extract) → IsExtractOf output.now found
+        → found ≡ option_map extract_of result }
     ensures part { IfSome (option_map extract_of result) (LiesInStreams output.now) }
 {
     match output {
@@ -236,8 +246,5 @@ fn extracted(output: &ChildOutputDescription) -> Option<TestOutputErrorSlice<'_>
 fn captured(output: &Option<ChildSingleOutput>) -> Option<&[u8]>
     ensures { option_copied result ≡ output.now }
 {
-    match output {
-        None => None,
-        Some(output) => Some(output.buf().as_slice()),
-    }
+    output.as_ref().map(|output| output.buf().as_slice())
 }
