@@ -28,7 +28,8 @@ pub trait Source {
     fn read(&mut self, buffer: &mut [u8]) -> Result<usize, DeviceFailed>
         requires { 0 < length buffer.old }
         ensures count { IfOk result (λ n. n ≤ length buffer.new) }
-        ensures bytes { IfOk result (λ n. Consumes (left self.old) (left self.new) (take n buffer.new)) }
+        ensures bytes { IfOk result (λ n. Consumes (left self.old) (left self.new)
+            (take n buffer.new)) }
         ensures end { IfOk result (λ n. n ≡ 0 → IsAtEnd (left self.new)) }
         ensures ok { OnOk result (failed self.new ≡ failed self.old) }
         ensures err { OnErr result (failed self.new ≡ true) };
@@ -58,7 +59,8 @@ pub trait Sink {
         requires { 0 < length buffer.now }
         ensures some { IfOk result (λ n. 0 < n) }
         ensures count { IfOk result (λ n. n ≤ length buffer.now) }
-        ensures bytes { IfOk result (λ n. Appends (written self.old) (written self.new) (take n buffer.now)) }
+        ensures bytes { IfOk result (λ n. Appends (written self.old) (written self.new)
+            (take n buffer.now)) }
         ensures kept { OnErr result (Keeps (written self.old) (written self.new)) }
         ensures held { flushed self.new ≡ false }
         ensures ok { OnOk result (failed self.new ≡ failed self.old) }

@@ -63,7 +63,8 @@ impl Source for MemorySource<'_> {
         requires { 0 < length buffer.old }
         ensures count { IfOk result (λ n. n ≤ length buffer.new) }
         ensures all { IfOk result (λ n. n ≡ min (length (left_of self.old)) (length buffer.new)) }
-        ensures bytes { IfOk result (λ n. Consumes (Some (left_of self.old)) (Some (left_of self.new)) (take n buffer.new)) }
+        ensures bytes { IfOk result (λ n. Consumes (Some (left_of self.old))
+            (Some (left_of self.new)) (take n buffer.new)) }
         ensures end { IfOk result (λ n. n ≡ 0 → IsAtEnd (Some (left_of self.new))) }
         ensures kept { OnErr result (left_of self.new ≡ left_of self.old) }
         ensures ok { OnOk result (source_failed self.new ≡ source_failed self.old) }
@@ -166,9 +167,12 @@ impl Sink for MemorySink<'_> {
         ensures some { IfOk result (λ n. 0 < n) }
         ensures count { IfOk result (λ n. n ≤ length buffer.now) }
         ensures all { IfOk result (λ n. n ≡ min (room_of self.old) (length buffer.now)) }
-        ensures bytes { IfOk result (λ n. Appends (Some (written_of self.old)) (Some (written_of self.new)) (take n buffer.now)) }
-        ensures kept { OnErr result (Keeps (Some (written_of self.old)) (Some (written_of self.new))) }
-        ensures room { MatchResult result (λ n. room_of self.new ≡ room_of self.old - n) (λ _. room_of self.new ≡ room_of self.old) }
+        ensures bytes { IfOk result (λ n. Appends (Some (written_of self.old))
+            (Some (written_of self.new)) (take n buffer.now)) }
+        ensures kept { OnErr result (Keeps (Some (written_of self.old))
+            (Some (written_of self.new))) }
+        ensures room { MatchResult result (λ n. room_of self.new ≡ room_of self.old - n)
+            (λ _. room_of self.new ≡ room_of self.old) }
         ensures held { sink_flushed self.new ≡ false }
         ensures ok { OnOk result (sink_failed self.new ≡ sink_failed self.old) }
         ensures err { OnErr result (sink_failed self.new ≡ true) }

@@ -45,9 +45,11 @@ impl<R: Read> Source for StdSource<R> {
     fn read(&mut self, buffer: &mut [u8]) -> Result<usize, DeviceFailed>
         requires { 0 < length buffer.old }
         ensures count { IfOk result (λ n. n ≤ length buffer.new) }
-        ensures bytes { IfOk result (λ n. Consumes (R.remaining (reader_of self.old)) (R.remaining (reader_of self.new)) (take n buffer.new)) }
+        ensures bytes { IfOk result (λ n. Consumes (R.remaining (reader_of self.old))
+            (R.remaining (reader_of self.new)) (take n buffer.new)) }
         ensures end { IfOk result (λ n. n ≡ 0 → IsAtEnd (R.remaining (reader_of self.new))) }
-        ensures kept { OnErr result (Keeps (R.remaining (reader_of self.old)) (R.remaining (reader_of self.new))) }
+        ensures kept { OnErr result (Keeps (R.remaining (reader_of self.old))
+            (R.remaining (reader_of self.new))) }
         ensures ok { OnOk result (source_failed self.new ≡ source_failed self.old) }
         ensures err { OnErr result (source_failed self.new ≡ true) }
     {

@@ -39,8 +39,10 @@ pub fn test_case(test: &ExecutionStatuses<LiveSpec>) -> TestCase<'_>
     // success that came late is told apart from other failures, also where it counts as one.
     ensures failure { is_failure result ≡ has_level_fail (view_of test.now) }
     ensures flaky { is_flaky result ≡ has_level_retry (view_of test.now) }
-    ensures late { is_late_success result ≡ (nat_lt 1 (view_of test.now).attempts && succeeds (view_of test.now).result) }
-    ensures message { IfSome (last_of (attempts_of test.now)) (λ last. HasMessage last.output result) }
+    ensures late { is_late_success result ≡ (nat_lt 1 (view_of test.now).attempts
+        && succeeds (view_of test.now).result) }
+    ensures message { IfSome (last_of (attempts_of test.now))
+        (λ last. HasMessage last.output result) }
 {
     match test.describe() {
         ExecutionDescription::Success { .. } => TestCase::Success,

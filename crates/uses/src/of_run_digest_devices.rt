@@ -13,8 +13,10 @@ use std::alloc::Global;
 pub fn copy<R: Source, W: Sink>(alloc: Global, source: &mut R, sink: &mut W) -> Result<(), Fault>
     requires source_works { R.failed source.old ≡ false }
     requires sink_works { W.failed sink.old ≡ false }
-    ensures bytes { OnOk result (IfSome (R.left source.old) (λ all. Appends (W.written sink.old) (W.written sink.new) all)) }
-    ensures errors { IfErr result (λ e. (e ≡ faults.Read) ⊎ (e ≡ faults.Write) ⊎ (e ≡ faults.OutOfMemory)) }
+    ensures bytes { OnOk result (IfSome (R.left source.old)
+        (λ all. Appends (W.written sink.old) (W.written sink.new) all)) }
+    ensures errors { IfErr result (λ e. (e ≡ faults.Read) ⊎ (e ≡ faults.Write)
+        ⊎ (e ≡ faults.OutOfMemory)) }
     ensures read { IsErrOf result faults.Read ↔ (R.failed source.new ≡ true) }
     ensures write { IsErrOf result faults.Write ↔ (W.failed sink.new ≡ true) }
 {

@@ -19,7 +19,9 @@ pub fn first_bad_line<R: Source, W: Sink>(
 ) -> Result<Option<usize>, Fault>
     requires source_works { R.failed source.old ≡ false }
     requires sink_works { W.failed sink.old ≡ false }
-    ensures bad_line { IfSome (R.left source.old) (λ input. IfOk result (λ found. MatchOption found (NoBadLine (texts_of input)) (IsFirstBadLine (texts_of input)))) }
+    ensures bad_line { IfSome (R.left source.old)
+        (λ input. IfOk result (λ found. MatchOption found (NoBadLine (texts_of input))
+        (IsFirstBadLine (texts_of input)))) }
     ensures errors { IfErr result (λ e. (e ≡ faults.Read) ⊎ (e ≡ faults.OutOfMemory)) }
     ensures read { IsErrOf result faults.Read ↔ (R.failed source.new ≡ true) }
 {

@@ -109,8 +109,10 @@ fn read_value(alloc: Global, value: &Value) -> Result<SerializableError, FromVal
 }
 
 fn message_of(value: &Value) -> Result<&str, FromValueError>
-    ensures { result_map_both (λ s. s.now) (λ e. e) result ≡ (if is_some (as_object (view value.now))
-        then read_message (get (codes "message") (view value.now)) else Err FromValueError.NotAnObject) }
+    ensures { result_map_both (λ s. s.now) (λ e. e) result
+        ≡ (if is_some (as_object (view value.now))
+        then read_message (get (codes "message") (view value.now))
+        else Err FromValueError.NotAnObject) }
 {
     if !value.is_object() {
         return Err(FromValueError::NotAnObject);
@@ -140,7 +142,8 @@ fn causes_of(member: Option<&Value>) -> Result<&[Value], FromValueError>
 
 #[tactic(auto, using(crate::proofs::ChainLemmas::texts_of_views, crate::proofs::ChainLemmas::position_of_view))]
 fn all_texts(items: &[Value]) -> Result<&[Value], FromValueError>
-    ensures { result_map_both (λ vs. texts_of vs.now) (λ e. e) result ≡ read_texts (map view items.now) }
+    ensures { result_map_both (λ vs. texts_of vs.now) (λ e. e) result
+        ≡ read_texts (map view items.now) }
 {
     match first_no_text(items) {
         None => Ok(items),

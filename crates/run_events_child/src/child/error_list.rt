@@ -31,7 +31,8 @@ impl<T> ErrorList<T> {
     /// The errors in their order, under the description; `None` exactly where there are none.
     pub fn new(description: &'static str, errors: Vec<T>) -> Option<Self>
         ensures empty { IsNone result ↔ (errors.items ≡ []) }
-        ensures list { IfSome result (λ l. (l.description ≡ description.entry.now) × (l.items ≡ errors.items)) }
+        ensures list { IfSome result (λ l. (l.description ≡ description.entry.now)
+            × (l.items ≡ errors.items)) }
     {
         if errors.is_empty() {
             errors.destroy_empty();

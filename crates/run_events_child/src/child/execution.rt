@@ -93,7 +93,8 @@ fn described_list(
     alloc: Global,
     errors: Option<ErrorList<ChildError>>,
 ) -> Result<Option<ErrorList<ChildErrorDescription>>, ErrorList<ChildError>>
-    ensures { MatchResult result (λ described. described ≡ option_map described_errors errors) (λ list. errors ≡ Some list) }
+    ensures { MatchResult result (λ described. described ≡ option_map described_errors errors)
+        (λ list. errors ≡ Some list) }
 {
     let Some(errors) = errors else {
         return Ok(None);

@@ -38,20 +38,26 @@ impl StatusLevels {
         test_final_status_level: FinalStatusLevel,
         execution_result: &ExecutionResultDescription,
     ) -> OutputOnTestFinished
-        ensures exact { let asked = asked_of self.now display test_status_level test_final_status_level execution_result.now in
+        ensures exact { let asked = asked_of self.now display test_status_level
+            test_final_status_level execution_result.now in
             result ≡ visibility asked cancel_status }
 
         // Under each lesser reason no less is shown, exactly but for the exception.
-        ensures never_grows { let asked = asked_of self.now display test_status_level test_final_status_level execution_result.now in
+        ensures never_grows { let asked = asked_of self.now display test_status_level
+            test_final_status_level execution_result.now in
             (lesser : Option CancelReason) → severity lesser ≤ severity cancel_status
-            → ¬ (IsException asked lesser cancel_status) → IsNoMoreVisible result (visibility asked lesser) }
-        ensures exception { let asked = asked_of self.now display test_status_level test_final_status_level execution_result.now in
+            → ¬ (IsException asked lesser cancel_status)
+            → IsNoMoreVisible result (visibility asked lesser) }
+        ensures exception { let asked = asked_of self.now display test_status_level
+            test_final_status_level execution_result.now in
             (lesser : Option CancelReason) → IsException asked lesser cancel_status
             → ¬ (IsNoMoreVisible result (visibility asked lesser)) }
 
         // The line is written under every reason or under none.
-        ensures line { let asked = asked_of self.now display test_status_level test_final_status_level execution_result.now in
-            (other : Option CancelReason) → (visibility asked other).write_status_line ≡ result.write_status_line }
+        ensures line { let asked = asked_of self.now display test_status_level
+            test_final_status_level execution_result.now in
+            (other : Option CancelReason) → (visibility asked other).write_status_line
+            ≡ result.write_status_line }
 
         // From a signal on, output is never displayed twice.
         ensures never_twice { severity (Some CancelReason.Signal) ≤ severity cancel_status
@@ -76,7 +82,8 @@ impl StatusLevels {
         test_final_status_level: FinalStatusLevel,
         execution_result: &ExecutionResultDescription,
     ) -> OutputOnTestFinished
-        ensures { let asked = asked_of self.now display test_status_level test_final_status_level execution_result.now in
+        ensures { let asked = asked_of self.now display test_status_level test_final_status_level
+            execution_result.now in
             result ≡ visibility asked cancel_status }
     {
         let write_status_line = self.status_level >= test_status_level;
@@ -117,7 +124,11 @@ impl StatusLevels {
 
 /// Nothing is shown but the line, and nothing is stored.
 fn hidden(write_status_line: bool) -> OutputOnTestFinished
-    ensures { result ≡ record { write_status_line = write_status_line; show_immediate = false; store_final = OutputStoreFinal.No } }
+    ensures { result ≡ record {
+      write_status_line = write_status_line;
+      show_immediate = false;
+      store_final = OutputStoreFinal.No;
+    } }
 {
     OutputOnTestFinished {
         write_status_line,
@@ -128,7 +139,8 @@ fn hidden(write_status_line: bool) -> OutputOnTestFinished
 
 /// What is stored of a test, if it is stored.
 fn stored(is_stored: bool, display_output: bool) -> OutputStoreFinal
-    ensures { result ≡ (if is_stored then OutputStoreFinal.Yes display_output else OutputStoreFinal.No) }
+    ensures { result ≡ (if is_stored then OutputStoreFinal.Yes display_output
+        else OutputStoreFinal.No) }
 {
     if is_stored {
         OutputStoreFinal::Yes { display_output }
@@ -149,7 +161,8 @@ fn is_stopped(
     cancel_status: Option<CancelReason>,
     execution_result: &ExecutionResultDescription,
 ) -> bool
-    ensures { result ≡ ((severity cancel_status == severity (Some CancelReason.TestFailureImmediate)) && is_termination_failure execution_result.now) }
+    ensures { result ≡ ((severity cancel_status == severity (Some CancelReason.TestFailureImmediate))
+        && is_termination_failure execution_result.now) }
 {
     match cancel_status {
         Some(CancelReason::TestFailureImmediate) => execution_result.is_termination_failure(),

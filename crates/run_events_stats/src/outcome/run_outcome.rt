@@ -54,7 +54,8 @@ impl RunOutcome {
         // The laws of combining, over the definition of the outcome of the greater rank.
         ensures exact { result ≡ combined self other }
         ensures commutative { result ≡ combined other self }
-        ensures associative { (third : RunOutcome) → combined result third ≡ combined self (combined other third) }
+        ensures associative { (third : RunOutcome)
+            → combined result third ≡ combined self (combined other third) }
         ensures idempotent { self ≡ other → result ≡ self }
         ensures identity_left { self ≡ RunOutcome.NoTestsRun → result ≡ other }
         ensures identity_right { other ≡ RunOutcome.NoTestsRun → result ≡ self }

@@ -31,11 +31,13 @@ impl RaisedByTest {
     pub(super) fn of(test: &TestView<'_>) -> RaisedByTest
         ensures passed { result.passed ≡ rule.is_passed (said_of test.now) }
         ensures passed_slow { result.passed_slow ≡ rule.is_passed_slow (said_of test.now) }
-        ensures passed_timed_out { result.passed_timed_out ≡ rule.is_passed_timed_out (said_of test.now) }
+        ensures passed_timed_out { result.passed_timed_out
+            ≡ rule.is_passed_timed_out (said_of test.now) }
         ensures flaky { result.flaky ≡ rule.is_flaky (said_of test.now) }
         ensures failed { result.failed ≡ rule.is_failed (said_of test.now) }
         ensures failed_slow { result.failed_slow ≡ rule.is_failed_slow (said_of test.now) }
-        ensures failed_timed_out { result.failed_timed_out ≡ rule.is_failed_timed_out (said_of test.now) }
+        ensures failed_timed_out { result.failed_timed_out
+            ≡ rule.is_failed_timed_out (said_of test.now) }
         ensures leaky { result.leaky ≡ rule.is_leaky (said_of test.now) }
         ensures leaky_failed { result.leaky_failed ≡ rule.is_leaky_failed (said_of test.now) }
         ensures exec_failed { result.exec_failed ≡ rule.is_exec_failed (said_of test.now) }
@@ -87,9 +89,11 @@ impl RaisedByTest {
 
     /// Which counters a test raises whose last attempt passed.
     fn of_success(test: &TestView<'_>) -> RaisedByTest
-        ensures passed { result.passed ≡ not (rule.was_retried (said_of test.now) && flaky_fails test.now.flaky_result) }
+        ensures passed { result.passed ≡ not (rule.was_retried (said_of test.now)
+            && flaky_fails test.now.flaky_result) }
         ensures passed_slow { result.passed_slow ≡ (result.passed && test.now.is_slow) }
-        ensures flaky { result.flaky ≡ (rule.was_retried (said_of test.now) && not (flaky_fails test.now.flaky_result)) }
+        ensures flaky { result.flaky ≡ (rule.was_retried (said_of test.now)
+            && not (flaky_fails test.now.flaky_result)) }
         ensures failed { result.failed ≡ not result.passed }
         ensures failed_slow { result.failed_slow ≡ (result.failed && test.now.is_slow) }
         ensures timed_out { (result.passed_timed_out ≡ false) × (result.failed_timed_out ≡ false) }

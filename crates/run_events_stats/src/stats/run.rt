@@ -16,21 +16,28 @@ impl RunStats {
         ensures counts { result ≡ stats_of (map unit_view units.now) start }
 
         // Swapping two neighbouring parts of the list changes nothing: its order does not matter.
-        ensures exchange { (a p q b : List UnitView) → map unit_view units.now ≡ a ++ p ++ q ++ b → stats_of (a ++ q ++ p ++ b) start ≡ result }
+        ensures exchange { (a p q b : List UnitView) → map unit_view units.now ≡ a ++ p ++ q ++ b
+            → stats_of (a ++ q ++ p ++ b) start ≡ result }
         // Split the list anywhere: a counter of the whole is what those of both pieces add up to.
-        ensures cut { (a b : List UnitView) → map unit_view units.now ≡ a ++ b → IsSum (stats_of a start) (stats_of b start) result }
+        ensures cut { (a b : List UnitView) → map unit_view units.now ≡ a ++ b
+            → IsSum (stats_of a start) (stats_of b start) result }
 
         // Each finished test, and each finished script, is counted in one way.
         ensures tests { result.passed + failed_tests result ≡ result.finished_count }
-        ensures scripts { result.setup_scripts_passed + failed_scripts result ≡ result.setup_scripts_finished_count }
+        ensures scripts { result.setup_scripts_passed + failed_scripts result
+            ≡ result.setup_scripts_finished_count }
 
         // The counters of tests by their levels.
-        ensures failed_level { failed_tests result ≡ count_of has_level_fail (tests_of (map unit_view units.now)) }
-        ensures flaky_level { result.flaky ≡ count_of has_level_retry (tests_of (map unit_view units.now)) }
-        ensures passed_level { result.passed ≡ count_of has_no_failure (tests_of (map unit_view units.now)) }
+        ensures failed_level { failed_tests result
+            ≡ count_of has_level_fail (tests_of (map unit_view units.now)) }
+        ensures flaky_level { result.flaky ≡ count_of has_level_retry
+            (tests_of (map unit_view units.now)) }
+        ensures passed_level { result.passed ≡ count_of has_no_failure
+            (tests_of (map unit_view units.now)) }
 
         ensures failures_fit { FailuresFit result }
-        ensures success { (summary_of result ≡ Success) ↔ RunSucceeds (map unit_view units.now) start }
+        ensures success { (summary_of result ≡ Success)
+            ↔ RunSucceeds (map unit_view units.now) start }
     {
         RunStats::count_units(units, start)
     }
