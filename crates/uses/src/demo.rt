@@ -3,21 +3,22 @@
 use crate::displayer::{Displayer, summary_text};
 use crate::exit_status;
 use crate::junit::{TestCase, test_case};
+use crate::of_run_events::EndedAttempt;
 use crate::recorder::{load, store, through_text};
-use crate::runner::{EndedAttempt, finished_test, stats_of_events, test_finished};
+use crate::runner::{finished_test, stats_of_events, test_finished};
 use run_events::attempts::ExecutionStatuses;
 use run_events::chain::SerializableError;
 use run_events::child::LiveSpec;
 use run_events::config::{FlakyResult, TestOutputDisplay};
 use run_events::events::{ReporterEvent, TestEventKind};
 use run_events::levels::{FinalStatusLevel, OutputStoreFinal, StatusLevel, StatusLevels};
-use run_events::outcome::{FinalRunStats, RunStatsFailureKind};
+use run_events::outcome::{FinalRunStats, RunOutcome, RunStatsFailureKind};
 use run_events::results::{CancelReason, ExecutionResult, FailureStatus};
 use run_events::stats::{FinishedRun, FinishedUnit, RunStart, RunStats};
 use std::alloc::{AllocError, Global};
 use std::io;
 
-const PASSED: EndedAttempt<'static> = EndedAttempt {
+pub(crate) const PASSED: EndedAttempt<'static> = EndedAttempt {
     outcome: ExecutionResult::Pass,
     stderr: b"",
     is_slow: false,
@@ -119,15 +120,14 @@ fn display_test<R: AllocGlobal + Print>(
 ) -> io::Result<()> {
     let line = DISPLAYER.finished_text(rt.alloc(), name, test)?;
     print!(rt; "{line}")?;
-    for reason in [None, Some(CancelReason::Signal)] {
-        let shown = DISPLAYER.on_test_finished(test, reason);
+    let shown = DISPLAYER.on_cancel(test, None, Some(CancelReason::Signal));
+    for (when, shown) in [("running", shown.before), ("signal", shown.after)] {
         let at_once = if shown.show_immediate {
             "output"
         } else {
             "nothing"
         };
         let stored = stored_text(shown.store_final);
-        let when = reason.map_or("running", |reason| reason.to_static_str());
         println!(rt; "  {name}, {when}: {at_once} at once, {stored} at the end")?;
     }
     Ok(())
@@ -246,5 +246,7 @@ fn exit_of_sub_runs<R: Print>(rt: &R) -> io::Result<()> {
         let status = exit_status::of_sub_runs(&[FinalRunStats::NoTestsRun, second]);
         println!(rt; "  {said}: {status}")?;
     }
-    Ok(())
+    let failed = RunOutcome::from_final_stats(failed);
+    let status = exit_status::of_partitions(RunOutcome::Success, failed, RunOutcome::NoTestsRun);
+    println!(rt; "  success, a failed script and no tests, as parts of one run: {status}")
 }

@@ -4,9 +4,9 @@ ghost use Rattle.std.specs.Prelude.{◌≡◌, ◌≢◌, ◌↔◌, ◌≤◌, 
 ghost use Rattle.run_events.specs.Config.{is_immediate_display};
 ghost use Rattle.run_events.specs.Counters.{unit_view};
 ghost use Rattle.run_events.specs.Level.{final_level_of, level_of};
-ghost use Rattle.run_events.specs.Results.{succeeds};
+ghost use Rattle.run_events.specs.Results.{is_termination_failure, succeeds};
 ghost use Rattle.run_events.specs.Attempts.{view_of};
-ghost use Rattle.run_events.specs.Visibility.{severity};
+ghost use Rattle.run_events.specs.Visibility.{IsNoMoreVisible, severity};
 ghost use Rattle.uses.specs.Displayer.{IsAbove, display_of, listing, numbers_line, status_line, summary_line, test_word};
 
 use run_events::attempts::ExecutionStatuses;
@@ -30,6 +30,16 @@ pub struct Displayer {
     pub failure_output: TestOutputDisplay,
 }
 
+/// What is displayed of a finished test before the run is cancelled for a greater reason, and after.
+#[derive(Clone, Copy)]
+pub struct OnCancel {
+    /// Under the reason that there was, if there was one.
+    pub before: OutputOnTestFinished,
+
+    /// Under the greater reason.
+    pub after: OutputOnTestFinished,
+}
+
 impl Displayer {
     /// What is shown and stored of a test that has just finished, in a run that is cancelled for
     /// this reason, if it is.
@@ -39,13 +49,16 @@ impl Displayer {
         reason: Option<CancelReason>,
     ) -> OutputOnTestFinished
         // No line is written exactly where the test's level is above the one that is set.
-        ensures line { (result.write_status_line ≡ false) ↔ IsAbove (level_of (view_of test.now)) self.now.levels.status_level }
+        ensures line { (result.write_status_line ≡ false)
+            ↔ IsAbove (level_of (view_of test.now)) self.now.levels.status_level }
 
         // While nothing cancels the run, the setting for such a test says whether its output is
         // displayed at once, and with its final level what is listed of it at the end.
-        ensures at_once { reason ≡ None → result.show_immediate ≡ is_immediate_display (display_of self.now (succeeds (view_of test.now).result)) }
+        ensures at_once { reason ≡ None → result.show_immediate
+            ≡ is_immediate_display (display_of self.now (succeeds (view_of test.now).result)) }
         ensures listed { reason ≡ None → IfSome (final_level_of (view_of test.now))
-            (λ level. result.store_final ≡ listing self.now (succeeds (view_of test.now).result) level) }
+            (λ level. result.store_final ≡ listing self.now
+            (succeeds (view_of test.now).result) level) }
 
         // From a signal on no output is displayed twice, and from an interrupt on none is.
         ensures never_twice { severity (Some CancelReason.Signal) ≤ severity reason
@@ -62,6 +75,32 @@ impl Displayer {
             description.final_status_level(),
             &description.last_status().result,
         )
+    }
+
+    /// What is shown and stored of a finished test under a reason, and under a greater one: what was
+    /// not displayed yet as the run is cancelled may be less than what was to be.
+    pub fn on_cancel(
+        &self,
+        test: &ExecutionStatuses<LiveSpec>,
+        reason: Option<CancelReason>,
+        greater: Option<CancelReason>,
+    ) -> OnCancel
+        // It is never more, but for a test that the runner has ended.
+        ensures no_more { severity reason ≤ severity greater
+            → is_termination_failure (view_of test.now).result ≡ false
+            → IsNoMoreVisible result.after result.before }
+    {
+        let view = test.view();
+        let display = self.display_for(view.result.is_success());
+        let (level, final_level) = (view.status_level(), view.final_status_level());
+        OnCancel {
+            before: self
+                .levels
+                .compute_output_on_test_finished(display, reason, level, final_level, view.result),
+            after: self
+                .levels
+                .compute_output_on_test_finished(display, greater, level, final_level, view.result),
+        }
     }
 
     /// When the output of a test is displayed that succeeded, or failed.
@@ -84,8 +123,10 @@ impl Displayer {
         test: &ExecutionStatuses<LiveSpec>,
     ) -> Result<String, AllocError>
         // Nothing is printed exactly where the test's level is above the one that is set.
-        ensures hidden { IfOk result (λ text. (string_bytes text ≡ []) ↔ IsAbove (level_of (view_of test.now)) self.now.levels.status_level) }
-        ensures shown { IfOk result (λ text. string_bytes text ≢ [] → string_bytes text ≡ status_line (view_of test.now) name.now) }
+        ensures hidden { IfOk result (λ text. (string_bytes text ≡ [])
+            ↔ IsAbove (level_of (view_of test.now)) self.now.levels.status_level) }
+        ensures shown { IfOk result (λ text. string_bytes text ≢ []
+            → string_bytes text ≡ status_line (view_of test.now) name.now) }
     {
         let shown = self.on_test_finished(test, None);
         if shown.write_status_line {
@@ -116,7 +157,8 @@ pub fn summary_text(
     units: &[FinishedUnit<'_>],
     start: RunStart,
 ) -> Result<String, AllocError>
-    ensures { IfOk result (λ text. string_bytes text ≡ summary_line (map unit_view units.now) start.skipped) }
+    ensures { IfOk result (λ text. string_bytes text
+        ≡ summary_line (map unit_view units.now) start.skipped) }
 {
     let stats = RunStats::of_run(units, start);
     let failed = stats.failed_count();
@@ -140,7 +182,8 @@ fn numbers_text(
     failed: usize,
     skipped: usize,
 ) -> Result<String, AllocError>
-    ensures { IfOk result (λ text. string_bytes text ≡ numbers_line finished passed flaky failed skipped) }
+    ensures { IfOk result (λ text. string_bytes text
+        ≡ numbers_line finished passed flaky failed skipped) }
 {
     format!(in alloc;
         "{finished} tests run: {passed} passed ({flaky} flaky), {failed} failed, {skipped} skipped\n"

@@ -6,7 +6,7 @@
 
 ghost use Rattle.std.specs.Prelude.{◌≡◌, ◌↔◌, map};
 ghost use Rattle.run_events.specs.Counters.{stats_of, unit_view};
-ghost use Rattle.run_events.specs.Outcome.{outcome_of, run_summary};
+ghost use Rattle.run_events.specs.Outcome.{combined, outcome_of, run_summary};
 ghost use Rattle.run_events.specs.RunLaws.{RunSucceeds};
 ghost use Rattle.run_events.specs.Summary.{summary_of};
 ghost use Rattle.uses.specs.ExitStatus.{EndsBy, RanNoTests, Succeeds, status_of};
@@ -43,7 +43,8 @@ fn of_outcome(outcome: RunOutcome) -> u8
 /// The status of a run with these finished units.
 pub fn of_run(units: &[FinishedUnit<'_>], start: RunStart) -> u8
     ensures success { (result ≡ SUCCESS) ↔ RunSucceeds (map unit_view units.now) start }
-    ensures summary { result ≡ status_of (outcome_of (summary_of (stats_of (map unit_view units.now) start))) }
+    ensures summary { result ≡ status_of (outcome_of
+        (summary_of (stats_of (map unit_view units.now) start))) }
 {
     let stats = RunStats::of_run(units, start);
     of_outcome(RunOutcome::from_final_stats(stats.summarize_final()))
@@ -60,9 +61,21 @@ pub fn of_sub_runs(sub_runs: &[FinalRunStats]) -> u8
 
 /// The status of a repeated run, from the finished units and the start of each of its sub-runs.
 pub fn of_runs(runs: &[FinishedRun<'_>]) -> u8
-    ensures success { (result ≡ SUCCESS) ↔ Succeeds (map (λ run. outcome_of (run_summary run)) runs.now) }
-    ensures no_tests { (result ≡ NO_TESTS_RUN) ↔ RanNoTests (map (λ run. outcome_of (run_summary run)) runs.now) }
+    ensures success { (result ≡ SUCCESS) ↔ Succeeds (map
+        (λ run. outcome_of (run_summary run)) runs.now) }
+    ensures no_tests { (result ≡ NO_TESTS_RUN)
+        ↔ RanNoTests (map (λ run. outcome_of (run_summary run)) runs.now) }
     ensures highest { EndsBy (map (λ run. outcome_of (run_summary run)) runs.now) result }
 {
     of_outcome(RunOutcome::of_runs(runs))
+}
+
+/// The status of a run of which three machines ran a part each, in whatever order their outcomes
+/// come in.
+pub fn of_partitions(first: RunOutcome, second: RunOutcome, third: RunOutcome) -> u8
+    ensures first_two_first { result ≡ status_of (combined (combined first second) third) }
+    ensures last_two_first { result ≡ status_of (combined first (combined second third)) }
+    ensures backwards { result ≡ status_of (combined third (combined second first)) }
+{
+    of_outcome(third.combine(first.combine(second)))
 }

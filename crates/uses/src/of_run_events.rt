@@ -1,11 +1,108 @@
 //! A caller of `run_events`, as its page of calls has it.
 
-ghost use Rattle.std.specs.Prelude.{◌↔◌, IsTrue, map};
-ghost use Rattle.run_events.specs.Counters.{unit_view};
+ghost use Rattle.std.specs.Prelude.{◌≡◌, ◌↔◌, ◌∷◌, [], IfOk, IsTrue, None, Some, map};
+ghost use Rattle.run_events.specs.Attempts.{view_of};
+ghost use Rattle.run_events.specs.Counters.{TestUnit, stats_of, unit_view};
+ghost use Rattle.run_events.specs.Described.{described_result};
 ghost use Rattle.run_events.specs.RunLaws.{RunSucceeds};
+ghost use Rattle.uses.specs.Runner.{stderr_of, view_of_attempts};
 
+use bytes::Bytes;
+use jiff::Timestamp;
+use jiff::tz::Offset;
+use run_events::attempts::{ExecuteStatus, ExecutionStatuses, RetryData};
+use run_events::child::{
+    ChildExecutionOutput, ChildExecutionOutputDescription, ChildOutput, ChildSingleOutput,
+    ChildSplitOutput, LiveSpec,
+};
+use run_events::config::{FlakyResult, Moment};
 use run_events::outcome::FinalRunStats;
+use run_events::results::{ExecutionResult, ExecutionResultDescription};
 use run_events::stats::{FinishedUnit, RunStart, RunStats};
+use std::alloc::{AllocError, Global};
+use std::time::Duration;
+
+/// An attempt to run a test, as the runner saw it end.
+#[derive(Clone, Copy)]
+pub struct EndedAttempt<'a> {
+    /// How it ended.
+    pub outcome: ExecutionResult,
+
+    /// What it wrote to standard error.
+    pub stderr: &'a [u8],
+
+    /// Whether it took longer than the slow timeout.
+    pub is_slow: bool,
+}
+
+/// The status of an attempt, from how it ended and which it was.
+pub fn status_of(
+    alloc: Global,
+    attempt: EndedAttempt<'_>,
+    retry_data: RetryData,
+) -> Result<ExecuteStatus<LiveSpec>, AllocError>
+    ensures result { IfOk result (λ status. status.result
+        ≡ described_result attempt.entry.outcome None) }
+    ensures slow { IfOk result (λ status. status.is_slow ≡ attempt.entry.is_slow) }
+    ensures retry { IfOk result (λ status. status.retry_data ≡ retry_data) }
+    ensures stderr { IfOk result (λ status. stderr_of status.output
+        ≡ Some attempt.entry.stderr.now) }
+{
+    let left = ChildExecutionOutput::Output {
+        result: Some(attempt.outcome),
+        output: ChildOutput::Split(ChildSplitOutput {
+            stdout: None,
+            stderr: Some(ChildSingleOutput::from(Bytes::copy_from_slice(alloc, attempt.stderr)?)),
+        }),
+        errors: None,
+    };
+    match ChildExecutionOutputDescription::from_output(alloc, left, None) {
+        Ok(output) => Ok(ExecuteStatus {
+            retry_data,
+            output,
+            result: ExecutionResultDescription::from_status(attempt.outcome, None),
+            start_time: epoch(),
+            time_taken: Duration::ZERO,
+            is_slow: attempt.is_slow,
+            delay_before_start: Duration::ZERO,
+            error_summary: None,
+            output_error_slice: None,
+        }),
+        Err(_) => Err(AllocError),
+    }
+}
+
+/// The moment at which everything here happens: no clock is read.
+pub fn epoch() -> Moment {
+    Moment {
+        timestamp: Timestamp::UNIX_EPOCH,
+        offset: Offset::UTC,
+    }
+}
+
+/// A test that finished with its first attempt.
+pub fn finished_at_first(
+    alloc: Global,
+    attempt: EndedAttempt<'_>,
+) -> Result<ExecutionStatuses<LiveSpec>, AllocError>
+    ensures { IfOk result (λ test. view_of test
+        ≡ view_of_attempts 1 attempt.entry.outcome attempt.entry.is_slow FlakyResult.Pass) }
+{
+    let first = RetryData {
+        attempt: 1,
+        total_attempts: 1,
+    };
+    let mut statuses = Vec::new(alloc);
+    statuses.push(status_of(alloc, attempt, first)?)?;
+    Ok(ExecutionStatuses::new(statuses, FlakyResult::Pass))
+}
+
+/// The counters of a run of one test.
+pub fn stats_of_test(test: &ExecutionStatuses<LiveSpec>, start: RunStart) -> RunStats
+    ensures { result ≡ stats_of (TestUnit (view_of test.now) ∷ []) start }
+{
+    RunStats::of_run(&[FinishedUnit::Test(test)], start)
+}
 
 /// Whether a run ends with the status of a success: every script passed, no test failed, and all
 /// that was to run did.

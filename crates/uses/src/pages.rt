@@ -1,10 +1,10 @@
 //! What the callers of the pages on calling answer.
 
-use crate::demo::START;
+use crate::demo::{PASSED, START};
 use crate::of_output_slice::{failure_in, has_panicked};
 use crate::of_run_digest_devices::copy;
 use crate::of_run_digest_engine::first_bad_line;
-use crate::of_run_events::ends_well;
+use crate::of_run_events::{ends_well, finished_at_first, stats_of_test};
 use run_digest_devices::memory_device::{MemorySink, MemorySource};
 use run_events::stats::FinishedUnit;
 use std::io;
@@ -24,6 +24,12 @@ pub(crate) fn show<R: AllocGlobal + Print>(
     if let Some(failure) = failure_in(output) {
         println!(rt; "  failure:\n{failure}")?;
     }
+    let test = finished_at_first(rt.alloc(), PASSED)?;
+    let stats = stats_of_test(&test, START);
+    println!(rt;
+        "  a test from nothing: {} passed of {}",
+        stats.passed, stats.finished_count
+    )?;
     let well = ends_well(units, START);
     println!(rt; "  the run ends well: {well}")?;
     show_bad_line(rt)?;

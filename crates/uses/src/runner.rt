@@ -8,78 +8,14 @@ ghost use Rattle.run_events.specs.Described.{described_result};
 ghost use Rattle.run_events.specs.Attempts.{attempts_of, view_of};
 ghost use Rattle.uses.specs.Runner.{last_stderr, numbered_of, stderr_of, told_name, told_stats, told_unit, view_of_attempts};
 
-use bytes::Bytes;
-use jiff::Timestamp;
-use jiff::tz::Offset;
-use run_events::attempts::{ExecuteStatus, ExecutionStatuses, RetryData};
-use run_events::child::{
-    ChildExecutionOutput, ChildExecutionOutputDescription, ChildOutput, ChildSingleOutput,
-    ChildSplitOutput, LiveSpec,
-};
-use run_events::config::{
-    FlakyResult, JunitFlakyFailStatus, Moment, TestInstanceId, TestOutputDisplay,
-};
+use crate::of_run_events::{EndedAttempt, epoch, status_of};
+use run_events::attempts::{ExecutionStatuses, RetryData};
+use run_events::child::LiveSpec;
+use run_events::config::{FlakyResult, JunitFlakyFailStatus, TestInstanceId, TestOutputDisplay};
 use run_events::events::{ReporterEvent, TestEvent, TestEventKind};
-use run_events::results::{ExecutionResult, ExecutionResultDescription};
 use run_events::stats::{FinishedUnit, RunStart, RunStats};
 use std::alloc::{AllocError, Global};
 use std::time::Duration;
-
-/// An attempt to run a test, as the runner saw it end.
-#[derive(Clone, Copy)]
-pub struct EndedAttempt<'a> {
-    /// How it ended.
-    pub outcome: ExecutionResult,
-
-    /// What it wrote to standard error.
-    pub stderr: &'a [u8],
-
-    /// Whether it took longer than the slow timeout.
-    pub is_slow: bool,
-}
-
-/// The status of an attempt.
-fn status_of(
-    alloc: Global,
-    attempt: EndedAttempt<'_>,
-    retry_data: RetryData,
-) -> Result<ExecuteStatus<LiveSpec>, AllocError>
-    ensures result { IfOk result (λ status. status.result ≡ described_result attempt.entry.outcome None) }
-    ensures slow { IfOk result (λ status. status.is_slow ≡ attempt.entry.is_slow) }
-    ensures retry { IfOk result (λ status. status.retry_data ≡ retry_data) }
-    ensures stderr { IfOk result (λ status. stderr_of status.output ≡ Some attempt.entry.stderr.now) }
-{
-    let left = ChildExecutionOutput::Output {
-        result: Some(attempt.outcome),
-        output: ChildOutput::Split(ChildSplitOutput {
-            stdout: None,
-            stderr: Some(ChildSingleOutput::from(Bytes::copy_from_slice(alloc, attempt.stderr)?)),
-        }),
-        errors: None,
-    };
-    match ChildExecutionOutputDescription::from_output(alloc, left, None) {
-        Ok(output) => Ok(ExecuteStatus {
-            retry_data,
-            output,
-            result: ExecutionResultDescription::from_status(attempt.outcome, None),
-            start_time: epoch(),
-            time_taken: Duration::ZERO,
-            is_slow: attempt.is_slow,
-            delay_before_start: Duration::ZERO,
-            error_summary: None,
-            output_error_slice: None,
-        }),
-        Err(_) => Err(AllocError),
-    }
-}
-
-/// The moment at which everything here happens: no clock is read.
-fn epoch() -> Moment {
-    Moment {
-        timestamp: Timestamp::UNIX_EPOCH,
-        offset: Offset::UTC,
-    }
-}
 
 /// A test that finished with the last of these attempts, after the earlier ones. They are numbered
 /// from 1, and each tells how many there are, as far as a `u32` counts.
@@ -90,11 +26,16 @@ pub fn finished_test(
     last: EndedAttempt<'_>,
     setting: FlakyResult,
 ) -> Result<ExecutionStatuses<LiveSpec>, AllocError>
-    ensures view { IfOk result (λ test. view_of test ≡ view_of_attempts (length earlier.now + 1) last.entry.outcome last.entry.is_slow setting) }
+    ensures view { IfOk result (λ test. view_of test
+        ≡ view_of_attempts (length earlier.now + 1) last.entry.outcome last.entry.is_slow setting) }
     ensures stderr { IfOk result (λ test. last_stderr test ≡ Some last.entry.stderr.now) }
-    ensures results { IfOk result (λ test. map (λ s. s.result) (attempts_of test) ≡ map (λ a. described_result a.outcome None) (earlier.now ++ last.entry ∷ [])) }
-    ensures slow { IfOk result (λ test. map (λ s. s.is_slow) (attempts_of test) ≡ map (λ a. a.is_slow) (earlier.now ++ last.entry ∷ [])) }
-    ensures numbers { length earlier.now + 1 < 2 ^ 32 → IfOk result (λ test. map (λ s. s.retry_data) (attempts_of test) ≡ map (numbered_of (length earlier.now + 1)) (range_with_len 1 (length earlier.now + 1))) }
+    ensures results { IfOk result (λ test. map (λ s. s.result) (attempts_of test)
+        ≡ map (λ a. described_result a.outcome None) (earlier.now ++ last.entry ∷ [])) }
+    ensures slow { IfOk result (λ test. map (λ s. s.is_slow) (attempts_of test)
+        ≡ map (λ a. a.is_slow) (earlier.now ++ last.entry ∷ [])) }
+    ensures numbers { length earlier.now + 1 < 2 ^ 32
+        → IfOk result (λ test. map (λ s. s.retry_data) (attempts_of test)
+        ≡ map (numbered_of (length earlier.now + 1)) (range_with_len 1 (length earlier.now + 1))) }
 {
     let total_attempts = u32::try_from(earlier.len())
         .unwrap_or(u32::MAX)
