@@ -7,18 +7,19 @@ use run_digest_devices::std_device::{StdSink, StdSource};
 use run_digest_engine::command::Command;
 use run_digest_engine::count::count;
 use run_digest_engine::extract::extract;
+use std::env;
+use std::io::{self, ErrorKind};
 use std::process::ExitCode;
 use std::rt::Env;
-use std::{env, io};
 
 /// Does what the words after the program's name ask for, from standard input to standard output.
 fn run<R: Env + AllocGlobal + Input + Print>(rt: &R) -> Result<bool, Fault> {
-    let mut words = Vec::new(rt.alloc());
-    let mut args = match env::args(rt) {
-        Ok(args) => args,
-        Err(_) => return Err(Fault::OutOfMemory),
-    };
+    let mut args = env::args(rt).map_err(|error| match error.kind() {
+        ErrorKind::InvalidData => Fault::BadWord,
+        _ => Fault::OutOfMemory,
+    })?;
     let _program = args.next();
+    let mut words = Vec::new(rt.alloc());
     for word in args {
         words.push(word)?;
     }
