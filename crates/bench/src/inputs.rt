@@ -1,4 +1,5 @@
 //! Outputs of tests, made of pieces.
+
 ghost use Rattle.std.specs.Prelude.{◌≡◌, ◌++◌, IfOk};
 ghost use Rattle.std.specs.List.{concat};
 ghost use Rattle.std.proofs.Math.ListN.{replicate};

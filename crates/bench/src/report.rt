@@ -1,4 +1,5 @@
 //! What is said of a row.
+
 ghost use Rattle.std.specs.Prelude.{◌≡◌, ◌*◌, ◌/◌, ◌≤◌, ◌↔◌, IsTrue, max};
 ghost use Rattle.bench.specs.Wanted.{HasWantedGrowth, HasWantedRatio, own_time};
 

@@ -1,4 +1,5 @@
 //! How large the inputs are.
+
 ghost use Rattle.std.specs.Prelude.{◌≡◌, ◌≤◌, ◌*◌, ◌/◌, ◌↔◌, IsSome, IfSome};
 
 /// How large the inputs are: the bytes of the largest ones. All else is in proportion to them.

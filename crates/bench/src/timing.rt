@@ -1,4 +1,5 @@
 //! Times, as the least of several.
+
 ghost use Rattle.std.specs.Prelude.{◌≤◌, ◌<◌, length, All, Contains};
 
 use anyhow::{Result, ensure};

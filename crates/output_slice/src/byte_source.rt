@@ -5,7 +5,7 @@ use std::marker::Model;
 
 /// Some bytes, and how many reads of them there were.
 ///
-/// The search for panic heads reads bytes through this alone, so that its reads can be counted.
+/// `last_panic_head` reads bytes through this alone, so that its reads can be counted.
 pub trait ByteSource {
     // The bytes.
     ghost bytes: { Self → List ℕ };

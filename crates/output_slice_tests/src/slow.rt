@@ -1,4 +1,5 @@
 //! Slow functions that follow the rules to the letter.
+
 ghost use Rattle.std.specs.Prelude.{◌≤◌, ◌<◌, length, IfSome};
 
 use output_slice::panic_head::HeadSpan;

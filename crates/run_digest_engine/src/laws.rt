@@ -1,5 +1,6 @@
 //! Laws of what the lines of an input say, for the proofs of callers. Each is a function that does
 //! nothing, and its contract is the law.
+
 ghost use Rattle.run_digest_engine.specs.Laws.{LinesAreCut, OneEntry, OneReading, OneStart, OneUnit};
 
 /// The lines of an input are the parts that join to it, each but perhaps the last with one line

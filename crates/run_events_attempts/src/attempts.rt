@@ -69,7 +69,8 @@ pub struct ExecuteStatus<S: OutputSpec> {
     /// What its process left.
     pub output: ChildExecutionOutputDescription<S>,
 
-    /// How it ended. Counters and levels go by this field alone.
+    /// How it ended. Of the results of a test's attempts, counters and levels go by that of the last
+    /// alone; beside it by how many there were, whether the last was slow, and the setting.
     pub result: ExecutionResultDescription,
 
     /// When it began.

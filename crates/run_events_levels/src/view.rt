@@ -50,8 +50,9 @@ impl TestView<'_> {
         }
     }
 
-    /// How much the test asks for attention at the end of the run: as its status level, but a slow
-    /// success at the first attempt as `Slow` whatever its result.
+    /// How much the test asks for attention at the end of the run: as its status level, but a flaky
+    /// test that is set to pass as `Flaky`, and a slow success at the first attempt as `Slow`,
+    /// whatever its result.
     pub fn final_status_level(&self) -> FinalStatusLevel
         ensures { final_level_of (said_of self.now) ≡ Some result }
     {

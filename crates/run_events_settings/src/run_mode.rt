@@ -1,8 +1,7 @@
 //! What a run is for.
 
 ghost use Rattle.std.specs.Prelude.{◌≡◌, Some};
-ghost use Rattle.run_events_settings.specs.Config.{is_benchmark_mode};
-ghost use Rattle.run_events_settings.specs.Config.{mode_text};
+ghost use Rattle.run_events_settings.specs.Config.{is_benchmark_mode, mode_text};
 
 use std::fmt;
 

@@ -36,7 +36,7 @@ pub struct RunStats {
     /// The setup scripts that failed, or leaked where that fails.
     pub setup_scripts_failed: usize,
 
-    /// The setup scripts that could not be run to their end.
+    /// The setup scripts that could not be executed.
     pub setup_scripts_exec_failed: usize,
 
     /// The setup scripts whose time ran out, also where a test would have passed so.
@@ -70,7 +70,7 @@ pub struct RunStats {
     /// The tests among `failed` that leaked where that fails.
     pub leaky_failed: usize,
 
-    /// The tests that could not be run to their end. They are not among `failed`.
+    /// The tests that could not be executed. They are not among `failed`.
     pub exec_failed: usize,
 
     /// The tests that were skipped. No update changes it.

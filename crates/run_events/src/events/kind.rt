@@ -99,8 +99,8 @@ pub enum TestEventKind<'a> {
     },
 
     /// A setup script finished. The dispatcher has counted it by then; where it did not succeed, and
-    /// the run is not cancelled yet, a `RunBeginCancel` follows. Read by displayers, by JUnit writers, which report it as a case of
-    /// its own, and by recorders.
+    /// the run is not cancelled yet, a `RunBeginCancel` follows. Read by displayers, by JUnit
+    /// writers, which report it as a case of its own, and by recorders.
     SetupScriptFinished {
         /// Which sub-run it belongs to, where the run is repeated.
         stress_index: Option<StressIndex>,

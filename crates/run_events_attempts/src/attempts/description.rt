@@ -129,8 +129,8 @@ impl<'a, S: OutputSpec> ExecutionDescription<'a, S> {
         }
     }
 
-    /// How much the test asks for attention at the end of the run: as its status level, but a slow
-    /// success as `Slow` whatever its result.
+    /// How much the test asks for attention at the end of the run: as its status level, but a flaky
+    /// test that is set to pass as `Flaky`, and a slow success as `Slow`, whatever its result.
     ///
     /// The status of a success must be slow or have succeeded.
     pub fn final_status_level(&self) -> FinalStatusLevel

@@ -1,8 +1,7 @@
 //! What can go wrong with a child process, apart from its own failure.
 
 ghost use Rattle.std.specs.Prelude.{◌≡◌, Some};
-ghost use Rattle.run_events_child.specs.ChildErrors.{error_cause, start_cause};
-ghost use Rattle.run_events_child.specs.ChildErrors.{child_error_text, start_error_text};
+ghost use Rattle.run_events_child.specs.ChildErrors.{child_error_text, error_cause, start_cause, start_error_text};
 
 use crate::chain::SerializableError;
 use std::fmt;

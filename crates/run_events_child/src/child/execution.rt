@@ -2,7 +2,6 @@
 
 ghost use Rattle.std.specs.Prelude.{◌≡◌, IfErr, IfOk, IsOk, MatchResult, None, Some, option_map};
 ghost use Rattle.run_events_child.specs.ChildErrors.{described_errors};
-ghost use Rattle.run_events_results.specs.Described.{described_result};
 ghost use Rattle.run_events_child.specs.Execution.{described_execution, output_errors};
 
 use crate::child::{

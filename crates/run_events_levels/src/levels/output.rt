@@ -25,7 +25,7 @@ impl StatusLevels {
     /// - under a signal, output that is displayed at once is not displayed again at the end;
     /// - under an interrupt or a second signal, nothing is shown or stored of any test.
     ///
-    /// The line is written whatever the reason.
+    /// Whether the line is written does not depend on the reason.
     ///
     /// Under a greater reason no more is shown or stored than under a lesser one, with one
     /// exception: a test that the runner seems to have ended is hidden while the run stops at once,
