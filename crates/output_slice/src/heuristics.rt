@@ -208,9 +208,11 @@ fn breaks_start(stderr: &[u8], start: usize) -> usize
     ensures breaks { AreBreaks stderr.now result start }
     ensures text { 0 < result → ¬ IsBreak (slice_index stderr.now (result - 1)) }
 {
-    (&stderr[..start])
-        .trim_end_with(|c| c == '\n' || c == '\r')
-        .len()
+    let mut at = start;
+    while at > 0 && (stderr[at - 1] == b'\n' || stderr[at - 1] == b'\r') {
+        at -= 1;
+    }
+    at
 }
 
 /// The bytes from `start` on without the white space at the end.
