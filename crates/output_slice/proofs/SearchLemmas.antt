@@ -1,5 +1,5 @@
 -- The state of the counted search: the taken heads so far, and the reads.
-use Rattle.std.proofs.Common.{◌≡◌, ◌≢◌, ℕ, ◌+◌, ◌-◌, ◌*◌, ◌<◌, ◌≤◌, List, [], ◌∷◌, ◌++◌, length, get_or, refl, sym, arith, inl, inr, Option, Some, None, MatchOption, IfSome, ◌^◌, append_assoc, append-nil}
+use Rattle.std.proofs.Common.{◌≡◌, ◌≢◌, ℕ, min, ◌+◌, ◌-◌, ◌*◌, ◌<◌, ◌≤◌, List, [], ◌∷◌, ◌++◌, length, get_or, refl, sym, arith, inl, inr, Option, Some, None, MatchOption, IfSome, ◌^◌, append_assoc, append-nil}
 use Rattle.std.proofs.lemmas.Bool.{cases_lt}
 use Rattle.std.proofs.lemmas.List.{get_or_push, length_push}
 use Rattle.std.proofs.lemmas.Option.{slice_get-get_or}
@@ -58,30 +58,14 @@ pub record WithReads (b : List ℕ) (old new place q : ℕ) : Type 0 where
   pub low : q < seen
   pub high : seen ≤ length b
   pub plain : ArePlain b (q + 1) seen
-  -- how far the tail was read behind the quote before q
-  pub before : ℕ
-  pub from : place ≤ before
-  pub to : before ≤ q
-  pub line : place < before → (0 < place) × ((k : ℕ) → place ≤ k + 1 → k < before → get_or b k 0 ≢ 10)
-  -- what is still to be paid for that tail
+  -- the reads of the tail behind q
   pub tail : ℕ
-  pub far : tail + place ≤ before + 5
-  pub near : tail + 2 * place ≤ 2 * before + 2
-  -- one read for each byte up to q, two more for each before the place, that tail, and what was read at q
-  pub few : FewReads (q - place) (q + 1) seen (old + ((q + 1) + 2 * place + tail)) new
-
--- three reads for each byte up to q pay for all but the tail behind q, the word before q included
-few-paid : (b : List ℕ) (old new place q word : ℕ) → (w : WithReads b old new place q) → word ≤ 8
-    → (0 < word → place + 7 ≤ q)
-    → (1 < word → IsLineStart b (q - 7))
-    → (tail : ℕ) × (tail + (q + 1) ≤ w.seen + 5) × (tail + 2 * (q + 1) ≤ 2 * w.seen + 2) × (new + word ≤ old + (3 * (q + 1) + tail))
-few-paid b old new place q word w short opened line =
-    let apart : w.before + word ≤ q + 1 = grind arith in
-    let paid : w.tail + word + 2 * place ≤ 2 * (q + 1) = grind arith in
-    elim w.few [
-      | inl f ↦ (new - (old + ((q + 1) + 2 * place + w.tail)), omega arith, omega arith, omega arith)
-      | inr f ↦ (w.seen + 5 - (q + 1), omega arith, omega arith, omega arith)
-    ]
+  pub far : tail + (q + 1) ≤ seen + 5
+  pub near : tail + 2 * (q + 1) ≤ 2 * seen + 2
+  -- three reads for each byte up to q pay for all but that tail, the word before q included: none of it, one byte or all
+  pub paid : new ≤ old + (3 * (q + 1) + tail)
+  pub paid_one : place + 7 ≤ q → new + 1 ≤ old + (3 * (q + 1) + tail)
+  pub paid_word : place + 7 ≤ q → IsLineStart b (q - 7) → new + 8 ≤ old + (3 * (q + 1) + tail)
 
 -- the reads where there is a next quote, and where there is none
 abbrev NextReads : List ℕ → ℕ → ℕ → ℕ → Option ℕ → Type 0
@@ -98,14 +82,12 @@ next-reads b old mid new place (Some q) within paid is reads =
       low = omega arith;
       high = omega arith;
       plain = λ k from up. absurd (omega arith);
-      before = place;
-      from = omega arith;
-      to = omega arith;
-      line = λ l. absurd (omega arith);
       tail = 0;
       far = omega arith;
       near = omega arith;
-      few = inl (omega arith, omega arith);
+      paid = omega arith;
+      paid_one = λ far. omega arith;
+      paid_word = λ more line. omega arith;
     }
 
 -- the state of the search: the list so far, the last of it, the next quote and the reads
@@ -156,36 +138,46 @@ searched-none b old new scanned tested place q close last h is fits reads none o
       w : WithReads b old new place q
       w = h.reads
 
-      -- the reads before the quote: none, one, or all eight
-      word : (last : ℕ) (c : ℕ) → c < last → FewReads (c - (q + 1)) (c + 1) last (scanned + 8) tested
-          → (n : ℕ) × (n ≤ 8) × (0 < n → place + 7 ≤ q) × (1 < n → IsLineStart b (q - 7)) × FewReads (c - (q + 1)) (c + 1) last (scanned + n) tested
-      word last c low few = elim (cases_lt (scanned + 1) tested) [
-        | inl long ↦ (8, omega arith, λ some. opened (omega arith), λ more. line long, few)
-        | inr short ↦ (tested - scanned, omega arith, λ some. opened (omega arith), λ more. absurd (omega arith), inl (omega arith, omega arith))
-      ]
+      -- the reads before the quote are paid: none, one, or all eight
+      word : new + min (tested - scanned) 8 ≤ old + (3 * (q + 1) + w.tail)
+      word = let none = w.paid in let one = w.paid_one in let whole = w.paid_word in grind arith
+
+      -- the reads behind them: of a tail, or of one that is whole and of a name
+      behind : (name at last : ℕ) → FewReads name at last (scanned + 8) tested → at ≤ last
+          → (tail : ℕ) × (tail + at ≤ last + 5) × (tail + 2 * at ≤ 2 * last + 2)
+          × (tested ≤ scanned + 8 + tail + (name - 4))
+      behind name at last (inl f) low = (tested - (scanned + 8), omega arith, omega arith, omega arith)
+      behind name at last (inr f) low = (last + 5 - at, omega arith, omega arith, omega arith)
 
       by_close : (n : Option ℕ) → IsNextQuote b (q + 1) n → QuoteReads b (q + 1) new scanned n
           → HeadReads b q scanned tested n None
           → NextReads b old tested (q + 1) n
       by_close None i r m =
-          let p = few-paid b old new place q 0 w (omega arith) (λ some. absurd (omega arith)) (λ some. absurd (omega arith)) in
-          let high = w.high in
+          let paid = w.paid in
+          let seen = w.high in
+          let far = w.far in
           omega arith
       by_close (Some c) i r m =
-          let read = word m.last c m.low m.few in
-          let p = few-paid b old new place q read.0 w read.1 read.2 read.3 in record {
+          let before = word in
+          let read = behind _ _ _ m.few (omega (arith, m.low)) in
+          let passed = w.plain c in
+          let far = w.far in
+          let near = w.near in
+          let seen : w.seen ≤ c = grind arith in record {
             seen = m.last;
             low = m.low;
             high = m.high;
             plain = m.plain;
-            before = w.seen;
-            from = omega (arith, w.low);
-            to = let passed = w.plain c in grind arith;
-            line = λ l. (omega arith, λ k low up. let passed = w.plain k in let quote = h.is_next.1 in grind arith);
-            tail = p.0;
-            far = p.1;
-            near = p.2;
-            few = grind (arith, read.4);
+            tail = read.0;
+            far = read.1;
+            near = read.2;
+            paid = omega arith;
+            paid_one = λ more. omega arith;
+            paid_word = λ more line.
+                let other = w.plain (c - 7 - 1) in
+                let quote = h.is_next.1 in
+                let feed : w.seen + 8 ≤ c = grind arith in
+                omega arith;
           }
 
 -- a step at a quote that opens a head
@@ -213,7 +205,7 @@ searched-found b old new scanned tested ended place q e close next last h is rea
           let far = stop.0 in absurd (IsOpenedHeadEnd-none b place q i (q - 7) e (omega arith) (omega arith) stop.1)
       paid (Some c) i r m =
           let w = h.reads in
-          let p = few-paid b old new place q 8 w (omega arith) (λ some. stop.0) (λ some. stop.1.line_start) in
+          let paid = w.paid_word stop.0 stop.1.line_start in
           let passed = w.plain c in
           let seen : w.seen ≤ c = grind arith in
           let name = i.0.low in

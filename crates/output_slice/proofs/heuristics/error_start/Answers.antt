@@ -2,10 +2,6 @@ use Rattle.std.specs.Prelude.{codes}
 use Rattle.output_slice.proofs.StartLemmas.{first-front, first-none, first-later}
 use Rattle.output_slice.proofs.heuristics.error_start.Goals as goal
 
-pub returns-then-starts_with_str : goal.returns-then-starts_with_str
-returns-then-starts_with_str c =
-    first-front c.args.stderr.now (codes "Error: ") (c.starts_with_str.ensures.0 c.if-starts_with_str.true)
-
 pub returns-in_err-feed : goal.returns-in_err-feed
 returns-in_err-feed c =
     rw c.from_residual.ensures

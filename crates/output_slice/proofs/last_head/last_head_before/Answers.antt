@@ -23,8 +23,5 @@ loop-at-preserved c =
           (occurs-front-take rest _ i end e.high (occurs-front-take (take end rest) _ i c.cut_before-cut.result cut.within h)),
     )
 
-pub last_opening-requires : goal.last_opening-requires
-last_opening-requires c = c.loop-at.invariant.1
-
 pub returns : goal.returns
 returns c = c.loop-at.invariant.0 None (IsLastTaken-none c.loop-at.rest.now (opening-none c.loop-at.rest.now c.in_default.ensures))

@@ -4,9 +4,6 @@ use Rattle.std.proofs.lemmas.Str.{len_utf8_bounds, length-encode}
 use Rattle.output_slice.proofs.CharLemmas.{char-same, digits-none, digits-more}
 use Rattle.output_slice.proofs.panic_head.characters.digits_end.Goals as goal
 
-pub loop-at-init : goal.loop-at-init
-loop-at-init g c = (refl, c.len-end.ensures, omega arith, omega arith, omega arith, digits-none _ _ c.requires.within)
-
 pub loop-at-preserved : goal.loop-at-preserved
 loop-at-preserved g c =
     let v = rw c.loop-at.invariant.0 at c.in-Some.ensures.value in
