@@ -1,11 +1,8 @@
 -- The character that stands at a place, and digits one after the other.
-use Rattle.std.proofs.Common.{set, get_or-set_other, get_or-set_same, true, ◌↔◌, ◌≡◌, ℕ, ◌+◌, ◌-◌, ◌<◌, ◌≤◌, min, List, [], ◌∷◌, ◌++◌, length, get_or, take, drop, sym, ap, ◌∙◌, arith, length-append, refl, append_assoc, append-nil, All, encode_utf8_all}
-use Rattle.std.specs.Prelude.{Some, None}
-use Rattle.std.specs.Char.{encode_utf8, IsScalar}
-use Rattle.std.specs.Str.{IsUtf8, encode_utf8_all}
+use Rattle.std.proofs.Common.{set, get_or-set_other, get_or-set_same, true, ◌↔◌, ◌≡◌, ℕ, ◌+◌, ◌-◌, ◌<◌, ◌≤◌, min, List, [], ◌∷◌, ◌++◌, length, get_or, take, drop, sym, ap, ◌∙◌, arith, length-append, refl, append_assoc, append-nil, All, encode_utf8_all, Some, None, encode_utf8, IsUtf8, get_or-take, length-take-le}
+use Rattle.std.specs.Char.{IsScalar}
 use Rattle.std.proofs.Math.Seq.{take-append-add}
 use Rattle.std.proofs.lemmas.Bool.{and_parts}
-use Rattle.std.proofs.lemmas.List.{get_or-take, length-take-le}
 use Rattle.std.proofs.lemmas.List.Prefix.{front_from_reads, front_reads}
 use Rattle.std.proofs.lemmas.Str.{encode_ascii, encode_same, length-encode, len_utf8_bounds, IsUtf8-append, IsUtf8-encode, IsUtf8-past_char, encodes-append}
 use Rattle.std.proofs.lemmas.List.Elements.{All-push, All-nil, All-head, All-tail}

@@ -1,18 +1,18 @@
 -- Heads in parts of the bytes, and the taken heads on either side of a cut.
-use Rattle.std.proofs.Common.{◌≡◌, ℕ, ◌+◌, ◌-◌, ◌<◌, ◌≤◌, List, [], ◌∷◌, ◌++◌, length, get_or, take, drop, sym, subst, inl, inr, arith, length-append, length-drop, append-nil, add-zero, ext_get_or, get_or-drop, length-take, get_or-take}
-use Rattle.std.specs.Prelude.{Option, Some, map}
+use Rattle.std.proofs.Common.{◌≡◌, ℕ, ◌+◌, ◌-◌, ◌<◌, ◌≤◌, List, [], ◌∷◌, ◌++◌, length, get_or, take, drop, refl, sym, inl, inr, arith, length-append, length-drop, append-nil, add-zero, ext_get_or, get_or-drop, length-take, get_or-take, Option, Some, map, get_or-append-add}
 use Rattle.std.proofs.lemmas.Bool.{cases_lt}
-use Rattle.std.proofs.lemmas.List.{length-map, get_or-append-add}
+use Rattle.std.proofs.lemmas.List.{length-map}
 use Rattle.std.proofs.lemmas.Option.{slice_get-get_or, slice_get-map, slice_get_within, get_or_from_slice_get}
 use Rattle.bstr.specs.Text.{part}
+use Rattle.bstr.specs.Find.{OccursAt}
 use Rattle.output_slice.specs.declared.panic_head.HeadSpan.{HeadSpan}
 use Rattle.output_slice.specs.Head.{IsHead, IsLineStart}
 use Rattle.output_slice.specs.Taken.{IsTaken, IsLastTaken, last_of}
-use Rattle.output_slice.specs.Cut.{IsCut, shifted}
+use Rattle.output_slice.specs.Cut.{IsCut, head_behind}
 use Rattle.output_slice.specs.Search.{AllHeadsEndBy}
 use Rattle.output_slice.proofs.StepLemmas.{head-order}
 use Rattle.output_slice.proofs.TakenLemmas.{IsLastTaken-head, IsTaken-from_leftmost, IsTaken-nil, Leftmost, leftmost-before, IsTaken-exists, leftmost-taken}
-use Rattle.output_slice.proofs.OccursLemmas.{get_or-part, length-part, occurs-moved}
+use Rattle.output_slice.proofs.OccursLemmas.{get_or-part, length-part, occurs-moved, reads}
 
 -- parts that read the same are the same
 part-moved : (a b : List ℕ) (i j k l : ℕ) → j ≤ length a → l ≤ length b → l - k ≡ j - i
@@ -39,58 +39,57 @@ head-moved a b s e t f h size high line reads =
       ends = high;
     }
 
+-- a head of bytes that stand in others at a line start is a head of those, and back
+module _ (a b : List ℕ) (c s e t f : ℕ) (stands : OccursAt b a c) (line : IsLineStart b c) (start : t ≡ c + s) (stop : f ≡ c + e) where
+  head-out : IsHead a s e → IsHead b t f
+  head-out h =
+      let order = head-order a s e h in
+      let ends = h.ends in
+      let first = h.line_start in
+      head-moved a b s e t f h (omega arith) (omega (arith, stands.fits))
+      (λ pos. let same = stands.reads (s - 1) in grind arith) (λ n low. let same = stands.reads (s + n) in grind arith)
+
+  head-in : IsHead b t f → e ≤ length a → IsHead a s e
+  head-in h high =
+      let order = head-order b t f h in
+      let first = h.line_start in
+      head-moved b a t f s e h (omega arith) high
+      (λ pos. let same = stands.reads (s - 1) in grind arith) (λ n low. let same = stands.reads (s + n) in grind arith)
+
+-- the heads of the bytes up to a place are those that end there or before it
 module _ (b : List ℕ) (c s e : ℕ) (within : c ≤ length b) where
-  -- a head of what follows a line start is one of the whole, and back
-  pub head-of-back : IsLineStart b c → IsHead (drop c b) s e → IsHead b (c + s) (c + e)
-  head-of-back line h =
-      let order = head-order (drop c b) s e h in
-      let size = length-drop c b in
-      head-moved (drop c b) b s e (c + s) (c + e) h (omega arith) (omega arith)
-      (λ pos. grind (arith, get_or-drop)) (λ n low. grind (arith, get_or-drop))
-
-  pub back-of-head : IsHead b (c + s) (c + e) → IsHead (drop c b) s e
-  back-of-head h =
-      let order = head-order b (c + s) (c + e) h in
-      let size = length-drop c b in
-      head-moved b (drop c b) (c + s) (c + e) s e h (omega arith) (omega arith)
-      (λ pos. grind (arith, get_or-drop)) (λ n low. grind (arith, get_or-drop))
-
-  -- a head of the front is one of the whole, and back, if it ends there
-  pub head-of-front : IsHead (take c b) s e → IsHead b s e × (e ≤ c)
+  head-of-front : IsHead (take c b) s e → IsHead b s e × (e ≤ c)
   head-of-front h =
-      let order = head-order (take c b) s e h in
       let size = length-take c b in
-      let whole = head-moved (take c b) b s e s e h (omega arith) (omega arith)
-      (λ pos. grind (arith, get_or-take)) (λ n low. grind (arith, get_or-take)) in
-      (whole, omega arith)
+      (head-out (take c b) b 0 s e s e (grind (arith, reads)) (omega arith) (omega arith) (omega arith) h, omega (arith, h.ends))
 
-  pub front-of-head : IsHead b s e → e ≤ c → IsHead (take c b) s e
+  front-of-head : IsHead b s e → e ≤ c → IsHead (take c b) s e
   front-of-head h high =
-      let order = head-order b s e h in
       let size = length-take c b in
-      head-moved b (take c b) s e s e h (omega arith) (omega arith)
-      (λ pos. grind (arith, get_or-take)) (λ n low. grind (arith, get_or-take))
+      head-in (take c b) b 0 s e s e (grind (arith, reads)) (omega arith) (omega arith) (omega arith) h (omega arith)
 
 module _ (b : List ℕ) (c : ℕ) (cut : IsCut b c) where
+  back : OccursAt b (drop c b) c
+  back = let within = cut.within in grind (arith, reads)
+
   -- a head behind the cut is one of what stands there
   behind : (s e k : ℕ) → c + k ≤ s → IsHead b s e → IsHead (drop c b) (s - c) (e - c)
   behind s e k low head =
       let order = head-order b s e head in
-      let start : s ≡ c + (s - c) = omega arith in
-      let stop : e ≡ c + (e - c) = omega arith in
-      back-of-head b c (s - c) (e - c) cut.within (subst (λ i. IsHead b i (c + (e - c))) start (subst (IsHead b s) stop head))
+      head-in (drop c b) b c (s - c) (e - c) s e back cut.line_start (omega arith) (omega arith) head
+      (omega (arith, head.ends, length-drop c b))
 
-  -- the taken heads behind the cut, shifted
-  leftmost-shifted : (ys : List HeadSpan) (k : ℕ) → Leftmost (drop c b) k ys → Leftmost b (c + k) (map (shifted c) ys)
-  leftmost-shifted [] k h = λ s e low head. h (s - c) (e - c) (omega arith) (behind s e k low head)
-  leftmost-shifted (y ∷ ys) k h = (
+  -- the taken heads behind the cut
+  leftmost-behind : (ys : List HeadSpan) (k : ℕ) → Leftmost (drop c b) k ys → Leftmost b (c + k) (map (head_behind c) ys)
+  leftmost-behind [] k h = λ s e low head. h (s - c) (e - c) (omega arith) (behind s e k low head)
+  leftmost-behind (y ∷ ys) k h = (
     record {
-      head = head-of-back b c y.start y.stop cut.within cut.line_start h.0.head;
+      head = head-out (drop c b) b c y.start y.stop _ _ back cut.line_start refl refl h.0.head;
       low = omega (arith, h.0.low);
       least =
           λ s e low head. let least = h.0.least (s - c) (e - c) (omega arith) (behind s e k low head) in omega arith;
     },
-    leftmost-shifted ys y.stop h.1,
+    leftmost-behind ys y.stop h.1,
   )
 
   -- a head that begins before the cut is one of what stands there
@@ -100,11 +99,11 @@ module _ (b : List ℕ) (c : ℕ) (cut : IsCut b c) where
   -- the taken heads before the cut, then those
   leftmost-joined : (xs ys : List HeadSpan) (from : ℕ) → from ≤ c → Leftmost (take c b) from xs
       → Leftmost (drop c b) 0 ys
-      → Leftmost b from (xs ++ map (shifted c) ys)
+      → Leftmost b from (xs ++ map (head_behind c) ys)
   leftmost-joined [] ys from low h k =
-      leftmost-before b from c (map (shifted c) ys) low
+      leftmost-before b from c (map (head_behind c) ys) low
       (λ s e near head. elim (cases_lt s c) [ inl early ↦ absurd (h s e near (before s e head early)) | inr late ↦ late ])
-      (rw add-zero at (leftmost-shifted ys 0 k))
+      (rw add-zero at (leftmost-behind ys 0 k))
   leftmost-joined (x ∷ xs) ys from low h k =
       let whole = head-of-front b c x.start x.stop cut.within h.0.head in
       let least = λ (s e : ℕ) (near : from ≤ s) (head : IsHead b s e) (early : s < c). h.0.least s e near (before s e head early) in
@@ -113,31 +112,31 @@ module _ (b : List ℕ) (c : ℕ) (cut : IsCut b c) where
         leftmost-joined xs ys x.stop whole.1 h.1 k,
       )
 
--- the taken heads before a cut, then those behind it, shifted
+-- the taken heads before a cut, then those behind it
 pub divides : (b : List ℕ) (c : ℕ) (xs ys : List HeadSpan) → IsCut b c → IsTaken (take c b) xs → IsTaken (drop c b) ys
-    → IsTaken b (xs ++ map (shifted c) ys)
+    → IsTaken b (xs ++ map (head_behind c) ys)
 divides b c xs ys cut front back =
     let before = leftmost-taken (take c b) xs front in
-    IsTaken-from_leftmost b (xs ++ map (shifted c) ys) (leftmost-joined b c cut xs ys 0 (omega arith) before (leftmost-taken (drop c b) ys back))
+    IsTaken-from_leftmost b (xs ++ map (head_behind c) ys) (leftmost-joined b c cut xs ys 0 (omega arith) before (leftmost-taken (drop c b) ys back))
 
 -- the last of two lists is the last of the second, if that has one
 last_of-append : (xs ys : List HeadSpan) (h : HeadSpan) → Some h ≡ last_of ys → Some h ≡ last_of (xs ++ ys)
 last_of-append xs ys h e =
     grind (arith, length-append, get_or-append-add, slice_get-get_or, slice_get_within ys (length ys - 1) h (sym e), get_or_from_slice_get ys (length ys - 1) h h (sym e))
 
--- the last of a shifted list
+-- the last of what stands behind a place
 last_of-map : (c : ℕ) (ys : List HeadSpan) (h : HeadSpan) → Some h ≡ last_of ys
-    → Some (shifted c h) ≡ last_of (map (shifted c) ys)
+    → Some (head_behind c h) ≡ last_of (map (head_behind c) ys)
 last_of-map c ys h e = grind (arith, length-map, slice_get-map)
 
 -- the last behind a cut is the last of all
 pub last-behind : (b : List ℕ) (c : ℕ) (h : HeadSpan) → IsCut b c → IsLastTaken (drop c b) (Some h)
-    → IsLastTaken b (Some (shifted c h))
+    → IsLastTaken b (Some (head_behind c h))
 last-behind b c h cut last =
     let front = IsTaken-exists (take c b) in (
-      front.0 ++ map (shifted c) last.0,
+      front.0 ++ map (head_behind c) last.0,
       divides b c front.0 last.0 cut front.1 last.1,
-      last_of-append front.0 (map (shifted c) last.0) (shifted c h) (last_of-map c last.0 h last.2),
+      last_of-append front.0 (map (head_behind c) last.0) (head_behind c h) (last_of-map c last.0 h last.2),
     )
 
 -- where there is none behind a cut, the last before it is the last of all

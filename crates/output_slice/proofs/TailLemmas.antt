@@ -1,8 +1,7 @@
 -- Tails of heads.
-use Rattle.std.proofs.Common.{◌≡◌, ℕ, ◌+◌, ◌-◌, ◌<◌, ◌≤◌, ◌⊎◌, Bool, true, List, [], ◌∷◌, ◌++◌, length, get_or, refl, sym, ap, ◌∙◌, arith, inl, inr, length-append, append-nil, encode_utf8_all}
-use Rattle.std.specs.Prelude.{codes, not, ◌==◌, ◌&&◌, All, Option, Some, None, IfSome}
+use Rattle.std.proofs.Common.{◌≡◌, ℕ, ◌+◌, ◌-◌, ◌<◌, ◌≤◌, ◌⊎◌, Bool, true, List, [], ◌∷◌, ◌++◌, length, get_or, refl, sym, ap, ◌∙◌, arith, inl, inr, length-append, append-nil, encode_utf8_all, codes, not, ◌==◌, ◌&&◌, All, Option, Some, None, IfSome, encode_utf8}
 use Rattle.std.specs.List.{list_all}
-use Rattle.std.specs.Char.{encode_utf8, IsScalar}
+use Rattle.std.specs.Char.{IsScalar}
 use Rattle.std.proofs.lemmas.Str.{inside_one, length-le-encodes, length-encode, len_utf8_bounds}
 use Rattle.std.proofs.lemmas.List.Elements.{All-head, All-tail}
 use Rattle.std.proofs.lemmas.List.Folds.{list_all-append}

@@ -1,8 +1,6 @@
 -- Where a panic slice begins, and what is left when white space is trimmed at the end.
-use Rattle.std.proofs.Common.{◌≡◌, ℕ, zero, suc, ◌+◌, ◌-◌, ◌<◌, ◌≤◌, ◌⊎◌, true, List, [], ◌∷◌, ◌++◌, length, get_or, take, drop, refl, sym, ap, ◌∙◌, arith, inl, inr, length-drop, drop-drop, get_or-drop, drop_at, length-take, codes, Some, get_or-take}
-use Rattle.std.specs.Prelude.{All, Option, Some, None, IsTrue}
-use Rattle.std.specs.Char.{encode_utf8, IsScalar, is_whitespace}
-use Rattle.std.specs.Str.{encode_utf8_all}
+use Rattle.std.proofs.Common.{◌≡◌, ℕ, zero, suc, ◌+◌, ◌-◌, ◌<◌, ◌≤◌, ◌⊎◌, true, List, [], ◌∷◌, ◌++◌, length, get_or, take, drop, refl, sym, ap, ◌∙◌, arith, inl, inr, length-drop, drop-drop, get_or-drop, drop_at, length-take, codes, Some, get_or-take, All, Option, None, IsTrue, encode_utf8, encode_utf8_all}
+use Rattle.std.specs.Char.{IsScalar, is_whitespace}
 use Rattle.std.proofs.lemmas.Bool.{cases_lt, cases_eq, cases_Bool}
 use Rattle.std.proofs.lemmas.List.Elements.{All-cons, All-head, All-tail, All-nil}
 use Rattle.std.proofs.lemmas.List.{drop_all}

@@ -10,5 +10,5 @@ pub record IsCut (b : List ℕ) (c : ℕ) : Type 0 where
   pub uncrossed : (s e : ℕ) → IsHead b s e → s < c → e ≤ c
 
 -- A head of what stands behind c, as a head of the whole.
-abbrev pub shifted : ℕ → HeadSpan → HeadSpan
-shifted c h = record { start = c + h.start; stop = c + h.stop }
+abbrev pub head_behind : ℕ → HeadSpan → HeadSpan
+head_behind c h = record { start = c + h.start; stop = c + h.stop }

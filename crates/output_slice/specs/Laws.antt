@@ -6,7 +6,7 @@ use Rattle.bstr.specs.Utf8.{lossy_chars}
 use Rattle.output_slice.specs.declared.panic_head.HeadSpan.{HeadSpan}
 use Rattle.output_slice.specs.Head.{IsHead}
 use Rattle.output_slice.specs.Taken.{IsTaken}
-use Rattle.output_slice.specs.Cut.{IsCut, shifted}
+use Rattle.output_slice.specs.Cut.{IsCut, head_behind}
 use Rattle.output_slice.specs.Lines.{AreLines}
 use Rattle.output_slice.specs.Extraction.{Extract, IsExtract}
 
@@ -18,10 +18,10 @@ HeadsHaveOneEnd = (b : List ℕ) (s e f : ℕ) → IsHead b s e → IsHead b s f
 abbrev pub TakenHeadsExist : Type 0
 TakenHeadsExist = (b : List ℕ) → (taken : List HeadSpan) × IsTaken b taken × ((other : List HeadSpan) → IsTaken b other → other ≡ taken)
 
--- The taken heads of the whole are those before a cut, then those behind it, shifted.
+-- The taken heads of the whole are those before a cut, then those behind it.
 abbrev pub TakenHeadsDivide : Type 0
 TakenHeadsDivide = (b : List ℕ) (c : ℕ) (before behind : List HeadSpan) → IsCut b c → IsTaken (take c b) before → IsTaken (drop c b) behind
-    → IsTaken b (before ++ map (shifted c) behind)
+    → IsTaken b (before ++ map (head_behind c) behind)
 
 -- All bytes divide into lines, and in one way only.
 abbrev pub LinesExist : Type 0

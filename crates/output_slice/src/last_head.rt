@@ -62,6 +62,7 @@ fn crossing(bytes: &[u8], at: usize) -> Option<usize>
 }
 
 /// Whether `thread '` stands at the line start `at`.
+#[tactic(auto, using(crate::proofs::OccursLemmas::reads))]
 fn is_opening(bytes: &[u8], at: usize) -> bool
     requires { at ≤ length bytes.now }
     ensures { IsTrue result ↔ IsOpening bytes.now at }

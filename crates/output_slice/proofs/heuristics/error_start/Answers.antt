@@ -1,4 +1,4 @@
-use Rattle.std.specs.Prelude.{codes}
+use Rattle.std.proofs.Common.{codes}
 use Rattle.output_slice.proofs.StartLemmas.{first-front, first-none, first-later}
 use Rattle.output_slice.proofs.heuristics.error_start.Goals as goal
 
