@@ -1,12 +1,9 @@
 mod OccursLemmas
 mod CharLemmas
-mod TailLemmas
-mod StepLemmas
+mod HeadLemmas
 mod SearchLemmas
 mod TakenLemmas
 mod TrimLemmas
 mod DivisionLemmas
 mod SameLemmas
 mod CutLemmas
-mod OpeningLemmas
-mod StartLemmas

@@ -7,7 +7,7 @@ use Rattle.output_slice.specs.declared.panic_head.HeadSpan.{HeadSpan}
 use Rattle.output_slice.specs.Head.{IsLineStart, IsHead}
 use Rattle.output_slice.specs.Taken.{last_of, IsTaken}
 use Rattle.output_slice.specs.Steps.{IsOpenedHeadEnd, IsNextQuote, ArePlain, FewReads, HeadReads, QuoteReads, NoQuoteBetween}
-use Rattle.output_slice.proofs.StepLemmas.{IsOpenedHeadEnd-none, head-letters}
+use Rattle.output_slice.proofs.HeadLemmas.{IsOpenedHeadEnd-none, head-letters}
 use Rattle.output_slice.proofs.TakenLemmas.{IsTaken-from_leftmost, Leftmost, leftmost-before}
 
 -- with those taken from `place` on they are those of all bytes

@@ -17,7 +17,7 @@ use Rattle.bstr.specs.Text.{part}
 use Rattle.output_slice.specs.declared.panic_head.HeadSpan.{HeadSpan}
 use Rattle.output_slice.specs.Head.{IsHead, IsName, IsDigit, IsLineStart, IsNumber, IsTail}
 use Rattle.output_slice.specs.Taken.{IsTaken, IsLastTaken, last_of}
-use Rattle.output_slice.proofs.StepLemmas.{head-order, head-same, span-same}
+use Rattle.output_slice.proofs.HeadLemmas.{head-order, head-same, span-same}
 use Rattle.unicode.specs.Perl.{is_digit_char}
 use Rattle.output_slice.proofs.OccursLemmas.{occurs-part, part-occurs}
 

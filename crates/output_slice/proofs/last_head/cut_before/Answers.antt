@@ -1,5 +1,5 @@
 use Rattle.std.proofs.Common.{arith}
-use Rattle.output_slice.proofs.OpeningLemmas.{crossed-more}
+use Rattle.output_slice.proofs.CutLemmas.{crossed-more}
 use Rattle.output_slice.proofs.last_head.cut_before.Goals as goal
 
 pub loop-start-preserved : goal.loop-start-preserved

@@ -1,7 +1,6 @@
 use Rattle.std.proofs.Common.{take, Some, None}
-use Rattle.output_slice.proofs.CutLemmas.{last-within-front}
+use Rattle.output_slice.proofs.CutLemmas.{last-within-front, opening-none}
 use Rattle.output_slice.proofs.OccursLemmas.{occurs-front-take}
-use Rattle.output_slice.proofs.OpeningLemmas.{opening-none}
 use Rattle.output_slice.proofs.TakenLemmas.{IsLastTaken-none}
 use Rattle.output_slice.proofs.last_head.last_head_before.Goals as goal
 

@@ -1,7 +1,7 @@
 use Rattle.std.proofs.Common.{◌+◌, arith, inl, inr}
 use Rattle.std.proofs.lemmas.List.{take_rest}
 use Rattle.output_slice.proofs.OccursLemmas.{first-byte, no-byte}
-use Rattle.output_slice.proofs.OpeningLemmas.{window-end}
+use Rattle.output_slice.proofs.CutLemmas.{window-end}
 use Rattle.output_slice.proofs.last_head.window_end.Goals as goal
 
 pub returns-in-Some-clause-ends : goal.returns-in-Some-clause-ends

@@ -3,7 +3,7 @@ use Rattle.output_slice.specs.declared.panic_head.HeadSpan.{HeadSpan}
 use Rattle.output_slice.specs.Taken.{IsLastTaken}
 use Rattle.output_slice.specs.Steps.{IsNextQuote}
 use Rattle.output_slice.proofs.SearchLemmas.{Searched, searched-first, searched-none, searched-found, settled-done}
-use Rattle.output_slice.proofs.StepLemmas.{opened-order}
+use Rattle.output_slice.proofs.HeadLemmas.{opened-order}
 use Rattle.output_slice.proofs.TakenLemmas.{IsLastTaken-only, IsLastTaken-some}
 use Rattle.output_slice.proofs.panic_head.last_panic_head.Goals as goal
 

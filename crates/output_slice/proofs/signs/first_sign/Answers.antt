@@ -1,4 +1,4 @@
-use Rattle.output_slice.proofs.StartLemmas.{finds-first}
+use Rattle.output_slice.proofs.OccursLemmas.{finds-first}
 use Rattle.output_slice.proofs.signs.first_sign.Goals as goal
 
 pub returns : goal.returns

@@ -1,5 +1,5 @@
 use Rattle.std.proofs.lemmas.Bool.{not-true}
-use Rattle.output_slice.proofs.StartLemmas.{quiet-block}
+use Rattle.output_slice.proofs.OccursLemmas.{quiet-block}
 use Rattle.output_slice.proofs.signs.is_quiet_between.Goals as goal
 
 pub returns : goal.returns

@@ -1,4 +1,4 @@
-use Rattle.output_slice.proofs.StartLemmas.{finds-last}
+use Rattle.output_slice.proofs.OccursLemmas.{finds-last}
 use Rattle.output_slice.proofs.signs.last_sign.Goals as goal
 
 pub returns : goal.returns

@@ -1,6 +1,6 @@
 use Rattle.std.proofs.Common.{◌+◌, subst}
 use Rattle.output_slice.specs.Steps.{IsNextQuote}
-use Rattle.output_slice.proofs.StepLemmas.{IsOpenedHeadEnd-closed, IsOpenedHeadEnd-opened}
+use Rattle.output_slice.proofs.HeadLemmas.{IsOpenedHeadEnd-closed, IsOpenedHeadEnd-opened}
 use Rattle.output_slice.proofs.panic_head.ends.opened_head_end.Goals as goal
 
 pub returns-then-not-opens-clause-value : goal.returns-then-not-opens-clause-value

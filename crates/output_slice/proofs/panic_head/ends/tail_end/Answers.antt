@@ -1,6 +1,6 @@
 use Rattle.std.proofs.Common.{◌≡◌, ◌+◌, sym, ◌∙◌, arith, codes}
 use Rattle.output_slice.proofs.OccursLemmas.{occurs-both}
-use Rattle.output_slice.proofs.TailLemmas.{IsTailEnd-split, IsTailEnd-none, IsTailEnd-numbered, ReadsUpTo-plain, ReadsUpTo-numbered}
+use Rattle.output_slice.proofs.HeadLemmas.{IsTailEnd-split, IsTailEnd-none, IsTailEnd-numbered, ReadsUpTo-plain, ReadsUpTo-numbered}
 use Rattle.output_slice.proofs.panic_head.ends.tail_end.Goals as goal
 
 pub returns-in_default-after_text : goal.returns-in_default-after_text
