@@ -1,13 +1,13 @@
 -- Which line starts a head crosses, and the taken heads on either side of a cut.
-use Rattle.std.proofs.Common.{◌≡◌, ℕ, ◌+◌, ◌-◌, ◌<◌, ◌≤◌, ◌⊎◌, inl, inr, List, length, get_or, arith, Some, None, Bool, take, refl, codes, not, ◌==◌, [], ◌∷◌, ◌++◌, drop, sym, length-append, length-drop, append-nil, add-zero, ext_get_or, get_or-drop, length-take, get_or-take, Option, map, get_or-append-add}
+use Rattle.std.proofs.Common.{◌≡◌, ℕ, ◌+◌, ◌-◌, ◌<◌, ◌≤◌, ◌⊎◌, inl, inr, List, length, get_or, arith, unwrap_or, Some, None, Bool, take, refl, codes, not, ◌==◌, [], ◌∷◌, ◌++◌, drop, sym, length-append, length-drop, append-nil, add-zero, ext_get_or, get_or-drop, length-take, get_or-take, Option, map, get_or-append-add}
 use Rattle.std.proofs.lemmas.Bool.{cases_lt}
 use Rattle.std.proofs.lemmas.Bool.Decides.{nat_tests}
-use Rattle.bstr.specs.Find.{is_byte, IsLastByte, OccursAt}
+use Rattle.bstr.specs.Find.{IsLast, OccursAt}
 use Rattle.output_slice.specs.Head.{IsHead, IsLineStart}
-use Rattle.output_slice.specs.Steps.{IsLineEnd, NoQuoteBetween}
+use Rattle.output_slice.specs.Steps.{IsLineEnd, IsNextQuote, NoQuoteBetween}
 use Rattle.output_slice.specs.Search.{AllHeadsEndBy, IsLastOpening, IsOpening, MayAllBeCrossed, MayCross}
 use Rattle.output_slice.specs.Cut.{IsCut, head_behind}
-use Rattle.output_slice.proofs.OccursLemmas.{last-byte, no-last-byte, text-passes, get_or-part, length-part, occurs-moved, reads}
+use Rattle.output_slice.proofs.OccursLemmas.{text-passes, get_or-part, length-part, occurs-moved, reads}
 use Rattle.output_slice.proofs.HeadLemmas.{name-quiet, head-order, tail-plain}
 use Rattle.std.proofs.lemmas.List.{length-map}
 use Rattle.std.proofs.lemmas.Option.{slice_get-get_or, slice_get-map, slice_get_within, get_or_from_slice_get}
@@ -46,24 +46,16 @@ module _ (b : List ℕ) (c : ℕ) (within : c ≤ length b) (line : IsLineStart 
   }
 
   -- a line start without a quote before it is a cut
-  pub cut-quiet : IsLastByte (is_byte 39) (take c b) None → IsCut b c
-  cut-quiet h = cut-from (λ s far opening quiet.
-      no-last-byte 39 b c within h (s + 7) (omega arith) (omega arith) (opening.1.reads 7 (omega arith)))
+  pub cut-quiet : NoQuoteBetween b 0 c → IsCut b c
+  cut-quiet none = cut-from (λ s far opening quiet. none (s + 7) (omega arith) (omega arith) (opening.1.reads 7 (omega arith)))
 
   -- so is one where the last quote before it does not open
-  pub cut-closed : (q : ℕ) → IsLastByte (is_byte 39) (take c b) (Some q) → (7 ≤ q → ¬ IsOpening b (q - 7)) → IsCut b c
+  pub cut-closed : (q : ℕ) → IsLast (λ k. get_or b k 0 ≡ 39) 0 c (Some q) → (7 ≤ q → ¬ IsOpening b (q - 7)) → IsCut b c
   cut-closed q h closed = cut-from (λ s far opening quiet.
-      let last = last-byte 39 b c within q h in
       let quote = opening.1.reads 7 (omega arith) in
+      let last = h.0.after (s + 7) in
       let at : s ≡ q - 7 = grind arith in
       closed (grind arith) (rw at at opening))
-
-  -- the last quote before c opens
-  pub cut-crossed : (q : ℕ) → IsLastByte (is_byte 39) (take c b) (Some q) → 7 ≤ q → IsOpening b (q - 7)
-      → MayCross b (q - 7) c
-  cut-crossed q h far opening =
-      let last = last-byte 39 b c within q h in
-      record { low = omega arith; opening = opening; quiet = λ k low. last.2 k (omega arith) }
 
 -- what lies between two places that one opening crosses may be crossed too
 pub crossed-more : (b : List ℕ) (s cut at : ℕ) → MayCross b s cut → MayAllBeCrossed b cut at → MayAllBeCrossed b s at
@@ -77,22 +69,15 @@ pub opening-none : (b : List ℕ) → IsLastOpening b None → (s e : ℕ) → I
 opening-none b none s e h = none s (omega arith) (omega (arith, h.ends, head-order b s e h)) (h.line_start, h.opening)
 
 module _ (b : List ℕ) (at : ℕ) (o : IsLastOpening b (Some at)) where
-  -- the closing quote of a head that ends behind the last opening
-  opening-quote : (q s e : ℕ) → at + 8 ≤ q → (get_or b q 0 ≡ 39) ⊎ NoQuoteBetween b (at + 8) (length b)
-      → (h : IsHead b s e)
-      → at < e → h.quote ≤ q
-  opening-quote q s e far next h past =
+  -- all heads end by the end of the line of the first quote behind the last opening
+  pub window-end : (next : Option ℕ) (q end : ℕ) → IsNextQuote b (at + 8) next → q ≡ unwrap_or next (at + 8) → q ≤ end
+      → IsLineEnd b q end → AllHeadsEndBy b end
+  window-end next q end quote is up last s e h =
       let order = head-order b s e h in
       let name = name-quiet b (s + 8) h.quote (omega arith) h.name in
-      let quote : get_or b (at + 7) 0 ≡ 39 = o.1.1.reads 7 (omega arith) in
-      grind arith
-
-  -- all heads end by the end of the line of the first quote behind the last opening
-  pub window-end : (q end : ℕ) → at + 8 ≤ q → (get_or b q 0 ≡ 39) ⊎ NoQuoteBetween b (at + 8) (length b) → q ≤ end
-      → IsLineEnd b q end → AllHeadsEndBy b end
-  window-end q end far next up last s e h =
-      let quote = opening-quote q s e far next h in
+      let opening : get_or b (at + 7) 0 ≡ 39 = o.1.1.reads 7 (omega arith) in
       let plain = tail-plain b (h.quote + 1) e h.ends h.tail (end - 1) in
+      let by : h.quote ≤ q = grind arith in
       grind arith
 
 -- parts that read the same are the same

@@ -9,10 +9,11 @@ use Rattle.bstr.specs.Utf8.{Decoded, decoded, continues, good, or_replacement, p
 use Rattle.bstr.proofs.lemmas.EncodeLemmas.{decoded-encode}
 use Rattle.bstr.proofs.lemmas.SoundLemmas.{SpellsChar-decoded}
 use Rattle.bstr.proofs.lemmas.PieceLemmas.{piece-bounds, pieces-nil, pieces-step, tail-continues, continuation-alone}
-use Rattle.bstr.specs.Find.{OccursAt, IsLastByte, is_byte}
+use Rattle.bstr.specs.Find.{OccursAt, IsLast}
+use Rattle.bstr.specs.Text.{part}
 use Rattle.output_slice.specs.Slices.{IsBlank, IsBreak, IsTrimmed, IsTrimmedSlice, IsErrorLine, IsWidened}
 use Rattle.output_slice.specs.Steps.{AreBreaks}
-use Rattle.output_slice.proofs.OccursLemmas.{dropped-occurs, occurs-dropped, last-byte}
+use Rattle.output_slice.proofs.OccursLemmas.{reads}
 
 -- an error line is not empty, and begins with a line feed
 line-start : (b : List ℕ) (s j : ℕ) (h : IsErrorLine b s j) → (j + 7 ≤ h.stop) × (get_or b j 0 ≡ 10)
@@ -25,34 +26,32 @@ module _ (b : List ℕ) (s stop : ℕ) (low : stop ≤ s) (high : s ≤ length b
   stop-same j h = grind arith
 
   -- where the last line before begins with `Error:`
-  pub widened-some : (at : ℕ) → IsLastByte (is_byte 10) (take stop b) (Some at)
-      → OccursAt (drop at (take stop b)) (codes "\nError:") 0
-      → IsWidened b s (at + 1)
-  widened-some at h starts =
-      let last = last-byte 10 b stop (omega arith) at h in
-      inl (
-        at,
-        record {
-          stop = stop;
-          within = low;
-          breaks = breaks;
-          text = text (omega arith);
-          begins = occurs-dropped (take stop b) (codes "\nError:") at (omega arith) starts;
-          one_line = λ i l u. last.2 i (omega arith) u;
-        },
-        refl,
-      )
+  pub widened-some : (at : ℕ) → IsLast (λ k. get_or b k 0 ≡ 10) 0 stop (Some at)
+      → OccursAt (part at stop b) (codes "\nError:") 0 → IsWidened b s (at + 1)
+  widened-some at last starts = inl (
+    at,
+    record {
+      stop = stop;
+      within = low;
+      breaks = breaks;
+      text = text (omega (arith, last.0.high));
+      begins = grind (arith, reads);
+      one_line = λ i l u. last.0.after i (omega arith) u;
+    },
+    refl,
+  )
 
   -- where it begins with something else
-  pub widened-other : (at : ℕ) → IsLastByte (is_byte 10) (take stop b) (Some at)
-      → ¬ OccursAt (drop at (take stop b)) (codes "\nError:") 0
-      → IsWidened b s s
-  widened-other at h none = inr (
+  pub widened-other : (at : ℕ) → IsLast (λ k. get_or b k 0 ≡ 10) 0 stop (Some at)
+      → ¬ OccursAt (part at stop b) (codes "\nError:") 0 → IsWidened b s s
+  widened-other at last none = inr (
     λ j line.
-        let last = last-byte 10 b stop (omega arith) at h in
         let same = stop-same j line in
+        let first = line-start b s j line in
+        let one = last.0.after j in
         let here : j ≡ at = grind arith in
-        none (dropped-occurs (take stop b) (codes "\nError:") at (rw same at rw here at line.begins)),
+        let begins = rw same at rw here at line.begins in
+        none (grind (arith, reads)),
     refl,
   )
 

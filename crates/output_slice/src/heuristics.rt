@@ -11,7 +11,7 @@ ghost use Rattle.output_slice.specs.Signs.{IsNoteQuiet, IsQuietFrom};
 ghost use Rattle.std.specs.Int.NonZero.{non_zero_usize_get};
 
 use crate::last_head::last_head_before;
-use crate::lines::{line_end, line_start};
+use crate::lines::{last_byte, line_end, line_start};
 use crate::signs::{ERROR_SIGN, NOTE, first_sign, quiet_ends};
 use crate::subslice::{ByteSubslice, TestOutputErrorSlice};
 use bstr::ByteSlice;
@@ -185,16 +185,17 @@ fn without_end(line: &[u8]) -> &[u8]
 }
 
 /// The start of the line before `start`, if it begins with `Error:`, and else `start`.
+#[tactic(auto, using(crate::proofs::OccursLemmas::reads))]
 fn widened(stderr: &[u8], start: usize) -> usize
     requires { start ≤ length stderr.now }
     ensures value { IsWidened stderr.now start result }
     ensures within { result ≤ length stderr.now }
 {
-    let front = &stderr[..breaks_start(stderr, start)];
-    let Some(at) = front.rfind_byte(b'\n') else {
+    let end = breaks_start(stderr, start);
+    let Some(at) = last_byte(stderr, b'\n', end) else {
         return start;
     };
-    if (&front[at..]).starts_with_str(b"\nError:") {
+    if (&stderr[at..end]).starts_with_str(b"\nError:") {
         at + 1
     } else {
         start

@@ -8,7 +8,7 @@ ghost use Rattle.output_slice.specs.Search.{AllHeadsEndBy, IsLastFrom, IsLastOpe
 ghost use Rattle.output_slice.specs.Signs.{IsQuietFrom};
 
 use crate::byte_source::CountedBytes;
-use crate::lines::{is_line_start, line_end};
+use crate::lines::{is_line_start, last_byte, line_end, next_byte};
 use crate::panic_head::quotes::{OPENING_SIZE, WORD_SIZE};
 use crate::panic_head::{HeadSpan, last_panic_head};
 use crate::signs::{PANIC_SIGN, last_sign};
@@ -37,10 +37,7 @@ fn window_end(bytes: &[u8], at: usize) -> usize
     ensures ends { AllHeadsEndBy bytes.now result }
 {
     let name = at + OPENING_SIZE;
-    match (&bytes[name..]).find_byte(b'\'') {
-        Some(gap) => line_end(bytes, name + gap),
-        None => line_end(bytes, name),
-    }
+    line_end(bytes, next_byte(bytes, b'\'', name).unwrap_or(name))
 }
 
 /// Where a head may begin that crosses the line start `at`. None where `at` is a cut.
@@ -49,7 +46,7 @@ fn crossing(bytes: &[u8], at: usize) -> Option<usize>
     requires line_start { IsLineStart bytes.now at }
     ensures { MatchOption result (IsCut bytes.now at) (λ s. MayCross bytes.now s at) }
 {
-    let quote = (&bytes[..at]).rfind_byte(b'\'')?;
+    let quote = last_byte(bytes, b'\'', at)?;
     if quote < WORD_SIZE {
         return None;
     }

@@ -1,0 +1,25 @@
+use Rattle.std.proofs.Common.{◌≡◌, ◌-◌, ◌≤◌, ℕ, List, true, drop, get_or, eq-eqb, get_or-drop, length-drop, arith}
+use Rattle.std.proofs.lemmas.List.{take_rest}
+use Rattle.bstr.specs.Find.{is_byte}
+use Rattle.output_slice.proofs.lines.next_byte.Goals as goal
+
+-- the byte passes the test where the bytes from `from` on have it
+passes : (b : List ℕ) (x from k : ℕ) → from ≤ k → get_or b k 0 ≡ x → is_byte x (get_or (drop from b) (k - from) 0) ≡ true
+passes b x from k low is = eq-eqb _ x (grind (arith, get_or-drop))
+
+pub returns-in-Some : goal.returns-in-Some
+returns-in-Some c =
+    let size = length-drop c.args.from c.args.bytes.now in
+    let h = rw take_rest at c.in-Some.ensures in (
+      record {
+        low = omega arith;
+        high = omega arith;
+        before = λ k low up is. h.0.before (k - c.args.from) (omega arith) (omega arith) (passes _ c.args.byte c.args.from k low is);
+      },
+      grind (arith, get_or-drop),
+    )
+
+pub returns-in-None : goal.returns-in-None
+returns-in-None c = λ k low up is.
+    let size = length-drop c.args.from c.args.bytes.now in
+    (rw take_rest at c.in-None.ensures) (k - c.args.from) (omega arith) (omega arith) (passes _ c.args.byte c.args.from k low is)
