@@ -63,18 +63,6 @@ decoded-four xs ys size some reads =
     rw first (decoded_by-cut (length ys) (length xs) (byte xs 0) (byte xs 1) (byte xs 2) (byte xs 3) (byte ys 1) (byte ys 2) (byte ys 3)
     (omega arith) (omega arith) (omega arith) (λ h. reads 1 h) (λ h. reads 2 h) (λ h. reads 3 h))
 
--- the same of a buffer that holds the first four bytes, or all
-decoded-buffer : (b : List ℕ) (at stop size : ℕ) (buffer : List ℕ) → at < stop → stop ≤ length b
-    → size ≡ min (stop - at) 4
-    → length buffer ≡ 4 → ((k : ℕ) → k < size → get_or buffer k 0 ≡ get_or b (at + k) 0)
-    → decoded (take size buffer) ≡ decoded (part at stop b)
-decoded-buffer b at stop size buffer low high is four reads =
-    grind (arith, decoded-four, get_or-part, get_or-take, length-part, length-take-le)
-
--- a character whose first byte is past ASCII has two bytes or more
-wide_char : (b : List ℕ) (at stop c : ℕ) → IsCharAt b at stop c → 128 ≤ get_or b at 0 → 2 ≤ length (encode_utf8 c)
-wide_char b at stop c h past = grind (arith, encode_ascii, length-encode)
-
 -- UTF-8 is empty or begins with a character
 first-utf8 : (cs bs : List ℕ) → scalars cs ≡ true → encode_utf8_all cs ≡ bs → 0 < length bs
     → (c : ℕ) × ((rest : List ℕ) × (IsScalar c × (bs ≡ encode_utf8 c ++ rest)))
@@ -110,7 +98,7 @@ char-same b at to to' c c' h k =
 
 -- one byte alone is no character past ASCII
 pub one-byte : (b : List ℕ) (at c : ℕ) → 128 ≤ get_or b at 0 → ¬ IsCharAt b at (at + 1) c
-one-byte b at c past h = let two = wide_char b at (at + 1) c h past in let ends = h.ends in omega arith
+one-byte b at c past h = grind (arith, encode_ascii, length-encode)
 
 -- a buffer with one byte more
 pub buffer-more : (b buffer : List ℕ) (at i v : ℕ) → i < length buffer
@@ -122,7 +110,7 @@ buffer-more b buffer at i v inside reads is k low = grind (arith, get_or-set_oth
 module _ (b buffer : List ℕ) (at stop i : ℕ) (four : length buffer ≡ 4) (small : i < 4) (inside : at + i < stop) (high : stop ≤ length b)
     (reads : (k : ℕ) → k < i + 1 → get_or buffer k 0 ≡ get_or b (at + k) 0) where
   same : decoded (take (i + 1) buffer) ≡ decoded (part at (at + (i + 1)) b)
-  same = decoded-buffer b at (at + (i + 1)) (i + 1) buffer (omega arith) (omega arith) (omega arith) four reads
+  same = grind (arith, decoded-four, get_or-part, get_or-take, length-part, length-take-le)
 
   -- what is decoded from the bytes read so far is the character that stands there
   pub char-some : (c : ℕ) → ((x : ℕ) → ¬ IsCharAt b at (at + i) x) → (decoded (take (i + 1) buffer)).char ≡ Some c
@@ -146,15 +134,6 @@ module _ (b buffer : List ℕ) (at stop i : ℕ) (four : length buffer ≡ 4) (s
 pub char-short : (b : List ℕ) (at stop i c : ℕ) → min (stop - at) 4 ≤ i → IsCharAt b at stop c
     → IsCharAt b at (at + i) c
 char-short b at stop i c far h = grind (arith, len_utf8_bounds, length-encode)
-
--- no digits stand from a place to itself
-pub digits-none : (b : List ℕ) (from : ℕ) → from ≤ length b → AreDigits b from from
-digits-none b from low = record {
-  chars = [];
-  digits = All-nil _;
-  stands = record { fits = omega arith; reads = λ j l. absurd (omega arith) };
-  ends = omega arith;
-}
 
 -- one more digit behind digits
 pub digits-more : (b : List ℕ) (from at to c n : ℕ) → AreDigits b from at → IsCharAt b at to c → IsDigit c

@@ -1,5 +1,5 @@
 -- Which line starts a head crosses, and the taken heads on either side of a cut.
-use Rattle.std.proofs.Common.{◌≡◌, ℕ, ◌+◌, ◌-◌, ◌<◌, ◌≤◌, ◌⊎◌, inl, inr, List, length, get_or, arith, unwrap_or, Some, None, Bool, take, refl, codes, not, ◌==◌, [], ◌∷◌, ◌++◌, drop, sym, length-append, length-drop, append-nil, add-zero, ext_get_or, get_or-drop, length-take, get_or-take, Option, map, get_or-append-add}
+use Rattle.std.proofs.Common.{◌≡◌, ℕ, ◌+◌, ◌-◌, ◌<◌, ◌≤◌, inl, inr, List, length, get_or, arith, unwrap_or, Some, None, Bool, take, refl, codes, not, ◌==◌, [], ◌∷◌, ◌++◌, drop, sym, length-append, length-drop, append-nil, add-zero, ext_get_or, length-take, Option, map, get_or-append-add}
 use Rattle.std.proofs.lemmas.Bool.{cases_lt}
 use Rattle.std.proofs.lemmas.Bool.Decides.{nat_tests}
 use Rattle.bstr.specs.Find.{IsLast, OccursAt}
@@ -185,15 +185,15 @@ divides b c xs ys cut front back =
     let before = leftmost-taken (take c b) xs front in
     IsTaken-from_leftmost b (xs ++ map (head_behind c) ys) (leftmost-joined b c cut xs ys 0 (omega arith) before (leftmost-taken (drop c b) ys back))
 
--- the last of two lists is the last of the second, if that has one
-last_of-append : (xs ys : List HeadSpan) (h : HeadSpan) → Some h ≡ last_of ys → Some h ≡ last_of (xs ++ ys)
-last_of-append xs ys h e =
-    grind (arith, length-append, get_or-append-add, slice_get-get_or, slice_get_within ys (length ys - 1) h (sym e), get_or_from_slice_get ys (length ys - 1) h h (sym e))
-
--- the last of what stands behind a place
-last_of-map : (c : ℕ) (ys : List HeadSpan) (h : HeadSpan) → Some h ≡ last_of ys
-    → Some (head_behind c h) ≡ last_of (map (head_behind c) ys)
-last_of-map c ys h e = grind (arith, length-map, slice_get-map)
+-- the last of heads behind a place, with others in front
+last_of-behind : (c : ℕ) (xs ys : List HeadSpan) (h : HeadSpan) → Some h ≡ last_of ys
+    → Some (head_behind c h) ≡ last_of (xs ++ map (head_behind c) ys)
+last_of-behind c xs ys h e =
+    let zs = map (head_behind c) ys in
+    let last : last_of zs ≡ Some (head_behind c h) = grind (arith, length-map, slice_get-map) in
+    let at = length zs - 1 in
+    let x = head_behind c h in
+    grind (arith, length-append, get_or-append-add, slice_get-get_or, slice_get_within zs at x last, get_or_from_slice_get zs at x x last)
 
 -- the last behind a cut is the last of all
 pub last-behind : (b : List ℕ) (c : ℕ) (h : HeadSpan) → IsCut b c → IsLastTaken (drop c b) (Some h)
@@ -202,7 +202,7 @@ last-behind b c h cut last =
     let front = IsTaken-exists (take c b) in (
       front.0 ++ map (head_behind c) last.0,
       divides b c front.0 last.0 cut front.1 last.1,
-      last_of-append front.0 (map (head_behind c) last.0) (head_behind c h) (last_of-map c last.0 h last.2),
+      last_of-behind c front.0 last.0 h last.2,
     )
 
 -- where there is none behind a cut, the last before it is the last of all

@@ -14,7 +14,7 @@ use Rattle.bstr.specs.Text.{part}
 use Rattle.output_slice.specs.Head.{IsDigit, IsTail, IsLineStart, IsName, IsHead}
 use Rattle.output_slice.specs.Steps.{AreDigits, ArePlain, IsDigitRun, NoDigitAt, IsTailEnd, IsTextEnd, AgreesFor, ReadsUpTo, TextReads, IsNamedHeadEnd, IsOpened, IsOpenedHeadEnd, IsNextQuote, NoQuoteBetween}
 use Rattle.output_slice.proofs.CharLemmas.{IsDigitRun-same}
-use Rattle.output_slice.proofs.OccursLemmas.{get_or-part, length-part, occurs-front, occurs-back, occurs-both, occurs-part, part-occurs, agrees, agrees-passes, occurs-byte, text-passes}
+use Rattle.output_slice.proofs.OccursLemmas.{get_or-part, length-part, occurs-front, occurs-back, occurs-both, occurs-part, part-occurs, agrees, agrees-passes, text-passes}
 use Rattle.output_slice.specs.declared.panic_head.HeadSpan.{HeadSpan}
 
 -- the byte is neither a quote nor a line feed
@@ -249,12 +249,6 @@ head-same b s e e' h k =
 pub span-same : (g h : HeadSpan) → g.start ≡ h.start → g.stop ≡ h.stop → g ≡ h
 span-same g h p q = grind arith
 
--- behind a name the head ends where its tail does
-pub IsNamedHeadEnd-name : (b : List ℕ) (quote close : ℕ) (found : Option ℕ) → IsName (part (quote + 1) close b)
-    → IsTailEnd b (close + 1) found → IsNamedHeadEnd b quote close found
-IsNamedHeadEnd-name b quote close None name h = λ e high n. h e high
-IsNamedHeadEnd-name b quote close (Some e) name h = (h.0, name, h.1)
-
 -- where no quote follows, the quote opens no head
 pub IsOpenedHeadEnd-none : (b : List ℕ) (place quote : ℕ) → IsNextQuote b (quote + 1) None
     → IsOpenedHeadEnd b place quote None
@@ -291,7 +285,7 @@ module _ (b : List ℕ) (place quote close : ℕ) (opened : IsOpened b place quo
       let far = opened.0 in
       let at : quote + 1 ≡ quote - 7 + 8 = omega arith in
       let end : get_or b (quote - 7 + 7) 0 ≡ 39 = grind arith in
-      let one = occurs-byte b 39 (quote - 7 + 7) (omega arith) end in (
+      let one : OccursAt b (codes "'") (quote - 7 + 7) = grind arith in (
         far,
         record {
           line_start = opened.1;

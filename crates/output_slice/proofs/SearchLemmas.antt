@@ -1,6 +1,5 @@
 -- The state of the counted search: the taken heads so far, and the reads.
-use Rattle.std.proofs.Common.{◌≡◌, ◌≢◌, ℕ, min, ◌+◌, ◌-◌, ◌*◌, ◌<◌, ◌≤◌, List, [], ◌∷◌, ◌++◌, length, get_or, refl, sym, arith, inl, inr, Option, Some, None, MatchOption, IfSome, ◌^◌, append_assoc, append-nil}
-use Rattle.std.proofs.lemmas.Bool.{cases_lt}
+use Rattle.std.proofs.Common.{◌≡◌, ℕ, min, ◌+◌, ◌-◌, ◌*◌, ◌<◌, ◌≤◌, List, [], ◌∷◌, ◌++◌, length, get_or, refl, sym, arith, inl, inr, Option, Some, None, MatchOption, IfSome, ◌^◌, append_assoc, append-nil}
 use Rattle.std.proofs.lemmas.List.{get_or_push, length_push}
 use Rattle.std.proofs.lemmas.Option.{slice_get-get_or}
 use Rattle.output_slice.specs.declared.panic_head.HeadSpan.{HeadSpan}
@@ -13,10 +12,6 @@ use Rattle.output_slice.proofs.TakenLemmas.{IsTaken-from_leftmost, Leftmost, lef
 -- with those taken from `place` on they are those of all bytes
 abbrev pub Settled : List ℕ → ℕ → List HeadSpan → Type 0
 Settled b place taken = (rest : List HeadSpan) → Leftmost b place rest → Leftmost b 0 (taken ++ rest)
-
--- at the front no head is taken yet
-pub settled-first : (b : List ℕ) → Settled b 0 []
-settled-first b rest h = h
 
 -- no head that starts at the place or after it starts before the next quote's word
 starts-late : (b : List ℕ) (place q s e : ℕ) → NoQuoteBetween b place q → place ≤ s → IsHead b s e → q ≤ s + 7
@@ -100,17 +95,13 @@ pub record Searched (b : List ℕ) (old new place : ℕ) (next : Option ℕ) (la
   pub within : place ≤ length b
   pub reads : NextReads b old new place next
 
--- the last of a list and one more
-last_of-push : (xs : List HeadSpan) (x : HeadSpan) → last_of (xs ++ x ∷ []) ≡ Some x
-last_of-push xs x = grind (arith, length_push, get_or_push, slice_get-get_or (xs ++ x ∷ []) (length xs) x)
-
 -- the start of the search
 pub searched-first : (b : List ℕ) (old new : ℕ) (next : Option ℕ) → IsNextQuote b 0 next
     → IfSome next (λ q. q + 1 < 2 ^ 64)
     → QuoteReads b 0 old new next → Searched b old new 0 next None
 searched-first b old new next is fits reads = record {
   taken = [];
-  settled = settled-first b;
+  settled = λ rest h. h;
   is_last = refl;
   is_next = is;
   fits = fits;
@@ -192,7 +183,7 @@ searched-found b old new scanned tested ended place q e close next last h is rea
     let x : HeadSpan = record { start = q - 7; stop = e } in record {
       taken = h.taken ++ x ∷ [];
       settled = settled-head b place q h.taken x h.settled i.0.before (omega arith) (omega arith) stop.1;
-      is_last = sym (last_of-push h.taken x);
+      is_last = grind (arith, length_push, get_or_push, slice_get-get_or (h.taken ++ x ∷ []) (length h.taken) x);
       is_next = is';
       fits = fits;
       within = stop.1.ends;

@@ -5,7 +5,7 @@ use Rattle.std.proofs.lemmas.Bool.{cases_lt, cases_eq, cases_Bool}
 use Rattle.std.proofs.lemmas.List.Elements.{All-cons, All-head, All-tail, All-nil}
 use Rattle.std.proofs.lemmas.List.{drop_all}
 use Rattle.bstr.specs.Trim.{kept_end, trim_end_by}
-use Rattle.bstr.specs.Utf8.{Decoded, decoded, continues, good, or_replacement, pieces, spans_from}
+use Rattle.bstr.specs.Utf8.{Decoded, decoded, continues, or_replacement, pieces, spans_from}
 use Rattle.bstr.proofs.lemmas.EncodeLemmas.{decoded-encode}
 use Rattle.bstr.proofs.lemmas.SoundLemmas.{SpellsChar-decoded}
 use Rattle.bstr.proofs.lemmas.PieceLemmas.{piece-bounds, pieces-nil, pieces-step, tail-continues, continuation-alone}

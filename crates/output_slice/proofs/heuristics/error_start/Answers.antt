@@ -1,5 +1,5 @@
 use Rattle.std.proofs.Common.{codes}
-use Rattle.output_slice.proofs.OccursLemmas.{first-front, first-none, first-later}
+use Rattle.output_slice.proofs.OccursLemmas.{first-none, first-later}
 use Rattle.output_slice.proofs.heuristics.error_start.Goals as goal
 
 pub returns-in_err-feed : goal.returns-in_err-feed

@@ -1,4 +1,3 @@
-use Rattle.std.proofs.Common.{◌+◌}
 use Rattle.output_slice.proofs.CutLemmas.{window-end}
 use Rattle.output_slice.proofs.last_head.window_end.Goals as goal
 

@@ -1,7 +1,7 @@
-use Rattle.std.proofs.Common.{◌≡◌, refl, ◌∙◌, arith, subst, true}
+use Rattle.std.proofs.Common.{◌≡◌, ◌∙◌, arith, subst, true}
 use Rattle.output_slice.specs.Head.{IsDigit}
 use Rattle.std.proofs.lemmas.Str.{len_utf8_bounds, length-encode}
-use Rattle.output_slice.proofs.CharLemmas.{char-same, digits-none, digits-more}
+use Rattle.output_slice.proofs.CharLemmas.{char-same, digits-more}
 use Rattle.output_slice.proofs.panic_head.characters.digits_end.Goals as goal
 
 pub loop-at-preserved : goal.loop-at-preserved
