@@ -33,26 +33,6 @@ part-front b rest at stop c scalar e high =
       ends = omega arith;
     }
 
--- what decodes there, if it is a character
-pub IsCharAt-decoded : (b : List ℕ) (at stop c : ℕ) → stop ≤ length b → (decoded (part at stop b)).char ≡ Some c
-    → IsCharAt b at stop c × (length (encode_utf8 c) ≡ (decoded (part at stop b)).size)
-IsCharAt-decoded b at stop c high found =
-    let h = SpellsChar-decoded (part at stop b) c found in
-    (part-front b _ at stop c h.scalar h.bytes high, h.width)
-
--- nothing stands there if nothing decodes
-pub not_char-decoded : (b : List ℕ) (at stop c : ℕ) → stop ≤ length b → (decoded (part at stop b)).char ≡ None
-    → ¬ IsCharAt b at stop c
-not_char-decoded b at stop c high none h =
-    let rest = part at stop b in
-    let size = length-part b at stop high in
-    let reads =
-    λ (j : ℕ) (l : j < length (encode_utf8 c)). get_or-part b at stop j (omega arith) ∙ h.stands.reads j l in
-    let begins = front_from_reads 0 rest (encode_utf8 c) (omega arith) reads in
-    let read = ap decoded begins ∙ decoded-encode c (drop (length (encode_utf8 c)) rest) h.scalar in
-    let char : (decoded rest).char ≡ Some c = ap (λ (p : Decoded). p.char) read in
-    cc
-
 -- the first four bytes decode as all do
 decoded-four : (xs ys : List ℕ) → length ys ≡ min (length xs) 4 → 0 < length xs
     → ((k : ℕ) → k < length ys → get_or ys k 0 ≡ get_or xs k 0) → decoded ys ≡ decoded xs
@@ -117,18 +97,24 @@ module _ (b buffer : List ℕ) (at stop i : ℕ) (four : length buffer ≡ 4) (s
       → IsCharAt b at stop c × (length (encode_utf8 c) ≡ (decoded (take (i + 1) buffer)).size) × (i < length (encode_utf8 c))
   char-some c before found =
       let char : (decoded (part at (at + (i + 1)) b)).char ≡ Some c = ap (λ (p : Decoded). p.char) (sym same) ∙ found in
-      let h = IsCharAt-decoded b at (at + (i + 1)) c (omega arith) char in
-      let ends = h.0.ends in
+      let spelled = SpellsChar-decoded (part at (at + (i + 1)) b) c char in
+      let stands = part-front b _ at (at + (i + 1)) c spelled.scalar spelled.bytes (omega arith) in
+      let ends = stands.ends in
       let long : i < length (encode_utf8 c) = grind arith in (
-        record { scalar = h.0.scalar; stands = h.0.stands; ends = omega arith },
-        h.1 ∙ ap (λ (p : Decoded). p.size) (sym same),
+        record { scalar = spelled.scalar; stands = stands.stands; ends = omega arith },
+        spelled.width ∙ ap (λ (p : Decoded). p.size) (sym same),
         long,
       )
 
   -- where nothing is decoded, no character ends there
   pub char-none : (decoded (take (i + 1) buffer)).char ≡ None → (c : ℕ) → ¬ IsCharAt b at (at + (i + 1)) c
-  char-none none c =
-      not_char-decoded b at (at + (i + 1)) c (omega arith) (ap (λ (p : Decoded). p.char) (sym same) ∙ none)
+  char-none none c h =
+      let rest = part at (at + (i + 1)) b in
+      let reads = λ (j : ℕ) (l : j < length (encode_utf8 c)). get_or-part b at (at + (i + 1)) j (omega arith) ∙ h.stands.reads j l in
+      let size = length-part b at (at + (i + 1)) (omega arith) in
+      let begins = front_from_reads 0 rest (encode_utf8 c) (omega arith) reads in
+      let read = ap decoded begins ∙ decoded-encode c (drop (length (encode_utf8 c)) rest) h.scalar in
+      absurd (cc (none, same, ap (λ (p : Decoded). p.char) read))
 
 -- a character has four bytes at most
 pub char-short : (b : List ℕ) (at stop i c : ℕ) → min (stop - at) 4 ≤ i → IsCharAt b at stop c

@@ -16,7 +16,7 @@ use Rattle.output_slice.specs.Lines.{IsLine, AreLines}
 use Rattle.output_slice.specs.Head.{IsLineStart}
 use Rattle.output_slice.specs.Slices.{IsNote, IsNoteLine}
 use Rattle.output_slice.specs.Steps.{IsLineEnd, NoFeedBetween}
-use Rattle.output_slice.proofs.OccursLemmas.{get_or-part, length-part, occurs-front-take, occurs-in-part, text-passes}
+use Rattle.output_slice.proofs.OccursLemmas.{reads, get_or-part, length-part, occurs-front-take, occurs-in-part, text-passes}
 
 -- the line ends with a line feed
 abbrev Ended : List ℕ → List ℕ → Type 0
@@ -46,37 +46,33 @@ AreLines-same b lines h = lines-same lines h.each h.ends ∙ ap lines_of h.joine
 -- one more byte before a division
 more-lines : (x : ℕ) (b : List ℕ) (ls : List (List ℕ)) → AreLines b ls
     → (lines : List (List ℕ)) × AreLines (x ∷ b) lines
-more-lines x b ls h = elim (cases_eq x 10) [
-  | inl feed ↦ (
+more-lines x b ls h = elim (cases_eq x 10) [ inl feed ↦ alone (λ k d low. feed) | inr other ↦ before ls refl other ] where
+  -- a line of the one byte
+  alone : All (Ended (x ∷ [])) ls → (lines : List (List ℕ)) × AreLines (x ∷ b) lines
+  alone ended = (
     (x ∷ []) ∷ ls,
     record {
       joined = ap (λ t. x ∷ t) h.joined;
       each = All-cons IsLine (x ∷ []) ls (record { some = omega arith; feed = λ k is. grind arith }) h.each;
-      ends = AllPairs-cons Ended (x ∷ []) ls (λ k d low. feed) h.ends;
+      ends = AllPairs-cons Ended (x ∷ []) ls ended h.ends;
     },
   )
-  | inr other ↦ before ls h other
-] where
-  before : (ls : List (List ℕ)) → AreLines b ls → x ≢ 10 → (lines : List (List ℕ)) × AreLines (x ∷ b) lines
-  before [] h other = (
-    (x ∷ []) ∷ [],
-    record {
-      joined = ap (λ t. x ∷ t) h.joined;
-      each = All-cons IsLine (x ∷ []) [] (record { some = omega arith; feed = λ k is. grind arith }) (All-nil _);
-      ends = λ i j d low high. absurd (omega arith);
-    },
-  )
-  before (l ∷ ls) h other =
-      let line = All-head IsLine l ls h.each in
+
+  before : (ms : List (List ℕ)) → ls ≡ ms → x ≢ 10 → (lines : List (List ℕ)) × AreLines (x ∷ b) lines
+  before [] is other = alone (rw is (All-nil _))
+  before (l ∷ ms) is other =
+      let whole = rw is at h in
+      let line = All-head IsLine l ms whole.each in
       let some = line.some in (
-        (x ∷ l) ∷ ls,
+        (x ∷ l) ∷ ms,
         record {
-          joined = ap (λ t. x ∷ t) h.joined;
-          each = All-cons IsLine (x ∷ l) ls (record { some = omega arith; feed = λ k is. let before = line.feed (k - 1) in grind arith }) (All-tail IsLine l ls h.each);
+          joined = ap (λ t. x ∷ t) whole.joined;
+          each = All-cons IsLine (x ∷ l) ms
+              (record { some = omega arith; feed = λ k is. let before = line.feed (k - 1) in grind arith }) (All-tail IsLine l ms whole.each);
           ends =
-              AllPairs-cons Ended (x ∷ l) ls (λ k d low.
-              let place : length (x ∷ l) - 1 ≡ suc (length l - 1) = omega arith in rw place (h.ends 0 (suc k) d (omega arith) (omega arith)))
-              (λ i j d low high. h.ends (suc i) (suc j) d (omega arith) (omega arith));
+              AllPairs-cons Ended (x ∷ l) ms (λ k d low.
+              let place : length (x ∷ l) - 1 ≡ suc (length l - 1) = omega arith in rw place (whole.ends 0 (suc k) d (omega arith) (omega arith)))
+              (λ i j d low high. whole.ends (suc i) (suc j) d (omega arith) (omega arith));
         },
       )
 
@@ -93,19 +89,12 @@ length-concat [] = refl
 length-concat (x ∷ xs) =
     length-append x (concat xs) ∙ ap (λ n. length x + n) (length-concat xs) ∙ sym (sum_by-cons length x xs)
 
--- a text that stands in one of two joined parts stands in the whole
-contains-left : (t xs ys : List ℕ) → Contains xs t → Contains (xs ++ ys) t
-contains-left t xs ys h = let at = h.1 in (h.0, grind (arith, get_or-append, length-append))
-
-contains-right : (t xs ys : List ℕ) → Contains ys t → Contains (xs ++ ys) t
-contains-right t xs ys h = let at = h.1 in (length xs + h.0, grind (arith, get_or-append-add, length-append))
-
 -- a text that stands in none of the joined bytes stands in no line
 none-in-lines : (t : List ℕ) (ls : List (List ℕ)) → ¬ Contains (concat ls) t → All (λ line. ¬ Contains line t) ls
 none-in-lines t [] none = All-nil _
 none-in-lines t (x ∷ xs) none =
-    All-cons (λ line. ¬ Contains line t) x xs (λ h. none (contains-left t x (concat xs) h))
-    (none-in-lines t xs (λ h. none (contains-right t x (concat xs) h)))
+    All-cons (λ line. ¬ Contains line t) x xs (λ h. let at = h.1 in none (h.0, grind (arith, reads)))
+    (none-in-lines t xs (λ h. let at = h.1 in none (length x + h.0, grind (arith, reads))))
 
 -- so it stands in no line of bytes that do not hold it
 none-in : (t b : List ℕ) → ¬ Contains b t → All (λ line. ¬ Contains line t) (lines_of b)

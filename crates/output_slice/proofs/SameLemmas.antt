@@ -108,10 +108,7 @@ IsExtract-part out err (Some (ShouldPanic x)) p = OfStream-part IsNoteLine IsNot
 
 -- there is one first place
 IsFirst-same : (P : ℕ → Type 0) (i j : ℕ) (x y : Option ℕ) → IsFirst P i j x → IsFirst P i j y → x ≡ y
-IsFirst-same P i j None None g h = refl
-IsFirst-same P i j None (Some k) g h = absurd (g k h.0.low h.0.high h.1)
-IsFirst-same P i j (Some k) None g h = absurd (h k g.0.low g.0.high g.1)
-IsFirst-same P i j (Some k) (Some l) g h = let same : k ≡ l = grind arith in ap Some same
+IsFirst-same P i j x y g h = grind arith
 
 -- a slice is its start and its bytes
 slice-same : (x y : Slice) → x.start ≡ y.start → x.bytes ≡ y.bytes → x ≡ y

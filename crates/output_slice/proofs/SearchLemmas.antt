@@ -22,13 +22,11 @@ pub settled-none : (b : List ℕ) (place q : ℕ) (taken : List HeadSpan) → Se
     → get_or b q 0 ≡ 39
     → NoQuoteBetween b place q → ((s e : ℕ) → place ≤ s → s + 7 ≡ q → ¬ IsHead b s e) → Settled b (q + 1) taken
 settled-none b place q taken h low is quiet none rest r =
-    h rest (leftmost-before b place (q + 1) rest (omega arith) later r) where
-      later : (s e : ℕ) → place ≤ s → IsHead b s e → q + 1 ≤ s
-      later s e from head =
-          let late = starts-late b place q s e quiet from head in
-          let letters = head-letters b s e q head in
-          let other = none s e from in
-          grind arith
+    h rest (leftmost-before b place (q + 1) rest (omega arith) (λ s e from head.
+    let late = starts-late b place q s e quiet from head in
+    let letters = head-letters b s e q head in
+    let other = none s e from in
+    grind arith) r)
 
 -- a quote that opens a head
 pub settled-head : (b : List ℕ) (place q : ℕ) (taken : List HeadSpan) (x : HeadSpan) → Settled b place taken
@@ -43,9 +41,8 @@ settled-head b place q taken x h quiet new here head rest r =
 -- no quote is left
 pub settled-done : (b : List ℕ) (place : ℕ) (taken : List HeadSpan) → Settled b place taken
     → NoQuoteBetween b place (length b) → IsTaken b taken
-settled-done b place taken h quiet = IsTaken-from_leftmost b taken (rw append-nil at (h [] none)) where
-  none : (s e : ℕ) → place ≤ s → ¬ IsHead b s e
-  none s e low head = let late = starts-late b place (length b) s e quiet low head in omega (arith, head.opening.fits)
+settled-done b place taken h quiet = IsTaken-from_leftmost b taken (rw append-nil at (h [] (λ s e low head.
+    let late = starts-late b place (length b) s e quiet low head in omega (arith, head.opening.fits))))
 
 -- the reads so far, the next quote q, and a place before which no quote follows q
 pub record WithReads (b : List ℕ) (old new place q : ℕ) : Type 0 where

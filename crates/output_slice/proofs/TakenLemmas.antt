@@ -5,7 +5,7 @@ use Rattle.std.proofs.lemmas.List.Elements.{All-cons, All-head, All-tail, All-ni
 use Rattle.std.proofs.lemmas.List.Kept.{AllPairs-cons}
 use Rattle.std.proofs.lemmas.Option.{slice_get-get_or, slice_get_within, get_or_from_slice_get}
 use Rattle.std.proofs.Math.Utf8.{scalar, scalars}
-use Rattle.std.proofs.lemmas.Bool.Decides.{Decides-and, Decides-by_and, Decides-eqb, Decides-not, Decides-or, not_from_Decides}
+use Rattle.std.proofs.lemmas.Bool.Decides.{nat_tests, Decides-and, Decides-by_and, Decides-eqb, Decides-not, Decides-or, not_from_Decides}
 use Rattle.std.proofs.lemmas.List.{get_or_past}
 use Rattle.std.proofs.lemmas.Slice.Eq.{bytes_eq-Decides}
 use Rattle.std.proofs.lemmas.Str.{IsUtf8-from_is_utf8, chars-encodes, is_utf8-from_IsUtf8}
@@ -170,7 +170,7 @@ IsLastTaken-head b h l =
     let taken = l.0 in
     let at = length taken - 1 in
     let within = slice_get_within taken at h (sym l.2) in
-    subst (λ (g : HeadSpan). IsHead b g.start g.stop) (get_or_from_slice_get taken at h h (sym l.2)) (l.1.heads at h within)
+    rw (get_or_from_slice_get taken at h h (sym l.2)) at (l.1.heads at h within)
 
 -- there is a last one exactly where there is a head
 pub IsTaken-some : (b : List ℕ) (xs : List HeadSpan) → IsTaken b xs
@@ -250,9 +250,7 @@ digits-known cs = decided _ (Decides-by_and test (λ c. IsScalar c × IsDigit c)
   test c = scalar c && (nat_le 48 c && nat_le c 57 || nat_le 128 c && is_digit_char c)
 
   each : (c : ℕ) → Decides (test c) (IsScalar c × IsDigit c)
-  each c = Decides-and (scalar c) _ (λ t. t, λ t. t) (Decides-or (nat_le 48 c && nat_le c 57) (nat_le 128 c && is_digit_char c)
-      (Decides-and (nat_le 48 c) (nat_le c 57) (leb-true 48 c, le-leb 48 c) (leb-true c 57, le-leb c 57))
-      (Decides-and (nat_le 128 c) (is_digit_char c) (leb-true 128 c, le-leb 128 c) (λ t. t, λ t. t)))
+  each c = grind (arith, nat_tests)
 
 -- whether a text is a number, and a tail
 number-known : (text : List ℕ) → Known (IsNumber text)
