@@ -1,9 +1,9 @@
 //! The search for the last taken head, from the back.
-ghost use Rattle.std.specs.Prelude.{codes, ◌≡◌, ◌≤◌, ◌<◌, ◌↔◌, ℕ, List, length, MatchOption, IsSome, IsTrue, Some};
+ghost use Rattle.std.specs.Prelude.{codes, ◌+◌, ◌^◌, ◌≡◌, ◌≤◌, ◌<◌, ◌↔◌, ℕ, List, length, MatchOption, IsSome, IsTrue, Some};
 ghost use Rattle.output_slice.specs.declared.panic_head.HeadSpan.{HeadSpan};
 ghost use Rattle.output_slice.specs.Head.{IsLineStart, IsHead};
 ghost use Rattle.output_slice.specs.Taken.{IsLastTaken, IsTaken, last_of};
-ghost use Rattle.output_slice.specs.Cut.{IsCut};
+ghost use Rattle.output_slice.specs.Cut.{IsCut, head_behind};
 ghost use Rattle.output_slice.specs.Search.{AllHeadsEndBy, IsLastFrom, IsLastOpening, IsOpening, MayAllBeCrossed, MayCross};
 ghost use Rattle.output_slice.specs.Signs.{IsQuietFrom};
 
@@ -89,10 +89,18 @@ fn last_from(bytes: &[u8], cut: usize) -> Option<HeadSpan>
 {
     let mut source = CountedBytes::new(&bytes[cut..]);
     let head = last_panic_head(&mut source)?;
-    Some(HeadSpan {
-        start: cut + head.start,
-        stop: cut + head.stop,
-    })
+    Some(head_behind(cut, head))
+}
+
+/// A head of what stands behind `place`, as a head of the whole.
+fn head_behind(place: usize, head: HeadSpan) -> HeadSpan
+    requires { (place + head.start < 2 ^ 64) × (place + head.stop < 2 ^ 64) }
+    ensures { result ≡ head_behind place head }
+{
+    HeadSpan {
+        start: place + head.start,
+        stop: place + head.stop,
+    }
 }
 
 /// The last taken head of `bytes`, and none where there is no head: what [`last_panic_head`] finds,
