@@ -126,19 +126,7 @@ tail-same b at e e' high high' h k = elim (tail_cases b at e high h) [
   ]
 ]
 
--- the ways in which the search for a tail ends: a plain tail in two parts
-pub IsTailEnd-split : (b : List ℕ) (at : ℕ) (found : Option ℕ) → OccursAt b (codes " ") at
-    → ¬ OccursAt b (codes "(") (at + 1)
-    → IsTextEnd b (codes "panicked at ") (at + 1) found → IsTailEnd b at found
-IsTailEnd-split b at None space none f = λ e high tail. elim (tail_cases b at e high tail) [
-  | inl p ↦ f (occurs-back b (codes " ") (codes "panicked at ") at p.0)
-  | inr q ↦ none (occurs-back b (codes " ") (codes "(") at q.opens)
-]
-IsTailEnd-split b at (Some e) space none f =
-    let whole = occurs-both b (codes " ") (codes "panicked at ") at space f.0 in
-    (omega (arith, f.1, whole.fits), inl (occurs-part b (codes " panicked at ") at e whole (omega (arith, f.1))))
-
--- no tail stands where no digit stands between the parentheses
+-- the ways in which the search for a tail ends: no tail stands where no digit stands between the parentheses
 pub IsTailEnd-none : (b : List ℕ) (at close : ℕ)
     → OccursAt b (codes " (") at → IsDigitRun b (at + 2) close → close ≡ at + 2
     → IsTailEnd b at None
@@ -147,27 +135,6 @@ IsTailEnd-none b at close opens run is e high tail = elim (tail_cases b at e hig
   | inr q ↦ let some = q.some in omega (arith, IsDigitRun-same b (at + 2) close q.close run q.run)
 ]
 
--- where a numbered tail ends
-pub IsTailEnd-numbered : (b : List ℕ) (at close : ℕ) (found : Option ℕ)
-    → OccursAt b (codes " (") at → IsDigitRun b (at + 2) close
-    → (close ≡ at + 2 → ⊥) → IsTextEnd b (codes ") panicked at ") close found → IsTailEnd b at found
-IsTailEnd-numbered b at close None opens run is h = λ e high tail. elim (tail_cases b at e high tail) [
-  | inl p ↦ apart b at p.0 opens
-  | inr q ↦ h (rw (IsDigitRun-same b (at + 2) close q.close run q.run) q.closes)
-]
-IsTailEnd-numbered b at close (Some e) opens run is h =
-    let d = run.digits in
-    let number = encode_utf8_all d.chars in
-    let end = codes ") panicked at " in
-    let both = length-append number end in
-    let rest = occurs-both b number end (at + 2) d.stands (rw d.ends at h.0) in
-    let whole = occurs-both b (codes " (") (number ++ end) at opens rest in
-    let some = chars-some d.chars (omega arith) in
-    (omega arith, inr (number, (d.chars, some, d.digits, refl), occurs-part b _ at e whole (omega arith))) where
-      chars-some : (cs : List ℕ) → 0 < length (encode_utf8_all cs) → 0 < length cs
-      chars-some [] low = low
-      chars-some (c ∷ cs) low = omega arith
-
 -- how far a text is read that is found, or is not
 text-read : (b text : List ℕ) (at old new : ℕ) (found : Option ℕ) → TextReads b text at old new found
     → IsTextEnd b text at found
@@ -175,45 +142,77 @@ text-read : (b text : List ℕ) (at old new : ℕ) (found : Option ℕ) → Text
 text-read b text at old new None r f = (r.0, r.2, r.3, tt)
 text-read b text at old new (Some e) r f = (length text, agrees b text at f.0, omega (arith, r), (f.1, refl, r))
 
--- how far a plain tail is read
-pub ReadsUpTo-plain : (b : List ℕ) (at k old one two new : ℕ) (found : Option ℕ) → OccursAt b (codes " ") at
-    → one ≤ old + 1
-    → k < 1 → two ≤ one + k + 1 → TextReads b (codes "panicked at ") (at + 1) two new found
-    → IsTextEnd b (codes "panicked at ") (at + 1) found → ReadsUpTo b at old new found
-ReadsUpTo-plain b at k old one two new found space few none few' r f =
+-- a plain tail in two parts: where it ends, and how far it is read
+pub plain-end : (b : List ℕ) (at k old one two new : ℕ) (found : Option ℕ) → OccursAt b (codes " ") at
+    → ¬ OccursAt b (codes "(") (at + 1) → one ≤ old + 1 → k < 1 → two ≤ one + k + 1
+    → TextReads b (codes "panicked at ") (at + 1) two new found → IsTextEnd b (codes "panicked at ") (at + 1) found
+    → IsTailEnd b at found × ReadsUpTo b at old new found
+plain-end b at k old one two new found space none few first few' r f =
     let t = text-read b (codes "panicked at ") (at + 1) two new found r f in
-    let more = t.2 in record {
-      last = at + 1 + t.0;
-      low = omega arith;
-      high = t.1.fits;
-      plain =
-          plain-join b at (at + 1) (at + 1 + t.0) (agrees-plain b (codes " ") at 1 (agrees b (codes " ") at space) refl)
-          (agrees-plain b (codes "panicked at ") (at + 1) t.0 t.1 refl);
-      far = omega arith;
-      near = omega arith;
-      before = grind (arith, t.3);
-    }
+    let more = t.2 in (
+      ends found f,
+      record {
+        last = at + 1 + t.0;
+        low = omega arith;
+        high = t.1.fits;
+        plain =
+            plain-join b at (at + 1) (at + 1 + t.0) (agrees-plain b (codes " ") at 1 (agrees b (codes " ") at space) refl)
+            (agrees-plain b (codes "panicked at ") (at + 1) t.0 t.1 refl);
+        far = omega arith;
+        near = omega arith;
+        before = grind (arith, t.3);
+      },
+    ) where
+      ends : (o : Option ℕ) → IsTextEnd b (codes "panicked at ") (at + 1) o → IsTailEnd b at o
+      ends None f = λ e high tail. elim (tail_cases b at e high tail) [
+        | inl p ↦ f (occurs-back b (codes " ") (codes "panicked at ") at p.0)
+        | inr q ↦ none (occurs-back b (codes " ") (codes "(") at q.opens)
+      ]
+      ends (Some e) f =
+          let whole = occurs-both b (codes " ") (codes "panicked at ") at space f.0 in
+          (omega (arith, f.1, whole.fits), inl (occurs-part b (codes " panicked at ") at e whole (omega (arith, f.1))))
 
--- how far a numbered tail is read
-pub ReadsUpTo-numbered : (b : List ℕ) (at close old mid mid' new : ℕ) (found : Option ℕ)
-    → OccursAt b (codes " (") at → mid ≤ old + 2
-    → AreDigits b (at + 2) close → (close ≡ at + 2 → ⊥) → mid' + (at + 2) ≤ mid + close + 4
-    → (get_or b close 0 < 128 → mid' + (at + 2) ≤ mid + close + 1)
-    → TextReads b (codes ") panicked at ") close mid' new found
-    → IsTextEnd b (codes ") panicked at ") close found → ReadsUpTo b at old new found
-ReadsUpTo-numbered b at close old mid mid' new found opens few digits some few' ascii r f =
+-- a numbered tail: where it ends, and how far it is read
+pub numbered-end : (b : List ℕ) (at close old mid mid' new : ℕ) (found : Option ℕ)
+    → OccursAt b (codes " (") at → IsDigitRun b (at + 2) close → (close ≡ at + 2 → ⊥) → mid ≤ old + 2
+    → mid' + (at + 2) ≤ mid + close + 4 → (get_or b close 0 < 128 → mid' + (at + 2) ≤ mid + close + 1)
+    → TextReads b (codes ") panicked at ") close mid' new found → IsTextEnd b (codes ") panicked at ") close found
+    → IsTailEnd b at found × ReadsUpTo b at old new found
+numbered-end b at close old mid mid' new found opens run is few few' ascii r f =
     let t = text-read b (codes ") panicked at ") close mid' new found r f in
-    let long : at + 3 ≤ close = omega arith in record {
-      last = close + t.0;
-      low = omega arith;
-      high = t.1.fits;
-      plain = plain-join b at (at + 2) (close + t.0) (agrees-plain b (codes " (") at 2 (agrees b (codes " (") at opens) refl)
-          (plain-join b (at + 2) close (close + t.0) (AreDigits-plain b (at + 2) close digits)
-          (agrees-plain b (codes ") panicked at ") close t.0 t.1 refl));
-      far = omega arith;
-      near = omega arith;
-      before = let first = t.1.reads 0 in grind (arith, t.3);
-    }
+    let digits = run.digits in
+    let long : at + 3 ≤ close = omega arith in (
+      ends found f,
+      record {
+        last = close + t.0;
+        low = omega arith;
+        high = t.1.fits;
+        plain = plain-join b at (at + 2) (close + t.0) (agrees-plain b (codes " (") at 2 (agrees b (codes " (") at opens) refl)
+            (plain-join b (at + 2) close (close + t.0) (AreDigits-plain b (at + 2) close digits)
+            (agrees-plain b (codes ") panicked at ") close t.0 t.1 refl));
+        far = omega arith;
+        near = omega arith;
+        before = let first = t.1.reads 0 in grind (arith, t.3);
+      },
+    ) where
+      chars-some : (cs : List ℕ) → 0 < length (encode_utf8_all cs) → 0 < length cs
+      chars-some [] low = low
+      chars-some (c ∷ cs) low = omega arith
+
+      ends : (o : Option ℕ) → IsTextEnd b (codes ") panicked at ") close o → IsTailEnd b at o
+      ends None h = λ e high tail. elim (tail_cases b at e high tail) [
+        | inl p ↦ apart b at p.0 opens
+        | inr q ↦ h (rw (IsDigitRun-same b (at + 2) close q.close run q.run) q.closes)
+      ]
+      ends (Some e) h =
+          let d = run.digits in
+          let number = encode_utf8_all d.chars in
+          let end = codes ") panicked at " in
+          let both = length-append number end in
+          let rest = occurs-both b number end (at + 2) d.stands (rw d.ends at h.0) in
+          let whole = occurs-both b (codes " (") (number ++ end) at opens rest in
+          let some = chars-some d.chars (omega arith) in
+          (omega arith, inr (number, (d.chars, some, d.digits, refl), occurs-part b _ at e whole (omega arith)))
 
 -- a name has no quote, by places
 pub name-quiet : (b : List ℕ) (i j : ℕ) → j ≤ length b → IsName (part i j b) → NoQuoteBetween b i j

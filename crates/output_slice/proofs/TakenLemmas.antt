@@ -142,13 +142,11 @@ rising-same [] [] p q same = refl
 rising-same [] (y ∷ ys) p q same = absurd (omega (arith, ((same y).1 (0, omega arith, refl)).1))
 rising-same (x ∷ xs) [] p q same = absurd (omega (arith, ((same x).0 (0, omega arith, refl)).1))
 rising-same (x ∷ xs) (y ∷ ys) p q same =
-    let heads : x ≡ y = elim (contains-cases y x ys ((same x).0 (0, omega arith, refl))) [
-      | inl is ↦ sym is
-      | inr after ↦ elim (contains-cases x y xs ((same y).1 (0, omega arith, refl))) [
-        | inl is ↦ is
-        | inr before ↦ absurd (omega (arith, rest-starts y ys x q after, rest-starts x xs y p before))
-      ]
-    ] in
+    let one = contains-cases y x ys ((same x).0 (0, omega arith, refl)) in
+    let two = contains-cases x y xs ((same y).1 (0, omega arith, refl)) in
+    let after = rest-starts y ys x q in
+    let before = rest-starts x xs y p in
+    let heads : x ≡ y = grind arith in
     let to = same-rest x xs ys p (λ h among. subst (λ z. Contains (z ∷ ys) h) (sym heads) ((same h).0 among)) in
     let back = same-rest y ys xs q (λ h among. subst (λ z. Contains (z ∷ xs) h) heads ((same h).1 among)) in
     let tails = rising-same xs ys (λ i j d l u. p (suc i) (suc j) d (omega arith) (omega arith))

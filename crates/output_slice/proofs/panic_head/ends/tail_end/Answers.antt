@@ -1,6 +1,6 @@
 use Rattle.std.proofs.Common.{◌≡◌, ◌+◌, sym, ◌∙◌, arith, codes}
 use Rattle.output_slice.proofs.OccursLemmas.{occurs-both}
-use Rattle.output_slice.proofs.HeadLemmas.{IsTailEnd-split, IsTailEnd-none, IsTailEnd-numbered, ReadsUpTo-plain, ReadsUpTo-numbered}
+use Rattle.output_slice.proofs.HeadLemmas.{IsTailEnd-none, plain-end, numbered-end}
 use Rattle.output_slice.proofs.panic_head.ends.tail_end.Goals as goal
 
 pub returns-in_default-after_text : goal.returns-in_default-after_text
@@ -10,10 +10,11 @@ returns-in_default-after_text g c =
     let none = rw space.1 at rw c.after_text.ensures.same at c.in_default-after_text.ensures.value in
     let word = rw space.1 at rw same at c.after_text-in_default-after_text.ensures.value in
     let reads = rw space.1 at rw same at c.after_text-in_default-after_text.ensures.reads in
-    let paren = c.in_default-after_text.ensures.reads in record {
-      value = IsTailEnd-split _ c.args.at c.after_text-in_default-after_text.result space.0 none word;
-      reads = ReadsUpTo-plain _ c.args.at paren.0 _ _ _ _ c.after_text-in_default-after_text.result space.0
-          c.in-Some.ensures.reads paren.1 paren.3 reads word;
+    let paren = c.in_default-after_text.ensures.reads in
+    let end = plain-end _ c.args.at paren.0 _ _ _ _ c.after_text-in_default-after_text.result space.0 none
+    c.in-Some.ensures.reads paren.1 paren.3 reads word in record {
+      value = end.0;
+      reads = end.1;
       same = c.after_text-in_default-after_text.ensures.same ∙ same;
     }
 
@@ -39,10 +40,11 @@ returns g c =
     let word = rw all at c.after_text-3.ensures.value in
     let few = c.in-Some-after_text.ensures.reads in
     let few' = c.in-Some.ensures.reads in
-    let some = λ (e : c.digits_end-close.result ≡ c.args.at + 2). c.if-close-number.false (e ∙ sym two) in record {
-      value = IsTailEnd-numbered _ c.args.at c.digits_end-close.result c.after_text-3.result opens run some word;
-      reads = ReadsUpTo-numbered _ c.args.at c.digits_end-close.result _ _ _ _ c.after_text-3.result opens (omega arith) run.digits some
-          (rw two at c.digits_end-close.ensures.reads) (rw two at rw same at c.digits_end-close.ensures.ascii)
-          (rw all at c.after_text-3.ensures.reads) word;
+    let some = λ (e : c.digits_end-close.result ≡ c.args.at + 2). c.if-close-number.false (e ∙ sym two) in
+    let end = numbered-end _ c.args.at c.digits_end-close.result _ _ _ _ c.after_text-3.result opens run some (omega arith)
+    (rw two at c.digits_end-close.ensures.reads) (rw two at rw same at c.digits_end-close.ensures.ascii)
+    (rw all at c.after_text-3.ensures.reads) word in record {
+      value = end.0;
+      reads = end.1;
       same = c.after_text-3.ensures.same ∙ all;
     }
