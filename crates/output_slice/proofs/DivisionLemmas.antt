@@ -132,35 +132,28 @@ lines-round b s e low high line quiet last =
 module _ (b : List ℕ) (at s e : ℕ) (found : FindsNeedle b (codes "note: test did not panic as expected") 0 (Some at)) (low : s ≤ at)
     (line : IsLineStart b s) (front : NoFeedBetween b s at) (more : at ≤ e) (high : e ≤ length b) (last : IsLineEnd b at e)
     (quiet : NoFeedBetween b at (e - 1)) where
-  here : OccursAt b (codes "note: test did not panic as expected") at
-  here = found.1
-
   -- the note ends within the line
   inside : at + 36 ≤ e
   inside =
-      let fits = here.fits in
+      let fits = found.1.fits in
       let other =
-      text-passes (λ x. not (x == 10)) b (codes "note: test did not panic as expected") at here refl (e - 1) in
+      text-passes (λ x. not (x == 10)) b (codes "note: test did not panic as expected") at found.1 refl (e - 1) in
       grind (arith, nat_tests)
-
-  lines-are : lines_of b ≡ lines_of (take s b) ++ part s e b ∷ lines_of (drop (e - s) (drop s b))
-  lines-are =
-      let long = inside in
-      lines-round b s e (omega arith) high line (λ k l u. let one = front k in let two = quiet k in grind arith)
-      (λ less. let end = last less in (omega arith, end.1))
 
   -- the line round the first note is the note line
   pub note-line : IsNoteLine b (Some (record { start = s; bytes = without_terminator (part s e b) }))
   note-line =
       let long = inside in
       let before = take s b in
+      let lines = lines-round b s e (omega arith) high line (λ k l u. let one = front k in let two = quiet k in grind arith)
+      (λ less. let end = last less in (omega arith, end.1)) in
       let none = none-in (codes "note: test did not panic as expected") before (λ h.
       let fits = h.1.fits in
       let size = length-take s b in
       found.0.before h.0 (omega arith) (omega arith) (occurs-front-take b _ h.0 s (omega arith) h.1)) in
       let start = sym (length-take-le s b (omega arith)) ∙ sym (ap length (concat-lines_of before)) ∙ length-concat (lines_of before) in
-      let is_note : IsNote (part s e b) = (at - s, occurs-in-part b _ at s e low (omega arith) high here) in
-      (lines_of b, AreLines-lines_of b, (lines_of before, part s e b, lines_of (drop (e - s) (drop s b)), lines-are, none, is_note, start, refl))
+      let is_note : IsNote (part s e b) = (at - s, occurs-in-part b _ at s e low (omega arith) high found.1) in
+      (lines_of b, AreLines-lines_of b, (lines_of before, part s e b, lines_of (drop (e - s) (drop s b)), lines, none, is_note, start, refl))
 
 -- without a note there is no note line
 pub note-none : (b : List ℕ) → FindsNeedle b (codes "note: test did not panic as expected") 0 None → IsNoteLine b None

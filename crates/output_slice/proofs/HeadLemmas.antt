@@ -265,19 +265,14 @@ IsOpenedHeadEnd-closed b place quote none s e low here head =
 
 module _ (b : List ℕ) (place quote close : ℕ) (opened : IsOpened b place quote) (is : get_or b quote 0 ≡ 39)
     (within : quote < length b) (closes : IsNextQuote b (quote + 1) (Some close)) where
-  -- the closing quote of a head is the next one
-  closing-same : (s e : ℕ) → s + 7 ≡ quote → (h : IsHead b s e) → h.quote ≡ close
-  closing-same s e here h =
-      let order = head-order b s e h in
-      let name = name-quiet b (s + 8) h.quote (omega arith) h.name close in
-      let next = closes.1 in
-      grind arith
-
   -- a quote that opens has a head where one ends behind the next quote
   pub IsOpenedHeadEnd-opened : (found : Option ℕ) → IsNamedHeadEnd b quote close found
       → IsOpenedHeadEnd b place quote found
   IsOpenedHeadEnd-opened None h = λ s e start here head.
-      let same = closing-same s e here head in
+      let order = head-order b s e head in
+      let name = name-quiet b (s + 8) head.quote (omega arith) head.name close in
+      let next = closes.1 in
+      let same : head.quote ≡ close = grind arith in
       let at : s + 8 ≡ quote + 1 = omega arith in
       h e head.ends (rw same at rw at at head.name) (rw same at head.tail)
   IsOpenedHeadEnd-opened (Some e) h =
@@ -296,7 +291,3 @@ module _ (b : List ℕ) (place quote close : ℕ) (opened : IsOpened b place quo
           ends = h.0;
         },
       )
-
--- a head ends behind the place from which it was looked for, and within the bytes
-pub opened-order : (b : List ℕ) (place q e : ℕ) → IsOpenedHeadEnd b place q (Some e) → (place < e) × (e ≤ length b)
-opened-order b place q e h = let order = head-order b (q - 7) e h.1 in let far = h.0 in (omega arith, h.1.ends)

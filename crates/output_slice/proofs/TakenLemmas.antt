@@ -241,7 +241,6 @@ same-known : (xs ys : List ℕ) → Known (xs ≡ ys)
 same-known xs ys = decided _ (bytes_eq-Decides xs ys)
 
 -- whether characters are digits
-
 digits-known : (cs : List ℕ) → Known (All (λ c. IsScalar c × IsDigit c) cs)
 digits-known cs = decided _ (Decides-by_and test (λ c. IsScalar c × IsDigit c) (list_all test) each refl (λ x xs. refl) cs) where
   test : ℕ → Bool
@@ -253,11 +252,9 @@ digits-known cs = decided _ (Decides-by_and test (λ c. IsScalar c × IsDigit c)
 -- whether a text is a number, and a tail
 number-known : (text : List ℕ) → Known (IsNumber text)
 number-known text =
+    let some : Known (0 < length (chars text)) = grind arith in
     mapped (λ h. (chars text, h.0, h.1.0, h.1.1)) (λ n. rw (only n) (n.1, (n.2, n.3)))
-    (both (some-chars (chars text)) (both (digits-known (chars text)) (same-known text (encode_utf8_all (chars text))))) where
-      some-chars : (cs : List ℕ) → Known (0 < length cs)
-      some-chars cs = let cases = cases_lt 0 (length cs) in grind arith
-
+    (both some (both (digits-known (chars text)) (same-known text (encode_utf8_all (chars text))))) where
       only : (n : IsNumber text) → chars text ≡ n.0
       only n =
           let all = All-weaker (λ c. IsScalar c × IsDigit c) IsScalar (λ c h. h.0) n.0 n.2 in
@@ -302,17 +299,13 @@ head-known b s e =
     let line : Known (IsLineStart b s) = grind arith in
     let ends : Known (e ≤ length b) = grind arith in
     let opening = occurs-known b (codes "thread '") s (omega arith) in
+    let quote = λ (q : ℕ).
+    both (name-known (part (s + 8) q b)) (both (cases_eq (get_or b q 0) 39) (tail-known (part (q + 1) e b))) in
     mapped (λ h. record { line_start = h.0; opening = h.1.0; quote = h.1.1.1.0; name = h.1.1.1.1.0; closing = h.1.1.1.1.1.0; tail = h.1.1.1.1.1.1; ends = h.1.1.0 })
     (λ h. (h.line_start, (h.opening, (h.ends, (h.quote, (h.name, (h.closing, h.tail)))))))
-    (both line (both opening (both ends (some Quote quote-known (length b) within)))) where
+    (both line (both opening (both ends (some Quote quote (length b) (λ q h. grind (arith, get_or_past)))))) where
       Quote : ℕ → Type 0
       Quote q = IsName (part (s + 8) q b) × ((get_or b q 0 ≡ 39) × IsTail (part (q + 1) e b))
-
-      quote-known : (q : ℕ) → Known (Quote q)
-      quote-known q = both (name-known (part (s + 8) q b)) (both (cases_eq (get_or b q 0) 39) (tail-known (part (q + 1) e b)))
-
-      within : (q : ℕ) → Quote q → q < length b
-      within q h = grind (arith, get_or_past)
 
 -- the taken heads from a place on, by the number of bytes left
 heads-from : (size : ℕ) (b : List ℕ) (from : ℕ) → length b < from + size → (xs : List HeadSpan) × Leftmost b from xs

@@ -74,10 +74,7 @@ tail-at : (bs : List ℕ) (k : ℕ) → 0 < length bs → 0 < k → k < (decoded
 tail-at bs k some pos below =
     let tail = tail-continues (length bs) (get_or bs 0 0) (get_or bs 1 0) (get_or bs 2 0) (get_or bs 3 0) in
     let bounds = piece-bounds bs some in
-    let one = cases_eq k 1 in
-    let two = cases_eq k 2 in
-    let three = cases_eq k 3 in
-    grind arith
+    grind (arith, cases_eq k 1, cases_eq k 2, cases_eq k 3)
 
 -- the first character is white space, and what follows it is blank
 abbrev BlankFirst : List ℕ → Type 0

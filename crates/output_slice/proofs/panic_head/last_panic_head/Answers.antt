@@ -1,9 +1,9 @@
-use Rattle.std.proofs.Common.{◌≡◌, ℕ, List, ◌∙◌, arith, subst, None, Option}
+use Rattle.std.proofs.Common.{◌-◌, ◌≡◌, ℕ, List, ◌∙◌, arith, subst, None, Option}
 use Rattle.output_slice.specs.declared.panic_head.HeadSpan.{HeadSpan}
 use Rattle.output_slice.specs.Taken.{IsLastTaken}
 use Rattle.output_slice.specs.Steps.{IsNextQuote}
 use Rattle.output_slice.proofs.SearchLemmas.{Searched, searched-first, searched-none, searched-found, settled-done}
-use Rattle.output_slice.proofs.HeadLemmas.{opened-order}
+use Rattle.output_slice.proofs.HeadLemmas.{head-order}
 use Rattle.output_slice.proofs.TakenLemmas.{IsLastTaken-only, IsLastTaken-some}
 use Rattle.output_slice.proofs.panic_head.last_panic_head.Goals as goal
 
@@ -16,7 +16,9 @@ pub loop-next-smaller-in-Some-opened_head_end : goal.loop-next-smaller-in-Some-o
 loop-next-smaller-in-Some-opened_head_end g c =
     let same = c.next_quote-close.ensures.same ∙ c.loop-next.invariant.0 in
     let v = rw same at c.in-Some-opened_head_end.ensures.value in
-    let order = opened-order _ c.loop-next.place c.in-Some.quote c.in-Some-opened_head_end.stop v in
+    let order = head-order _ (c.in-Some.quote - 7) c.in-Some-opened_head_end.stop v.1 in
+    let ends = v.1.ends in
+    let far = v.0 in
     omega arith
 
 pub loop-next-preserved-in-Some-opened_head_end : goal.loop-next-preserved-in-Some-opened_head_end
