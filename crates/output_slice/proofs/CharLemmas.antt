@@ -23,15 +23,9 @@ part-front b rest at stop c scalar e high =
     let size = length-part b at stop high in
     let lens : length (part at stop b) ≡ length (encode_utf8 c) + length rest =
     ap length e ∙ length-append (encode_utf8 c) rest in
-    let len = length-encode c in
-    let some = len_utf8_bounds c in record {
-      scalar = scalar;
-      stands = record {
-        fits = omega arith;
-        reads = λ j l. sym (get_or-part b at stop j (omega arith)) ∙ front_reads 0 (part at stop b) (encode_utf8 c) rest e j l;
-      };
-      ends = omega arith;
-    }
+    let reads = front_reads 0 (part at stop b) (encode_utf8 c) rest e in
+    let some = len_utf8_bounds c in
+    grind (arith, get_or-part, length-encode)
 
 -- the first four bytes decode as all do
 decoded-four : (xs ys : List ℕ) → length ys ≡ min (length xs) 4 → 0 < length xs

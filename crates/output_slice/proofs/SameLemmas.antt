@@ -45,10 +45,9 @@ trimmed-part b x h letter =
     let s = x.start in
     let first = h.1.0 in
     let here : IsLetterAt (drop s b) 0 = grind (arith, get_or-drop) in
-    let longer : s < h.0 = elim (cases_lt s h.0) [
-      | inl low ↦ low
-      | inr past ↦ let same : h.0 ≡ s = omega arith in let blank = rw same at h.1.1 in absurd (not_blank blank.0 (drop s b) here blank.1 blank.2)
-    ] in
+    let blank = h.1.1 in
+    let never = not_blank blank.0 (drop s b) here blank.1 in
+    let longer : s < h.0 = grind arith in
     let size = length-part b s h.0 (omega (arith, first.high)) in
     grind (arith, get_or-part)
 

@@ -55,16 +55,10 @@ module _ (b : List ℕ) (s stop : ℕ) (low : stop ≤ s) (high : s ≤ length b
     refl,
   )
 
--- there is one error line at most before a place
-line-same : (b : List ℕ) (s j k : ℕ) → IsErrorLine b s j → IsErrorLine b s k → j ≡ k
-line-same b s j k g h =
-    let first = line-start b s j g in
-    let second = line-start b s k h in
-    grind arith
-
 -- widening gives one start
 pub IsWidened-same : (b : List ℕ) (s t u : ℕ) → IsWidened b s t → IsWidened b s u → t ≡ u
-IsWidened-same b s t u (inl x) (inl y) = x.2 ∙ ap (λ k. k + 1) (line-same b s x.0 y.0 x.1 y.1) ∙ sym y.2
+IsWidened-same b s t u (inl x) (inl y) =
+    let one = line-start b s x.0 x.1 in let two = line-start b s y.0 y.1 in grind arith
 IsWidened-same b s t u (inl x) (inr none) = absurd (none.0 x.0 x.1)
 IsWidened-same b s t u (inr none) (inl y) = absurd (none.0 y.0 y.1)
 IsWidened-same b s t u (inr none) (inr other) = none.1 ∙ sym other.1

@@ -10,6 +10,5 @@ returns c =
     let s = c.line_start-start in
     let e = c.line_end-stop in
     let text = c.without_end.ensures in
-    let line = note-line b c.in_ok-at.at s.result e.result c.in_ok-at.ensures s.ensures.within s.ensures.first
-    s.ensures.one_line e.ensures.low e.ensures.high e.ensures.last e.ensures.one_line in
-    rw text line
+    rw text (note-line b c.in_ok-at.at s.result e.result c.in_ok-at.ensures s.ensures.within s.ensures.first
+    s.ensures.one_line e.ensures.low e.ensures.high e.ensures.last e.ensures.one_line)
