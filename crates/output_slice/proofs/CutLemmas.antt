@@ -16,17 +16,13 @@ use Rattle.output_slice.specs.declared.panic_head.HeadSpan.{HeadSpan}
 use Rattle.output_slice.specs.Taken.{IsTaken, IsLastTaken, last_of}
 use Rattle.output_slice.proofs.TakenLemmas.{IsLastTaken-head, IsTaken-from_leftmost, IsTaken-nil, Leftmost, leftmost-before, IsTaken-exists, leftmost-taken}
 
--- the byte is no line feed
-abbrev other : ℕ → Bool
-other x = not (x == 10)
-
 -- where a head holds a line feed, no quote stands from its name up to there
 pub head-feed : (b : List ℕ) (s e k : ℕ) → IsHead b s e → s ≤ k → k < e → get_or b k 0 ≡ 10
     → (s + 8 ≤ k) × NoQuoteBetween b (s + 8) (k + 1)
 head-feed b s e k h low high is =
     let order = head-order b s e h in
     let quiet = name-quiet b (s + 8) h.quote (omega arith) h.name in
-    let word = text-passes other b (codes "thread '") s h.opening refl k low in
+    let word = text-passes (λ x. not (x == 10)) b (codes "thread '") s h.opening refl k low in
     let tail = tail-plain b (h.quote + 1) e h.ends h.tail k in
     let far : s + 8 ≤ k = grind (arith, nat_tests) in
     let before : k < h.quote = grind arith in
@@ -210,14 +206,6 @@ pub last-before : (b : List ℕ) (c : ℕ) (found : Option HeadSpan) → IsCut b
     → IsLastTaken (take c b) found → IsLastTaken b found
 last-before b c found cut none last =
     (last.0, rw append-nil at (divides b c last.0 [] cut last.1 (IsTaken-nil (drop c b) none)), last.2)
-
--- it ends within the bytes
-pub last-within : (b : List ℕ) (c : ℕ) (h : HeadSpan) → c ≤ length b → IsLastTaken (drop c b) (Some h)
-    → (c + h.start < c + h.stop) × (c + h.stop ≤ length b)
-last-within b c h within last =
-    let head = IsLastTaken-head (drop c b) h last in
-    let order = head-order (drop c b) h.start h.stop head in
-    grind (arith, length-drop)
 
 -- bytes behind every head change nothing
 pub last-within-front : (b : List ℕ) (e : ℕ) (found : Option HeadSpan) → e ≤ length b → AllHeadsEndBy b e

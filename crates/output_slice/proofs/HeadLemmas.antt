@@ -225,8 +225,7 @@ name-quiet b i j high h k low up =
 pub head-letters : (b : List ℕ) (s e q : ℕ) → IsHead b s e → s ≤ q → get_or b q 0 ≡ 39 → s + 7 ≤ q
 head-letters b s e q h low is =
     let word = occurs-front b (codes "thread ") (codes "'") s h.opening in
-    let other : ℕ → Bool = λ x. not (x == 39) in
-    let passes = text-passes other b (codes "thread ") s word refl q low in
+    let passes = text-passes (λ x. not (x == 39)) b (codes "thread ") s word refl q low in
     grind (arith, nat_tests)
 
 -- a name is not empty, so the closing quote is behind the opening one
@@ -243,10 +242,6 @@ head-same b s e e' h k =
     let kq = name-quiet b (s + 8) k.quote (omega arith) k.name h.quote in
     let quotes : k.quote ≡ h.quote = grind arith in
     tail-same b (h.quote + 1) e e' h.ends k.ends h.tail (subst (λ q. IsTail (part (q + 1) e' b)) quotes k.tail)
-
--- a head is its start and its end
-pub span-same : (g h : HeadSpan) → g.start ≡ h.start → g.stop ≡ h.stop → g ≡ h
-span-same g h p q = grind arith
 
 -- where no quote follows, the quote opens no head
 pub IsOpenedHeadEnd-none : (b : List ℕ) (place quote : ℕ) → IsNextQuote b (quote + 1) None

@@ -17,7 +17,7 @@ use Rattle.bstr.specs.Text.{part}
 use Rattle.output_slice.specs.declared.panic_head.HeadSpan.{HeadSpan}
 use Rattle.output_slice.specs.Head.{IsHead, IsName, IsDigit, IsLineStart, IsNumber, IsTail}
 use Rattle.output_slice.specs.Taken.{IsTaken, IsLastTaken, last_of}
-use Rattle.output_slice.proofs.HeadLemmas.{head-order, head-same, span-same}
+use Rattle.output_slice.proofs.HeadLemmas.{head-order, head-same}
 use Rattle.unicode.specs.Perl.{is_digit_char}
 use Rattle.output_slice.proofs.OccursLemmas.{occurs-part, part-occurs}
 
@@ -85,7 +85,7 @@ module _ (b : List ℕ) (from : ℕ) (x : HeadSpan) (xs : List HeadSpan) (first 
           let least = first.least y.start y.stop low head in
           let at : y.start ≡ x.start = omega arith in
           let ends = head-same b x.start x.stop y.stop first.head (subst (λ s. IsHead b s y.stop) at head) in
-          (0, omega arith, span-same x y (sym at) ends)
+          (0, omega arith, grind arith)
     ],
   )
 

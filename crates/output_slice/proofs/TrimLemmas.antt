@@ -21,10 +21,6 @@ line-start b s j h = let first = h.begins.reads 0 in grind (arith, get_or-take, 
 
 module _ (b : List ℕ) (s stop : ℕ) (low : stop ≤ s) (high : s ≤ length b) (breaks : AreBreaks b stop s)
     (text : 0 < stop → ¬ IsBreak (get_or b (stop - 1) 0)) where
-  -- an error line ends where the breaks begin
-  stop-same : (j : ℕ) (h : IsErrorLine b s j) → h.stop ≡ stop
-  stop-same j h = grind arith
-
   -- where the last line before begins with `Error:`
   pub widened-some : (at : ℕ) → IsLast (λ k. get_or b k 0 ≡ 10) 0 stop (Some at)
       → OccursAt (part at stop b) (codes "\nError:") 0 → IsWidened b s (at + 1)
@@ -46,7 +42,7 @@ module _ (b : List ℕ) (s stop : ℕ) (low : stop ≤ s) (high : s ≤ length b
       → ¬ OccursAt (part at stop b) (codes "\nError:") 0 → IsWidened b s s
   widened-other at last none = inr (
     λ j line.
-        let same = stop-same j line in
+        let same : line.stop ≡ stop = grind arith in
         let first = line-start b s j line in
         let one = last.0.after j in
         let here : j ≡ at = grind arith in
