@@ -5,7 +5,7 @@ use Rattle.std.proofs.Math.Seq.{take-append-add}
 use Rattle.std.proofs.lemmas.Bool.{and_parts}
 use Rattle.std.proofs.lemmas.List.Prefix.{front_from_reads, front_reads}
 use Rattle.std.proofs.lemmas.Str.{encode_ascii, encode_same, length-encode, len_utf8_bounds, IsUtf8-append, IsUtf8-encode, IsUtf8-past_char, encodes-append}
-use Rattle.std.proofs.lemmas.List.Elements.{All-push, All-nil, All-head, All-tail}
+use Rattle.std.proofs.lemmas.List.Elements.{All-push, All-head, All-tail}
 use Rattle.bstr.specs.Text.{part}
 use Rattle.bstr.specs.Utf8.{Decoded, decoded}
 use Rattle.bstr.proofs.lemmas.EncodeLemmas.{decoded-encode}
@@ -37,12 +37,6 @@ decoded-four xs ys size some reads =
     rw first (decoded_by-cut (length ys) (length xs) (byte xs 0) (byte xs 1) (byte xs 2) (byte xs 3) (byte ys 1) (byte ys 2) (byte ys 3)
     (omega arith) (omega arith) (omega arith) (λ h. reads 1 h) (λ h. reads 2 h) (λ h. reads 3 h))
 
--- UTF-8 is empty or begins with a character
-first-utf8 : (cs bs : List ℕ) → scalars cs ≡ true → encode_utf8_all cs ≡ bs → 0 < length bs
-    → (c : ℕ) × ((rest : List ℕ) × (IsScalar c × (bs ≡ encode_utf8 c ++ rest)))
-first-utf8 [] bs all e some = absurd (omega (arith, ap length e))
-first-utf8 (c ∷ cs) bs all e some = (c, (encode_utf8_all cs, ((and_parts _ _ all).0, sym e)))
-
 -- a part that begins with a character is UTF-8 exactly where the rest is
 pub utf8-char : (b : List ℕ) (at to c n : ℕ) → IsCharAt b at to c → n ≡ length (encode_utf8 c)
     → IsUtf8 (part at to b) ↔ IsUtf8 (part (at + n) to b)
@@ -61,9 +55,10 @@ utf8-char b at to c n h size =
 pub char-utf8 : (b : List ℕ) (at to : ℕ) → at < to → to ≤ length b → IsUtf8 (part at to b)
     → (c : ℕ) × IsCharAt b at to c
 char-utf8 b at to low high h =
-    let size = length-part b at to high in
-    let first = first-utf8 h.0 (part at to b) h.1.0 h.1.1 (omega arith) in
-    (first.0, part-front b first.1.0 at to first.0 first.1.1.0 first.1.1.1 high)
+    by_chars h.0 h.1.0 h.1.1 where
+      by_chars : (cs : List ℕ) → scalars cs ≡ true → encode_utf8_all cs ≡ part at to b → (c : ℕ) × IsCharAt b at to c
+      by_chars [] all e = absurd (omega (arith, ap length e, length-part b at to high))
+      by_chars (c ∷ cs) all e = (c, part-front b (encode_utf8_all cs) at to c (and_parts _ _ all).0 (sym e) high)
 
 -- at one place stands one character
 pub char-same : (b : List ℕ) (at to to' c c' : ℕ) → IsCharAt b at to c → IsCharAt b at to' c' → c ≡ c'
@@ -152,10 +147,8 @@ runs-same (c ∷ cs) (d ∷ ds) r q ac ad nr nq e =
 -- so a run of digits ends at one place
 pub IsDigitRun-same : (b : List ℕ) (from to to' : ℕ) → IsDigitRun b from to → IsDigitRun b from to' → to ≡ to'
 IsDigitRun-same b from to to' h k =
-    let split =
-    λ (at : ℕ) (run : IsDigitRun b from at). occurs-drop b (encode_utf8_all run.digits.chars) from run.digits.stands in
     let same = runs-same h.digits.chars k.digits.chars _ _ h.digits.digits k.digits.digits
-    (stops h) (stops k) (sym (split to h) ∙ split to' k) in
+    (stops h) (stops k) (sym (occurs-drop b _ from h.digits.stands) ∙ occurs-drop b _ from k.digits.stands) in
     h.digits.ends ∙ ap (λ cs. from + length (encode_utf8_all cs)) same ∙ sym k.digits.ends where
       stops : {at : ℕ} → (run : IsDigitRun b from at)
           → Stops (drop (from + length (encode_utf8_all run.digits.chars)) b)

@@ -1,5 +1,5 @@
 -- Which line starts a head crosses, and the taken heads on either side of a cut.
-use Rattle.std.proofs.Common.{◌≡◌, ℕ, ◌+◌, ◌-◌, ◌<◌, ◌≤◌, inl, inr, List, length, get_or, arith, unwrap_or, Some, None, Bool, take, refl, codes, not, ◌==◌, [], ◌∷◌, ◌++◌, drop, sym, length-append, length-drop, append-nil, add-zero, ext_get_or, length-take, Option, map, get_or-append-add}
+use Rattle.std.proofs.Common.{◌≡◌, ℕ, ◌+◌, ◌-◌, ◌<◌, ◌≤◌, inl, inr, List, length, get_or, arith, unwrap_or, Some, None, take, refl, codes, not, ◌==◌, [], ◌∷◌, ◌++◌, drop, length-append, length-drop, append-nil, add-zero, ext_get_or, length-take, Option, map, get_or-append-add}
 use Rattle.std.proofs.lemmas.Bool.{cases_lt}
 use Rattle.std.proofs.lemmas.Bool.Decides.{nat_tests}
 use Rattle.bstr.specs.Find.{IsLast, OccursAt}
@@ -14,7 +14,7 @@ use Rattle.std.proofs.lemmas.Option.{slice_get-get_or, slice_get-map, slice_get_
 use Rattle.bstr.specs.Text.{part}
 use Rattle.output_slice.specs.declared.panic_head.HeadSpan.{HeadSpan}
 use Rattle.output_slice.specs.Taken.{IsTaken, IsLastTaken, last_of}
-use Rattle.output_slice.proofs.TakenLemmas.{IsLastTaken-head, IsTaken-from_leftmost, IsTaken-nil, Leftmost, leftmost-before, IsTaken-exists, leftmost-taken}
+use Rattle.output_slice.proofs.TakenLemmas.{IsTaken-from_leftmost, IsTaken-nil, Leftmost, leftmost-before, IsTaken-exists, leftmost-taken}
 
 -- where a head holds a line feed, no quote stands from its name up to there
 pub head-feed : (b : List ℕ) (s e k : ℕ) → IsHead b s e → s ≤ k → k < e → get_or b k 0 ≡ 10

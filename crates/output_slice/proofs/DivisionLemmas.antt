@@ -1,16 +1,15 @@
 -- Bytes divide into lines in one way, and the line of the first note.
-use Rattle.std.proofs.Common.{◌≡◌, ◌≢◌, inl, inr, ℕ, suc, ◌+◌, ◌-◌, ◌<◌, List, [], ◌∷◌, ◌++◌, length, get_or, refl, sym, ap, ◌∙◌, arith, append-nil, All, AllPairs, ◌≤◌, ◌⊎◌, take, drop, subst, length-append, length-drop, length-take, take-append-drop, not, ◌==◌, sum_by, Some, None, codes, get_or-take, get_or-append-add, length-take-le, take_all}
+use Rattle.std.proofs.Common.{◌≡◌, ◌≢◌, inl, inr, ℕ, suc, ◌+◌, ◌-◌, ◌<◌, List, [], ◌∷◌, ◌++◌, length, get_or, refl, sym, ap, ◌∙◌, arith, append-nil, All, AllPairs, ◌≤◌, ◌⊎◌, take, drop, subst, length-append, length-drop, length-take, take-append-drop, not, ◌==◌, sum_by, Some, None, codes, get_or-take, length-take-le, take_all}
 use Rattle.std.specs.List.{concat}
 use Rattle.std.proofs.lemmas.Bool.{cases_eq, cases_lt}
 use Rattle.std.proofs.lemmas.List.Elements.{All-cons, All-head, All-tail, All-nil}
 use Rattle.std.proofs.lemmas.List.Kept.{AllPairs-cons}
-use Rattle.std.proofs.Math.ListN.{get_or-append}
 use Rattle.std.proofs.lemmas.Bool.Decides.{nat_tests}
 use Rattle.std.proofs.lemmas.List.{get_or_past, drop_all}
 use Rattle.std.proofs.lemmas.List.Sums.{sum_by-cons}
 use Rattle.bstr.specs.Text.{lines_of, Contains, part, without_terminator}
 use Rattle.bstr.proofs.lemmas.LineLemmas.{lines-append, lines-nil, lines-one, EndsLine}
-use Rattle.bstr.specs.Find.{OccursAt, FindsNeedle}
+use Rattle.bstr.specs.Find.{FindsNeedle}
 use Rattle.bstr.proofs.lemmas.RestLemmas.{concat-lines_of}
 use Rattle.output_slice.specs.Lines.{IsLine, AreLines}
 use Rattle.output_slice.specs.Head.{IsLineStart}

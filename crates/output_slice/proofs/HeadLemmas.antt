@@ -15,7 +15,6 @@ use Rattle.output_slice.specs.Head.{IsDigit, IsTail, IsLineStart, IsName, IsHead
 use Rattle.output_slice.specs.Steps.{AreDigits, ArePlain, IsDigitRun, NoDigitAt, IsTailEnd, IsTextEnd, AgreesFor, ReadsUpTo, TextReads, IsNamedHeadEnd, IsOpened, IsOpenedHeadEnd, IsNextQuote, NoQuoteBetween}
 use Rattle.output_slice.proofs.CharLemmas.{IsDigitRun-same}
 use Rattle.output_slice.proofs.OccursLemmas.{get_or-part, length-part, occurs-front, occurs-back, occurs-both, occurs-part, part-occurs, agrees, agrees-passes, text-passes}
-use Rattle.output_slice.specs.declared.panic_head.HeadSpan.{HeadSpan}
 
 -- the byte is neither a quote nor a line feed
 abbrev is_plain : ℕ → Bool

@@ -1,5 +1,5 @@
 -- The state of the counted search: the taken heads so far, and the reads.
-use Rattle.std.proofs.Common.{◌≡◌, ℕ, min, ◌+◌, ◌-◌, ◌*◌, ◌<◌, ◌≤◌, List, [], ◌∷◌, ◌++◌, length, get_or, refl, sym, arith, inl, inr, Option, Some, None, MatchOption, IfSome, ◌^◌, append_assoc, append-nil}
+use Rattle.std.proofs.Common.{◌≡◌, ℕ, min, ◌+◌, ◌-◌, ◌*◌, ◌<◌, ◌≤◌, List, [], ◌∷◌, ◌++◌, length, get_or, refl, arith, inl, inr, Option, Some, None, MatchOption, IfSome, ◌^◌, append_assoc, append-nil}
 use Rattle.std.proofs.lemmas.List.{get_or_push, length_push}
 use Rattle.std.proofs.lemmas.Option.{slice_get-get_or}
 use Rattle.output_slice.specs.declared.panic_head.HeadSpan.{HeadSpan}

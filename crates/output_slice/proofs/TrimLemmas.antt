@@ -138,10 +138,7 @@ module _ (b : List ℕ) where
   kept (suc f) s at off end short high is = elim (cases_lt at (length b)) [
     | inr done ↦ rw (drop_all at b done, pieces-nil) (
       at,
-      (
-        record { low = omega arith; high = omega arith; before = λ i from up. absurd (omega arith) },
-        rw (drop_all at b done) ([], All-nil _, refl),
-      ),
+      (grind arith, rw (drop_all at b done) ([], All-nil _, refl)),
       inr (refl, refl),
     )
     | inl low ↦
@@ -160,10 +157,7 @@ module _ (b : List ℕ) where
                     (later.0, trimmed-behind at later.0 low whole later.1, inl (omega arith, more.1))
                 | inr none ↦ (
                   at,
-                  (
-                    record { low = omega arith; high = omega arith; before = λ i from up. absurd (omega arith) },
-                    blank-more bs (space, rw (drop-drop, ← none.0) later.1.1),
-                  ),
+                  (grind arith, blank-more bs (space, rw (drop-drop, ← none.0) later.1.1)),
                   inr (refl, none.1),
                 )
               ])
