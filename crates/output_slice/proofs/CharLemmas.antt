@@ -56,7 +56,8 @@ pub char-utf8 : (b : List ℕ) (at to : ℕ) → at < to → to ≤ length b →
     → (c : ℕ) × IsCharAt b at to c
 char-utf8 b at to low high h =
     by_chars h.0 h.1.0 h.1.1 where
-      by_chars : (cs : List ℕ) → scalars cs ≡ true → encode_utf8_all cs ≡ part at to b → (c : ℕ) × IsCharAt b at to c
+      by_chars : (cs : List ℕ) → scalars cs ≡ true → encode_utf8_all cs ≡ part at to b
+          → (c : ℕ) × IsCharAt b at to c
       by_chars [] all e = absurd (omega (arith, ap length e, length-part b at to high))
       by_chars (c ∷ cs) all e = (c, part-front b (encode_utf8_all cs) at to c (and_parts _ _ all).0 (sym e) high)
 
@@ -99,7 +100,8 @@ module _ (b buffer : List ℕ) (at stop i : ℕ) (four : length buffer ≡ 4) (s
   pub char-none : (decoded (take (i + 1) buffer)).char ≡ None → (c : ℕ) → ¬ IsCharAt b at (at + (i + 1)) c
   char-none none c h =
       let rest = part at (at + (i + 1)) b in
-      let reads = λ (j : ℕ) (l : j < length (encode_utf8 c)). get_or-part b at (at + (i + 1)) j (omega arith) ∙ h.stands.reads j l in
+      let reads = λ (j : ℕ) (l : j < length (encode_utf8 c)).
+      get_or-part b at (at + (i + 1)) j (omega arith) ∙ h.stands.reads j l in
       let size = length-part b at (at + (i + 1)) (omega arith) in
       let begins = front_from_reads 0 rest (encode_utf8 c) (omega arith) reads in
       let read = ap decoded begins ∙ decoded-encode c (drop (length (encode_utf8 c)) rest) h.scalar in

@@ -43,7 +43,8 @@ module _ (b : List ℕ) (c : ℕ) (within : c ≤ length b) (line : IsLineStart 
 
   -- a line start without a quote before it is a cut
   pub cut-quiet : NoQuoteBetween b 0 c → IsCut b c
-  cut-quiet none = cut-from (λ s far opening quiet. none (s + 7) (omega arith) (omega arith) (opening.1.reads 7 (omega arith)))
+  cut-quiet none = cut-from (λ s far opening quiet.
+      none (s + 7) (omega arith) (omega arith) (opening.1.reads 7 (omega arith)))
 
   -- so is one where the last quote before it does not open
   pub cut-closed : (q : ℕ) → IsLast (λ k. get_or b k 0 ≡ 39) 0 c (Some q) → (7 ≤ q → ¬ IsOpening b (q - 7)) → IsCut b c
@@ -102,7 +103,8 @@ head-moved a b s e t f h size high line reads =
     }
 
 -- a head of bytes that stand in others at a line start is a head of those, and back
-module _ (a b : List ℕ) (c s e t f : ℕ) (stands : OccursAt b a c) (line : IsLineStart b c) (start : t ≡ c + s) (stop : f ≡ c + e) where
+module _ (a b : List ℕ) (c s e t f : ℕ) (stands : OccursAt b a c) (line : IsLineStart b c)
+    (start : t ≡ c + s) (stop : f ≡ c + e) where
   head-out : IsHead a s e → IsHead b t f
   head-out h =
       let order = head-order a s e h in
@@ -123,7 +125,8 @@ module _ (b : List ℕ) (c s e : ℕ) (within : c ≤ length b) where
   head-of-front : IsHead (take c b) s e → IsHead b s e × (e ≤ c)
   head-of-front h =
       let size = length-take c b in
-      (head-out (take c b) b 0 s e s e (grind (arith, reads)) (omega arith) (omega arith) (omega arith) h, omega (arith, h.ends))
+      let whole = head-out (take c b) b 0 s e s e (grind (arith, reads)) (omega arith) (omega arith) (omega arith) h in
+      (whole, omega (arith, h.ends))
 
   front-of-head : IsHead b s e → e ≤ c → IsHead (take c b) s e
   front-of-head h high =
@@ -189,7 +192,9 @@ last_of-behind c xs ys h e =
     let last : last_of zs ≡ Some (head_behind c h) = grind (arith, length-map, slice_get-map) in
     let at = length zs - 1 in
     let x = head_behind c h in
-    grind (arith, length-append, get_or-append-add, slice_get-get_or, slice_get_within zs at x last, get_or_from_slice_get zs at x x last)
+    let within = slice_get_within zs at x last in
+    let is = get_or_from_slice_get zs at x x last in
+    grind (arith, length-append, get_or-append-add, slice_get-get_or)
 
 -- the last behind a cut is the last of all
 pub last-behind : (b : List ℕ) (c : ℕ) (h : HeadSpan) → IsCut b c → IsLastTaken (drop c b) (Some h)

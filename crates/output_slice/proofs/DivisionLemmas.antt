@@ -45,7 +45,10 @@ AreLines-same b lines h = lines-same lines h.each h.ends ∙ ap lines_of h.joine
 -- one more byte before a division
 more-lines : (x : ℕ) (b : List ℕ) (ls : List (List ℕ)) → AreLines b ls
     → (lines : List (List ℕ)) × AreLines (x ∷ b) lines
-more-lines x b ls h = elim (cases_eq x 10) [ inl feed ↦ alone (λ k d low. feed) | inr other ↦ before ls refl other ] where
+more-lines x b ls h = elim (cases_eq x 10) [
+  | inl feed ↦ alone (λ k d low. feed)
+  | inr other ↦ before ls refl other
+] where
   -- a line of the one byte
   alone : All (Ended (x ∷ [])) ls → (lines : List (List ℕ)) × AreLines (x ∷ b) lines
   alone ended = (
@@ -67,7 +70,8 @@ more-lines x b ls h = elim (cases_eq x 10) [ inl feed ↦ alone (λ k d low. fee
         record {
           joined = ap (λ t. x ∷ t) whole.joined;
           each = All-cons IsLine (x ∷ l) ms
-              (record { some = omega arith; feed = λ k is. let before = line.feed (k - 1) in grind arith }) (All-tail IsLine l ms whole.each);
+              (record { some = omega arith; feed = λ k is. let before = line.feed (k - 1) in grind arith })
+              (All-tail IsLine l ms whole.each);
           ends =
               AllPairs-cons Ended (x ∷ l) ms (λ k d low.
               let place : length (x ∷ l) - 1 ≡ suc (length l - 1) = omega arith in rw place (whole.ends 0 (suc k) d (omega arith) (omega arith)))

@@ -54,7 +54,7 @@ pub record WithReads (b : List ℕ) (old new place q : ℕ) : Type 0 where
   pub tail : ℕ
   pub far : tail + (q + 1) ≤ seen + 5
   pub near : tail + 2 * (q + 1) ≤ 2 * seen + 2
-  -- three reads for each byte up to q pay for all but that tail, the word before q included: none of it, one byte or all
+  -- three reads for each byte up to q pay for all but that tail, and for what the word before q may take
   pub paid : new ≤ old + (3 * (q + 1) + tail)
   pub paid_one : place + 7 ≤ q → new + 1 ≤ old + (3 * (q + 1) + tail)
   pub paid_word : place + 7 ≤ q → IsLineStart b (q - 7) → new + 8 ≤ old + (3 * (q + 1) + tail)

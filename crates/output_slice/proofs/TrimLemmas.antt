@@ -59,13 +59,6 @@ IsWidened-same b s t u (inl x) (inr none) = absurd (none.0 x.0 x.1)
 IsWidened-same b s t u (inr none) (inl y) = absurd (none.0 y.0 y.1)
 IsWidened-same b s t u (inr none) (inr other) = none.1 ∙ sym other.1
 
--- each byte of a piece but the first is one that continues
-tail-at : (bs : List ℕ) (k : ℕ) → 0 < length bs → 0 < k → k < (decoded bs).size → continues (get_or bs k 0) ≡ true
-tail-at bs k some pos below =
-    let tail = tail-continues (length bs) (get_or bs 0 0) (get_or bs 1 0) (get_or bs 2 0) (get_or bs 3 0) in
-    let bounds = piece-bounds bs some in
-    grind (arith, cases_eq k 1, cases_eq k 2, cases_eq k 3)
-
 -- the first character is white space, and what follows it is blank
 abbrev BlankFirst : List ℕ → Type 0
 BlankFirst bs = IsTrue (is_whitespace (or_replacement (decoded bs).char)) × IsBlank (drop (decoded bs).size bs)
@@ -101,7 +94,11 @@ module _ (b : List ℕ) where
       let left = length-drop at b in
       let xs = drop i b in
       let more : 0 < length xs = omega (arith, length-drop i b) in
-      let continued = tail-at (drop at b) (i - at) (omega arith) (omega arith) (omega arith) in
+      let front = λ (k : ℕ). get_or (drop at b) k 0 in
+      let tail = tail-continues (length (drop at b)) (front 0) (front 1) (front 2) (front 3) in
+      let bounds = piece-bounds (drop at b) (omega arith) in
+      let continued : continues (front (i - at)) ≡ true =
+      grind (arith, cases_eq (i - at) 1, cases_eq (i - at) 2, cases_eq (i - at) 3) in
       let same : get_or (drop at b) (i - at) 0 ≡ get_or xs 0 0 = grind (arith, get_or-drop) in
       let byte = λ (k : ℕ). get_or xs k 0 in
       let alone = continuation-alone (length xs) (byte 0) (byte 1) (byte 2) (byte 3) more (rw same at continued) in

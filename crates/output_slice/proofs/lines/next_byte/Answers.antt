@@ -4,7 +4,8 @@ use Rattle.bstr.specs.Find.{is_byte}
 use Rattle.output_slice.proofs.lines.next_byte.Goals as goal
 
 -- the byte passes the test where the bytes from `from` on have it
-passes : (b : List ℕ) (x from k : ℕ) → from ≤ k → get_or b k 0 ≡ x → is_byte x (get_or (drop from b) (k - from) 0) ≡ true
+passes : (b : List ℕ) (x from k : ℕ) → from ≤ k → get_or b k 0 ≡ x
+    → is_byte x (get_or (drop from b) (k - from) 0) ≡ true
 passes b x from k low is = eq-eqb _ x (grind (arith, get_or-drop))
 
 pub returns-in-Some : goal.returns-in-Some
@@ -14,7 +15,8 @@ returns-in-Some c =
       record {
         low = omega arith;
         high = omega arith;
-        before = λ k low up is. h.0.before (k - c.args.from) (omega arith) (omega arith) (passes _ c.args.byte c.args.from k low is);
+        before = λ k low up is.
+            h.0.before (k - c.args.from) (omega arith) (omega arith) (passes _ c.args.byte c.args.from k low is);
       },
       grind (arith, get_or-drop),
     )
@@ -22,4 +24,5 @@ returns-in-Some c =
 pub returns-in-None : goal.returns-in-None
 returns-in-None c = λ k low up is.
     let size = length-drop c.args.from c.args.bytes.now in
-    (rw take_rest at c.in-None.ensures) (k - c.args.from) (omega arith) (omega arith) (passes _ c.args.byte c.args.from k low is)
+    (rw take_rest at c.in-None.ensures) (k - c.args.from) (omega arith) (omega arith)
+    (passes _ c.args.byte c.args.from k low is)
