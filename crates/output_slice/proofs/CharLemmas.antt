@@ -107,11 +107,6 @@ module _ (b buffer : List ℕ) (at stop i : ℕ) (four : length buffer ≡ 4) (s
       let read = ap decoded begins ∙ decoded-encode c (drop (length (encode_utf8 c)) rest) h.scalar in
       absurd (cc (none, same, ap (λ (p : Decoded). p.char) read))
 
--- a character has four bytes at most
-pub char-short : (b : List ℕ) (at stop i c : ℕ) → min (stop - at) 4 ≤ i → IsCharAt b at stop c
-    → IsCharAt b at (at + i) c
-char-short b at stop i c far h = grind (arith, len_utf8_bounds, length-encode)
-
 -- one more digit behind digits
 pub digits-more : (b : List ℕ) (from at to c n : ℕ) → AreDigits b from at → IsCharAt b at to c → IsDigit c
     → n ≡ length (encode_utf8 c) → AreDigits b from (at + n)

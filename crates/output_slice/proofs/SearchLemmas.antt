@@ -123,12 +123,9 @@ searched-none b old new scanned tested place q close last h is fits reads none o
       within = omega arith;
       reads = by_close close is reads more;
     } where
-      w : WithReads b old new place q
-      w = h.reads
-
       -- the reads before the quote are paid: none, one, or all eight
-      word : new + min (tested - scanned) 8 ≤ old + (3 * (q + 1) + w.tail)
-      word = let none = w.paid in let one = w.paid_one in let whole = w.paid_word in grind arith
+      word : new + min (tested - scanned) 8 ≤ old + (3 * (q + 1) + h.reads.tail)
+      word = let none = h.reads.paid in let one = h.reads.paid_one in let whole = h.reads.paid_word in grind arith
 
       -- the reads behind them: of a tail, or of one that is whole and of a name
       behind : (name at last : ℕ) → FewReads name at last (scanned + 8) tested → at ≤ last
@@ -141,17 +138,17 @@ searched-none b old new scanned tested place q close last h is fits reads none o
           → HeadReads b q scanned tested n None
           → NextReads b old tested (q + 1) n
       by_close None i r m =
-          let paid = w.paid in
-          let seen = w.high in
-          let far = w.far in
+          let paid = h.reads.paid in
+          let seen = h.reads.high in
+          let far = h.reads.far in
           omega arith
       by_close (Some c) i r m =
           let before = word in
           let read = behind _ _ _ m.few (omega (arith, m.low)) in
-          let passed = w.plain c in
-          let far = w.far in
-          let near = w.near in
-          let seen : w.seen ≤ c = grind arith in record {
+          let passed = h.reads.plain c in
+          let far = h.reads.far in
+          let near = h.reads.near in
+          let seen : h.reads.seen ≤ c = grind arith in record {
             seen = m.last;
             low = m.low;
             high = m.high;
@@ -162,9 +159,9 @@ searched-none b old new scanned tested place q close last h is fits reads none o
             paid = omega arith;
             paid_one = λ more. omega arith;
             paid_word = λ more line.
-                let other = w.plain (c - 7 - 1) in
+                let other = h.reads.plain (c - 7 - 1) in
                 let quote = h.is_next.1 in
-                let feed : w.seen + 8 ≤ c = grind arith in
+                let feed : h.reads.seen + 8 ≤ c = grind arith in
                 omega arith;
           }
 

@@ -1,5 +1,6 @@
 use Rattle.std.proofs.Common.{set, sym, ◌∙◌, arith, refl}
-use Rattle.output_slice.proofs.CharLemmas.{one-byte, buffer-more, char-some, char-none, char-short}
+use Rattle.std.proofs.lemmas.Str.{len_utf8_bounds, length-encode}
+use Rattle.output_slice.proofs.CharLemmas.{one-byte, buffer-more, char-some, char-none}
 use Rattle.output_slice.proofs.panic_head.characters.char_at.Goals as goal
 
 pub loop-i-init : goal.loop-i-init
@@ -41,4 +42,4 @@ loop-i-preserved g c =
 
 pub returns-clause-value : goal.returns-clause-value
 returns-clause-value g c = λ x h.
-    c.loop-i.invariant.3 x (char-short _ c.args.at c.args.stop c.loop-i.i x (omega arith) h)
+    c.loop-i.invariant.3 x (grind (arith, len_utf8_bounds, length-encode))
