@@ -1,4 +1,5 @@
 //! Bytes that are read one at a time, and counted.
+
 ghost use Rattle.std.specs.Prelude.{◌≡◌, ◌+◌, ◌<◌, ◌^◌, ℕ, List, length, slice_index};
 
 use std::marker::Model;

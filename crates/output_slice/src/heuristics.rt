@@ -1,4 +1,5 @@
 //! The three heuristics, and which of them is used.
+
 ghost use Rattle.std.specs.Prelude.{codes, ◌≡◌, ◌≤◌, ◌<◌, ℕ, ◌+◌, ◌-◌, length, slice_index, Option, option_map, IfSome};
 ghost use Rattle.std.specs.Option.{option_copied};
 ghost use Rattle.bstr.specs.Text.{without_terminator};
@@ -25,11 +26,15 @@ impl<'a> TestOutputErrorSlice<'a> {
     /// The rules are those of nextest-runner: see [`heuristic_panic_message`],
     /// [`heuristic_error_str`] and [`heuristic_should_panic`].
     pub fn heuristic_extract(stdout: Option<&'a [u8]>, stderr: Option<&'a [u8]>) -> Option<Self>
-        ensures value { IsExtract (option_copied stdout.entry) (option_copied stderr.entry) (option_map extract_of result) }
+        ensures value { IsExtract (option_copied stdout.entry) (option_copied stderr.entry)
+            (option_map extract_of result) }
 
         // Whatever is the extraction equals the result, so `None` says that there is none.
-        ensures only { (found : Option Extract) → IsExtract (option_copied stdout.entry) (option_copied stderr.entry) found → found ≡ option_map extract_of result }
-        ensures part { IfSome result (λ x. LiesIn (option_copied stdout.entry) (option_copied stderr.entry) (extract_of x)) }
+        ensures only { (found : Option Extract)
+            → IsExtract (option_copied stdout.entry) (option_copied stderr.entry) found
+            → found ≡ option_map extract_of result }
+        ensures part { IfSome result (λ x. LiesIn (option_copied stdout.entry)
+            (option_copied stderr.entry) (extract_of x)) }
     {
         first_slice(stdout, stderr)
     }
@@ -41,11 +46,15 @@ impl<'a> TestOutputErrorSlice<'a> {
         stderr: Option<&'a [u8]>,
         limit: NonZero<usize>,
     ) -> Option<Self>
-        ensures value { IsCappedExtract (non_zero_usize_get limit) (option_copied stdout.entry) (option_copied stderr.entry) (option_map extract_of result) }
+        ensures value { IsCappedExtract (non_zero_usize_get limit) (option_copied stdout.entry)
+            (option_copied stderr.entry) (option_map extract_of result) }
 
         // Whatever is the capped extraction equals the result.
-        ensures only { (found : Option Extract) → IsCappedExtract (non_zero_usize_get limit) (option_copied stdout.entry) (option_copied stderr.entry) found → found ≡ option_map extract_of result }
-        ensures part { IfSome result (λ x. LiesIn (option_copied stdout.entry) (option_copied stderr.entry) (extract_of x)) }
+        ensures only { (found : Option Extract)
+            → IsCappedExtract (non_zero_usize_get limit) (option_copied stdout.entry)
+            (option_copied stderr.entry) found → found ≡ option_map extract_of result }
+        ensures part { IfSome result (λ x. LiesIn (option_copied stdout.entry)
+            (option_copied stderr.entry) (extract_of x)) }
         ensures few { IfSome result (λ x. length (part_of x).slice.now ≤ non_zero_usize_get limit) }
     {
         let whole = Self::heuristic_extract(stdout, stderr)?;
@@ -58,7 +67,8 @@ fn first_slice<'a>(
     stdout: Option<&'a [u8]>,
     stderr: Option<&'a [u8]>,
 ) -> Option<TestOutputErrorSlice<'a>>
-    ensures { IsExtract (option_copied stdout.entry) (option_copied stderr.entry) (option_map extract_of result) }
+    ensures { IsExtract (option_copied stdout.entry) (option_copied stderr.entry)
+        (option_map extract_of result) }
 {
     let quiet = quiet_ends(stdout.unwrap_or(b""), stderr.unwrap_or(b""));
     let Some(bytes) = stderr else {
@@ -96,7 +106,8 @@ fn note_slice(stdout: Option<&[u8]>, end: usize) -> Option<TestOutputErrorSlice<
 /// passed over. The very first line of the output is never taken for a line before.
 pub fn heuristic_panic_message(stderr: &[u8]) -> Option<ByteSubslice<'_>>
     ensures value { IsPanicSlice stderr.now (option_map slice_of result) }
-    ensures only { (found : Option Slice) → IsPanicSlice stderr.now found → found ≡ option_map slice_of result }
+    ensures only { (found : Option Slice) → IsPanicSlice stderr.now found
+        → found ≡ option_map slice_of result }
     ensures part { IfSome result (λ x. IsPart stderr.now (slice_of x)) }
 {
     panic_message_before(stderr, stderr.len())
@@ -119,7 +130,8 @@ fn panic_message_before(stderr: &[u8], end: usize) -> Option<ByteSubslice<'_>>
 /// So Rust prints the error of a test or of a `main` that returns a `Result`.
 pub fn heuristic_error_str(stderr: &[u8]) -> Option<ByteSubslice<'_>>
     ensures value { IsErrorSlice stderr.now (option_map slice_of result) }
-    ensures only { (found : Option Slice) → IsErrorSlice stderr.now found → found ≡ option_map slice_of result }
+    ensures only { (found : Option Slice) → IsErrorSlice stderr.now found
+        → found ≡ option_map slice_of result }
     ensures part { IfSome result (λ x. IsPart stderr.now (slice_of x)) }
 {
     error_str_before(stderr, stderr.len())
@@ -153,7 +165,8 @@ fn error_start(stderr: &[u8], end: usize) -> Option<usize>
 /// So the test harness says that a test with `should_panic` did not panic.
 pub fn heuristic_should_panic(stdout: &[u8]) -> Option<ByteSubslice<'_>>
     ensures value { IsNoteLine stdout.now (option_map slice_of result) }
-    ensures only { (found : Option Slice) → IsNoteLine stdout.now found → found ≡ option_map slice_of result }
+    ensures only { (found : Option Slice) → IsNoteLine stdout.now found
+        → found ≡ option_map slice_of result }
     ensures part { IfSome result (λ x. IsPart stdout.now (slice_of x)) }
 {
     should_panic_before(stdout, stdout.len())

@@ -1,4 +1,5 @@
 //! The search for the last taken head, from the back.
+
 ghost use Rattle.std.specs.Prelude.{codes, ◌+◌, ◌^◌, ◌≡◌, ◌≤◌, ◌<◌, ◌↔◌, ℕ, List, length, MatchOption, IsSome, IsTrue, Some};
 ghost use Rattle.output_slice.specs.declared.panic_head.HeadSpan.{HeadSpan};
 ghost use Rattle.output_slice.specs.Head.{IsLineStart, IsHead};

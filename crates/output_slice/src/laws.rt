@@ -1,5 +1,6 @@
 //! Laws of the definitions that contracts cite, for the proofs of callers. Each is a function that
 //! does nothing, and its contract is the law.
+
 ghost use Rattle.output_slice.specs.Laws.{HeadsHaveOneEnd, TakenHeadsExist, TakenHeadsDivide, LinesExist, LinesAreCut, OneExtraction, LossyTextIsExact};
 
 /// Heads that begin at one place end at one place.

@@ -1,4 +1,5 @@
 //! Where lines begin and end.
+
 ghost use Rattle.std.specs.Prelude.{◌≡◌, ◌≤◌, ◌↔◌, ◌-◌, length, slice_index, IsTrue};
 ghost use Rattle.bstr.specs.Find.{IsFirst, IsLast};
 ghost use Rattle.output_slice.specs.Head.{IsLineStart};

@@ -1,4 +1,5 @@
 //! The search for panic heads, one counted read at a time.
+
 ghost use Rattle.std.specs.Prelude.{◌≡◌, ◌≤◌, ◌↔◌, ◌+◌, ◌*◌, ◌<◌, ◌^◌, ℕ, List, length, IsSome};
 ghost use Rattle.output_slice.specs.declared.panic_head.HeadSpan.{HeadSpan};
 ghost use Rattle.output_slice.specs.Head.{IsHead};
@@ -35,11 +36,13 @@ pub struct HeadSpan {
 pub fn last_panic_head<S: ByteSource>(source: &mut S) -> Option<HeadSpan>
     requires room { S.count source.old + 8 * length (S.bytes source.old) + 8 < 2 ^ 128 }
     ensures last { IsLastTaken (S.bytes source.old) result }
-    ensures only { (taken : List HeadSpan) → IsTaken (S.bytes source.old) taken → result ≡ last_of taken }
+    ensures only { (taken : List HeadSpan) → IsTaken (S.bytes source.old) taken
+        → result ≡ last_of taken }
     ensures found { IsSome result ↔ ((s : ℕ) × (e : ℕ) × IsHead (S.bytes source.old) s e) }
 
     // The reads, for a source of n bytes: at most 8n + 8, and, said tighter, at most 3n + 8.
-    ensures reads { S.count source.new ≤ S.count source.old + (8 * length (S.bytes source.old) + 8) }
+    ensures reads { S.count source.new
+        ≤ S.count source.old + (8 * length (S.bytes source.old) + 8) }
     ensures few { S.count source.new ≤ S.count source.old + (3 * length (S.bytes source.old) + 8) }
     ensures same { S.bytes source.new ≡ S.bytes source.old }
 {

@@ -3,6 +3,7 @@
 //!
 //! In most output there is no sign at all, and then each is looked for in all of it. So they are
 //! looked for side by side, block by block, while the block is at hand in the processor's cache.
+
 ghost use Rattle.std.specs.Prelude.{◌≡◌, ◌≤◌, ◌+◌, length, min, IsTrue};
 ghost use Rattle.bstr.specs.Find.{FindsLastNeedle, FindsNeedle};
 ghost use Rattle.output_slice.specs.Signs.{AreQuiet, IsQuietFrom};

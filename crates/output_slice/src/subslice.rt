@@ -1,4 +1,5 @@
 //! Parts of captured output.
+
 ghost use Rattle.std.specs.Prelude.{◌≡◌, Some};
 ghost use Rattle.std.specs.Int.NonZero.{non_zero_usize_get};
 ghost use Rattle.output_slice.specs.Extraction.{capped, capped_slice};

@@ -1,4 +1,5 @@
 //! Characters of names and of numbers.
+
 ghost use Rattle.std.specs.Prelude.{◌≡◌, ◌≤◌, ◌↔◌, ◌+◌, ◌-◌, ◌*◌, ◌<◌, ◌^◌, length, slice_index, IsTrue};
 ghost use Rattle.std.specs.Str.{IsUtf8};
 ghost use Rattle.bstr.specs.Text.{part};
@@ -16,7 +17,8 @@ fn char_at<S: ByteSource>(source: &mut S, at: usize, stop: usize) -> Option<(cha
     ensures value { IsSizedChar (S.bytes source.old) at stop result }
     ensures reads { CharReads at stop (S.count source.old) (S.count source.new) result }
     ensures few { S.count source.new ≤ S.count source.old + 4 }
-    ensures ascii { slice_index (S.bytes source.old) at < 128 → S.count source.new ≤ S.count source.old + 1 }
+    ensures ascii { slice_index (S.bytes source.old) at < 128
+        → S.count source.new ≤ S.count source.old + 1 }
     ensures same { S.bytes source.new ≡ S.bytes source.old }
 {
     let first = source.byte(at);
@@ -68,7 +70,8 @@ pub(crate) fn digits_end<S: ByteSource>(source: &mut S, from: usize) -> usize
     requires room { S.count source.old + 2 * length (S.bytes source.old) < 2 ^ 128 + 2 * from }
     ensures run { IsDigitRun (S.bytes source.old) from result }
     ensures reads { S.count source.new + from ≤ S.count source.old + result + 4 }
-    ensures ascii { ReadsAsciiEnd (S.bytes source.old) from result (S.count source.old) (S.count source.new) }
+    ensures ascii { ReadsAsciiEnd (S.bytes source.old) from result (S.count source.old)
+        (S.count source.new) }
     ensures within { result ≤ length (S.bytes source.old) }
     ensures same { S.bytes source.new ≡ S.bytes source.old }
 {

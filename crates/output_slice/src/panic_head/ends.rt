@@ -1,4 +1,5 @@
 //! Where texts, tails and heads end.
+
 ghost use Rattle.std.specs.Prelude.{◌≡◌, ◌≤◌, ◌+◌, ◌-◌, ◌*◌, ◌<◌, ◌^◌, length, slice_index, IfSome};
 ghost use Rattle.output_slice.specs.Head.{IsLineStart};
 ghost use Rattle.output_slice.specs.Steps.{IsNextQuote, IsTextEnd, TextReads, IsTailEnd, ReadsUpTo, NoQuoteBetween, IsNamedHeadEnd, IsOpenedHeadEnd, HeadReadsTo, HeadReads};
@@ -12,7 +13,8 @@ fn after_text<S: ByteSource>(source: &mut S, at: usize, text: &[u8]) -> Option<u
     requires room { S.count source.old + length (S.bytes source.old) < 2 ^ 128 + at }
     requires within { at ≤ length (S.bytes source.old) }
     ensures value { IsTextEnd (S.bytes source.old) text.now at result }
-    ensures reads { TextReads (S.bytes source.old) text.now at (S.count source.old) (S.count source.new) result }
+    ensures reads { TextReads (S.bytes source.old) text.now at (S.count source.old)
+        (S.count source.new) result }
     ensures same { S.bytes source.new ≡ S.bytes source.old }
 {
     let end = source.len();
@@ -32,7 +34,8 @@ fn tail_end<S: ByteSource>(source: &mut S, at: usize) -> Option<usize>
     requires within { at ≤ length (S.bytes source.old) }
     requires room { S.count source.old + 2 * length (S.bytes source.old) + 6 < 2 ^ 128 + 2 * at }
     ensures value { IsTailEnd (S.bytes source.old) at result }
-    ensures reads { ReadsUpTo (S.bytes source.old) at (S.count source.old) (S.count source.new) result }
+    ensures reads { ReadsUpTo (S.bytes source.old) at (S.count source.old)
+        (S.count source.new) result }
     ensures same { S.bytes source.new ≡ S.bytes source.old }
 {
     let Some(space) = after_text(source, at, b" ") else {
@@ -56,7 +59,8 @@ fn named_head_end<S: ByteSource>(source: &mut S, quote: usize, close: usize) -> 
     requires quiet { NoQuoteBetween (S.bytes source.old) (quote + 1) close }
     requires room { S.count source.old + 2 * length (S.bytes source.old) + 6 < 2 ^ 128 + 2 * quote }
     ensures value { IsNamedHeadEnd (S.bytes source.old) quote close result }
-    ensures reads { HeadReadsTo (S.bytes source.old) quote (S.count source.old) (S.count source.new) close result }
+    ensures reads { HeadReadsTo (S.bytes source.old) quote (S.count source.old)
+        (S.count source.new) close result }
     ensures same { S.bytes source.new ≡ S.bytes source.old }
 {
     if quote + 1 == close {
@@ -87,8 +91,10 @@ pub(crate) fn opened_head_end<S: ByteSource>(
     requires room { S.count source.old + 2 * length (S.bytes source.old) < 2 ^ 128 + 2 * place }
     ensures value { IsOpenedHeadEnd (S.bytes source.old) place quote result }
     ensures opened { S.count source.old < S.count source.new → place + 7 ≤ quote }
-    ensures line { S.count source.old + 1 < S.count source.new → IsLineStart (S.bytes source.old) (quote - 7) }
-    ensures reads { HeadReads (S.bytes source.old) quote (S.count source.old) (S.count source.new) close result }
+    ensures line { S.count source.old + 1 < S.count source.new
+        → IsLineStart (S.bytes source.old) (quote - 7) }
+    ensures reads { HeadReads (S.bytes source.old) quote (S.count source.old)
+        (S.count source.new) close result }
     ensures same { S.bytes source.new ≡ S.bytes source.old }
 {
     let Some(close) = close else {

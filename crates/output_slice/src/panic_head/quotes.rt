@@ -1,4 +1,5 @@
 //! Quotes, and what stands before them.
+
 ghost use Rattle.std.specs.Prelude.{◌≡◌, ◌≤◌, ◌↔◌, ◌+◌, ◌-◌, ◌<◌, ◌^◌, length, IsTrue, IfSome};
 ghost use Rattle.output_slice.specs.Head.{IsLineStart};
 ghost use Rattle.output_slice.specs.Steps.{IsNextQuote, IsOpened, QuoteReads};
@@ -17,7 +18,8 @@ pub(crate) fn next_quote<S: ByteSource>(source: &mut S, from: usize) -> Option<u
     requires room { S.count source.old + length (S.bytes source.old) < 2 ^ 128 + from }
     ensures found { IsNextQuote (S.bytes source.old) from result }
     ensures fits { IfSome result (λ q. q + 1 < 2 ^ 64) }
-    ensures reads { QuoteReads (S.bytes source.old) from (S.count source.old) (S.count source.new) result }
+    ensures reads { QuoteReads (S.bytes source.old) from (S.count source.old)
+        (S.count source.new) result }
     ensures same { S.bytes source.new ≡ S.bytes source.old }
 {
     let end = source.len();
@@ -35,7 +37,8 @@ pub(crate) fn opens<S: ByteSource>(source: &mut S, place: usize, quote: usize) -
     requires room { place + 7 ≤ quote → S.count source.old + 8 < 2 ^ 128 }
     ensures value { IsTrue result ↔ IsOpened (S.bytes source.old) place quote }
     ensures few { S.count source.new ≤ S.count source.old + 8 }
-    ensures line { S.count source.old + 1 < S.count source.new → IsLineStart (S.bytes source.old) (quote - 7) }
+    ensures line { S.count source.old + 1 < S.count source.new
+        → IsLineStart (S.bytes source.old) (quote - 7) }
     ensures none { quote < place + 7 → S.count source.new ≡ S.count source.old }
     ensures same { S.bytes source.new ≡ S.bytes source.old }
 {
