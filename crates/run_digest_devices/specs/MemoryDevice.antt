@@ -31,6 +31,6 @@ calls_left s = s.calls_left
 abbrev pub sink_failed : MemorySink → Bool
 sink_failed s = s.failed
 
--- whether a flush came after the last write
+-- whether the last write or flush was a flush that succeeded
 abbrev pub sink_flushed : MemorySink → Bool
 sink_flushed s = s.flushed

@@ -19,6 +19,6 @@ writer_of s = s.writer
 abbrev pub sink_failed : {W : Type 0} → StdSink W → Bool
 sink_failed s = s.failed
 
--- whether the sink was flushed after its last write
+-- whether the sink's last write or flush was a flush that succeeded
 abbrev pub sink_flushed : {W : Type 0} → StdSink W → Bool
 sink_flushed s = s.flushed

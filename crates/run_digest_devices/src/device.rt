@@ -43,7 +43,7 @@ pub trait Sink {
     // Whether a write or a flush has failed.
     ghost failed: { Self → Bool };
 
-    // Whether all that was written is on its way: a flush came after the last write.
+    // Whether all that was written is on its way: the last write or flush was a flush that succeeded.
     ghost flushed: { Self → Bool };
 
     /// Whether a write or a flush has failed.
@@ -68,10 +68,11 @@ pub trait Sink {
 
     /// Sends on what was written and held back. The bytes written are as they were.
     ///
-    /// After [`DeviceFailed`] the sink has failed.
+    /// After [`DeviceFailed`] the sink has failed, and counts as not flushed.
     fn flush(&mut self) -> Result<(), DeviceFailed>
         ensures kept { Keeps (written self.old) (written self.new) }
         ensures sent { OnOk result (flushed self.new ≡ true) }
+        ensures unsent { OnErr result (flushed self.new ≡ false) }
         ensures ok { OnOk result (failed self.new ≡ failed self.old) }
         ensures err { OnErr result (failed self.new ≡ true) };
 }

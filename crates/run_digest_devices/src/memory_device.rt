@@ -195,6 +195,7 @@ impl Sink for MemorySink<'_> {
         ensures kept { Keeps (Some (written_of self.old)) (Some (written_of self.new)) }
         ensures room { room_of self.new ≡ room_of self.old }
         ensures sent { OnOk result (sink_flushed self.new ≡ true) }
+        ensures unsent { OnErr result (sink_flushed self.new ≡ false) }
         ensures ok { OnOk result (sink_failed self.new ≡ sink_failed self.old) }
         ensures err { OnErr result (sink_failed self.new ≡ true) }
         ensures fails { IsErr result ↔ (calls_left self.old ≡ Some 0) }

@@ -124,6 +124,7 @@ impl<W: Write> Sink for StdSink<W> {
             }
             Err(_) => {
                 self.failed = true;
+                self.flushed = false;
                 Err(DeviceFailed)
             }
         }

@@ -39,11 +39,12 @@ pub fn read_all<R: Source>(alloc: Global, source: &mut R) -> Result<Vec<u8>, Fau
 /// Writes all of the text, then flushes the sink. It must not have failed before.
 ///
 /// [`Fault::Write`] comes exactly where the sink fails, and then a beginning of the text is
-/// written.
+/// written, and the sink counts as not flushed.
 pub fn write_all<W: Sink>(sink: &mut W, text: &[u8]) -> Result<(), Fault>
     requires { W.failed sink.old ≡ false }
     ensures bytes { OnOk result (Appends (W.written sink.old) (W.written sink.new) text.now) }
     ensures flushed { OnOk result (W.flushed sink.new ≡ true) }
+    ensures unsent { OnErr result (W.flushed sink.new ≡ false) }
     ensures start { OnErr result (AppendsStart (W.written sink.old) (W.written sink.new) text.now) }
     ensures errors { IfErr result (λ e. e ≡ faults.Write) }
     ensures write { IsErr result ↔ (W.failed sink.new ≡ true) }
