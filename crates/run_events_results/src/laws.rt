@@ -1,10 +1,10 @@
 //! Laws that callers rely on, each carried by the contract of a function.
 
-ghost use Rattle.std.specs.Prelude.{◌≡◌, ◌↔◌, ◌≤◌, IsTrue};
+ghost use Rattle.std.specs.Prelude.{◌≡◌, ◌↔◌, ◌≤◌, IsTrue, codes, pos};
 ghost use Rattle.std.specs.Ordering.{nat_cmp};
 ghost use Rattle.run_events_results.specs.Ranks.{reason_rank};
 
-use crate::results::CancelReason;
+use crate::results::{CancelReason, ExecutionResult, SIGTERM, UnitKind};
 use std::cmp::Ordering;
 
 /// Cancel reasons are ordered as they are declared, `SetupScriptFailure` the least and
@@ -21,4 +21,44 @@ pub fn cancel_reason_at_most(a: CancelReason, b: CancelReason) -> bool
     ensures { IsTrue result ↔ (reason_rank a ≤ reason_rank b) }
 {
     a <= b
+}
+
+/// The signal that asks a process to end has the number 15.
+pub fn termination_signal() -> i32
+    ensures constant { result ≡ SIGTERM }
+    ensures number { result ≡ pos 15 }
+{
+    SIGTERM
+}
+
+/// The constant messages while a process is waited for are these texts.
+pub fn waiting_on_messages() -> (&'static str, &'static str)
+    ensures constants { (result.0.now ≡ UnitKind.WAITING_ON_TEST_MESSAGE.now) × (result.1.now ≡ UnitKind.WAITING_ON_SCRIPT_MESSAGE.now) }
+    ensures test { result.0.now ≡ codes "waiting on test process" }
+    ensures script { result.1.now ≡ codes "waiting on script process" }
+{
+    (
+        UnitKind::WAITING_ON_TEST_MESSAGE,
+        UnitKind::WAITING_ON_SCRIPT_MESSAGE,
+    )
+}
+
+/// The constant descriptions of what was tried are these texts.
+pub fn executing_messages() -> (&'static str, &'static str)
+    ensures constants { (result.0.now ≡ UnitKind.EXECUTING_TEST_MESSAGE.now) × (result.1.now ≡ UnitKind.EXECUTING_SCRIPT_MESSAGE.now) }
+    ensures test { result.0.now ≡ codes "executing test" }
+    ensures script { result.1.now ≡ codes "executing script" }
+{
+    (
+        UnitKind::EXECUTING_TEST_MESSAGE,
+        UnitKind::EXECUTING_SCRIPT_MESSAGE,
+    )
+}
+
+/// Results are equal exactly where they are the same: also in how a leak or a lack of time counts,
+/// in a failure's code or signal, and in whether it left a handle open.
+pub fn results_are_equal(a: ExecutionResult, b: ExecutionResult) -> bool
+    ensures { IsTrue result ↔ (a ≡ b) }
+{
+    a == b
 }
