@@ -2,6 +2,7 @@
 use Rattle.std.specs.Prelude.{◌≡◌, ◌-◌, ◌<◌, ◌≤◌, ◌^◌, ◌⊎◌, ◌==◌, ◌↔◌, ◌++◌, ℕ, List, length, All, codes, Option, None, Some, if◌then◌else◌}
 use Rattle.std.specs.Duration.{as_nanos}
 use Rattle.std.specs.Fmt.{decimal}
+use Rattle.std.specs.Hash as fed
 use Rattle.std.specs.Int.NonZero.{non_zero_u32_get}
 use Rattle.std.specs.declared.num.NonZeroU32.{NonZeroU32}
 use Rattle.uuid.specs.Text.{hyphenated_text, lower}
@@ -62,3 +63,7 @@ IsTotalAtMost (Some a) (Some b) = non_zero_u32_get a ≤ non_zero_u32_get b
 -- a comes before b, or is b: an earlier sub-run, or the same of no greater total
 abbrev pub IsNoLaterSubRun : StressIndex → StressIndex → Type 0
 IsNoLaterSubRun a b = (a.current < b.current) ⊎ ((a.current ≡ b.current) × IsTotalAtMost a.total b.total)
+
+-- what the index of a sub-run writes to a hasher, call by call: its number, then the total as an `Option` writes it
+abbrev pub index_writes : StressIndex → List (List ℕ)
+index_writes i = fed.u32 i.current ++ fed.option (λ total. fed.u32 (non_zero_u32_get total)) i.total

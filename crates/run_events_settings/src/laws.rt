@@ -1,7 +1,8 @@
 //! Laws that callers rely on, each carried by the contract of a function.
 
 ghost use Rattle.std.specs.Prelude.{◌≡◌, ◌≢◌, ◌↔◌, IsTrue};
-ghost use Rattle.run_events_settings.specs.Stress.{IsNoLaterSubRun};
+ghost use Rattle.std.specs.List.{fold};
+ghost use Rattle.run_events_settings.specs.Stress.{IsNoLaterSubRun, index_writes};
 
 use crate::config::FlakyResult;
 use crate::run_mode::NextestRunMode;
@@ -39,7 +40,8 @@ pub fn stress_index_at_most(a: StressIndex, b: StressIndex) -> bool
     a <= b
 }
 
-/// Equal sub-runs hash alike: two hashers in one state are in one state again after them.
+/// A sub-run writes its number to a hasher, and then its total. So equal sub-runs hash alike: two
+/// hashers in one state are in one state again after them.
 pub fn stress_index_hashes<H: Hasher>(
     a: StressIndex,
     b: StressIndex,
@@ -47,6 +49,8 @@ pub fn stress_index_hashes<H: Hasher>(
     second: &mut H,
 ) -> bool
     ensures equality { IsTrue result ↔ (a ≡ b) }
+    ensures first_writes { first.new ≡ fold H.write first.old (index_writes a) }
+    ensures second_writes { second.new ≡ fold H.write second.old (index_writes b) }
     ensures alike { IsTrue result → first.old ≡ second.old → first.new ≡ second.new }
 {
     let are_equal = a == b;

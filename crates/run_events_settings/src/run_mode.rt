@@ -28,11 +28,13 @@ impl NextestRunMode {
 impl fmt::Display for NextestRunMode {
     ghost output = { λ m. Some (mode_text m) };
 
+    ghost styled_output = { λ m _. Some (mode_text m) };
+
     /// `test` or `benchmark`.
     fn fmt<W: fmt::Write>(&self, f: &mut fmt::Formatter<W>) -> fmt::Result {
         match self {
-            NextestRunMode::Test => write!(f, "test"),
-            NextestRunMode::Benchmark => write!(f, "benchmark"),
+            NextestRunMode::Test => f.write_str("test"),
+            NextestRunMode::Benchmark => f.write_str("benchmark"),
         }
     }
 }
