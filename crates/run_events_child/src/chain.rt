@@ -100,10 +100,11 @@ impl SerializableError {
 impl fmt::Display for SerializableError {
     ghost output = { λ e. Some e.message };
 
+    ghost styled_output = { λ e _. Some e.message };
+
     /// The message, without its causes.
     fn fmt<W: fmt::Write>(&self, f: &mut fmt::Formatter<W>) -> fmt::Result {
-        let message = self.message();
-        write!(f, "{message}")
+        f.write_str(self.message())
     }
 }
 

@@ -21,12 +21,14 @@ pub enum UnitTerminateReason {
 impl fmt::Display for UnitTerminateReason {
     ghost output = { λ r. Some (terminate_reason_text r) };
 
+    ghost styled_output = { λ r _. Some (terminate_reason_text r) };
+
     /// `timeout`, `signal` or `interrupt`.
     fn fmt<W: fmt::Write>(&self, f: &mut fmt::Formatter<W>) -> fmt::Result {
         match self {
-            UnitTerminateReason::Timeout => write!(f, "timeout"),
-            UnitTerminateReason::Signal => write!(f, "signal"),
-            UnitTerminateReason::Interrupt => write!(f, "interrupt"),
+            UnitTerminateReason::Timeout => f.write_str("timeout"),
+            UnitTerminateReason::Signal => f.write_str("signal"),
+            UnitTerminateReason::Interrupt => f.write_str("interrupt"),
         }
     }
 }
@@ -60,14 +62,16 @@ pub enum UnitTerminateSignal {
 impl fmt::Display for UnitTerminateSignal {
     ghost output = { λ s. Some (terminate_signal_text s) };
 
+    ghost styled_output = { λ s _. Some (terminate_signal_text s) };
+
     /// The signal's name, as `SIGTERM`.
     fn fmt<W: fmt::Write>(&self, f: &mut fmt::Formatter<W>) -> fmt::Result {
         match self {
-            UnitTerminateSignal::Interrupt => write!(f, "SIGINT"),
-            UnitTerminateSignal::Term => write!(f, "SIGTERM"),
-            UnitTerminateSignal::Hangup => write!(f, "SIGHUP"),
-            UnitTerminateSignal::Quit => write!(f, "SIGQUIT"),
-            UnitTerminateSignal::Kill => write!(f, "SIGKILL"),
+            UnitTerminateSignal::Interrupt => f.write_str("SIGINT"),
+            UnitTerminateSignal::Term => f.write_str("SIGTERM"),
+            UnitTerminateSignal::Hangup => f.write_str("SIGHUP"),
+            UnitTerminateSignal::Quit => f.write_str("SIGQUIT"),
+            UnitTerminateSignal::Kill => f.write_str("SIGKILL"),
         }
     }
 }

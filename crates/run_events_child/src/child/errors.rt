@@ -73,13 +73,15 @@ impl ChildStartErrorDescription {
 impl fmt::Display for ChildStartErrorDescription {
     ghost output = { λ e. Some (start_error_text e) };
 
+    ghost styled_output = { λ e _. Some (start_error_text e) };
+
     /// What failed, without its cause.
     fn fmt<W: fmt::Write>(&self, f: &mut fmt::Formatter<W>) -> fmt::Result {
         match self {
             ChildStartErrorDescription::TempPath { .. } => {
-                write!(f, "error creating temporary path for setup script")
+                f.write_str("error creating temporary path for setup script")
             }
-            ChildStartErrorDescription::Spawn { .. } => write!(f, "error spawning child process"),
+            ChildStartErrorDescription::Spawn { .. } => f.write_str("error spawning child process"),
         }
     }
 }
@@ -150,19 +152,23 @@ impl ChildErrorDescription {
 impl fmt::Display for ChildErrorDescription {
     ghost output = { λ e. Some (child_error_text e) };
 
+    ghost styled_output = { λ e _. Some (child_error_text e) };
+
     /// What failed, without its cause.
     fn fmt<W: fmt::Write>(&self, f: &mut fmt::Formatter<W>) -> fmt::Result {
         match self {
-            ChildErrorDescription::ReadStdout { .. } => write!(f, "error reading standard output"),
-            ChildErrorDescription::ReadStderr { .. } => write!(f, "error reading standard error"),
+            ChildErrorDescription::ReadStdout { .. } => f.write_str(
+                "error reading standard output",
+            ),
+            ChildErrorDescription::ReadStderr { .. } => f.write_str("error reading standard error"),
             ChildErrorDescription::ReadCombined { .. } => {
-                write!(f, "error reading combined stream")
+                f.write_str("error reading combined stream")
             }
             ChildErrorDescription::Wait { .. } => {
-                write!(f, "error waiting for child process to exit")
+                f.write_str("error waiting for child process to exit")
             }
             ChildErrorDescription::SetupScriptOutput { .. } => {
-                write!(f, "error reading setup script output")
+                f.write_str("error reading setup script output")
             }
         }
     }
