@@ -76,6 +76,31 @@ stats_of units start = counters_of (tests_of units) (scripts_of units) start
 abbrev pub nothing_known : RunStart
 nothing_known = record { initial_run_count = 0; setup_scripts_initial_count = 0; skipped = 0; cancel_reason = None }
 
+-- the statistics with 0 in every counter, and no reason to cancel
+abbrev pub all_zero : RunStats
+all_zero = record {
+  initial_run_count = 0;
+  finished_count = 0;
+  setup_scripts_initial_count = 0;
+  setup_scripts_finished_count = 0;
+  setup_scripts_passed = 0;
+  setup_scripts_failed = 0;
+  setup_scripts_exec_failed = 0;
+  setup_scripts_timed_out = 0;
+  passed = 0;
+  passed_slow = 0;
+  passed_timed_out = 0;
+  flaky = 0;
+  failed = 0;
+  failed_slow = 0;
+  failed_timed_out = 0;
+  leaky = 0;
+  leaky_failed = 0;
+  exec_failed = 0;
+  skipped = 0;
+  cancel_reason = None;
+}
+
 -- a counter, one higher where the rule holds
 abbrev pub plus_if : ℕ → Bool → ℕ
 plus_if n holds = n + (if holds then 1 else 0)

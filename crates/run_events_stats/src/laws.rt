@@ -2,19 +2,34 @@
 
 ghost use Rattle.std.specs.Prelude.{◌≡◌, ◌↔◌, ◌≤◌, IsTrue, []};
 ghost use Rattle.std.specs.Ordering.{nat_cmp};
-ghost use Rattle.run_events_stats.specs.Counters.{counters_of, nothing_known};
+ghost use Rattle.run_events_stats.specs.Counters.{all_zero, counters_of, nothing_known};
 ghost use Rattle.run_events_stats.specs.Outcome.{outcome_rank, step_rank};
 
-use crate::outcome::{RunFailureStep, RunOutcome};
+use crate::outcome::{FinalRunStats, RunFailureStep, RunOutcome};
 use crate::stats::RunStats;
 use std::cmp::Ordering;
 
 /// By default all counters are zero, and there is no reason to cancel: the statistics of a run
 /// of which nothing is known.
 pub fn run_stats_default() -> RunStats
-    ensures { result ≡ counters_of [] [] nothing_known }
+    ensures of_no_units { result ≡ counters_of [] [] nothing_known }
+    ensures zeros { result ≡ all_zero }
 {
     RunStats::default()
+}
+
+/// Statistics are equal exactly where all their counters and their reasons to cancel are.
+pub fn run_stats_are_equal(stats: RunStats, other: RunStats) -> bool
+    ensures { IsTrue result ↔ (stats ≡ other) }
+{
+    stats == other
+}
+
+/// Summaries are equal exactly where they are the same: also in their reasons and numbers.
+pub fn final_stats_are_equal(summary: FinalRunStats, other: FinalRunStats) -> bool
+    ensures { IsTrue result ↔ (summary ≡ other) }
+{
+    summary == other
 }
 
 /// Steps of a run are ordered as they are declared, `Test` the least.
