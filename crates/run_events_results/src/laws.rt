@@ -33,7 +33,8 @@ pub fn termination_signal() -> i32
 
 /// The constant messages while a process is waited for are these texts.
 pub fn waiting_on_messages() -> (&'static str, &'static str)
-    ensures constants { (result.0.now ≡ UnitKind.WAITING_ON_TEST_MESSAGE.now) × (result.1.now ≡ UnitKind.WAITING_ON_SCRIPT_MESSAGE.now) }
+    ensures constants { (result.0.now ≡ UnitKind.WAITING_ON_TEST_MESSAGE.now)
+        × (result.1.now ≡ UnitKind.WAITING_ON_SCRIPT_MESSAGE.now) }
     ensures test { result.0.now ≡ codes "waiting on test process" }
     ensures script { result.1.now ≡ codes "waiting on script process" }
 {
@@ -45,7 +46,8 @@ pub fn waiting_on_messages() -> (&'static str, &'static str)
 
 /// The constant descriptions of what was tried are these texts.
 pub fn executing_messages() -> (&'static str, &'static str)
-    ensures constants { (result.0.now ≡ UnitKind.EXECUTING_TEST_MESSAGE.now) × (result.1.now ≡ UnitKind.EXECUTING_SCRIPT_MESSAGE.now) }
+    ensures constants { (result.0.now ≡ UnitKind.EXECUTING_TEST_MESSAGE.now)
+        × (result.1.now ≡ UnitKind.EXECUTING_SCRIPT_MESSAGE.now) }
     ensures test { result.0.now ≡ codes "executing test" }
     ensures script { result.1.now ≡ codes "executing script" }
 {
