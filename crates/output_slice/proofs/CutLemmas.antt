@@ -134,6 +134,7 @@ module _ (b : List ℕ) (c s e : ℕ) (within : c ≤ length b) where
       head-in (take c b) b 0 s e s e (grind (arith, reads)) (omega arith) (omega arith) (omega arith) h (omega arith)
 
 module _ (b : List ℕ) (c : ℕ) (cut : IsCut b c) where
+  -- what stands behind the cut
   back : OccursAt b (drop c b) c
   back = let within = cut.within in grind (arith, reads)
 

@@ -125,7 +125,7 @@ tail-same b at e e' high high' h k = elim (tail_cases b at e high h) [
   ]
 ]
 
--- the ways in which the search for a tail ends: no tail stands where no digit stands between the parentheses
+-- no tail stands where no digit stands between the parentheses
 pub IsTailEnd-none : (b : List ℕ) (at close : ℕ)
     → OccursAt b (codes " (") at → IsDigitRun b (at + 2) close → close ≡ at + 2
     → IsTailEnd b at None

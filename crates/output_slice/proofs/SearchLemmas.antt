@@ -137,11 +137,7 @@ searched-none b old new scanned tested place q close last h is fits reads none o
       by_close : (n : Option ℕ) → IsNextQuote b (q + 1) n → QuoteReads b (q + 1) new scanned n
           → HeadReads b q scanned tested n None
           → NextReads b old tested (q + 1) n
-      by_close None i r m =
-          let paid = h.reads.paid in
-          let seen = h.reads.high in
-          let far = h.reads.far in
-          omega arith
+      by_close None i r m = omega (arith, h.reads.paid, h.reads.high, h.reads.far)
       by_close (Some c) i r m =
           let before = word in
           let read = behind _ _ _ m.few (omega (arith, m.low)) in

@@ -128,6 +128,7 @@ module _ (b : List ℕ) where
     later.1,
   )
 
+  -- there is such a place from each place on, by the number of bytes left
   kept : (f s at off end : ℕ) → length b < at + f → at ≤ length b → at ≡ off + s
       → Kept s at end (kept_end is_whitespace end (spans_from off (pieces (drop at b))))
   unfolding spans_from kept_end
