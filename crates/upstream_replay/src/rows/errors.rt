@@ -1,7 +1,7 @@
 //! Errors with causes as JSON, and the errors of units.
 
 use crate::rows::slices::slice_text;
-use crate::rows::words::{bytes_in, result_in, text_in};
+use crate::rows::words::{bytes_in, result_in, shown, text_in};
 use bytes::Bytes;
 use run_events::chain::SerializableError;
 use run_events::child::{
@@ -75,8 +75,8 @@ fn list_text(alloc: Global, list: Option<ErrorList<UnitError<'_>>>) -> Result<St
     };
     let mut text = format!(in alloc; "{} ({})", list.description(), list.len())?;
     for error in list.iter() {
-        let line = format!(in alloc; "; {error}")?;
-        text.push_str(line.as_str())?;
+        text.push_str("; ")?;
+        text.push_str(shown(alloc, error)?.as_str())?;
     }
     Ok(text)
 }

@@ -1,6 +1,6 @@
 //! Results, reasons, settings and constants, and their texts.
 
-use crate::rows::words::{result_in, text_in};
+use crate::rows::words::{result_in, shown, text_in};
 use crate::visibility::{named_display, named_reason};
 use run_events::config::FlakyResult;
 use run_events::events::{UnitTerminateReason, UnitTerminateSignal};
@@ -36,7 +36,8 @@ fn of_description(alloc: Global, word: &str, name: &str) -> Result<Option<String
     let described = ExecutionResultDescription::from_status(outcome, text_in(alloc, name)?);
     if let ExecutionResult::Fail { failure_status, .. } = outcome {
         let failure = FailureDescription::from_status(failure_status, text_in(alloc, name)?);
-        return Ok(Some(format!(in alloc; "{described:?}: {failure}")?));
+        let text = shown(alloc, &failure)?;
+        return Ok(Some(format!(in alloc; "{described:?}: {text}")?));
     }
     Ok(Some(format!(in alloc; "{described:?}")?))
 }
@@ -48,7 +49,8 @@ fn of_signal(alloc: Global, signal: &str, name: &str) -> Result<Option<String>, 
     };
     let status = AbortStatus::UnixSignal(signal);
     let abort = AbortDescription::from_status(status, text_in(alloc, name)?);
-    Ok(Some(format!(in alloc; "{abort}, {status:?}, {status:#?}")?))
+    let text = shown(alloc, &abort)?;
+    Ok(Some(format!(in alloc; "{text}, {status:?}, {status:#?}")?))
 }
 
 /// An abort by a code of Windows.
@@ -62,7 +64,7 @@ fn of_code(alloc: Global, code: &str, message: &str) -> Result<Option<String>, A
 
 /// The text of an abort, and whether the runner seems to have ended the process by it.
 fn of_abort(alloc: Global, abort: AbortDescription) -> Result<Option<String>, AllocError> {
-    let text = format!(in alloc; "{abort}")?;
+    let text = shown(alloc, &abort)?;
     let failure = FailureDescription::Abort { abort };
     let described = ExecutionResultDescription::Fail {
         failure,

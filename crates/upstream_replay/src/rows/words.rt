@@ -3,6 +3,7 @@
 use bstr::ByteVec;
 use run_events::results::{AbortStatus, ExecutionResult, FailureStatus};
 use std::alloc::{AllocError, Global};
+use std::fmt;
 
 /// The text of a word, `-` for none.
 pub(super) fn text_in(alloc: Global, word: &str) -> Result<Option<String>, AllocError> {
@@ -10,6 +11,16 @@ pub(super) fn text_in(alloc: Global, word: &str) -> Result<Option<String>, Alloc
         "-" => Ok(None),
         text => Ok(Some(String::from_str(alloc, text)?)),
     }
+}
+
+/// The text of a value, and the one under `#` behind it, should that be another.
+pub(super) fn shown<T: fmt::Display>(alloc: Global, value: &T) -> Result<String, AllocError> {
+    let text = format!(in alloc; "{value}")?;
+    let under_sharp = format!(in alloc; "{value:#}")?;
+    if text == under_sharp {
+        return Ok(text);
+    }
+    format!(in alloc; "{text} or {under_sharp}")
 }
 
 /// The bytes that a word spells, with escapes such as `\n` and `\xff`; `-` for none.
