@@ -1,4 +1,4 @@
-use Rattle.std.proofs.Common.{rules, ◌≡◌, ℕ, sym}
+use Rattle.std.proofs.Common.{rules, ◌≡◌}
 use Rattle.std.specs.Int.NonZero.{non_zero_usize_get}
 use Rattle.run_digest_engine.proofs.extract.extracted.Goals as goal
 
