@@ -1,0 +1,265 @@
+//! Codes, and what they stand for.
+
+ghost use Rattle.std.specs.Prelude.{◌≡◌, Some, false, slice_get};
+ghost use Rattle.deodarsieve.specs.Codes.{displays, final_levels, flaky_results, levels, outcomes, reasons, results, stores, stress_finals};
+
+use crate::layout::FfiResult;
+use run_events_levels::levels::{FinalStatusLevel, OutputStoreFinal, StatusLevel};
+use run_events_results::results::{
+    AbortDescription, CancelReason, ExecutionResultDescription, FailureDescription,
+};
+use run_events_settings::config::{
+    FlakyResult, LeakTimeoutResult, SlowTimeoutResult, TestOutputDisplay,
+};
+use run_events_stats::outcome::{RunFailureStep, RunOutcome, StressFinalRunStats};
+
+const FLAKY_RESULTS: [FlakyResult; 2] = [FlakyResult::Pass, FlakyResult::Fail];
+
+const REASONS: [Option<CancelReason>; 10] = [
+    None,
+    Some(CancelReason::SetupScriptFailure),
+    Some(CancelReason::TestFailure),
+    Some(CancelReason::ReportError),
+    Some(CancelReason::OutputLimit),
+    Some(CancelReason::TestFailureImmediate),
+    Some(CancelReason::GlobalTimeout),
+    Some(CancelReason::Signal),
+    Some(CancelReason::Interrupt),
+    Some(CancelReason::SecondSignal),
+];
+
+const LEVELS: [StatusLevel; 8] = [
+    StatusLevel::None,
+    StatusLevel::Fail,
+    StatusLevel::Retry,
+    StatusLevel::Slow,
+    StatusLevel::Leak,
+    StatusLevel::Pass,
+    StatusLevel::Skip,
+    StatusLevel::All,
+];
+
+const FINAL_LEVELS: [FinalStatusLevel; 8] = [
+    FinalStatusLevel::None,
+    FinalStatusLevel::Fail,
+    FinalStatusLevel::Flaky,
+    FinalStatusLevel::Slow,
+    FinalStatusLevel::Skip,
+    FinalStatusLevel::Leak,
+    FinalStatusLevel::Pass,
+    FinalStatusLevel::All,
+];
+
+const DISPLAYS: [TestOutputDisplay; 4] = [
+    TestOutputDisplay::Immediate,
+    TestOutputDisplay::ImmediateFinal,
+    TestOutputDisplay::Final,
+    TestOutputDisplay::Never,
+];
+
+const OUTCOMES: [RunOutcome; 6] = [
+    RunOutcome::NoTestsRun,
+    RunOutcome::Success,
+    RunOutcome::Cancelled {
+        step: RunFailureStep::Test,
+    },
+    RunOutcome::Cancelled {
+        step: RunFailureStep::SetupScript,
+    },
+    RunOutcome::Failed {
+        step: RunFailureStep::Test,
+    },
+    RunOutcome::Failed {
+        step: RunFailureStep::SetupScript,
+    },
+];
+
+/// How a flaky test counts, by its code.
+pub(crate) fn flaky_result(code: u32) -> Option<FlakyResult>
+    ensures { result ≡ slice_get flaky_results code }
+{
+    FLAKY_RESULTS.get(code as usize).copied()
+}
+
+/// Why a run is cancelled, if it is, by its code.
+pub(crate) fn reason(code: u32) -> Option<Option<CancelReason>>
+    ensures { result ≡ slice_get reasons code }
+{
+    REASONS.get(code as usize).copied()
+}
+
+/// The status level of a code.
+pub(crate) fn level(code: u32) -> Option<StatusLevel>
+    ensures { result ≡ slice_get levels code }
+{
+    LEVELS.get(code as usize).copied()
+}
+
+/// The final level of a code.
+pub(crate) fn final_level(code: u32) -> Option<FinalStatusLevel>
+    ensures { result ≡ slice_get final_levels code }
+{
+    FINAL_LEVELS.get(code as usize).copied()
+}
+
+/// When output is displayed, by its code.
+pub(crate) fn display(code: u32) -> Option<TestOutputDisplay>
+    ensures { result ≡ slice_get displays code }
+{
+    DISPLAYS.get(code as usize).copied()
+}
+
+/// The outcome of a code.
+pub(crate) fn outcome(code: u32) -> Option<RunOutcome>
+    ensures { result ≡ slice_get outcomes code }
+{
+    OUTCOMES.get(code as usize).copied()
+}
+
+/// How an attempt ended, by its code and its number.
+pub(crate) fn described(ended: FfiResult) -> Option<ExecutionResultDescription>
+    ensures { result ≡ slice_get (results ended.number) ended.kind }
+{
+    match ended.kind {
+        0 => Some(ExecutionResultDescription::Pass),
+        1 => Some(ExecutionResultDescription::Leak {
+            result: LeakTimeoutResult::Pass,
+        }),
+        2 => Some(ExecutionResultDescription::Leak {
+            result: LeakTimeoutResult::Fail,
+        }),
+        3 => Some(failed(FailureDescription::ExitCode { code: ended.number })),
+        4 => Some(failed(FailureDescription::Abort {
+            abort: AbortDescription::UnixSignal {
+                signal: ended.number,
+                name: None,
+            },
+        })),
+        5 => Some(failed(FailureDescription::Abort {
+            abort: AbortDescription::WindowsNtStatus {
+                code: ended.number,
+                message: None,
+            },
+        })),
+        6 => Some(failed(FailureDescription::Abort {
+            abort: AbortDescription::WindowsJobObject,
+        })),
+        7 => Some(ExecutionResultDescription::ExecFail),
+        8 => Some(ExecutionResultDescription::Timeout {
+            result: SlowTimeoutResult::Pass,
+        }),
+        9 => Some(ExecutionResultDescription::Timeout {
+            result: SlowTimeoutResult::Fail,
+        }),
+        _ => None,
+    }
+}
+
+/// A failure without a leak.
+fn failed(failure: FailureDescription) -> ExecutionResultDescription
+    ensures { result ≡ ExecutionResultDescription.Fail failure false }
+{
+    ExecutionResultDescription::Fail {
+        failure,
+        leaked: false,
+    }
+}
+
+/// The code of why a run is cancelled, if it is.
+pub(crate) fn reason_code(reason: Option<CancelReason>) -> u32
+    ensures { slice_get reasons result ≡ Some reason }
+{
+    match reason {
+        None => 0,
+        Some(CancelReason::SetupScriptFailure) => 1,
+        Some(CancelReason::TestFailure) => 2,
+        Some(CancelReason::ReportError) => 3,
+        Some(CancelReason::OutputLimit) => 4,
+        Some(CancelReason::TestFailureImmediate) => 5,
+        Some(CancelReason::GlobalTimeout) => 6,
+        Some(CancelReason::Signal) => 7,
+        Some(CancelReason::Interrupt) => 8,
+        Some(CancelReason::SecondSignal) => 9,
+    }
+}
+
+/// The code of a status level.
+pub(crate) fn level_code(level: StatusLevel) -> u32
+    ensures { slice_get levels result ≡ Some level }
+{
+    match level {
+        StatusLevel::None => 0,
+        StatusLevel::Fail => 1,
+        StatusLevel::Retry => 2,
+        StatusLevel::Slow => 3,
+        StatusLevel::Leak => 4,
+        StatusLevel::Pass => 5,
+        StatusLevel::Skip => 6,
+        StatusLevel::All => 7,
+    }
+}
+
+/// The code of a final level.
+pub(crate) fn final_level_code(level: FinalStatusLevel) -> u32
+    ensures { slice_get final_levels result ≡ Some level }
+{
+    match level {
+        FinalStatusLevel::None => 0,
+        FinalStatusLevel::Fail => 1,
+        FinalStatusLevel::Flaky => 2,
+        FinalStatusLevel::Slow => 3,
+        FinalStatusLevel::Skip => 4,
+        FinalStatusLevel::Leak => 5,
+        FinalStatusLevel::Pass => 6,
+        FinalStatusLevel::All => 7,
+    }
+}
+
+/// The code of what is stored for the end of a run.
+pub(crate) fn store_code(stored: OutputStoreFinal) -> u32
+    ensures { slice_get stores result ≡ Some stored }
+{
+    match stored {
+        OutputStoreFinal::No => 0,
+        OutputStoreFinal::Yes {
+            display_output: false,
+        } => 1,
+        OutputStoreFinal::Yes {
+            display_output: true,
+        } => 2,
+    }
+}
+
+/// The code of an outcome.
+pub(crate) fn outcome_code(outcome: RunOutcome) -> u32
+    ensures { slice_get outcomes result ≡ Some outcome }
+{
+    match outcome {
+        RunOutcome::NoTestsRun => 0,
+        RunOutcome::Success => 1,
+        RunOutcome::Cancelled {
+            step: RunFailureStep::Test,
+        } => 2,
+        RunOutcome::Cancelled {
+            step: RunFailureStep::SetupScript,
+        } => 3,
+        RunOutcome::Failed {
+            step: RunFailureStep::Test,
+        } => 4,
+        RunOutcome::Failed {
+            step: RunFailureStep::SetupScript,
+        } => 5,
+    }
+}
+
+/// The code of what a repeated run amounts to.
+pub(crate) fn stress_final_code(stats: StressFinalRunStats) -> u32
+    ensures { slice_get stress_finals result ≡ Some stats }
+{
+    match stats {
+        StressFinalRunStats::NoTestsRun => 0,
+        StressFinalRunStats::Success => 1,
+        StressFinalRunStats::Cancelled => 2,
+        StressFinalRunStats::Failed => 3,
+    }
+}

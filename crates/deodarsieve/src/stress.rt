@@ -1,0 +1,120 @@
+//! What is left of a repeated run.
+
+ghost use Rattle.std.specs.Prelude.{◌≡◌, ◌<◌, IsTrue, Option, Some, option_map};
+ghost use Rattle.std.specs.Duration.{as_nanos};
+ghost use Rattle.deodarsieve.specs.Answers.{Answers};
+ghost use Rattle.deodarsieve.specs.Layout.{HasOnlyItsKind, duration_in, left_after, left_in};
+ghost use Rattle.run_events_settings.specs.Stress.{left_of, remaining_of};
+
+use crate::layout::{FfiDuration, FfiStressProgress, FfiStressRemaining};
+use crate::values;
+use run_events_settings::stress::{NonZeroDuration, StressCount, StressProgress, StressRemaining};
+use std::num::NonZero;
+use std::time::Duration;
+
+/// What is left of a repeated run. False, and nothing written, also at a count of 0 and at a
+/// duration whose nanoseconds are a second or more.
+#[unsafe(no_mangle)]
+pub extern "C" fn deodarsieve_stress_remaining_of(
+    progress: &FfiStressProgress,
+    answer: &mut FfiStressRemaining,
+) -> bool
+    ensures value { Answers left_in result answer.old answer.new (left_after progress.now) }
+    ensures no_more { IsTrue result → HasOnlyItsKind answer.new }
+{
+    let left = progress_of(progress).map(|progress| written_left(progress.remaining()));
+    values::give(answer, left)
+}
+
+/// How far the run is.
+fn progress_of(progress: &FfiStressProgress) -> Option<StressProgress>
+    ensures { option_map remaining_of result ≡ left_after progress.now }
+{
+    let elapsed = duration(progress.elapsed)?;
+    let completed = progress.completed;
+    match progress.kind {
+        0 => {
+            let count = NonZero::<u32>::new(progress.total_count)?;
+            Some(StressProgress::Count {
+                total: StressCount::Count { count },
+                elapsed,
+                completed,
+            })
+        }
+        1 => Some(StressProgress::Count {
+            total: StressCount::Infinite,
+            elapsed,
+            completed,
+        }),
+        2 => Some(StressProgress::Time {
+            total: duration(progress.total)?,
+            elapsed,
+            completed,
+        }),
+        _ => None,
+    }
+}
+
+/// A duration, where its nanoseconds are below a second.
+fn duration(given: FfiDuration) -> Option<Duration>
+    ensures { option_map as_nanos result ≡ duration_in given }
+{
+    (given.nanoseconds < 1_000_000_000).then(|| Duration::new(given.seconds, given.nanoseconds))
+}
+
+/// What is left, as it is written.
+fn written_left(left: Option<StressRemaining>) -> FfiStressRemaining
+    ensures value { left_in result ≡ Some (option_map left_of left) }
+    ensures no_more { HasOnlyItsKind result }
+{
+    match left {
+        None => left_without_time(3, 0),
+        Some(left) => written_some(left),
+    }
+}
+
+/// What is left, where that is something.
+fn written_some(left: StressRemaining) -> FfiStressRemaining
+    ensures value { left_in result ≡ Some (Some (left_of left)) }
+    ensures no_more { HasOnlyItsKind result }
+{
+    match left {
+        StressRemaining::Count(count) => left_without_time(0, count.get()),
+        StressRemaining::Infinite => left_without_time(1, 0),
+        StressRemaining::Time(time) => written_time(time),
+    }
+}
+
+/// What is left, where that is no time.
+fn left_without_time(kind: u32, count: u32) -> FfiStressRemaining
+    ensures { result ≡ record {
+      kind = kind;
+      count = count;
+      time = record { seconds = 0; nanoseconds = 0 };
+    } }
+{
+    FfiStressRemaining {
+        kind,
+        count,
+        time: FfiDuration {
+            seconds: 0,
+            nanoseconds: 0,
+        },
+    }
+}
+
+/// Time that is left.
+fn written_time(time: NonZeroDuration) -> FfiStressRemaining
+    ensures value { left_in result ≡ Some (Some (left_of (StressRemaining.Time time))) }
+    ensures no_more { HasOnlyItsKind result }
+{
+    let time = time.get();
+    FfiStressRemaining {
+        kind: 2,
+        count: 0,
+        time: FfiDuration {
+            seconds: time.as_secs(),
+            nanoseconds: time.subsec_nanos(),
+        },
+    }
+}
