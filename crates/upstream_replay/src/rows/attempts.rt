@@ -85,15 +85,29 @@ fn of_success(alloc: Global, word: &str) -> Result<Option<String>, AllocError> {
     Ok(Some(format!(in alloc; "{is_consistent}, {is_success}")?))
 }
 
+/// The number of an attempt, of so many.
+fn attempt_in(attempt: &str, total: &str) -> Option<RetryData> {
+    Some(RetryData {
+        attempt: attempt.parse().ok()?,
+        total_attempts: total.parse().ok()?,
+    })
+}
+
 fn of_attempt(alloc: Global, attempt: &str, total: &str) -> Result<Option<String>, AllocError> {
-    let (Ok(attempt), Ok(total_attempts)) = (attempt.parse(), total.parse()) else {
+    let Some(data) = attempt_in(attempt, total) else {
         return Ok(None);
     };
-    let data = RetryData {
-        attempt,
-        total_attempts,
-    };
     Ok(Some(format!(in alloc; "{}", data.is_last_attempt())?))
+}
+
+/// The debugging output of an attempt's number, on one line and on several, the latter with their
+/// ends spelled.
+fn of_retry_data(alloc: Global, attempt: &str, total: &str) -> Result<Option<String>, AllocError> {
+    let Some(data) = attempt_in(attempt, total) else {
+        return Ok(None);
+    };
+    let on_several = format!(in alloc; "{data:#?}")?.replace(alloc, "\n", "\\n")?;
+    Ok(Some(format!(in alloc; "{data:?}, {on_several}")?))
 }
 
 /// How a test ended: `job object` for an end by that of Windows, and else a result.
@@ -160,6 +174,7 @@ pub(super) fn answer(alloc: Global, parts: &[&str]) -> Result<Option<String>, Al
         ["describe", results, setting, is_slow] => of_test(alloc, results, setting, is_slow),
         ["is_consistent", word] => of_success(alloc, word),
         ["is_last_attempt", attempt, total] => of_attempt(alloc, attempt, total),
+        ["RetryData", attempt, total] => of_retry_data(alloc, attempt, total),
         ["compute_output_on_test_finished", levels @ .., reason, word] => shown(
             alloc, levels, reason, word,
         ),

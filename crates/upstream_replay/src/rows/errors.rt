@@ -212,6 +212,75 @@ fn of_unit_not_started(alloc: Global, kind: UnitKind) -> Result<Option<String>, 
     Ok(Some(errors_text(alloc, kind, &described(alloc, left, "TERM")?)?))
 }
 
+/// So many errors in reading standard output, whose causes are numbered from 0.
+fn read_errors(alloc: Global, count: u32) -> Result<Option<ErrorList<ChildError>>, AllocError> {
+    let mut errors = Vec::new(alloc);
+    for number in 0..count {
+        let message = format!(in alloc; "cause {number}")?;
+        let source = SerializableError::from_message_and_causes(alloc, message, Vec::new(alloc))?;
+        errors.push(ChildError::Fd(ChildFdError::ReadStdout(source)))?;
+    }
+    Ok(ErrorList::new("reading", errors))
+}
+
+/// The description of a list, the number of its errors, and how many of them have the cause whose
+/// number is their place, from 0; `none` for no list.
+fn counted_text(
+    alloc: Global,
+    list: Option<ErrorList<UnitError<'_>>>,
+) -> Result<String, AllocError> {
+    let Some(list) = list else {
+        return String::from_str(alloc, "none");
+    };
+    let mut in_place: usize = 0;
+    for (number, error) in list.iter().enumerate() {
+        let cause = format!(in alloc; "cause {number}")?;
+        if let UnitError::Output(described) = error
+            && described.source().message() == cause.as_str()
+        {
+            in_place = in_place.saturating_add(1);
+        }
+    }
+    format!(in alloc;
+        "{} ({}), {in_place} in place",
+        list.description(),
+        list.len()
+    )
+}
+
+/// How many errors the lists of a test have: all of them, those that keep it from being run, and
+/// those of its process.
+fn counts_text(
+    alloc: Global,
+    output: &ChildExecutionOutputDescription<LiveSpec>,
+) -> Result<String, AllocError> {
+    if !UnitErrorDescription::can_describe(UnitKind::Test, output) {
+        return String::from_str(alloc, "cannot be described");
+    }
+    let errors = UnitErrorDescription::new(UnitKind::Test, output);
+    let all = counted_text(alloc, errors.all_error_list(alloc)?)?;
+    let exec_fail = counted_text(alloc, errors.exec_fail_error_list(alloc)?)?;
+    let child_process = counted_text(alloc, errors.child_process_error_list(alloc)?)?;
+    format!(in alloc; "{all} | {exec_fail} | {child_process}")
+}
+
+/// The errors of a test that passed, and could not be read from so many times.
+fn of_many_errors(alloc: Global, count: &str) -> Result<Option<String>, AllocError> {
+    let Ok(count) = count.parse() else {
+        return Ok(None);
+    };
+    let split = ChildSplitOutput {
+        stdout: None,
+        stderr: None,
+    };
+    let left = ChildExecutionOutput::Output {
+        result: Some(ExecutionResult::Pass),
+        output: ChildOutput::Split(split),
+        errors: read_errors(alloc, count)?,
+    };
+    Ok(Some(counts_text(alloc, &described(alloc, left, "-")?)?))
+}
+
 /// What the port answers to a question of this group; `None` for any other.
 pub(super) fn answer(alloc: Global, parts: &[&str]) -> Result<Option<String>, AllocError> {
     match parts {
@@ -223,6 +292,7 @@ pub(super) fn answer(alloc: Global, parts: &[&str]) -> Result<Option<String>, Al
         ["errors of a script", "not loaded", end] => {
             of_unit_not_loaded(alloc, UnitKind::Script, end)
         }
+        ["many errors of a test", count] => of_many_errors(alloc, count),
         ["errors of a test", words @ ..] => of_unit(alloc, UnitKind::Test, words),
         ["errors of a script", words @ ..] => of_unit(alloc, UnitKind::Script, words),
         _ => Ok(None),
