@@ -1,14 +1,40 @@
 -- What a displayer needs of what is shown.
-use Rattle.std.proofs.Common.{◌≡◌, Option, None, refl}
+use Rattle.std.proofs.Common.{◌≡◌, ◌<◌, ◌≤◌, Bool, true, false, Option, None, Some, refl, arith}
 use Rattle.std.specs.Prelude.{if◌then◌else◌}
-use Rattle.run_events.specs.Visibility.{Asked, visibility}
+use Rattle.run_events.specs.Visibility.{Asked, severity, visibility, with_output}
 use Rattle.run_events_levels.specs.declared.levels.OutputStoreFinal.TheVariants.{No, Yes}
 use Rattle.run_events_results.specs.declared.results.CancelReason.{CancelReason}
+use Rattle.run_events_results.specs.declared.results.CancelReason.TheVariants as reason
+use Rattle.uses.specs.Displayer.{without_output}
 
--- while nothing cancels the run, output is shown at once where that is asked for
-pub shown_while_running : (w : Asked) (why : Option CancelReason) → why ≡ None → (visibility w why).show_immediate ≡ w.at_once
-shown_while_running w why none = rw none refl
+-- nothing is shown of a test that was ended as the run stops at once
+pub hidden_when_stopped : (w : Asked) → w.terminated ≡ true → visibility w (Some reason.TestFailureImmediate) ≡ with_output w false No
+hidden_when_stopped w ended = rw ended refl
 
--- and it is stored where that is asked for
-pub stored_while_running : (w : Asked) (why : Option CancelReason) → why ≡ None → (visibility w why).store_final ≡ (if w.stored then Yes w.at_end else No)
-stored_while_running w why none = rw none refl
+-- up to a signal, output of any other test is shown at once where that is asked for
+pub shown_up_to_signal : (w : Asked) (why : Option CancelReason) → (why ≡ Some reason.TestFailureImmediate → w.terminated ≡ false)
+    → severity why ≤ severity (Some reason.Signal) → (visibility w why).show_immediate ≡ w.at_once
+shown_up_to_signal w (Some reason.TestFailureImmediate) spared up_to = rw (spared refl) refl
+shown_up_to_signal w (Some reason.Interrupt) spared up_to = absurd (omega (arith, up_to))
+shown_up_to_signal w (Some reason.SecondSignal) spared up_to = absurd (omega (arith, up_to))
+shown_up_to_signal w _ spared up_to = refl
+
+-- below a signal, it is stored where that is asked for
+pub stored_below_signal : (w : Asked) (why : Option CancelReason) → (why ≡ Some reason.TestFailureImmediate → w.terminated ≡ false)
+    → severity why < severity (Some reason.Signal) → (visibility w why).store_final ≡ (if w.stored then Yes w.at_end else No)
+stored_below_signal w (Some reason.TestFailureImmediate) spared below = rw (spared refl) refl
+stored_below_signal w (Some reason.Signal) spared below = absurd (omega (arith, below))
+stored_below_signal w (Some reason.Interrupt) spared below = absurd (omega (arith, below))
+stored_below_signal w (Some reason.SecondSignal) spared below = absurd (omega (arith, below))
+stored_below_signal w _ spared below = refl
+
+once : (at_once at_end stored : Bool) → (if stored then Yes (if at_once then false else at_end) else No) ≡ without_output at_once (if stored then Yes at_end else No)
+once true at_end true = refl
+once true at_end false = refl
+once false at_end true = refl
+once false at_end false = refl
+
+-- under a signal, it is stored without output that is shown at once
+pub stored_under_signal : (w : Asked) (why : Option CancelReason) → why ≡ Some reason.Signal
+    → (visibility w why).store_final ≡ without_output (visibility w why).show_immediate (if w.stored then Yes w.at_end else No)
+stored_under_signal w why signal = rw signal (once w.at_once w.at_end w.stored)

@@ -1,5 +1,5 @@
 -- What a displayer prints.
-use Rattle.std.specs.Prelude.{◌<◌, ◌&&◌, ℕ, Bool, if◌then◌else◌, nat_lt, List, ◌++◌, length, codes, Option, IfSome}
+use Rattle.std.specs.Prelude.{◌<◌, ◌&&◌, ℕ, Bool, true, false, if◌then◌else◌, nat_lt, List, ◌++◌, length, codes, Option, IfSome}
 use Rattle.std.specs.Fmt.{decimal}
 use Rattle.run_events.specs.Config.{is_final_display}
 use Rattle.run_events.specs.Counters.{UnitView, count_of, tests_of}
@@ -30,6 +30,11 @@ abbrev pub listing : Displayer → Bool → FinalStatusLevel → OutputStoreFina
 listing d succeeded level =
     let display = display_of d succeeded in
     if is_stored d.levels display level then Yes (is_final_display display) else No
+
+-- what is listed of it where its output was displayed at once and is not to be displayed again: its name alone
+abbrev pub without_output : Bool → OutputStoreFinal → OutputStoreFinal
+without_output true (Yes output) = Yes false
+without_output _ stored = stored
 
 -- how a test ended: flaky, or the word of its last result
 abbrev pub test_word : TestView → List ℕ

@@ -18,6 +18,7 @@ use Rattle.run_events.specs.declared.events.kind.TestEventKind.{TestEventKind}
 use Rattle.run_events.specs.declared.events.kind.TestEventKind.TheVariants.{SetupScriptFinished, TestFinished}
 use Rattle.run_events_stats.specs.declared.stats.RunStats.{RunStats}
 use Rattle.run_events_results.specs.declared.results.ExecutionResult.{ExecutionResult}
+use Rattle.uses.specs.declared.of_run_events.EndedAttempt.{EndedAttempt}
 
 -- the view of a test of so many attempts, of which the last ended so
 abbrev pub view_of_attempts : ℕ → ExecutionResult → Bool → FlakyResult → TestView
@@ -27,6 +28,10 @@ view_of_attempts attempts outcome slow setting =
 -- the attempt of a number, from 1, of so many
 abbrev pub numbered_of : ℕ → ℕ → RetryData
 numbered_of total number = record { attempt = number; total_attempts = total }
+
+-- what an attempt left: its result, what it wrote to standard error, nothing of standard output, and no error
+abbrev pub left_by : EndedAttempt → ChildExecutionOutputDescription LiveSpec ChildOutputDescription
+left_by attempt = left.Output (Some (described_result attempt.outcome None)) (Split None (Some attempt.stderr.now)) None
 
 -- what was captured of standard error; both streams in one are taken as it
 abbrev pub stderr_in : ChildOutputDescription → Option (List ℕ)

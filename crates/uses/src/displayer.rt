@@ -1,13 +1,13 @@
 //! A reporter on a terminal: what it prints of a finished test, and of a run.
 
-ghost use Rattle.std.specs.Prelude.{◌≡◌, ◌≢◌, ◌↔◌, ◌≤◌, [], false, map, IfOk, IfSome, IsTrue, None, Some, string_bytes, true};
+ghost use Rattle.std.specs.Prelude.{◌≡◌, ◌≢◌, ◌↔◌, ◌<◌, ◌≤◌, [], false, map, IfOk, IfSome, IsTrue, None, Some, string_bytes, true};
 ghost use Rattle.run_events.specs.Config.{is_immediate_display};
 ghost use Rattle.run_events.specs.Counters.{unit_view};
 ghost use Rattle.run_events.specs.Level.{final_level_of, level_of};
 ghost use Rattle.run_events.specs.Results.{is_termination_failure, succeeds};
 ghost use Rattle.run_events.specs.Attempts.{view_of};
 ghost use Rattle.run_events.specs.Visibility.{IsNoMoreVisible, severity};
-ghost use Rattle.uses.specs.Displayer.{IsAbove, display_of, listing, numbers_line, status_line, summary_line, test_word};
+ghost use Rattle.uses.specs.Displayer.{IsAbove, display_of, listing, numbers_line, status_line, summary_line, test_word, without_output};
 
 use run_events::attempts::ExecutionStatuses;
 use run_events::child::LiveSpec;
@@ -52,13 +52,27 @@ impl Displayer {
         ensures line { (result.write_status_line ≡ false)
             ↔ IsAbove (level_of (view_of test.now)) self.now.levels.status_level }
 
-        // While nothing cancels the run, the setting for such a test says whether its output is
-        // displayed at once, and with its final level what is listed of it at the end.
-        ensures at_once { reason ≡ None → result.show_immediate
+        // Of a test that the runner ended as the run stops at once nothing is displayed.
+        ensures stopped { reason ≡ Some CancelReason.TestFailureImmediate
+            → is_termination_failure (view_of test.now).result ≡ true
+            → (result.show_immediate ≡ false) × (result.store_final ≡ OutputStoreFinal.No) }
+
+        // Of any other the setting for such a test says up to a signal whether its output is
+        // displayed at once, and below a signal, with its final level, what is listed of it at the
+        // end. Under a signal the listing is without output that is displayed at once.
+        ensures at_once { (reason ≡ Some CancelReason.TestFailureImmediate
+            → is_termination_failure (view_of test.now).result ≡ false)
+            → severity reason ≤ severity (Some CancelReason.Signal) → result.show_immediate
             ≡ is_immediate_display (display_of self.now (succeeds (view_of test.now).result)) }
-        ensures listed { reason ≡ None → IfSome (final_level_of (view_of test.now))
-            (λ level. result.store_final ≡ listing self.now
-            (succeeds (view_of test.now).result) level) }
+        ensures listed { (reason ≡ Some CancelReason.TestFailureImmediate
+            → is_termination_failure (view_of test.now).result ≡ false)
+            → severity reason < severity (Some CancelReason.Signal)
+            → IfSome (final_level_of (view_of test.now)) (λ level. result.store_final
+            ≡ listing self.now (succeeds (view_of test.now).result) level) }
+        ensures under_signal { reason ≡ Some CancelReason.Signal
+            → IfSome (final_level_of (view_of test.now)) (λ level. result.store_final
+            ≡ without_output result.show_immediate
+            (listing self.now (succeeds (view_of test.now).result) level)) }
 
         // From a signal on no output is displayed twice, and from an interrupt on none is.
         ensures never_twice { severity (Some CancelReason.Signal) ≤ severity reason
@@ -66,15 +80,11 @@ impl Displayer {
         ensures interrupted { severity (Some CancelReason.Interrupt) ≤ severity reason
             → (result.show_immediate ≡ false) × (result.store_final ≡ OutputStoreFinal.No) }
     {
-        let description = test.describe();
-        let display = self.display_for(description.is_success_for_output());
-        self.levels.compute_output_on_test_finished(
-            display,
-            reason,
-            description.status_level(),
-            description.final_status_level(),
-            &description.last_status().result,
-        )
+        let view = test.view();
+        let display = self.display_for(view.result.is_success());
+        let (level, final_level) = (view.status_level(), view.final_status_level());
+        self.levels
+            .compute_output_on_test_finished(display, reason, level, final_level, view.result)
     }
 
     /// What is shown and stored of a finished test under a reason, and under a greater one: what was

@@ -1,11 +1,13 @@
 //! Examples of use of the layer: a runner, a displayer, a JUnit writer, a recorder and the exit
 //! status of a run, and the callers that the pages on calling the libraries show, which stand in the
-//! files `of_LIBRARY`; each on a small input.
+//! files `of_LIBRARY`; each on a small input. The libraries' first pages show some of these, and of
+//! `first_pages`.
 #![tactic(auto)]
 
 mod demo;
 mod displayer;
 mod exit_status;
+mod first_pages;
 mod junit;
 mod of_output_slice;
 mod of_run_digest_devices;

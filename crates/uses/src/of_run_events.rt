@@ -5,7 +5,7 @@ ghost use Rattle.run_events.specs.Attempts.{view_of};
 ghost use Rattle.run_events.specs.Counters.{TestUnit, stats_of, unit_view};
 ghost use Rattle.run_events.specs.Described.{described_result};
 ghost use Rattle.run_events.specs.RunLaws.{RunSucceeds};
-ghost use Rattle.uses.specs.Runner.{stderr_of, view_of_attempts};
+ghost use Rattle.uses.specs.Runner.{left_by, stderr_of, view_of_attempts};
 
 use bytes::Bytes;
 use jiff::Timestamp;
@@ -45,6 +45,7 @@ pub fn status_of(
         ≡ described_result attempt.entry.outcome None) }
     ensures slow { IfOk result (λ status. status.is_slow ≡ attempt.entry.is_slow) }
     ensures retry { IfOk result (λ status. status.retry_data ≡ retry_data) }
+    ensures output { IfOk result (λ status. status.output ≡ left_by attempt.entry) }
     ensures stderr { IfOk result (λ status. stderr_of status.output
         ≡ Some attempt.entry.stderr.now) }
 {

@@ -1,11 +1,13 @@
 //! What the callers of the pages on calling answer.
 
-use crate::demo::{PASSED, START};
+use crate::demo::{PANICKED, PASSED, START};
+use crate::first_pages::{is_displayed, word_of_end};
 use crate::of_output_slice::{failure_in, has_panicked};
 use crate::of_run_digest_devices::copy;
 use crate::of_run_digest_engine::first_bad_line;
 use crate::of_run_events::{ends_well, finished_at_first, stats_of_test};
 use run_digest_devices::memory_device::{MemorySink, MemorySource};
+use run_events::config::TestOutputDisplay;
 use run_events::stats::FinishedUnit;
 use std::io;
 
@@ -32,8 +34,17 @@ pub(crate) fn show<R: AllocGlobal + Print>(
     )?;
     let well = ends_well(units, START);
     println!(rt; "  the run ends well: {well}")?;
+    show_first_pages(rt)?;
     show_bad_line(rt)?;
     show_copy(rt)
+}
+
+/// Prints what the callers of first pages answer, for two ends and one display.
+fn show_first_pages<R: Print>(rt: &R) -> io::Result<()> {
+    let (passed, panicked) = (word_of_end(PASSED.outcome), word_of_end(PANICKED.outcome));
+    println!(rt; "  ends: {passed}, {panicked}")?;
+    let displayed = is_displayed(TestOutputDisplay::Final);
+    println!(rt; "  displayed at any time: {displayed}")
 }
 
 /// Prints which line of the bad run is bad.

@@ -1,6 +1,9 @@
 //! A recorder: takes an error with its causes to JSON text, and back.
 
-ghost use Rattle.std.specs.Prelude.{◌≡◌, IfErr, IfOk, None, Some, string_bytes};
+ghost use Rattle.std.specs.Prelude.{◌≡◌, Err, IfErr, IfOk, IsErrOf, None, Some, option_map, string_bytes};
+ghost use Rattle.serde_json.specs.Read.{read};
+ghost use Rattle.run_events.specs.ChainReading.{read_chain};
+ghost use Rattle.run_events_child.specs.declared.chain.json.FromValueError.{FromValueError};
 ghost use Rattle.uses.specs.Recorder.{IsRefusal, chain_in};
 
 use run_events::chain::{FromValueError, SerializableError};
@@ -42,6 +45,11 @@ pub fn load(alloc: Global, text: &str) -> Result<SerializableError, LoadError>
     ensures chain { IfOk result (λ error. chain_in text.now ≡ Some error) }
     // Only want of memory keeps a text that says an error from being read.
     ensures refused { IfErr result (λ e. IsRefusal e → chain_in text.now ≡ None) }
+    // The reason is that of the text: it is no JSON, or its value is refused for this reason.
+    ensures not_json { IsErrOf result LoadError.NotJson → read text.now ≡ None }
+    ensures not_an_error { (refusal : FromValueError)
+        → IsErrOf result (LoadError.NotAnError refusal)
+        → option_map read_chain (read text.now) ≡ Some (Err refusal) }
 {
     match Value::from_str(alloc, text) {
         Ok(value) => match SerializableError::from_value(alloc, &value) {

@@ -6,7 +6,7 @@ ghost use Rattle.std.specs.List.{filter_map, range_with_len};
 ghost use Rattle.run_events.specs.Counters.{TestUnit, stats_of, unit_view};
 ghost use Rattle.run_events.specs.Described.{described_result};
 ghost use Rattle.run_events.specs.Attempts.{attempts_of, view_of};
-ghost use Rattle.uses.specs.Runner.{last_stderr, numbered_of, stderr_of, told_name, told_stats, told_unit, view_of_attempts};
+ghost use Rattle.uses.specs.Runner.{last_stderr, left_by, numbered_of, stderr_of, told_name, told_stats, told_unit, view_of_attempts};
 
 use crate::of_run_events::{EndedAttempt, epoch, status_of};
 use run_events::attempts::{ExecutionStatuses, RetryData};
@@ -29,6 +29,8 @@ pub fn finished_test(
     ensures view { IfOk result (λ test. view_of test
         ≡ view_of_attempts (length earlier.now + 1) last.entry.outcome last.entry.is_slow setting) }
     ensures stderr { IfOk result (λ test. last_stderr test ≡ Some last.entry.stderr.now) }
+    ensures outputs { IfOk result (λ test. map (λ s. s.output) (attempts_of test)
+        ≡ map left_by (earlier.now ++ last.entry ∷ [])) }
     ensures results { IfOk result (λ test. map (λ s. s.result) (attempts_of test)
         ≡ map (λ a. described_result a.outcome None) (earlier.now ++ last.entry ∷ [])) }
     ensures slow { IfOk result (λ test. map (λ s. s.is_slow) (attempts_of test)

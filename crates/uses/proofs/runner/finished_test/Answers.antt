@@ -21,6 +21,7 @@ numbered_more statuses next f count number so_far is_next is_number =
 pub loop-attempt-preserved : goal.loop-attempt-preserved
 loop-attempt-preserved c = record {
   count = search (rules, common_steps);
+  outputs = search (rules, common_steps);
   results = search (rules, common_steps);
   slow = search (rules, common_steps);
   next = λ few.

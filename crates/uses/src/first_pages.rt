@@ -1,0 +1,26 @@
+//! Short callers that the first pages of libraries show, where no other file has one.
+
+ghost use Rattle.std.specs.Prelude.{◌≡◌, ◌||◌, if◌then◌else◌, codes};
+ghost use Rattle.run_events.specs.Config.{is_final_display, is_immediate_display};
+ghost use Rattle.run_events.specs.Results.{status_succeeds, status_word};
+
+use run_events::config::TestOutputDisplay;
+use run_events::results::ExecutionResult;
+
+/// Whether the output of a test is displayed at any time.
+pub fn is_displayed(display: TestOutputDisplay) -> bool
+    ensures { result ≡ (is_immediate_display display || is_final_display display) }
+{
+    display.is_immediate() || display.is_final()
+}
+
+/// How an attempt ended, in one word: `ok` for every success.
+pub fn word_of_end(end: ExecutionResult) -> &'static str
+    ensures { result.now ≡ (if status_succeeds end then codes "ok" else status_word end) }
+{
+    if end.is_success() {
+        "ok"
+    } else {
+        end.as_static_str()
+    }
+}
