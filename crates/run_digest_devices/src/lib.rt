@@ -1,5 +1,23 @@
 //! What `run-digest` reads from and writes to, how all of it is read and written, and the faults
 //! that the program ends with.
+//!
+//! All that a source has left goes to a sink:
+//!
+//! ```rust
+//! pub fn copy<R: Source, W: Sink>(alloc: Global, source: &mut R, sink: &mut W) -> Result<(), Fault>
+//!     requires source_works { R.failed source.old ≡ false }
+//!     requires sink_works { W.failed sink.old ≡ false }
+//!     ensures bytes { OnOk result (IfSome (R.left source.old)
+//!         (λ all. Appends (W.written sink.old) (W.written sink.new) all)) }
+//!     ensures errors { IfErr result (λ e. (e ≡ faults.Read) ⊎ (e ≡ faults.Write)
+//!         ⊎ (e ≡ faults.OutOfMemory)) }
+//!     ensures read { IsErrOf result faults.Read ↔ (R.failed source.new ≡ true) }
+//!     ensures write { IsErrOf result faults.Write ↔ (W.failed sink.new ≡ true) }
+//! {
+//!     let bytes = read_all(alloc, source)?;
+//!     write_all(sink, bytes.as_slice())
+//! }
+//! ```
 #![tactic(auto)]
 
 pub mod device;

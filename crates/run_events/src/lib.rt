@@ -3,6 +3,22 @@
 //!
 //! The layers below stand in crates of their own, `run_events_..`. What they hold is reached here
 //! too, so that a user names this crate alone.
+//!
+//! The part of a test's output that says why it failed, if it is loaded:
+//!
+//! ```rust
+//! fn message_of(
+//!     output: &ChildExecutionOutputDescription<LiveSpec>,
+//! ) -> Option<TestOutputErrorSlice<'_>>
+//!     ensures { IsMessage output.now (option_map extract_of result) }
+//! {
+//!     if UnitErrorDescription::can_describe(UnitKind::Test, output) {
+//!         UnitErrorDescription::new(UnitKind::Test, output).output_slice()
+//!     } else {
+//!         None
+//!     }
+//! }
+//! ```
 #![tactic(auto)]
 
 pub use output_slice;

@@ -1,4 +1,19 @@
 //! The attempts of a finished test, and what they come to.
+//!
+//! How a test ended, in one word:
+//!
+//! ```rust
+//! fn word_of(test: &ExecutionStatuses<LiveSpec>) -> &'static str
+//!     ensures { result.now ≡ test_word (view_of test.now) }
+//! {
+//!     let last = test.last_status();
+//!     if test.len() > 1 && last.result.is_success() {
+//!         "flaky"
+//!     } else {
+//!         last.result.as_static_str()
+//!     }
+//! }
+//! ```
 #![tactic(auto)]
 
 pub mod attempts;

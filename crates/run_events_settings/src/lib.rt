@@ -1,5 +1,15 @@
 //! What a run is set to: how results count and what is shown, what it is for, and how often it is
 //! repeated.
+//!
+//! Whether the output of a test is displayed at any time:
+//!
+//! ```rust
+//! pub fn is_displayed(display: TestOutputDisplay) -> bool
+//!     ensures { result ≡ (is_immediate_display display || is_final_display display) }
+//! {
+//!     display.is_immediate() || display.is_final()
+//! }
+//! ```
 #![tactic(auto)]
 
 pub mod config;

@@ -1,4 +1,17 @@
 //! The counters of a run, and what they amount to: its summary and its outcome.
+//!
+//! The exit status of a run, from its finished units:
+//!
+//! ```rust
+//! pub fn of_run(units: &[FinishedUnit<'_>], start: RunStart) -> u8
+//!     ensures success { (result ≡ SUCCESS) ↔ RunSucceeds (map unit_view units.now) start }
+//!     ensures summary { result ≡ status_of (outcome_of
+//!         (summary_of (stats_of (map unit_view units.now) start))) }
+//! {
+//!     let stats = RunStats::of_run(units, start);
+//!     of_outcome(RunOutcome::from_final_stats(stats.summarize_final()))
+//! }
+//! ```
 #![tactic(auto)]
 
 pub mod laws;
