@@ -160,8 +160,10 @@ impl Sink for MemorySink<'_> {
         self.failed
     }
 
-    /// As [`Sink::write`], with as many bytes as there is room for. It fails exactly where no call
-    /// was to come before the one that fails, or where there is no room.
+    /// As [`Sink::write`], with as many bytes as there is room for: of a buffer that does not fit
+    /// whole the first bytes fill the room that is left, and no other byte is taken. It fails
+    /// exactly where no call was to come before the one that fails, or where there is no room, and
+    /// then no byte is taken.
     fn write(&mut self, buffer: &[u8]) -> Result<usize, DeviceFailed>
         requires { 0 < length buffer.now }
         ensures some { IfOk result (λ n. 0 < n) }

@@ -208,3 +208,29 @@ fn a_flush_is_one_call_of_the_writer(rt: HostRuntime) {
         log.calls.as_slice() == wanted.as_slice() && log.taken.as_slice() == b"hel".as_slice()
     );
 }
+
+#[test]
+fn a_reader_is_asked_again_after_an_error_and_at_its_end(rt: HostRuntime) {
+    let mut pieces = reader(b"ab", 7, Some(0));
+    let mut source = StdSource::new(&mut pieces);
+    let mut buffer = [0; 9];
+    assert!(rt; source.read(&mut buffer) == Err(DeviceFailed));
+    assert!(rt; source.read(&mut buffer) == Ok(2) && buffer.starts_with(b"ab"));
+    assert!(rt; source.read(&mut buffer) == Ok(0) && source.read(&mut buffer) == Ok(0));
+    assert!(rt; source.has_failed());
+    drop(source);
+    assert!(rt; pieces.calls == 4);
+}
+
+#[test]
+fn a_writer_is_asked_again_after_an_error(rt: HostRuntime) {
+    let mut log = Log::new(rt.alloc(), 3, Some(0));
+    let mut sink = StdSink::new(&mut log);
+    assert!(rt; sink.write(b"hello") == Err(DeviceFailed));
+    assert!(rt; sink.write(b"world") == Ok(3) && sink.flush() == Ok(()) && sink.has_failed());
+    drop(sink);
+    let wanted = [Call::Write(5), Call::Write(5), Call::Flush];
+    assert!(rt;
+        log.calls.as_slice() == wanted.as_slice() && log.taken.as_slice() == b"wor".as_slice()
+    );
+}
