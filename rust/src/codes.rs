@@ -138,3 +138,209 @@ fn failed(failure: FailureDescription) -> (u32, i32) {
         },
     }
 }
+
+#[cfg(test)]
+mod tests {
+    use super::*;
+
+    const HEADER: &str = include_str!("../../include/deodarsieve.h");
+
+    /// The names of the header that begin so, in the order of their codes, which must be 0, 1, ..
+    fn header_names(prefix: &str) -> Vec<String> {
+        let start = format!("#define DEODARSIEVE_{prefix}_");
+        let lines = HEADER.lines().filter_map(|line| line.strip_prefix(&start));
+        let named = lines.enumerate().map(|(place, line)| {
+            let mut words = line.split_whitespace();
+            let name = words.next().expect("a name");
+            let code = words
+                .next()
+                .and_then(|word| word.strip_suffix('u'))
+                .expect("a code");
+            assert_eq!(code, place.to_string(), "{prefix}_{name}");
+            name.to_string()
+        });
+        named.collect()
+    }
+
+    /// A variant as the header writes it: words in capitals, joined by `_`.
+    fn header_name(variant: &str) -> String {
+        let mut name = String::new();
+        for letter in variant.chars() {
+            if letter.is_uppercase() && !name.is_empty() {
+                name.push('_');
+            }
+            name.push(letter.to_ascii_uppercase());
+        }
+        name
+    }
+
+    /// Each code names its variant, and each variant has its code.
+    fn compare<T: Copy + PartialEq + std::fmt::Debug>(prefix: &str, table: &[T], names: &[String]) {
+        assert_eq!(header_names(prefix), names, "{prefix}");
+        for (place, value) in table.iter().enumerate() {
+            let code = u32::try_from(place).expect("a code");
+            assert_eq!(code_of(table, *value), code);
+            assert_eq!(value_of(table, code), *value);
+        }
+        assert_eq!(table.len(), names.len());
+    }
+
+    /// The names of variants without fields.
+    fn plain_names<T: std::fmt::Debug>(table: &[T]) -> Vec<String> {
+        table
+            .iter()
+            .map(|value| header_name(&format!("{value:?}")))
+            .collect()
+    }
+
+    fn listed(names: &[&str]) -> Vec<String> {
+        names.iter().map(|name| name.to_string()).collect()
+    }
+
+    #[test]
+    fn flaky_results() {
+        compare("FLAKY", &FLAKY_RESULTS, &plain_names(&FLAKY_RESULTS));
+    }
+
+    #[test]
+    fn reasons() {
+        let names: Vec<String> = REASONS
+            .iter()
+            .map(|reason| reason.map_or("NONE".to_string(), |it| header_name(&format!("{it:?}"))))
+            .collect();
+        compare("REASON", &REASONS, &names);
+        assert!(REASONS.windows(2).all(|pair| pair[0] < pair[1]));
+    }
+
+    #[test]
+    fn status_levels() {
+        compare("STATUS_LEVEL", &LEVELS, &plain_names(&LEVELS));
+        assert!(LEVELS.windows(2).all(|pair| pair[0] < pair[1]));
+    }
+
+    #[test]
+    fn final_status_levels() {
+        compare(
+            "FINAL_STATUS_LEVEL",
+            &FINAL_LEVELS,
+            &plain_names(&FINAL_LEVELS),
+        );
+        assert!(FINAL_LEVELS.windows(2).all(|pair| pair[0] < pair[1]));
+    }
+
+    #[test]
+    fn displays() {
+        compare("DISPLAY", &DISPLAYS, &plain_names(&DISPLAYS));
+    }
+
+    #[test]
+    fn stores() {
+        compare("STORE", &STORES, &listed(&["NO", "TEST", "WITH_OUTPUT"]));
+    }
+
+    #[test]
+    fn steps() {
+        compare("STEP", &STEPS, &plain_names(&STEPS));
+        assert!(STEPS[0] < STEPS[1]);
+    }
+
+    #[test]
+    fn outcomes() {
+        let names = [
+            "NO_TESTS_RUN",
+            "SUCCESS",
+            "CANCELLED_AT_TESTS",
+            "CANCELLED_AT_SETUP_SCRIPTS",
+            "FAILED_AT_TESTS",
+            "FAILED_AT_SETUP_SCRIPTS",
+        ];
+        compare("OUTCOME", &OUTCOMES, &listed(&names));
+        assert!(OUTCOMES.windows(2).all(|pair| pair[0] < pair[1]));
+    }
+
+    #[test]
+    fn results() {
+        let names = [
+            "PASS",
+            "LEAK_PASS",
+            "LEAK_FAIL",
+            "EXIT_CODE",
+            "UNIX_SIGNAL",
+            "WINDOWS_NT_STATUS",
+            "WINDOWS_JOB_OBJECT",
+            "EXEC_FAIL",
+            "TIMEOUT_PASS",
+            "TIMEOUT_FAIL",
+        ];
+        assert_eq!(header_names("RESULT"), names);
+        let abort = |abort| FailureDescription::Abort { abort };
+        let fail = |failure| ExecutionResultDescription::Fail {
+            failure,
+            leaked: false,
+        };
+        let results = [
+            (ExecutionResultDescription::Pass, 0),
+            (
+                ExecutionResultDescription::Leak {
+                    result: LeakTimeoutResult::Pass,
+                },
+                0,
+            ),
+            (
+                ExecutionResultDescription::Leak {
+                    result: LeakTimeoutResult::Fail,
+                },
+                0,
+            ),
+            (fail(FailureDescription::ExitCode { code: -3 }), -3),
+            (fail(abort(AbortDescription::UnixSignal { signal: 9 })), 9),
+            (
+                fail(abort(AbortDescription::WindowsNtStatus { code: -5 })),
+                -5,
+            ),
+            (fail(abort(AbortDescription::WindowsJobObject)), 0),
+            (ExecutionResultDescription::ExecFail, 0),
+            (
+                ExecutionResultDescription::Timeout {
+                    result: SlowTimeoutResult::Pass,
+                },
+                0,
+            ),
+            (
+                ExecutionResultDescription::Timeout {
+                    result: SlowTimeoutResult::Fail,
+                },
+                0,
+            ),
+        ];
+        for (code, (result, number)) in (0u32..).zip(results) {
+            let crossing = ended(&result);
+            assert_eq!((crossing.kind, crossing.number), (code, number));
+        }
+    }
+
+    #[test]
+    fn stress_finals_and_kinds() {
+        compare(
+            "STRESS",
+            &[0, 1, 2, 3],
+            &listed(&["COUNT", "INFINITE", "TIME", "NOTHING"]),
+        );
+        let names = ["NO_TESTS_RUN", "SUCCESS", "CANCELLED", "FAILED"];
+        let lines = HEADER.lines().filter(|line| {
+            line.starts_with("#define DEODARSIEVE_FINAL_") && !line.contains("STATUS_LEVEL")
+        });
+        for (place, (line, name)) in lines.zip(names).enumerate() {
+            assert_eq!(line, format!("#define DEODARSIEVE_FINAL_{name} {place}u"));
+            let code = u32::try_from(place).expect("a code");
+            let variant = format!("{:?}", value_of(&STRESS_FINALS, code));
+            assert_eq!(header_name(&variant), name);
+        }
+    }
+
+    #[test]
+    #[should_panic(expected = "of this crate's version")]
+    fn a_code_that_names_nothing() {
+        value_of(&STEPS, 2);
+    }
+}

@@ -314,3 +314,65 @@ pub(crate) fn stress_remaining(progress: &Progress) -> Option<Remaining> {
     // SAFETY: `progress` is a reference to a whole struct; the answer is this function's own.
     unsafe { deodarsieve_stress_remaining_of(progress, &mut answer) }.then_some(answer)
 }
+
+#[cfg(test)]
+mod tests {
+    use super::*;
+    use std::mem::{offset_of, size_of};
+
+    /// The numbers that `include/layout.c` states of the header.
+    #[test]
+    fn layouts_are_those_of_the_header() {
+        assert_eq!((size_of::<Slice>(), offset_of!(Slice, start)), (24, 8));
+        assert_eq!(offset_of!(Slice, length), 16);
+        assert_eq!((size_of::<Head>(), offset_of!(Head, start)), (32, 8));
+        assert_eq!((offset_of!(Head, stop), offset_of!(Head, reads)), (16, 24));
+        assert_eq!((size_of::<Ended>(), offset_of!(Ended, number)), (8, 4));
+        assert_eq!(
+            (size_of::<TestView>(), offset_of!(TestView, attempts)),
+            (24, 8)
+        );
+        assert_eq!(offset_of!(TestView, is_slow), 16);
+        assert_eq!(offset_of!(TestView, flaky_result), 20);
+        assert_eq!(
+            (size_of::<RunStats>(), offset_of!(RunStats, passed)),
+            (160, 64)
+        );
+        assert_eq!(offset_of!(RunStats, skipped), 144);
+        assert_eq!(offset_of!(RunStats, cancel_reason), 152);
+        assert_eq!(
+            (
+                size_of::<FailedCounts>(),
+                offset_of!(FailedCounts, setup_scripts)
+            ),
+            (16, 8)
+        );
+        assert_eq!(
+            (size_of::<FinalStats>(), offset_of!(FinalStats, step)),
+            (32, 8)
+        );
+        assert_eq!(offset_of!(FinalStats, initial_run_count), 16);
+        assert_eq!(offset_of!(FinalStats, not_run), 24);
+        assert_eq!(
+            (size_of::<FinishedTest>(), offset_of!(FinishedTest, result)),
+            (32, 24)
+        );
+        assert_eq!(
+            (size_of::<Output>(), offset_of!(Output, store_final)),
+            (8, 4)
+        );
+        assert_eq!(
+            (size_of::<Length>(), offset_of!(Length, nanoseconds)),
+            (16, 8)
+        );
+        assert_eq!(
+            (size_of::<Progress>(), offset_of!(Progress, total)),
+            (48, 16)
+        );
+        assert_eq!(offset_of!(Progress, elapsed), 32);
+        assert_eq!(
+            (size_of::<Remaining>(), offset_of!(Remaining, time)),
+            (24, 8)
+        );
+    }
+}
