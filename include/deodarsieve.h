@@ -1,27 +1,27 @@
 /*
  * The run statistics, outcomes and output slices of a test runner, from proved code.
  *
- * Each function here is an export of libdeodarsieve.a, a static library written in Rattle. What its
- * comment promises is a clause of the export's contract, which was proved of its body. This header
- * is not proved: it is compared with the exports by tests. The archive is compiled for processors of
- * x86-64-v2 and later.
+ * Each function here is an export of libdeodarsieve.a, a static library written in Rattle. What
+ * its comment promises is a clause of the export's contract, which was proved of its body. This
+ * header is not proved: it is compared with the exports by tests. The archive is compiled for
+ * processors of x86-64-v2 and later.
  *
  * What every function keeps to:
  *
  * - It takes no memory, keeps no state, and may be called from any thread at any time.
- * - An enumeration crosses as a uint32_t code, from the tables below. Where an argument has a code
- *   that names nothing, the answer is false and *answer stays as it was. No argument of any other
- *   value is refused or trusted, but for what a function says of itself.
+ * - An enumeration crosses as a uint32_t code, from the tables below. Where an argument has a
+ *   code that names nothing, the answer is false and *answer stays as it was. No argument of
+ *   any other value is refused or trusted, but for what a function says of itself.
  * - Lengths and places are in bytes, places from 0. Counters are numbers of units.
  *
  * What a caller owes, and nothing checks:
  *
  * - No pointer is null, also where a length is 0.
- * - `bytes` points to `length` bytes, at most PTRDIFF_MAX of them, and a pointer to a struct points to
- *   a whole one, aligned; `sub_runs` points to `length` whole ones. All of their members that are read
- *   are set.
- * - A struct that is written overlaps nothing that is handed in beside it, and no other thread reads
- *   or writes what is handed in while the call runs.
+ * - `bytes` points to `length` bytes, at most PTRDIFF_MAX of them, and a pointer to a struct
+ *   points to a whole one, aligned; `sub_runs` points to `length` whole ones. All of their
+ *   members that are read are set.
+ * - A struct that is written overlaps nothing that is handed in beside it, and no other thread
+ *   reads or writes what is handed in while the call runs.
  */
 #ifndef DEODARSIEVE_H
 #define DEODARSIEVE_H
@@ -39,7 +39,7 @@ extern "C" {
 /* What a slice is. */
 #define DEODARSIEVE_SLICE_NONE 0u          /* there is none */
 #define DEODARSIEVE_SLICE_PANIC_MESSAGE 1u /* a panic message: a part of standard error */
-#define DEODARSIEVE_SLICE_ERROR_STR 2u     /* `Error: ..` and what follows: a part of standard error */
+#define DEODARSIEVE_SLICE_ERROR_STR 2u     /* `Error: ..` and on: a part of standard error */
 #define DEODARSIEVE_SLICE_SHOULD_PANIC 3u  /* a test did not panic: a part of standard output */
 
 /* How an attempt, or a setup script, ended. */
@@ -135,18 +135,18 @@ typedef struct deodarsieve_slice {
 } deodarsieve_slice;
 
 /*
- * The part of a test's output that says why it failed: the message of the last panic in standard
- * error, else an `Error: ` line of standard error with what follows, else the line of standard output
- * that notes that a test which was to panic did not. `out` is standard output and `err` standard
- * error. A stream that was not captured is told by its flag, and its bytes are not looked at. Output
- * whose streams were captured as one is handed in as both.
+ * The part of a test's output that says why it failed: the message of the last panic in
+ * standard error, else an `Error: ` line of standard error with what follows, else the line of
+ * standard output that notes that a test which was to panic did not. `out` is standard output
+ * and `err` standard error. A stream that was not captured is told by its flag, and its bytes
+ * are not looked at. Output whose streams were captured as one is handed in as both.
  */
 deodarsieve_slice deodarsieve_extract(bool is_out_captured, const uint8_t *out, size_t out_length,
                                       bool is_err_captured, const uint8_t *err, size_t err_length);
 
 /*
- * The same with the first bytes of the part, at most `limit`: kind and start as above. The cut may
- * fall inside a character. A limit of 0 is refused.
+ * The same with the first bytes of the part, at most `limit`: kind and start as above. The cut
+ * may fall inside a character. A limit of 0 is refused.
  */
 bool deodarsieve_extract_capped(bool is_out_captured, const uint8_t *out, size_t out_length,
                                 bool is_err_captured, const uint8_t *err, size_t err_length,
@@ -157,12 +157,12 @@ typedef struct deodarsieve_head {
     bool is_found;  /* whether there is one; else start and stop are 0 */
     size_t start;   /* where `thread '` stands */
     size_t stop;    /* the place behind the last space of ` panicked at ` */
-    uint64_t reads; /* how many bytes were read, one counted for each time; UINT64_MAX also for more */
+    uint64_t reads; /* reads of a byte; UINT64_MAX also for more */
 } deodarsieve_head;
 
 /*
- * The last head of a panic message: heads are taken leftmost first, and disjoint. Of n bytes it makes
- * at most 3n + 8 reads.
+ * The last head of a panic message: heads are taken leftmost first, and disjoint. Of n bytes it
+ * makes at most 3n + 8 reads.
  */
 deodarsieve_head deodarsieve_last_panic_head(const uint8_t *bytes, size_t length);
 
@@ -207,9 +207,9 @@ typedef struct deodarsieve_run_stats {
 } deodarsieve_run_stats;
 
 /*
- * Counts one more finished test: each counter whose rule holds of it is raised by one, and all else
- * stays. False, and nothing changed, where such a counter has no room, or at a code that names
- * nothing.
+ * Counts one more finished test: each counter whose rule holds of it is raised by one, and all
+ * else stays. False, and nothing changed, where such a counter has no room, or at a code that
+ * names nothing.
  */
 bool deodarsieve_count_test(deodarsieve_run_stats *stats, const deodarsieve_test_view *test);
 
@@ -247,9 +247,9 @@ bool deodarsieve_summarize_final(const deodarsieve_run_stats *stats,
                                  deodarsieve_final_stats *answer);
 
 /*
- * The outcome (DEODARSIEVE_OUTCOME_...) of a run from the summaries of all its sub-runs: the highest
- * of their outcomes, and DEODARSIEVE_OUTCOME_NO_TESTS_RUN where there is none. Of one summary it is
- * that run's outcome.
+ * The outcome (DEODARSIEVE_OUTCOME_...) of a run from the summaries of all its sub-runs: the
+ * highest of their outcomes, and DEODARSIEVE_OUTCOME_NO_TESTS_RUN where there is none. Of one
+ * summary it is that run's outcome.
  */
 bool deodarsieve_outcome_of_sub_runs(const deodarsieve_final_stats *sub_runs, size_t length,
                                      uint32_t *answer);
@@ -258,9 +258,9 @@ bool deodarsieve_outcome_of_sub_runs(const deodarsieve_final_stats *sub_runs, si
 bool deodarsieve_combine(uint32_t outcome, uint32_t other, uint32_t *answer);
 
 /*
- * What a repeated run amounts to (DEODARSIEVE_FINAL_...), from how many of its sub-runs were counted
- * as failed and the summary of the last one: failed where one was, else what the last one says of a
- * cancellation or of no tests, else success.
+ * What a repeated run amounts to (DEODARSIEVE_FINAL_...), from how many of its sub-runs were
+ * counted as failed and the summary of the last one: failed where one was, else what the last
+ * one says of a cancellation or of no tests, else success.
  */
 bool deodarsieve_summarize_stress(uint32_t failed_count, const deodarsieve_final_stats *last,
                                   uint32_t *answer);
@@ -292,15 +292,15 @@ typedef struct deodarsieve_output_on_test_finished {
 } deodarsieve_output_on_test_finished;
 
 /*
- * What is shown of a test that has just finished, and what is stored of it. Under a greater reason to
- * cancel no more is shown or stored than under a lesser one, with one exception: a test that the
- * runner seems to have ended is hidden while the run stops at once, and neither when the time for the
- * run is over nor under a signal.
+ * What is shown of a test that has just finished, and what is stored of it. Under a greater
+ * reason to cancel no more is shown or stored than under a lesser one, with one exception: a
+ * test that the runner seems to have ended is hidden while the run stops at once, and neither
+ * when the time for the run is over nor under a signal.
  */
 bool deodarsieve_compute_output_on_test_finished(const deodarsieve_finished_test *test,
                                                  deodarsieve_output_on_test_finished *answer);
 
-/* Whether an attempt succeeded: it passed, or leaked or ran out of time where that counts as passed. */
+/* Whether an attempt succeeded: it passed, or leaked or ran out of time where that passes. */
 bool deodarsieve_is_success(const deodarsieve_result *result, bool *answer);
 
 /* Whether it failed by SIGTERM or with its job object, which is how a runner ends a test. */
@@ -317,7 +317,7 @@ typedef struct deodarsieve_duration {
 /* How far a repeated run is. */
 typedef struct deodarsieve_stress_progress {
     uint32_t kind;                /* DEODARSIEVE_STRESS_COUNT, .._INFINITE or .._TIME */
-    uint32_t total_count;         /* of a count: how many sub-runs, at least 1; else not looked at */
+    uint32_t total_count;         /* of a count: sub-runs, at least 1; else not looked at */
     uint32_t completed;           /* how many sub-runs are done */
     deodarsieve_duration total;   /* of a time: for how long; else not looked at */
     deodarsieve_duration elapsed; /* the time that all sub-runs took so far; always looked at */
@@ -331,10 +331,11 @@ typedef struct deodarsieve_stress_remaining {
 } deodarsieve_stress_remaining;
 
 /*
- * What is left of a repeated run: the sub-runs of the total that are not done, or the time of the
- * total that has not elapsed, and nothing where that is none. The kind DEODARSIEVE_STRESS_NOTHING is
- * refused here, and so is a count of 0. So is a duration that is looked at and has 1,000,000,000
- * nanoseconds or more: `elapsed` is looked at in a run of each kind.
+ * What is left of a repeated run: the sub-runs of the total that are not done, or the time of
+ * the total that has not elapsed, and nothing where that is none. The kind
+ * DEODARSIEVE_STRESS_NOTHING is refused here, and so is a count of 0. So is a duration that is
+ * looked at and has 1,000,000,000 nanoseconds or more: `elapsed` is looked at in a run of each
+ * kind.
  */
 bool deodarsieve_stress_remaining_of(const deodarsieve_stress_progress *progress,
                                      deodarsieve_stress_remaining *answer);

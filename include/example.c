@@ -19,7 +19,8 @@ int main(void)
     test.result = (deodarsieve_result){DEODARSIEVE_RESULT_EXIT_CODE, 101};
     if (!deodarsieve_count_test(&stats, &test) || !deodarsieve_summarize_final(&stats, &summary))
         return 1;
-    printf("passed %zu failed %zu summary %u\n", stats.passed, stats.failed, (unsigned)summary.kind);
+    printf("passed %zu failed %zu summary %u\n", stats.passed, stats.failed,
+           (unsigned)summary.kind);
     why = deodarsieve_extract(true, bytes, length, true, bytes, length);
     printf("kind %u: %.*s\n", (unsigned)why.kind, (int)why.length, text + why.start);
     return 0;
