@@ -274,3 +274,39 @@ fn what_is_left_of_a_time() {
     let expected = NonZeroDuration::new(Duration::MAX).unwrap();
     assert_eq!(progress.remaining(), Some(StressRemaining::Time(expected)));
 }
+
+#[test]
+fn every_failure_counts_as_an_exit_code_does() {
+    let fail = |failure, leaked| ExecutionResultDescription::Fail { failure, leaked };
+    let abort = |abort| fail(FailureDescription::Abort { abort }, true);
+    let exit = fail(FailureDescription::ExitCode { code: 1 }, false);
+    let others = [
+        abort(AbortDescription::UnixSignal { signal: 15 }),
+        abort(AbortDescription::WindowsNtStatus { code: -1 }),
+        abort(AbortDescription::WindowsJobObject),
+    ];
+    for (result, ended_by_runner) in others.into_iter().zip([true, false, true]) {
+        assert_eq!(result.is_termination_failure(), ended_by_runner);
+        for choice in 0..8 {
+            let test = |result| TestView {
+                result,
+                attempts: 1 + choice % 2,
+                is_slow: choice & 2 != 0,
+                flaky_result: if choice < 4 {
+                    FlakyResult::Pass
+                } else {
+                    FlakyResult::Fail
+                },
+            };
+            assert_eq!(counted(&test(result)), counted(&test(exit)));
+            assert_eq!(test(result).status_level(), StatusLevel::Fail);
+            assert_eq!(test(result).final_status_level(), FinalStatusLevel::Fail);
+        }
+    }
+}
+
+fn counted(test: &TestView) -> RunStats {
+    let mut stats = RunStats::default();
+    stats.on_test_finished(test).unwrap();
+    stats
+}
