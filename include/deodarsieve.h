@@ -292,10 +292,13 @@ typedef struct deodarsieve_output_on_test_finished {
 } deodarsieve_output_on_test_finished;
 
 /*
- * What is shown of a test that has just finished, and what is stored of it. Under a greater
- * reason to cancel no more is shown or stored than under a lesser one, with one exception: a
- * test that the runner seems to have ended is hidden while the run stops at once, and neither
- * when the time for the run is over nor under a signal.
+ * What is shown of a test that has just finished, and what is stored of it. A line is written
+ * where the reporter's status level is at or above the test's, whatever the reason to cancel.
+ * Output is displayed at once where the display is immediate. The test is stored where the display
+ * is final or the reporter's final level is at or above the test's, with its output where the
+ * display is final. A reason takes away from this: while the run stops at once, all but the line
+ * of a test that failed by SIGTERM or with its job object; under a signal, output at the end that
+ * is displayed at once; under an interrupt or a second signal, all but the line of any test.
  */
 bool deodarsieve_compute_output_on_test_finished(const deodarsieve_finished_test *test,
                                                  deodarsieve_output_on_test_finished *answer);
