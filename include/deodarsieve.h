@@ -188,28 +188,28 @@ typedef struct deodarsieve_run_stats {
     size_t finished_count;               /* tests that finished */
     size_t setup_scripts_initial_count;  /* setup scripts that were to run */
     size_t setup_scripts_finished_count; /* setup scripts that finished */
-    size_t setup_scripts_passed;
-    size_t setup_scripts_failed;
+    size_t setup_scripts_passed;         /* passed, or leaked where that passes */
+    size_t setup_scripts_failed;         /* failed, or leaked where that fails */
     size_t setup_scripts_exec_failed;
-    size_t setup_scripts_timed_out;
-    size_t passed;
-    size_t passed_slow;      /* among `passed` */
-    size_t passed_timed_out; /* among `passed` */
-    size_t flaky;            /* among `passed`: only after a first attempt */
-    size_t failed;
-    size_t failed_slow; /* among `failed` */
-    size_t failed_timed_out;
-    size_t leaky;
-    size_t leaky_failed; /* among `failed` */
-    size_t exec_failed;
+    size_t setup_scripts_timed_out;      /* also where a test would have passed so */
+    size_t passed;                       /* succeeded, and not flaky and set to fail */
+    size_t passed_slow;                  /* among `passed`, but for those whose time ran out */
+    size_t passed_timed_out;             /* among `passed` */
+    size_t flaky;                        /* among `passed`: only after a first attempt */
+    size_t failed;                       /* failed, leaked where that fails, or flaky, set to fail */
+    size_t failed_slow;                  /* among `failed` */
+    size_t failed_timed_out;             /* their time ran out; not among `failed` */
+    size_t leaky;                        /* leaked where that passes, also if flaky and set to fail */
+    size_t leaky_failed;                 /* among `failed` */
+    size_t exec_failed;                  /* not among `failed` */
     size_t skipped;
-    uint32_t cancel_reason; /* DEODARSIEVE_REASON_... */
+    uint32_t cancel_reason;              /* DEODARSIEVE_REASON_... */
 } deodarsieve_run_stats;
 
 /*
- * Counts one more finished test: each counter whose rule holds of it is raised by one, and all
- * else stays. False, and nothing changed, where such a counter has no room, or at a code that
- * names nothing.
+ * Counts one more finished test: `finished_count` and each counter that speaks of such a test, as
+ * said there, are raised by one, and all else stays. False, and nothing changed, where such a
+ * counter has no room, or at a code that names nothing.
  */
 bool deodarsieve_count_test(deodarsieve_run_stats *stats, const deodarsieve_test_view *test);
 

@@ -57,9 +57,12 @@ pub enum TestOutputErrorSlice<'a> {
 }
 
 impl<'a> TestOutputErrorSlice<'a> {
-    /// The part that says why the test failed; `None` for a stream that was not captured.
+    /// The part that says why the test failed: the message of the last panic in standard error,
+    /// else an `Error: ` line of it with what follows, else the line of standard output that notes
+    /// that a test which was to panic did not. The answer is `None` where there is none of these.
     ///
-    /// Output whose streams were captured as one is handed in as both.
+    /// A stream that was not captured is handed in as `None`, and output whose streams were
+    /// captured as one is handed in as both.
     ///
     /// ```
     /// use deodarsieve::TestOutputErrorSlice;

@@ -51,22 +51,22 @@ pub struct RunStats {
     /// The setup scripts that finished.
     pub setup_scripts_finished_count: usize,
 
-    /// The setup scripts that passed.
+    /// The setup scripts that passed, or leaked where that passes.
     pub setup_scripts_passed: usize,
 
-    /// The setup scripts that failed.
+    /// The setup scripts that failed, or leaked where that fails.
     pub setup_scripts_failed: usize,
 
     /// The setup scripts that could not be executed.
     pub setup_scripts_exec_failed: usize,
 
-    /// The setup scripts whose time ran out.
+    /// The setup scripts whose time ran out, also where a test would have passed so.
     pub setup_scripts_timed_out: usize,
 
-    /// The tests that passed.
+    /// The tests that passed: they succeeded, and not as flaky tests that are set to fail.
     pub passed: usize,
 
-    /// The slow tests among `passed`.
+    /// The slow tests among `passed`, but for those whose time ran out.
     pub passed_slow: usize,
 
     /// The tests among `passed` whose time ran out.
@@ -75,22 +75,23 @@ pub struct RunStats {
     /// The tests among `passed` that succeeded only after a first attempt.
     pub flaky: usize,
 
-    /// The tests that failed.
+    /// The tests that failed, leaked where that fails, or are flaky and set to fail.
     pub failed: usize,
 
     /// The slow tests among `failed`.
     pub failed_slow: usize,
 
-    /// The tests that failed because their time ran out.
+    /// The tests that failed because their time ran out. They are not among `failed`.
     pub failed_timed_out: usize,
 
-    /// The tests that leaked where that passes.
+    /// The tests that leaked where that passes, also where they are flaky and set to fail: so not
+    /// all of them are among `passed`.
     pub leaky: usize,
 
     /// The tests among `failed` that leaked where that fails.
     pub leaky_failed: usize,
 
-    /// The tests that could not be executed.
+    /// The tests that could not be executed. They are not among `failed`.
     pub exec_failed: usize,
 
     /// The tests that were skipped.
@@ -101,7 +102,8 @@ pub struct RunStats {
 }
 
 impl RunStats {
-    /// Counts one more finished test. Where a counter that it raises has no room, nothing changes.
+    /// Counts one more finished test: `finished_count` and each counter that speaks of such a test
+    /// rise by one. Where one of these has no room, nothing changes.
     ///
     /// ```
     /// use deodarsieve::{ExecutionResultDescription, NoRoom, RunStats, TestView};

@@ -90,7 +90,7 @@ pub struct FfiRunStats {
     /// The tests that passed.
     pub passed: usize,
 
-    /// The slow tests among `passed`.
+    /// The slow tests among `passed`, but for those whose time ran out.
     pub passed_slow: usize,
 
     /// The tests among `passed` whose time ran out.
@@ -99,22 +99,22 @@ pub struct FfiRunStats {
     /// The tests among `passed` that succeeded only after a first attempt.
     pub flaky: usize,
 
-    /// The tests that failed.
+    /// The tests that failed, leaked where that fails, or are flaky and set to fail.
     pub failed: usize,
 
     /// The slow tests among `failed`.
     pub failed_slow: usize,
 
-    /// The tests that failed because their time ran out.
+    /// The tests that failed because their time ran out. They are not among `failed`.
     pub failed_timed_out: usize,
 
-    /// The tests that leaked where that passes.
+    /// The tests that leaked where that passes, also where they are flaky and set to fail.
     pub leaky: usize,
 
     /// The tests among `failed` that leaked where that fails.
     pub leaky_failed: usize,
 
-    /// The tests that could not be executed.
+    /// The tests that could not be executed. They are not among `failed`.
     pub exec_failed: usize,
 
     /// The tests that were skipped.
