@@ -192,14 +192,14 @@ typedef struct deodarsieve_run_stats {
     size_t setup_scripts_failed;         /* failed, or leaked where that fails */
     size_t setup_scripts_exec_failed;
     size_t setup_scripts_timed_out;      /* also where a test would have passed so */
-    size_t passed;                       /* succeeded, and not flaky and set to fail */
+    size_t passed;                       /* succeeded, and is not flaky as a failure */
     size_t passed_slow;                  /* among `passed`, but for those whose time ran out */
     size_t passed_timed_out;             /* among `passed` */
     size_t flaky;                        /* among `passed`: only after a first attempt */
-    size_t failed;                       /* failed, leaked where that fails, or flaky, set to fail */
+    size_t failed;                       /* failed or leaked as a failure, or is flaky as one */
     size_t failed_slow;                  /* among `failed` */
     size_t failed_timed_out;             /* their time ran out; not among `failed` */
-    size_t leaky;                        /* leaked where that passes, also if flaky and set to fail */
+    size_t leaky;                        /* leaked where that passes, also if flaky as a failure */
     size_t leaky_failed;                 /* among `failed` */
     size_t exec_failed;                  /* not among `failed` */
     size_t skipped;

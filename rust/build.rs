@@ -15,7 +15,9 @@ fn main() {
     if !archive.is_file() {
         eprintln!("error: there is no {}", archive.display());
         eprintln!("`rt lib` in the repository's folder crates/deodarsieve makes it;");
-        eprintln!("DEODARSIEVE_LIB_DIR names, by its whole path, the folder of one that is elsewhere");
+        eprintln!(
+            "DEODARSIEVE_LIB_DIR names, by its whole path, the folder of one that is elsewhere"
+        );
         exit(1);
     }
     println!("cargo:rustc-link-search=native={}", folder.display());
