@@ -11,7 +11,7 @@
 //! pass is this program's own, so that its ratios are not those of `./bench`.
 //!
 //! The status is 1 where a short call costs more than it may. No growth changes it. A wrong answer
-//! is a panic.
+//! is a panic. Beside other work on the machine a call can seem to cost more than it does.
 
 use std::env;
 use std::fmt;
