@@ -285,8 +285,8 @@ fn pieces(name: &'static str, piece: &'static [u8], count: usize) -> Input {
     }
 }
 
-/// The inputs whose growth is measured.
-fn inputs() -> [Input; 12] {
+/// The inputs that are ordinary output.
+fn ordinary() -> [Input; 4] {
     let log = pieces("nothing-found", LOG, 100_000);
     [
         Input {
@@ -306,6 +306,12 @@ fn inputs() -> [Input; 12] {
             front: b"thread 'a\n",
             ..pieces("false-opening", QUOTELESS_LOG, 1_000_000)
         },
+    ]
+}
+
+/// The inputs that are made to take long.
+fn adverse() -> [Input; 8] {
+    [
         Input {
             panic_at: Place::LastPiece,
             ..pieces(
@@ -439,7 +445,10 @@ fn main() -> ExitCode {
         is_level_within(),
         is_summary_within(),
     ];
-    let growths = inputs().map(|input| is_growth_within(&input, megabytes * 1_000_000));
+    let inputs = ordinary().into_iter().chain(adverse());
+    let growths: Vec<bool> = inputs
+        .map(|input| is_growth_within(&input, megabytes * 1_000_000))
+        .collect();
     let within = short
         .iter()
         .chain(&growths)
