@@ -1,5 +1,5 @@
 -- What a displayer needs of what is shown.
-use Rattle.std.proofs.Common.{◌≡◌, ◌<◌, ◌≤◌, Bool, true, false, Option, None, Some, refl, arith}
+use Rattle.std.proofs.Common.{◌≡◌, ◌<◌, ◌≤◌, Bool, true, false, Option, Some, refl, arith}
 use Rattle.std.specs.Prelude.{if◌then◌else◌}
 use Rattle.run_events.specs.Visibility.{Asked, severity, visibility, with_output}
 use Rattle.run_events_levels.specs.declared.levels.OutputStoreFinal.TheVariants.{No, Yes}
