@@ -2,9 +2,9 @@
  * The run statistics, outcomes and output slices of a test runner, from proved code.
  *
  * Each function here is an export of libdeodarsieve.a, a static library written in Rattle. What
- * its comment promises is a clause of the export's contract, which was proved of its body. This
- * header is not proved: it is compared with the exports by tests. The archive is compiled for
- * processors of x86-64-v2 and later.
+ * its comment says of the answer is a clause of the export's contract, which was proved of its
+ * body. This header is not proved: it is compared with the exports by tests. The archive is
+ * compiled for Linux on x86-64, for processors of x86-64-v2 and later.
  *
  * What every function keeps to:
  *
@@ -16,10 +16,11 @@
  *
  * What a caller owes, and nothing checks:
  *
- * - No pointer is null, also where a length is 0.
- * - `bytes` points to `length` bytes, at most PTRDIFF_MAX of them, and a pointer to a struct
- *   points to a whole one, aligned; `sub_runs` points to `length` whole ones. All of their
- *   members that are read are set.
+ * - No pointer is null, also where a length is 0 or a stream was not captured.
+ * - `bytes`, `out` and `err` point to as many bytes as `length`, `out_length` and `err_length` say,
+ *   at most PTRDIFF_MAX of them, and a pointer to a struct points to a whole one, aligned;
+ *   `sub_runs` points to `length` whole ones. All of their members that are read are set, and a
+ *   bool is true or false.
  * - A struct that is written overlaps nothing that is handed in beside it, and no other thread
  *   reads or writes what is handed in while the call runs.
  */
@@ -139,7 +140,8 @@ typedef struct deodarsieve_slice {
  * standard error, else an `Error: ` line of standard error with what follows, else the line of
  * standard output that notes that a test which was to panic did not. `out` is standard output
  * and `err` standard error. A stream that was not captured is told by its flag, and its bytes
- * are not looked at. Output whose streams were captured as one is handed in as both.
+ * are not looked at, though its pointer is not null. Output whose streams were captured as one is
+ * handed in as both.
  */
 deodarsieve_slice deodarsieve_extract(bool is_out_captured, const uint8_t *out, size_t out_length,
                                       bool is_err_captured, const uint8_t *err, size_t err_length);
@@ -157,12 +159,12 @@ typedef struct deodarsieve_head {
     bool is_found;  /* whether there is one; else start and stop are 0 */
     size_t start;   /* where `thread '` stands */
     size_t stop;    /* the place behind the last space of ` panicked at ` */
-    uint64_t reads; /* reads of a byte; UINT64_MAX also for more */
+    uint64_t reads; /* reads of a byte that the search made; UINT64_MAX also for more */
 } deodarsieve_head;
 
 /*
- * The last head of a panic message: heads are taken leftmost first, and disjoint. Of n bytes it
- * makes at most 3n + 8 reads.
+ * The last head of a panic message: heads are taken leftmost first, and disjoint. Of the reads it
+ * is proved that there are at most 3n + 8 of n bytes.
  */
 deodarsieve_head deodarsieve_last_panic_head(const uint8_t *bytes, size_t length);
 

@@ -50,9 +50,10 @@ slice_out (Some (panic_slice x)) = record { kind = 1; start = x.start; length = 
 slice_out (Some (error_slice x)) = record { kind = 2; start = x.start; length = length x.bytes }
 slice_out (Some (note_line x)) = record { kind = 3; start = x.start; length = length x.bytes }
 
--- the part lies within the stream that its kind says, which was captured
+-- the part is not empty, and lies within the stream that its kind says, which was captured
 abbrev pub LiesWithin : Option (List ℕ) → Option (List ℕ) → FfiSlice → Type 0
-LiesWithin out err s = (s.kind ≡ 0) ⊎ IsSomeAnd (if s.kind == 3 then out else err) (λ stream. s.start + s.length ≤ length stream)
+LiesWithin out err s =
+    (s.kind ≡ 0) ⊎ ((0 < s.length) × IsSomeAnd (if s.kind == 3 then out else err) (λ stream. s.start + s.length ≤ length stream))
 
 -- the head
 abbrev pub head_in : FfiHead → Option HeadSpan

@@ -1,11 +1,13 @@
 //! The part of a test's output that says why it failed, and the last head of a panic message.
 
-ghost use Rattle.std.specs.Prelude.{◌≡◌, ◌≤◌, ◌<◌, ◌+◌, ◌*◌, length, Option, option_map, IsFalse, IsTrue};
+ghost use Rattle.std.specs.Prelude.{◌≡◌, ◌≤◌, ◌<◌, ◌+◌, ◌*◌, ◌↔◌, ℕ, List, length, Option, option_map, IsFalse, IsTrue};
 ghost use Rattle.std.specs.Option.{option_copied};
 ghost use Rattle.deodarsieve.specs.Layout.{LiesWithin, captured, head_in, slice_out};
 ghost use Rattle.output_slice.specs.Extraction.{Extract, IsCappedExtract, IsExtract};
 ghost use Rattle.output_slice.specs.Shown.{extract_of};
-ghost use Rattle.output_slice.specs.Taken.{IsLastTaken};
+ghost use Rattle.output_slice.specs.Head.{IsHead};
+ghost use Rattle.output_slice.specs.Taken.{IsLastTaken, IsTaken, last_of};
+ghost use Rattle.output_slice.specs.declared.panic_head.HeadSpan.{HeadSpan};
 
 use crate::layout::{FfiHead, FfiSlice};
 use output_slice::{ByteSource, CountedBytes, TestOutputErrorSlice, last_panic_head};
@@ -101,6 +103,8 @@ fn written_slice(found: Option<TestOutputErrorSlice<'_>>) -> FfiSlice
 #[unsafe(no_mangle)]
 pub extern "C" fn deodarsieve_last_panic_head(bytes: &[u8]) -> FfiHead
     ensures last { IsLastTaken bytes.now (head_in result) }
+    ensures only { (taken : List HeadSpan) → IsTaken bytes.now taken → head_in result ≡ last_of taken }
+    ensures found { IsTrue result.is_found ↔ ((s : ℕ) × (e : ℕ) × IsHead bytes.now s e) }
     ensures nothing { IsFalse result.is_found → (result.start ≡ 0) × (result.stop ≡ 0) }
     ensures few { result.reads ≤ 3 * length bytes.now + 8 }
 {
