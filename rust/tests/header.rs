@@ -56,6 +56,15 @@ const PLAIN_TYPES: [(&str, &str); 6] = [
     ("size_t", "usize"),
 ];
 
+/// How the header's lines for the preprocessor begin. None of them changes a type or a layout.
+const DIRECTIVES: [&str; 5] = [
+    "#ifndef DEODARSIEVE_H",
+    "#define DEODARSIEVE_",
+    "#include <std",
+    "#ifdef __cplusplus",
+    "#endif",
+];
+
 /// A member or a parameter. Its type is written as in Rust, and a struct as in the header.
 #[derive(Debug, PartialEq)]
 struct Field {
@@ -103,8 +112,13 @@ fn header() -> String {
     let mut pieces = HEADER.split("/*");
     let mut code = pieces.next().expect("a front").to_string();
     code.extend(pieces.map(|piece| before(piece, "*/").1));
-    let lines = code.lines().filter(|line| !line.starts_with('#'));
-    lines.map(|line| format!("{line}\n")).collect()
+    let (directives, lines): (Vec<&str>, Vec<&str>) =
+        code.lines().partition(|line| line.starts_with('#'));
+    for line in directives {
+        let is_known = DIRECTIVES.iter().any(|start| line.starts_with(start));
+        assert!(is_known, "{line}");
+    }
+    lines.join("\n")
 }
 
 /// A type of C as Rust writes it.
@@ -206,7 +220,11 @@ fn rust_structs(text: &str, column: usize) -> Vec<Struct> {
     let pieces: Vec<&str> = text.split("struct ").collect();
     let structs = pieces.windows(2).map(|pair| {
         let attributes = pair[0].rsplit('}').next().expect("a front");
-        assert!(attributes.contains("#[repr(C)]"), "{}", pair[1]);
+        let layouts: Vec<&str> = attributes
+            .lines()
+            .filter(|it| it.contains("repr"))
+            .collect();
+        assert_eq!(layouts, ["#[repr(C)]"], "{}", pair[1]);
         let (name, text) = before(pair[1], "{");
         let members = before(text, "}").0.replace("pub(crate) ", "");
         let members = members.replace("pub ", "");
