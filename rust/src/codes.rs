@@ -1,4 +1,5 @@
-//! Codes of the enumerations that cross, each the place of its variant in a table.
+//! Codes of the enumerations that cross: constants where a code decides what else crosses, else the
+//! place of a variant in a table.
 
 use crate::levels::{FinalStatusLevel, OutputStoreFinal, StatusLevel, TestOutputDisplay};
 use crate::results::{
@@ -7,6 +8,24 @@ use crate::results::{
 };
 use crate::stats::{RunFailureStep, RunOutcome, StressFinalRunStats};
 use crate::sys;
+
+// What a slice is.
+pub(crate) const SLICE_NONE: u32 = 0;
+pub(crate) const SLICE_PANIC_MESSAGE: u32 = 1;
+pub(crate) const SLICE_ERROR_STR: u32 = 2;
+pub(crate) const SLICE_SHOULD_PANIC: u32 = 3;
+
+// What counters, or a repeated run, amount to.
+pub(crate) const FINAL_NO_TESTS_RUN: u32 = 0;
+pub(crate) const FINAL_SUCCESS: u32 = 1;
+pub(crate) const FINAL_CANCELLED: u32 = 2;
+pub(crate) const FINAL_FAILED: u32 = 3;
+
+// For how long a run is repeated, and what is left of it.
+pub(crate) const STRESS_COUNT: u32 = 0;
+pub(crate) const STRESS_INFINITE: u32 = 1;
+pub(crate) const STRESS_TIME: u32 = 2;
+pub(crate) const STRESS_NOTHING: u32 = 3;
 
 pub(crate) const FLAKY_RESULTS: [FlakyResult; 2] = [FlakyResult::Pass, FlakyResult::Fail];
 
@@ -145,21 +164,25 @@ mod tests {
 
     const HEADER: &str = include_str!("../../include/deodarsieve.h");
 
-    /// The names of the header that begin so, in the order of their codes, which must be 0, 1, ..
-    fn header_names(prefix: &str) -> Vec<String> {
+    /// The names of the header that begin so, with their codes.
+    fn header_codes(prefix: &str) -> Vec<(&str, u32)> {
         let start = format!("#define DEODARSIEVE_{prefix}_");
         let lines = HEADER.lines().filter_map(|line| line.strip_prefix(&start));
-        let named = lines.enumerate().map(|(place, line)| {
+        let mut codes = Vec::new();
+        for line in lines.filter(|line| !line.starts_with("STATUS_LEVEL_")) {
             let mut words = line.split_whitespace();
             let name = words.next().expect("a name");
-            let code = words
-                .next()
-                .and_then(|word| word.strip_suffix('u'))
-                .expect("a code");
-            assert_eq!(code, place.to_string(), "{prefix}_{name}");
-            name.to_string()
-        });
-        named.collect()
+            let code = words.next().and_then(|word| word.strip_suffix('u'));
+            codes.push((name, code.expect("a code").parse().expect("a number")));
+        }
+        codes
+    }
+
+    /// The names of the header that begin so, in the order of their codes, which must be 0, 1, ..
+    fn header_names(prefix: &str) -> Vec<&str> {
+        let (names, codes): (Vec<_>, Vec<_>) = header_codes(prefix).into_iter().unzip();
+        assert!((0..).zip(codes).all(|(place, code)| place == code));
+        names
     }
 
     /// A variant as the header writes it: words in capitals, joined by `_`.
@@ -320,22 +343,37 @@ mod tests {
     }
 
     #[test]
-    fn stress_finals_and_kinds() {
-        compare(
-            "STRESS",
-            &[0, 1, 2, 3],
-            &listed(&["COUNT", "INFINITE", "TIME", "NOTHING"]),
-        );
-        let names = ["NO_TESTS_RUN", "SUCCESS", "CANCELLED", "FAILED"];
-        let lines = HEADER.lines().filter(|line| {
-            line.starts_with("#define DEODARSIEVE_FINAL_") && !line.contains("STATUS_LEVEL")
-        });
-        for (place, (line, name)) in lines.zip(names).enumerate() {
-            assert_eq!(line, format!("#define DEODARSIEVE_FINAL_{name} {place}u"));
-            let code = u32::try_from(place).expect("a code");
-            let variant = format!("{:?}", value_of(&STRESS_FINALS, code));
-            assert_eq!(header_name(&variant), name);
-        }
+    fn slices() {
+        let codes = [
+            ("NONE", SLICE_NONE),
+            ("PANIC_MESSAGE", SLICE_PANIC_MESSAGE),
+            ("ERROR_STR", SLICE_ERROR_STR),
+            ("SHOULD_PANIC", SLICE_SHOULD_PANIC),
+        ];
+        assert_eq!(header_codes("SLICE"), codes);
+    }
+
+    #[test]
+    fn stress_kinds() {
+        let codes = [
+            ("COUNT", STRESS_COUNT),
+            ("INFINITE", STRESS_INFINITE),
+            ("TIME", STRESS_TIME),
+            ("NOTHING", STRESS_NOTHING),
+        ];
+        assert_eq!(header_codes("STRESS"), codes);
+    }
+
+    #[test]
+    fn finals() {
+        let codes = [
+            ("NO_TESTS_RUN", FINAL_NO_TESTS_RUN),
+            ("SUCCESS", FINAL_SUCCESS),
+            ("CANCELLED", FINAL_CANCELLED),
+            ("FAILED", FINAL_FAILED),
+        ];
+        assert_eq!(header_codes("FINAL"), codes);
+        compare("FINAL", &STRESS_FINALS, &plain_names(&STRESS_FINALS));
     }
 
     #[test]

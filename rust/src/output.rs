@@ -4,7 +4,9 @@ use std::fmt;
 use std::num::NonZero;
 use std::ops::Range;
 
-use crate::codes::answered;
+use crate::codes::{
+    answered, SLICE_ERROR_STR, SLICE_NONE, SLICE_PANIC_MESSAGE, SLICE_SHOULD_PANIC,
+};
 use crate::sys;
 
 /// A part of captured output.
@@ -104,14 +106,14 @@ impl<'a> TestOutputErrorSlice<'a> {
         stderr: Option<&'a [u8]>,
     ) -> Option<Self> {
         match slice.kind {
-            0 => None,
-            1 => Some(Self::PanicMessage {
+            SLICE_NONE => None,
+            SLICE_PANIC_MESSAGE => Some(Self::PanicMessage {
                 stderr_subslice: part(stderr, slice),
             }),
-            2 => Some(Self::ErrorStr {
+            SLICE_ERROR_STR => Some(Self::ErrorStr {
                 stderr_subslice: part(stderr, slice),
             }),
-            3 => Some(Self::ShouldPanic {
+            SLICE_SHOULD_PANIC => Some(Self::ShouldPanic {
                 stdout_subslice: part(stdout, slice),
             }),
             _ => answered(None),

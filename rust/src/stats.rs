@@ -3,14 +3,12 @@
 use std::error::Error;
 use std::fmt;
 
-use crate::codes::{answered, code_of, ended, value_of, OUTCOMES, REASONS, STEPS, STRESS_FINALS};
+use crate::codes::{
+    answered, code_of, ended, value_of, FINAL_CANCELLED, FINAL_FAILED, FINAL_NO_TESTS_RUN,
+    FINAL_SUCCESS, OUTCOMES, REASONS, STEPS, STRESS_FINALS,
+};
 use crate::results::{CancelReason, ExecutionResultDescription, TestView};
 use crate::sys;
-
-const NO_TESTS_RUN: u32 = 0;
-const SUCCESS: u32 = 1;
-const CANCELLED: u32 = 2;
-const FAILED: u32 = 3;
 
 /// A counter that a finished unit raises has no room.
 ///
@@ -347,28 +345,28 @@ impl FinalRunStats {
     fn crossing(&self) -> sys::FinalStats {
         match *self {
             Self::NoTestsRun => sys::FinalStats {
-                kind: NO_TESTS_RUN,
+                kind: FINAL_NO_TESTS_RUN,
                 ..Default::default()
             },
             Self::Success => sys::FinalStats {
-                kind: SUCCESS,
+                kind: FINAL_SUCCESS,
                 ..Default::default()
             },
-            Self::Cancelled { reason, kind } => at_kind(CANCELLED, reason, kind),
-            Self::Failed { kind } => at_kind(FAILED, None, kind),
+            Self::Cancelled { reason, kind } => at_kind(FINAL_CANCELLED, reason, kind),
+            Self::Failed { kind } => at_kind(FINAL_FAILED, None, kind),
         }
     }
 
     /// The summary that crossed.
     fn crossed(stats: &sys::FinalStats) -> Self {
         match stats.kind {
-            NO_TESTS_RUN => Self::NoTestsRun,
-            SUCCESS => Self::Success,
-            CANCELLED => Self::Cancelled {
+            FINAL_NO_TESTS_RUN => Self::NoTestsRun,
+            FINAL_SUCCESS => Self::Success,
+            FINAL_CANCELLED => Self::Cancelled {
                 reason: value_of(&REASONS, stats.reason),
                 kind: kind_of(stats),
             },
-            FAILED => Self::Failed {
+            FINAL_FAILED => Self::Failed {
                 kind: kind_of(stats),
             },
             _ => answered(None),

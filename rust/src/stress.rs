@@ -3,13 +3,8 @@
 use std::num::NonZero;
 use std::time::Duration;
 
-use crate::codes::answered;
+use crate::codes::{answered, STRESS_COUNT, STRESS_INFINITE, STRESS_NOTHING, STRESS_TIME};
 use crate::sys;
-
-const COUNT: u32 = 0;
-const INFINITE: u32 = 1;
-const TIME: u32 = 2;
-const NOTHING: u32 = 3;
 
 /// How many times a run is repeated.
 ///
@@ -148,12 +143,12 @@ impl StressProgress {
     pub fn remaining(&self) -> Option<StressRemaining> {
         let remaining = answered(sys::stress_remaining(&self.crossing()));
         match remaining.kind {
-            COUNT => Some(StressRemaining::Count(answered(NonZero::new(
+            STRESS_COUNT => Some(StressRemaining::Count(answered(NonZero::new(
                 remaining.count,
             )))),
-            INFINITE => Some(StressRemaining::Infinite),
-            TIME => Some(StressRemaining::Time(answered(duration(remaining.time)))),
-            NOTHING => None,
+            STRESS_INFINITE => Some(StressRemaining::Infinite),
+            STRESS_TIME => Some(StressRemaining::Time(answered(duration(remaining.time)))),
+            STRESS_NOTHING => None,
             _ => answered(None),
         }
     }
@@ -165,17 +160,23 @@ impl StressProgress {
                 total: StressCount::Count { count },
                 elapsed,
                 completed,
-            } => (COUNT, count.get(), Duration::ZERO, elapsed, completed),
+            } => (
+                STRESS_COUNT,
+                count.get(),
+                Duration::ZERO,
+                elapsed,
+                completed,
+            ),
             Self::Count {
                 total: StressCount::Infinite,
                 elapsed,
                 completed,
-            } => (INFINITE, 0, Duration::ZERO, elapsed, completed),
+            } => (STRESS_INFINITE, 0, Duration::ZERO, elapsed, completed),
             Self::Time {
                 total,
                 elapsed,
                 completed,
-            } => (TIME, 0, total, elapsed, completed),
+            } => (STRESS_TIME, 0, total, elapsed, completed),
         };
         sys::Progress {
             kind,
