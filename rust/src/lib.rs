@@ -16,8 +16,9 @@
 //! # What is proved
 //!
 //! Each call hands its question to one export of `libdeodarsieve.a`, which is written in Rattle:
-//! Rust with contracts that a checker proves. The contract of an export says its exact answer; what
-//! the answers come to is in the repository's `README.md`, under what is proved.
+//! Rust with contracts that a checker proves. The contract of an export says its exact answer, but
+//! for [`PanicHead::reads`], of which a bound is proved and no more; what the answers come to is in
+//! the repository's `README.md`, under what is proved.
 //!
 //! # What is not
 //!

@@ -71,14 +71,45 @@ fn text_that_is_not_utf_8() {
 }
 
 #[test]
-fn counting_keeps_what_it_does_not_raise() {
-    let before = RunStats {
-        initial_run_count: 9,
-        skipped: 4,
+fn the_search_for_a_head_reads_all_of_it() {
+    for length in [1, 2, 7, 100, 10_000] {
+        let input = format!("thread '{}' panicked at ", "x".repeat(length));
+        let found = last_panic_head(input.as_bytes());
+        assert_eq!(found.head, Some(0..input.len()));
+        let reads = usize::try_from(found.reads).unwrap();
+        assert!(reads >= input.len() && reads <= 3 * input.len() + 8);
+    }
+}
+
+/// Counters that all differ, by more than one.
+fn counters() -> RunStats {
+    RunStats {
+        initial_run_count: 10,
+        finished_count: 20,
+        setup_scripts_initial_count: 30,
+        setup_scripts_finished_count: 40,
+        setup_scripts_passed: 50,
+        setup_scripts_failed: 60,
+        setup_scripts_exec_failed: 70,
+        setup_scripts_timed_out: 80,
+        passed: 90,
+        passed_slow: 100,
+        passed_timed_out: 110,
+        flaky: 120,
+        failed: 130,
+        failed_slow: 140,
+        failed_timed_out: 150,
+        leaky: 160,
+        leaky_failed: 170,
+        exec_failed: 180,
+        skipped: 190,
         cancel_reason: Some(CancelReason::OutputLimit),
-        ..RunStats::default()
-    };
-    let mut stats = before;
+    }
+}
+
+#[test]
+fn counting_keeps_what_it_does_not_raise() {
+    let mut stats = counters();
     let leak = ExecutionResultDescription::Leak {
         result: LeakTimeoutResult::Pass,
     };
@@ -89,12 +120,19 @@ fn counting_keeps_what_it_does_not_raise() {
     };
     stats.on_test_finished(&flaky).unwrap();
     let expected = RunStats {
-        finished_count: 1,
-        passed: 1,
-        passed_slow: 1,
-        flaky: 1,
-        leaky: 1,
-        ..before
+        finished_count: 21,
+        passed: 91,
+        passed_slow: 101,
+        flaky: 121,
+        leaky: 161,
+        ..counters()
+    };
+    assert_eq!(stats, expected);
+    stats.on_setup_script_finished(&leak).unwrap();
+    let expected = RunStats {
+        setup_scripts_finished_count: 41,
+        setup_scripts_passed: 51,
+        ..expected
     };
     assert_eq!(stats, expected);
 }
@@ -149,6 +187,31 @@ fn a_missing_test_cancels_the_run() {
         };
         assert_eq!(stats.summarize_final(), expected);
     }
+}
+
+#[test]
+fn a_missing_setup_script_cancels_the_run() {
+    let stats = RunStats {
+        initial_run_count: 3,
+        setup_scripts_initial_count: 3,
+        setup_scripts_finished_count: 2,
+        setup_scripts_passed: 2,
+        ..RunStats::default()
+    };
+    let expected = FinalRunStats::Cancelled {
+        reason: None,
+        kind: RunStatsFailureKind::SetupScript,
+    };
+    assert_eq!(stats.summarize_final(), expected);
+    let stats = RunStats {
+        setup_scripts_initial_count: 2,
+        ..stats
+    };
+    let expected = FinalRunStats::Cancelled {
+        reason: None,
+        kind: tests(3, 3),
+    };
+    assert_eq!(stats.summarize_final(), expected);
 }
 
 #[test]
