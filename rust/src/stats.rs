@@ -138,8 +138,7 @@ impl RunStats {
         self.keep(is_counted, &stats)
     }
 
-    /// How many tests did not pass; `None` where that, or the count of setup scripts that did not,
-    /// is no `usize`.
+    /// How many tests did not pass; `None` where that is no `usize`.
     ///
     /// ```
     /// use deodarsieve::RunStats;
@@ -150,11 +149,17 @@ impl RunStats {
     /// assert_eq!(stats.failed_count(), None);
     /// ```
     pub fn failed_count(&self) -> Option<usize> {
-        sys::failed_counts(&self.crossing()).map(|counts| counts.tests)
+        // The export refuses where either sum does not fit, so no failed script is handed in.
+        let tests = Self {
+            setup_scripts_failed: 0,
+            setup_scripts_exec_failed: 0,
+            setup_scripts_timed_out: 0,
+            ..*self
+        };
+        sys::failed_counts(&tests.crossing()).map(|counts| counts.tests)
     }
 
-    /// How many setup scripts did not pass; `None` where that, or the count of tests that did not,
-    /// is no `usize`.
+    /// How many setup scripts did not pass; `None` where that is no `usize`.
     ///
     /// ```
     /// use deodarsieve::RunStats;
@@ -163,7 +168,14 @@ impl RunStats {
     /// assert_eq!(stats.failed_setup_script_count(), Some(2));
     /// ```
     pub fn failed_setup_script_count(&self) -> Option<usize> {
-        sys::failed_counts(&self.crossing()).map(|counts| counts.setup_scripts)
+        // As above, so no failed test is handed in.
+        let scripts = Self {
+            failed: 0,
+            exec_failed: 0,
+            failed_timed_out: 0,
+            ..*self
+        };
+        sys::failed_counts(&scripts.crossing()).map(|counts| counts.setup_scripts)
     }
 
     /// Whether a test or a setup script did not pass, for any values of the counters.

@@ -236,6 +236,48 @@ fn a_setup_script_comes_before_the_tests() {
 }
 
 #[test]
+fn each_count_of_failures_is_refused_for_itself() {
+    let max = usize::MAX;
+    let both = counters();
+    assert_eq!(both.failed_count(), Some(460));
+    assert_eq!(both.failed_setup_script_count(), Some(210));
+    for tests in [
+        RunStats {
+            failed: max,
+            ..both
+        },
+        RunStats {
+            exec_failed: max,
+            ..both
+        },
+        RunStats {
+            failed_timed_out: max,
+            ..both
+        },
+    ] {
+        assert_eq!(tests.failed_count(), None);
+        assert_eq!(tests.failed_setup_script_count(), Some(210));
+    }
+    for scripts in [
+        RunStats {
+            setup_scripts_failed: max,
+            ..both
+        },
+        RunStats {
+            setup_scripts_exec_failed: max,
+            ..both
+        },
+        RunStats {
+            setup_scripts_timed_out: max,
+            ..both
+        },
+    ] {
+        assert_eq!(scripts.failed_count(), Some(460));
+        assert_eq!(scripts.failed_setup_script_count(), None);
+    }
+}
+
+#[test]
 fn the_highest_outcome_counts() {
     let setup = RunStatsFailureKind::SetupScript;
     let sub_runs = [
