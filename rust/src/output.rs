@@ -1,5 +1,6 @@
 //! The part of a test's output that says why it failed.
 
+use std::error::Error;
 use std::fmt;
 use std::num::NonZero;
 use std::ops::Range;
@@ -29,7 +30,8 @@ pub struct ByteSubslice<'a> {
 
 /// The part of a test's output that says why it failed, and what it is.
 ///
-/// Its text is that of its bytes, with U+FFFD for those that are not UTF-8.
+/// Its text is that of its bytes, with U+FFFD for those that are not UTF-8. It can be handed on as
+/// an error.
 ///
 /// ```
 /// use deodarsieve::TestOutputErrorSlice;
@@ -180,6 +182,8 @@ impl fmt::Display for TestOutputErrorSlice<'_> {
         write!(formatter, "{}", String::from_utf8_lossy(self.part().slice))
     }
 }
+
+impl Error for TestOutputErrorSlice<'_> {}
 
 /// The part of a stream that a slice names.
 fn part(stream: Option<&[u8]>, slice: sys::Slice) -> ByteSubslice<'_> {

@@ -427,6 +427,7 @@ fn kind_of(stats: &sys::FinalStats) -> RunStatsFailureKind {
 /// assert!(RunOutcome::Success < RunOutcome::Failed { step: RunFailureStep::Test });
 /// ```
 #[derive(Clone, Copy, Debug, PartialEq, Eq, PartialOrd, Ord)]
+#[must_use]
 pub enum RunOutcome {
     /// No test ran.
     NoTestsRun,
@@ -448,6 +449,18 @@ pub enum RunOutcome {
 }
 
 impl RunOutcome {
+    /// The outcome of a run that is not repeated, or of one sub-run, from its summary.
+    ///
+    /// ```
+    /// use deodarsieve::{FinalRunStats, RunOutcome};
+    ///
+    /// let outcome = RunOutcome::from_final_stats(FinalRunStats::Success);
+    /// assert_eq!(outcome, RunOutcome::Success);
+    /// ```
+    pub fn from_final_stats(stats: FinalRunStats) -> Self {
+        Self::crossed(&[stats.crossing()])
+    }
+
     /// The outcome of a run from the summaries of its sub-runs: the highest of theirs, and
     /// `NoTestsRun` where there is none. A list of as many summaries in the layout of C is made.
     ///
@@ -460,7 +473,12 @@ impl RunOutcome {
     /// ```
     pub fn of_sub_runs(sub_runs: &[FinalRunStats]) -> Self {
         let sub_runs: Vec<_> = sub_runs.iter().map(FinalRunStats::crossing).collect();
-        value_of(&OUTCOMES, answered(sys::outcome_of_sub_runs(&sub_runs)))
+        Self::crossed(&sub_runs)
+    }
+
+    /// The outcome of sub-runs whose summaries cross.
+    fn crossed(sub_runs: &[sys::FinalStats]) -> Self {
+        value_of(&OUTCOMES, answered(sys::outcome_of_sub_runs(sub_runs)))
     }
 
     /// The higher of two outcomes.

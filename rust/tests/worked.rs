@@ -68,6 +68,8 @@ fn a_capped_slice_is_the_front_of_the_whole_one() {
 fn text_that_is_not_utf_8() {
     let found = TestOutputErrorSlice::heuristic_extract(None, Some(b"Error: \xffx")).unwrap();
     assert_eq!(found.to_string(), "Error: \u{fffd}x");
+    let error: Box<dyn std::error::Error + '_> = Box::new(found);
+    assert_eq!(error.to_string(), found.to_string());
 }
 
 #[test]
@@ -297,9 +299,10 @@ fn the_highest_outcome_counts() {
         FinalRunStats::Failed { kind: setup },
     ];
     assert_eq!(RunOutcome::of_sub_runs(&[]), RunOutcome::NoTestsRun);
-    let outcomes = sub_runs.map(|summary| RunOutcome::of_sub_runs(&[summary]));
+    let outcomes = sub_runs.map(RunOutcome::from_final_stats);
     assert!(outcomes.windows(2).all(|pair| pair[0] < pair[1]));
     for (place, outcome) in outcomes.iter().enumerate() {
+        assert_eq!(RunOutcome::of_sub_runs(&sub_runs[place..=place]), *outcome);
         assert_eq!(RunOutcome::of_sub_runs(&sub_runs[..=place]), *outcome);
         for other in outcomes {
             assert_eq!(outcome.combine(other), other.max(*outcome));
