@@ -24,8 +24,11 @@
 //!
 //! This crate itself is not proved: neither the declarations of the exports, nor the conversions
 //! between its types and their codes, nor the text of a slice, nor the order of its enumerations.
-//! These are tested. The compiler of Rust is trusted. The version of the archive is not looked at:
-//! where an archive answers what the one of this version never does, a call panics.
+//! These are tested. The compiler of Rust is trusted.
+//!
+//! The archive has to be of this crate's version, and nothing looks at that: the exports of another
+//! may take or answer something else under the same names, and a call is undefined behaviour then.
+//! That a call panics at an answer which this version never gives finds some such archives only.
 
 #![deny(missing_docs)]
 #![deny(unsafe_code)]
