@@ -7,8 +7,9 @@
 //! VERDICT` for each input of an extraction, on inputs of so many megabytes (64). RATIO is the time
 //! of a call as a multiple of the time of one pass over its input, a search for a byte that is not
 //! there; GROWTH is the time of the call as a multiple of its time at half the size, which is
-//! judged where the call takes a millisecond or more. A time is the least of 15. The search of a
-//! pass is this program's own, so that its ratios are not those of `./bench`.
+//! judged where the call takes a millisecond or more. A time is the least of 15, of a short call the
+//! least of 200. The search of a pass is this program's own, so that its ratios are not those of
+//! `./bench`.
 //!
 //! The status is 1 where a short call costs more than it may. No growth changes it. A wrong answer
 //! is a panic. Beside other work on the machine a call can seem to cost more than it does.
@@ -24,8 +25,11 @@ use deodarsieve::{
     TestView,
 };
 
-/// How often each step is timed.
+/// How often each extraction is timed.
 const ROUNDS: usize = 15;
+
+/// How often each short call is timed.
+const SHORT_ROUNDS: usize = 200;
 
 /// How many short calls are timed as one.
 const CALLS: u128 = 1_000;
@@ -135,7 +139,7 @@ fn time_of_short(call: &mut impl FnMut()) -> u128 {
 /// more than it may. Both take turns, so that a load of the machine is one of both.
 fn is_short_call_within(name: &str, mut call: impl FnMut(), mut export: impl FnMut()) -> bool {
     let (mut call_time, mut export_time) = (u128::MAX, u128::MAX);
-    for _ in 0..ROUNDS {
+    for _ in 0..SHORT_ROUNDS {
         call_time = call_time.min(time_of_short(&mut call));
         export_time = export_time.min(time_of_short(&mut export));
     }

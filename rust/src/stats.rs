@@ -114,8 +114,22 @@ impl RunStats {
     /// ```
     pub fn on_test_finished(&mut self, test: &TestView) -> Result<(), NoRoom> {
         let mut stats = self.crossing();
-        let is_counted = sys::count_test(&mut stats, &test.crossing());
-        self.keep(is_counted, &stats)
+        if !sys::count_test(&mut stats, &test.crossing()) {
+            return Err(NoRoom);
+        }
+        // No other counter speaks of a finished test, so no other is copied back.
+        self.finished_count = stats.finished_count;
+        self.passed = stats.passed;
+        self.passed_slow = stats.passed_slow;
+        self.passed_timed_out = stats.passed_timed_out;
+        self.flaky = stats.flaky;
+        self.failed = stats.failed;
+        self.failed_slow = stats.failed_slow;
+        self.failed_timed_out = stats.failed_timed_out;
+        self.leaky = stats.leaky;
+        self.leaky_failed = stats.leaky_failed;
+        self.exec_failed = stats.exec_failed;
+        Ok(())
     }
 
     /// Counts one more finished setup script. Where a counter that it raises has no room, nothing
@@ -134,8 +148,16 @@ impl RunStats {
         result: &ExecutionResultDescription,
     ) -> Result<(), NoRoom> {
         let mut stats = self.crossing();
-        let is_counted = sys::count_script(&mut stats, &ended(result));
-        self.keep(is_counted, &stats)
+        if !sys::count_script(&mut stats, &ended(result)) {
+            return Err(NoRoom);
+        }
+        // Nor does another of a setup script.
+        self.setup_scripts_finished_count = stats.setup_scripts_finished_count;
+        self.setup_scripts_passed = stats.setup_scripts_passed;
+        self.setup_scripts_failed = stats.setup_scripts_failed;
+        self.setup_scripts_exec_failed = stats.setup_scripts_exec_failed;
+        self.setup_scripts_timed_out = stats.setup_scripts_timed_out;
+        Ok(())
     }
 
     /// How many tests did not pass; `None` where that is no `usize`.
@@ -204,15 +226,6 @@ impl RunStats {
         FinalRunStats::crossed(&answered(sys::summarize_final(&self.crossing())))
     }
 
-    /// Keeps the counters that were counted.
-    fn keep(&mut self, is_counted: bool, stats: &sys::RunStats) -> Result<(), NoRoom> {
-        if !is_counted {
-            return Err(NoRoom);
-        }
-        *self = Self::crossed(stats);
-        Ok(())
-    }
-
     /// The counters as they cross.
     fn crossing(&self) -> sys::RunStats {
         sys::RunStats {
@@ -236,32 +249,6 @@ impl RunStats {
             exec_failed: self.exec_failed,
             skipped: self.skipped,
             cancel_reason: code_of(&REASONS, self.cancel_reason),
-        }
-    }
-
-    /// The counters that crossed.
-    fn crossed(stats: &sys::RunStats) -> Self {
-        Self {
-            initial_run_count: stats.initial_run_count,
-            finished_count: stats.finished_count,
-            setup_scripts_initial_count: stats.setup_scripts_initial_count,
-            setup_scripts_finished_count: stats.setup_scripts_finished_count,
-            setup_scripts_passed: stats.setup_scripts_passed,
-            setup_scripts_failed: stats.setup_scripts_failed,
-            setup_scripts_exec_failed: stats.setup_scripts_exec_failed,
-            setup_scripts_timed_out: stats.setup_scripts_timed_out,
-            passed: stats.passed,
-            passed_slow: stats.passed_slow,
-            passed_timed_out: stats.passed_timed_out,
-            flaky: stats.flaky,
-            failed: stats.failed,
-            failed_slow: stats.failed_slow,
-            failed_timed_out: stats.failed_timed_out,
-            leaky: stats.leaky,
-            leaky_failed: stats.leaky_failed,
-            exec_failed: stats.exec_failed,
-            skipped: stats.skipped,
-            cancel_reason: value_of(&REASONS, stats.cancel_reason),
         }
     }
 }
