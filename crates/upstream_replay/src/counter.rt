@@ -99,8 +99,8 @@ pub(crate) fn agrees(alloc: Global, case: &str) -> Result<Option<bool>, AllocErr
     let Some((unit, counters)) = case.split_once(": ") else {
         return Ok(None);
     };
-    let (Some(unit), Some(counters)) = (unit_in(alloc, unit)?, counters_in(counters)) else {
+    let Some(counters) = counters_in(counters) else {
         return Ok(None);
     };
-    Ok(Some(raises(&unit, &counters)))
+    Ok(unit_in(alloc, unit)?.map(|unit| raises(&unit, &counters)))
 }

@@ -86,6 +86,20 @@ fn case_in(alloc: Global, words: &[&str]) -> Result<Option<(Vec<u8>, Output)>, A
     Ok(Some((input, output)))
 }
 
+/// Whether the program gives this output for an input.
+fn gives(
+    alloc: Global,
+    command: Command,
+    input: &[u8],
+    wanted: &Output,
+) -> Result<bool, AllocError> {
+    let output = match command {
+        Command::Count => count_output(alloc, input)?,
+        Command::Extract => extract_output(alloc, input)?,
+    };
+    Ok(output == *wanted)
+}
+
 /// Whether the port agrees on a case; `None` for a text that is no case.
 pub(crate) fn agrees(
     alloc: Global,
@@ -93,12 +107,8 @@ pub(crate) fn agrees(
     case: &str,
 ) -> Result<Option<bool>, AllocError> {
     let words: Vec<&str> = case.split(' ').collect(alloc)?;
-    let Some((input, wanted)) = case_in(alloc, words.as_slice())? else {
-        return Ok(None);
-    };
-    let output = match command {
-        Command::Count => count_output(alloc, input.as_slice())?,
-        Command::Extract => extract_output(alloc, input.as_slice())?,
-    };
-    Ok(Some(output == wanted))
+    match case_in(alloc, words.as_slice())? {
+        None => Ok(None),
+        Some((input, wanted)) => Ok(Some(gives(alloc, command, input.as_slice(), &wanted)?)),
+    }
 }

@@ -8,6 +8,7 @@ use std::alloc::{AllocError, Global};
 
 mod attempts;
 mod errors;
+mod names;
 mod outcomes;
 mod results;
 mod slices;

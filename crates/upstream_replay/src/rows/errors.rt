@@ -126,17 +126,20 @@ fn output_in(alloc: Global, words: &[&str]) -> Result<Option<ChildOutput>, Alloc
 }
 
 /// The lengths of the streams of output, if it is loaded.
-fn lengths_of(alloc: Global, words: &[&str]) -> Result<Option<String>, AllocError> {
-    let output = match (words, output_in(alloc, words)?) {
-        (["not loaded"], _) => ChildOutputDescription::NotLoaded,
-        (_, Some(output)) => ChildOutputDescription::from(output),
-        _ => return Ok(None),
-    };
+fn lengths_text(alloc: Global, output: &ChildOutputDescription) -> Result<String, AllocError> {
     if !output.is_loaded() {
-        return Ok(Some(String::from_str(alloc, "not loaded")?));
+        return String::from_str(alloc, "not loaded");
     }
     let (stdout, stderr) = output.stdout_stderr_len();
-    Ok(Some(format!(in alloc; "{stdout:?}, {stderr:?}")?))
+    format!(in alloc; "{stdout:?}, {stderr:?}")
+}
+
+/// The lengths of the streams of the output that words name.
+fn lengths_of(alloc: Global, words: &[&str]) -> Result<Option<String>, AllocError> {
+    let Some(output) = output_in(alloc, words)? else {
+        return Ok(None);
+    };
+    Ok(Some(lengths_text(alloc, &ChildOutputDescription::from(output))?))
 }
 
 /// An error in reading standard output, `-` for none.
@@ -176,13 +179,17 @@ fn of_unit(alloc: Global, kind: UnitKind, words: &[&str]) -> Result<Option<Strin
     let [end, name, error, output @ ..] = words else {
         return Ok(None);
     };
-    let (Some(end), Some(output)) = (end_in(end), output_in(alloc, output)?) else {
+    let Some(result) = end_in(end) else {
+        return Ok(None);
+    };
+    let errors = read_error(alloc, error)?;
+    let Some(output) = output_in(alloc, output)? else {
         return Ok(None);
     };
     let left = ChildExecutionOutput::Output {
-        result: end,
+        result,
         output,
-        errors: read_error(alloc, error)?,
+        errors,
     };
     Ok(Some(errors_text(alloc, kind, &described(alloc, left, name)?)?))
 }
@@ -286,6 +293,9 @@ pub(super) fn answer(alloc: Global, parts: &[&str]) -> Result<Option<String>, Al
     match parts {
         ["SerializableError", json] => of_json(alloc, json),
         ["error of a process", word] => of_process(alloc, word),
+        ["stdout_stderr_len", "not loaded"] => {
+            Ok(Some(lengths_text(alloc, &ChildOutputDescription::NotLoaded)?))
+        }
         ["stdout_stderr_len", output @ ..] => lengths_of(alloc, output),
         ["errors of a test", "not started"] => of_unit_not_started(alloc, UnitKind::Test),
         ["errors of a test", "not loaded", end] => of_unit_not_loaded(alloc, UnitKind::Test, end),

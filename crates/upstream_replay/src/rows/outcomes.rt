@@ -3,6 +3,8 @@
 use crate::counter::{counters_in, unit_in};
 use crate::unit::Unit;
 use crate::visibility::named_reason;
+use run_events::attempts::{ExecutionStatuses, SetupScriptExecuteStatus};
+use run_events::child::LiveSpec;
 use run_events::outcome::{
     FinalRunStats, RunFinishedStats, RunOutcome, RunStatsFailureKind, StressRunStats,
 };
@@ -41,24 +43,41 @@ fn failures_of(alloc: Global, counters: &str) -> Result<Option<String>, AllocErr
     Ok(Some(format!(in alloc; "{failures} too many")?))
 }
 
+/// How many scripts have finished after one more, if it can be counted beside these counters.
+fn finished_scripts(
+    mut stats: RunStats,
+    script: &SetupScriptExecuteStatus<LiveSpec>,
+) -> Option<usize> {
+    if !stats.can_count_script(script) {
+        return None;
+    }
+    stats.on_setup_script_finished(script);
+    Some(stats.setup_scripts_finished_count)
+}
+
+/// How many tests have finished after one more, if it can be counted beside these counters.
+fn finished_tests(mut stats: RunStats, test: &ExecutionStatuses<LiveSpec>) -> Option<usize> {
+    if !stats.can_count_test(test) {
+        return None;
+    }
+    stats.on_test_finished(test);
+    Some(stats.finished_count)
+}
+
 /// Whether a unit can be counted beside these counters, and how many units have finished after it.
 fn can_count(alloc: Global, unit: &str, counters: &str) -> Result<Option<String>, AllocError> {
-    let (Some(unit), Some(stats)) = (unit_in(alloc, unit)?, counters_in(counters)) else {
+    let Some(stats) = counters_in(counters) else {
         return Ok(None);
     };
-    let mut counted = stats;
-    let finished = match &unit {
-        Unit::Script(script) if stats.can_count_script(script) => {
-            counted.on_setup_script_finished(script);
-            counted.setup_scripts_finished_count
-        }
-        Unit::Test(test) if stats.can_count_test(test) => {
-            counted.on_test_finished(test);
-            counted.finished_count
-        }
-        _ => return Ok(Some(String::from_str(alloc, "false")?)),
+    let finished = match unit_in(alloc, unit)? {
+        None => return Ok(None),
+        Some(Unit::Script(script)) => finished_scripts(stats, &script),
+        Some(Unit::Test(test)) => finished_tests(stats, &test),
     };
-    Ok(Some(format!(in alloc; "true, {finished}")?))
+    match finished {
+        None => Ok(Some(String::from_str(alloc, "false")?)),
+        Some(finished) => Ok(Some(format!(in alloc; "true, {finished}")?)),
+    }
 }
 
 /// A summary by its words, with a reason and numbers that no outcome tells.

@@ -1,14 +1,10 @@
-//! Results, reasons, settings and constants, and their texts.
+//! Results and aborts, and their texts.
 
+use crate::rows::names;
 use crate::rows::words::{result_in, shown, text_in};
-use crate::visibility::{named_display, named_reason};
-use run_events::config::FlakyResult;
-use run_events::events::{UnitTerminateReason, UnitTerminateSignal};
 use run_events::results::{
     AbortDescription, AbortStatus, ExecutionResult, ExecutionResultDescription, FailureDescription,
-    SIGTERM, UnitKind,
 };
-use run_events::run_mode::NextestRunMode;
 use std::alloc::{AllocError, Global};
 
 /// Whether the result succeeds, its word, and both of its description; then whether the runner
@@ -74,79 +70,7 @@ fn of_abort(alloc: Global, abort: AbortDescription) -> Result<Option<String>, Al
     Ok(Some(format!(in alloc; "{text}, {is_ended}")?))
 }
 
-fn of_mode(alloc: Global, word: &str) -> Result<Option<String>, AllocError> {
-    let mode = match word {
-        "test" => NextestRunMode::Test,
-        "benchmark" => NextestRunMode::Benchmark,
-        "default" => NextestRunMode::default(),
-        _ => return Ok(None),
-    };
-    let is_benchmark = mode.is_benchmark();
-    Ok(Some(format!(in alloc; "{mode}, {is_benchmark}")?))
-}
-
-fn of_kind(alloc: Global, word: &str) -> Result<Option<String>, AllocError> {
-    let (kind, waiting, executing) = match word {
-        "test" => (
-            UnitKind::Test,
-            UnitKind::WAITING_ON_TEST_MESSAGE,
-            UnitKind::EXECUTING_TEST_MESSAGE,
-        ),
-        "script" => (
-            UnitKind::Script,
-            UnitKind::WAITING_ON_SCRIPT_MESSAGE,
-            UnitKind::EXECUTING_SCRIPT_MESSAGE,
-        ),
-        _ => return Ok(None),
-    };
-    Ok(Some(format!(in alloc;
-        "{}, {waiting}, {}, {executing}",
-        kind.waiting_on_message(),
-        kind.executing_message()
-    )?))
-}
-
-fn of_reason(alloc: Global, word: &str) -> Result<Option<String>, AllocError> {
-    match named_reason(word) {
-        Some(Some(reason)) => Ok(Some(String::from_str(alloc, reason.to_static_str())?)),
-        _ => Ok(None),
-    }
-}
-
-/// Whether output is displayed at once, and at the end.
-fn of_display(alloc: Global, word: &str) -> Result<Option<String>, AllocError> {
-    let Some(display) = named_display(word) else {
-        return Ok(None);
-    };
-    let (at_once, at_end) = (display.is_immediate(), display.is_final());
-    Ok(Some(format!(in alloc; "{at_once}, {at_end}")?))
-}
-
-/// Why the runner ends a unit.
-fn of_termination(alloc: Global, word: &str) -> Result<Option<String>, AllocError> {
-    let reason = match word {
-        "Timeout" => UnitTerminateReason::Timeout,
-        "Signal" => UnitTerminateReason::Signal,
-        "Interrupt" => UnitTerminateReason::Interrupt,
-        _ => return Ok(None),
-    };
-    Ok(Some(format!(in alloc; "{reason}")?))
-}
-
-/// The signal by which the runner ends a unit.
-fn of_termination_signal(alloc: Global, word: &str) -> Result<Option<String>, AllocError> {
-    let signal = match word {
-        "Interrupt" => UnitTerminateSignal::Interrupt,
-        "Term" => UnitTerminateSignal::Term,
-        "Hangup" => UnitTerminateSignal::Hangup,
-        "Quit" => UnitTerminateSignal::Quit,
-        "Kill" => UnitTerminateSignal::Kill,
-        _ => return Ok(None),
-    };
-    Ok(Some(format!(in alloc; "{signal}")?))
-}
-
-/// What the port answers to a question of this group; `None` for any other.
+/// What the port answers to a question of this group or of names; `None` for any other.
 pub(super) fn answer(alloc: Global, parts: &[&str]) -> Result<Option<String>, AllocError> {
     match parts {
         ["result", word] => of_result(alloc, word),
@@ -154,14 +78,6 @@ pub(super) fn answer(alloc: Global, parts: &[&str]) -> Result<Option<String>, Al
         ["abort by signal", signal, name] => of_signal(alloc, signal, name),
         ["abort by code", code, message] => of_code(alloc, code, message),
         ["abort by job object"] => of_abort(alloc, AbortDescription::WindowsJobObject),
-        ["mode", word] => of_mode(alloc, word),
-        ["kind", word] => of_kind(alloc, word),
-        ["reason", word] => of_reason(alloc, word),
-        ["display", word] => of_display(alloc, word),
-        ["UnitTerminateReason", word] => of_termination(alloc, word),
-        ["UnitTerminateSignal", word] => of_termination_signal(alloc, word),
-        ["SIGTERM"] => Ok(Some(format!(in alloc; "{SIGTERM}")?)),
-        ["default FlakyResult"] => { Ok(Some(format!(in alloc; "{:?}", FlakyResult::default())?)) }
-        _ => Ok(None),
+        _ => names::answer(alloc, parts),
     }
 }
