@@ -13,6 +13,7 @@ mod of_output_slice;
 mod of_run_digest_devices;
 mod of_run_digest_engine;
 mod of_run_events;
+mod of_test_report_events;
 mod pages;
 mod recorder;
 mod runner;

@@ -6,6 +6,7 @@ use crate::of_output_slice::{failure_in, has_panicked};
 use crate::of_run_digest_devices::copy;
 use crate::of_run_digest_engine::first_bad_line;
 use crate::of_run_events::{ends_well, finished_at_first, stats_of_test};
+use crate::of_test_report_events::test_count_of;
 use run_digest_devices::memory_device::{MemorySink, MemorySource};
 use run_events::config::TestOutputDisplay;
 use run_events::stats::FinishedUnit;
@@ -13,6 +14,9 @@ use std::io;
 
 /// A run whose line 3 names no result.
 const BAD_RUN: &[u8] = b"run 2 0 -\ntest pass\ntest maybe\n";
+
+/// A line at which a suite begins.
+const SUITE: &[u8] = b"{ \"type\": \"suite\", \"event\": \"started\", \"test_count\": 10 }";
 
 /// Prints what each of the callers answers, for the output of a test and the units of a run.
 pub(crate) fn show<R: AllocGlobal + Print>(
@@ -36,7 +40,8 @@ pub(crate) fn show<R: AllocGlobal + Print>(
     println!(rt; "  the run ends well: {well}")?;
     show_first_pages(rt)?;
     show_bad_line(rt)?;
-    show_copy(rt)
+    show_copy(rt)?;
+    show_test_count(rt)
 }
 
 /// Prints what the callers of first pages answer, for two ends and one display.
@@ -71,5 +76,13 @@ fn show_copy<R: AllocGlobal + Print>(rt: &R) -> io::Result<()> {
             BAD_RUN.len()
         ),
         Err(fault) => println!(rt; "  {fault}"),
+    }
+}
+
+/// Prints how many tests the suite has.
+fn show_test_count<R: AllocGlobal + Print>(rt: &R) -> io::Result<()> {
+    match test_count_of(rt.alloc(), SUITE)? {
+        Some(count) => println!(rt; "  a suite of {count} tests"),
+        None => println!(rt; "  no suite"),
     }
 }

@@ -1,0 +1,5 @@
+mod Objects
+mod Readings
+mod Attempts
+mod Names
+mod Events
