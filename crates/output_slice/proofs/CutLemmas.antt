@@ -1,17 +1,17 @@
 -- Which line starts a head crosses, and the taken heads on either side of a cut.
-use Rattle.std.proofs.Common.{◌≡◌, ℕ, ◌+◌, ◌-◌, ◌<◌, ◌≤◌, inl, inr, List, length, get_or, arith, unwrap_or, Some, None, take, refl, codes, not, ◌==◌, [], ◌∷◌, ◌++◌, drop, length-append, length-drop, append-nil, add-zero, ext_get_or, length-take, Option, map, get_or-append-add}
+use Rattle.std.proofs.Common.{◌≡◌, ℕ, ◌+◌, ◌-◌, ◌<◌, ◌≤◌, inl, inr, List, length, get_or, arith, unwrap_or, Some, None, take, refl, codes, not, ◌==◌, [], ◌∷◌, ◌++◌, drop, length-append, length-drop, append-nil, add-zero, length-take, Option, map, get_or-append-add, min}
 use Rattle.std.proofs.lemmas.Bool.{cases_lt}
 use Rattle.std.proofs.lemmas.Bool.Decides.{nat_tests}
 use Rattle.bstr.specs.Find.{IsLast, OccursAt}
 use Rattle.output_slice.specs.Head.{IsHead, IsLineStart}
 use Rattle.output_slice.specs.Steps.{IsLineEnd, IsNextQuote, NoQuoteBetween}
+use Rattle.output_slice.specs.Signs.{IsQuietFrom}
 use Rattle.output_slice.specs.Search.{AllHeadsEndBy, IsLastOpening, IsOpening, MayAllBeCrossed, MayCross}
 use Rattle.output_slice.specs.Cut.{IsCut, head_behind}
-use Rattle.output_slice.proofs.OccursLemmas.{text-passes, get_or-part, length-part, occurs-moved, reads}
-use Rattle.output_slice.proofs.HeadLemmas.{name-quiet, head-order, tail-plain}
+use Rattle.output_slice.proofs.OccursLemmas.{occurs-back, text-passes, occurs-moved, part-same, reads}
+use Rattle.output_slice.proofs.HeadLemmas.{name-quiet, head-order, tail-plain, tail_cases}
 use Rattle.std.proofs.lemmas.List.{length-map}
 use Rattle.std.proofs.lemmas.Option.{slice_get-get_or, slice_get-map, slice_get_within, get_or_from_slice_get}
-use Rattle.bstr.specs.Text.{part}
 use Rattle.output_slice.specs.declared.panic_head.HeadSpan.{HeadSpan}
 use Rattle.output_slice.specs.Taken.{IsTaken, IsLastTaken, last_of}
 use Rattle.output_slice.proofs.TakenLemmas.{IsTaken-from_leftmost, IsTaken-nil, Leftmost, leftmost-before, IsTaken-exists, leftmost-taken}
@@ -77,11 +77,14 @@ module _ (b : List ℕ) (at : ℕ) (o : IsLastOpening b (Some at)) where
       let by : h.quote ≤ q = grind arith in
       grind arith
 
--- parts that read the same are the same
-part-moved : (a b : List ℕ) (i j k l : ℕ) → j ≤ length a → l ≤ length b → l - k ≡ j - i
-    → ((n : ℕ) → n < j - i → get_or b (k + n) 0 ≡ get_or a (i + n) 0) → part i j a ≡ part k l b
-part-moved a b i j k l high high' size reads =
-    ext_get_or 0 (part i j a) (part k l b) (grind (arith, length-part)) (λ n low. grind (arith, get_or-part, length-part, reads n))
+-- every head ends with the sign of a panic, so it ends by the last place where that may end
+pub heads-end : (b : List ℕ) (p : ℕ) → IsQuietFrom b (codes " panicked at ") p → AllHeadsEndBy b (min (p + 13) (length b))
+heads-end b p quiet s e h = elim (tail_cases b (h.quote + 1) e h.ends h.tail) [
+  | inl plain ↦ by_sign (h.quote + 1) plain.0 plain.1
+  | inr n ↦ by_sign (n.close + 1) (occurs-back b (codes ")") (codes " panicked at ") n.close n.closes) (omega (arith, n.ends))
+] where
+  by_sign : (at : ℕ) → OccursAt b (codes " panicked at ") at → e ≡ at + 13 → e ≤ min (p + 13) (length b)
+  by_sign at stands is = elim (cases_lt at p) [ inl low ↦ omega (arith, h.ends) | inr late ↦ absurd (quiet at late stands) ]
 
 -- the bytes of a head are a head wherever they stand at a line start
 head-moved : (a b : List ℕ) (s e t f : ℕ) → IsHead a s e → f ≡ t + (e - s) → f ≤ length b → IsLineStart b t
@@ -90,8 +93,8 @@ head-moved a b s e t f h size high line reads =
     let order = head-order a s e h in
     let ends = h.ends in
     let q = t + (h.quote - s) in
-    let name = part-moved a b (s + 8) h.quote (t + 8) q (omega arith) (omega arith) (omega arith) (λ n low. let same = reads (8 + n) in grind arith) in
-    let tail = part-moved a b (h.quote + 1) e (q + 1) f ends high (omega arith) (λ n low. let same = reads (h.quote + 1 - s + n) in grind arith) in
+    let name = part-same a b (s + 8) h.quote (t + 8) q (omega arith) (omega arith) (omega arith) (λ n low. let same = reads (8 + n) in grind arith) in
+    let tail = part-same a b (h.quote + 1) e (q + 1) f ends high (omega arith) (λ n low. let same = reads (h.quote + 1 - s + n) in grind arith) in
     let close = reads (h.quote - s) in record {
       line_start = line;
       opening = occurs-moved a b _ s t h.opening (omega arith) (λ n low. reads n (omega arith));

@@ -1,9 +1,12 @@
 -- Where a panic slice begins, and what is left when white space is trimmed at the end.
-use Rattle.std.proofs.Common.{◌≡◌, ℕ, zero, suc, ◌+◌, ◌-◌, ◌<◌, ◌≤◌, ◌⊎◌, true, List, [], ◌∷◌, ◌++◌, length, get_or, take, drop, refl, sym, ap, ◌∙◌, arith, inl, inr, length-drop, drop-drop, get_or-drop, drop_at, length-take, codes, Some, get_or-take, All, Option, None, IsTrue, encode_utf8, encode_utf8_all}
+use Rattle.std.proofs.Common.{◌≡◌, ℕ, zero, suc, ◌+◌, ◌-◌, ◌<◌, ◌≤◌, ◌⊎◌, true, List, [], ◌∷◌, ◌++◌, length, get_or, take, drop, refl, sym, subst, ap, ◌∙◌, arith, inl, inr, length-drop, drop-drop, get_or-drop, drop_at, length-take, codes, Some, get_or-take, All, Option, None, IsTrue, encode_utf8, encode_utf8_all, length-append, length-take-le, get_or-append-add, take_at}
 use Rattle.std.specs.Char.{IsScalar, is_whitespace}
 use Rattle.std.proofs.lemmas.Bool.{cases_lt, cases_eq, cases_Bool}
-use Rattle.std.proofs.lemmas.List.Elements.{All-cons, All-head, All-tail, All-nil}
-use Rattle.std.proofs.lemmas.List.{drop_all}
+use Rattle.std.proofs.lemmas.Bool.Decides.{nat_tests}
+use Rattle.std.proofs.lemmas.Str.{encode_ascii, encodes-append, inside_one}
+use Rattle.std.proofs.lemmas.List.Elements.{All-append, All-cons, All-head, All-tail, All-nil}
+use Rattle.std.proofs.lemmas.List.{drop_all, drop-append-le, drop-take, take-append-drop, take-append-le}
+use Rattle.bstr.specs.Bytes.{is_in, not_in}
 use Rattle.bstr.specs.Trim.{kept_end, trim_end_by}
 use Rattle.bstr.specs.Utf8.{Decoded, decoded, continues, or_replacement, pieces, spans_from}
 use Rattle.bstr.proofs.lemmas.EncodeLemmas.{decoded-encode}
@@ -12,8 +15,8 @@ use Rattle.bstr.proofs.lemmas.PieceLemmas.{piece-bounds, pieces-nil, pieces-step
 use Rattle.bstr.specs.Find.{OccursAt, IsLast}
 use Rattle.bstr.specs.Text.{part}
 use Rattle.output_slice.specs.Slices.{IsBlank, IsBreak, IsTrimmed, IsTrimmedSlice, IsErrorLine, IsWidened}
-use Rattle.output_slice.specs.Steps.{AreBreaks}
-use Rattle.output_slice.proofs.OccursLemmas.{reads}
+use Rattle.output_slice.specs.Steps.{AreBreaks, AreSpaces, IsSpace}
+use Rattle.output_slice.proofs.OccursLemmas.{part-same, reads}
 
 -- an error line is not empty, and begins with a line feed
 line-start : (b : List ℕ) (s j : ℕ) (h : IsErrorLine b s j) → (j + 7 ≤ h.stop) × (get_or b j 0 ≡ 10)
@@ -173,3 +176,95 @@ pub IsTrimmedSlice-trim_end : (b : List ℕ) (s : ℕ) → s ≤ length b
 IsTrimmedSlice-trim_end b s low =
     let h = kept b (length b + 1) s s 0 0 (omega arith) low (omega arith) in
     (h.0, h.1, ap (λ k. take k (drop s b)) (omega arith))
+
+-- a byte outside the others is white space of ASCII
+pub space-byte : (x : ℕ) → ¬ (not_in (9 ∷ 10 ∷ 11 ∷ 12 ∷ 13 ∷ 32 ∷ []) x ≡ true) → IsSpace x
+unfolding is_in
+space-byte x h = grind (arith, nat_tests)
+
+-- such a byte is a character of white space
+space-char : (x : ℕ) → IsSpace x → (IsScalar x × IsTrue (is_whitespace x)) × (x < 128)
+space-char x h = grind (arith, nat_tests)
+
+-- so such bytes are blank
+spaces-blank : (ys : List ℕ) → ((k : ℕ) → k < length ys → IsSpace (get_or ys k 0)) → IsBlank ys
+spaces-blank [] h = ([], All-nil _, refl)
+spaces-blank (y ∷ ys) h =
+    let first = space-char y (h 0 (omega arith)) in
+    let rest = spaces-blank ys (λ k low. h (suc k) (omega arith)) in (
+      y ∷ rest.0,
+      All-cons (λ c. IsScalar c × IsTrue (is_whitespace c)) y rest.0 first.0 rest.1,
+      rw (encode_ascii y first.1) (ap (λ text. y ∷ text) rest.2),
+    )
+
+-- blank text behind blank text
+blank-both : (xs ys : List ℕ) → IsBlank xs → IsBlank ys → IsBlank (xs ++ ys)
+blank-both xs ys h k = (h.0 ++ k.0, All-append (λ c. IsScalar c × IsTrue (is_whitespace c)) h.0 k.0 h.1 k.1, cc (h.2, k.2, encodes-append h.0 k.0))
+
+-- text is blank where it is with ASCII behind it
+blank-front : (cs xs ys : List ℕ) → All (λ c. IsScalar c × IsTrue (is_whitespace c)) cs
+    → ((k : ℕ) → k < length ys → get_or ys k 0 < 128) → xs ++ ys ≡ encode_utf8_all cs → IsBlank xs
+blank-front cs [] ys all ascii e = ([], All-nil _, refl)
+blank-front [] (x ∷ xs) ys all ascii e = absurd (cc)
+blank-front (c ∷ cs) (x ∷ xs) ys all ascii e =
+    let P = λ (v : ℕ). IsScalar v × IsTrue (is_whitespace v) in
+    let text = encode_utf8 c in
+    let n = length text in
+    let front = x ∷ xs in
+    let inside = fits in
+    let left = ap (take n) e ∙ take_at text (encode_utf8_all cs) n refl in
+    let right = ap (drop n) e ∙ drop_at text (encode_utf8_all cs) n refl in
+    let rest = blank-front cs (drop n front) ys (All-tail P c cs all) ascii (sym (drop-append-le n front ys inside) ∙ right) in (
+      c ∷ rest.0,
+      All-cons P c rest.0 (All-head P c cs all) rest.1,
+      sym (take-append-drop n front) ∙ cc (left, take-append-le n front ys inside, rest.2),
+    ) where
+      fits : length (encode_utf8 c) ≤ length (x ∷ xs)
+      fits = elim (cases_lt (length (x ∷ xs)) (length (encode_utf8 c))) [
+        | inr within ↦ within
+        | inl past ↦
+            let k = length (x ∷ xs) + 0 in
+            let size = ap length e in
+            let more = length-append (x ∷ xs) ys in
+            let whole = length-append (encode_utf8 c) (encode_utf8_all cs) in
+            let byte : get_or ((x ∷ xs) ++ ys) k 0 < 128 = let Low : ℕ → Type 0 = λ v. v < 128 in subst Low (sym (get_or-append-add (x ∷ xs) ys 0 0)) (ascii 0 (omega arith)) in
+            let is = inside_one c (encode_utf8_all cs) ((x ∷ xs) ++ ys) k e (omega arith) byte in
+            let one = ap length (encode_ascii c (rw is byte)) in
+            absurd (omega arith)
+      ]
+
+module _ (b : List ℕ) (s n : ℕ) (low : s ≤ n) (high : n ≤ length b) (spaces : AreSpaces b n (length b)) where
+  -- behind a place the bytes are those of the front, then white space of ASCII
+  front-drop : (i : ℕ) → i ≤ n → drop i b ≡ drop i (take n b) ++ drop n b
+  front-drop i within =
+      ap (drop i) (sym (take-append-drop n b)) ∙ drop-append-le i (take n b) (drop n b) (omega (arith, length-take-le n b))
+
+  space-at : (k : ℕ) → k < length (drop n b) → IsSpace (get_or (drop n b) k 0)
+  space-at k inside = let here = spaces (n + k) (omega arith) (omega (arith, length-drop n b)) in grind (arith, get_or-drop)
+
+  -- so the trim of the front leaves the trimmed slice
+  pub IsTrimmedSlice-front : IsTrimmedSlice b (record { start = s; bytes = trim_end_by is_whitespace (part s n b) })
+  IsTrimmedSlice-front =
+      let size = length-take-le n b high in
+      let h = IsTrimmedSlice-trim_end (take n b) s (omega arith) in
+      let e = h.0 in
+      let first = h.1.0 in
+      let inside : e ≤ n = omega (arith, first.high) in
+      let front : drop s (take n b) ≡ part s n b =
+      ap (λ k. drop s (take k b)) (omega arith) ∙ drop-take s (n - s) b in
+      let within : part s e (take n b) ≡ part s e b =
+      part-same (take n b) b s e s e (omega arith) (omega arith) refl (λ m more. grind (arith, get_or-take)) in (
+        e,
+        (
+          record {
+            low = first.low;
+            high = omega arith;
+            before =
+                λ i from up blank. first.before i from up
+                (blank-front blank.0 (drop i (take n b)) (drop n b) blank.1 (λ k in_it. (space-char _ (space-at k in_it)).1)
+                (sym (front-drop i (omega arith)) ∙ blank.2));
+          },
+          rw (front-drop e inside) (blank-both (drop e (take n b)) (drop n b) h.1.1 (spaces-blank (drop n b) space-at)),
+        ),
+        ap (trim_end_by is_whitespace) (sym front) ∙ h.2 ∙ within,
+      )

@@ -11,11 +11,10 @@ IsQuietFrom b sign p = (i : ℕ) → p ≤ i → ¬ OccursAt b sign i
 abbrev pub IsNoteQuiet : Option (Bor (List ℕ)) → ℕ → Type 0
 IsNoteQuiet out p = IfSome out (λ b. IsQuietFrom b.now (codes "note: test did not panic as expected") p)
 
--- No sign begins from these places on: in standard error that of a panic or of an error, in standard output that of the
--- note, its first words.
+-- No sign begins from these places on: in standard error that of an error, in standard output that of the note, its last
+-- words.
 pub record AreQuiet (out err : List ℕ) (out_end err_end : ℕ) : Type 0 where
   pub out_within : out_end ≤ length out
   pub err_within : err_end ≤ length err
-  pub panic : IsQuietFrom err (codes "\nthread '") err_end
   pub error : IsQuietFrom err (codes "\nError: ") err_end
-  pub note : IsQuietFrom out (codes "note: test did not panic") out_end
+  pub note : IsQuietFrom out (codes "did not panic as expected") out_end

@@ -27,6 +27,14 @@ ArePlain b i j = (k : ℕ) → i ≤ k → k < j → (slice_index b k ≢ 39) ×
 abbrev pub AreBreaks : List ℕ → ℕ → ℕ → Type 0
 AreBreaks b i j = (k : ℕ) → i ≤ k → k < j → IsBreak (slice_index b k)
 
+-- The byte is white space of ASCII.
+abbrev pub IsSpace : ℕ → Type 0
+IsSpace x = ((9 ≤ x) × (x ≤ 13)) ⊎ (x ≡ 32)
+
+-- Each byte of b from i up to j is white space of ASCII.
+abbrev pub AreSpaces : List ℕ → ℕ → ℕ → Type 0
+AreSpaces b i j = (k : ℕ) → i ≤ k → k < j → IsSpace (slice_index b k)
+
 -- The line of `at` ends at `end`: behind a line feed that is not before `at`, or with the bytes.
 abbrev pub IsLineEnd : List ℕ → ℕ → ℕ → Type 0
 IsLineEnd b at end = end < length b → (at < end) × (slice_index b (end - 1) ≡ 10)

@@ -1,22 +1,25 @@
 //! The three heuristics, and which of them is used.
 
-ghost use Rattle.std.specs.Prelude.{codes, ◌≡◌, ◌≤◌, ◌<◌, ℕ, ◌+◌, ◌-◌, length, slice_index, Option, option_map, IfSome};
+ghost use Rattle.std.specs.Prelude.{codes, ◌≡◌, ◌≤◌, ◌<◌, ℕ, ◌+◌, ◌-◌, length, slice_index, Option, None, Some, option_map, IfSome};
 ghost use Rattle.std.specs.Option.{option_copied};
 ghost use Rattle.bstr.specs.Text.{without_terminator};
 ghost use Rattle.bstr.specs.Find.{IsFirst};
 ghost use Rattle.output_slice.specs.Slices.{Slice, IsErrorSlice, IsErrorStart, IsNoteLine, IsPart, IsPanicSlice, IsTrimmedSlice, IsWidened, IsBreak};
-ghost use Rattle.output_slice.specs.Steps.{AreBreaks};
+ghost use Rattle.output_slice.specs.Steps.{AreBreaks, AreSpaces};
 ghost use Rattle.output_slice.specs.Extraction.{Extract, IsCappedExtract, IsExtract, LiesIn};
 ghost use Rattle.output_slice.specs.Shown.{slice_of, extract_of, part_of};
 ghost use Rattle.output_slice.specs.Signs.{IsNoteQuiet, IsQuietFrom};
 ghost use Rattle.std.specs.Int.NonZero.{non_zero_usize_get};
 
-use crate::last_head::last_head_before;
+use crate::last_head::last_head;
 use crate::lines::{last_byte, line_end, line_start};
 use crate::signs::{ERROR_SIGN, NOTE, first_sign, quiet_ends};
 use crate::subslice::{ByteSubslice, TestOutputErrorSlice};
 use bstr::ByteSlice;
 use std::num::NonZero;
+
+/// The white space of ASCII, which is passed over byte by byte: that is faster than by characters.
+const SPACES: &[u8] = b"\t\n\x0b\x0c\r ";
 
 impl<'a> TestOutputErrorSlice<'a> {
     /// The part of a test's output that says why it failed: the panic slice of standard error, else
@@ -70,20 +73,30 @@ fn first_slice<'a>(
     ensures { IsExtract (option_copied stdout.entry) (option_copied stderr.entry)
         (option_map extract_of result) }
 {
-    let quiet = quiet_ends(stdout.unwrap_or(b""), stderr.unwrap_or(b""));
     let Some(bytes) = stderr else {
+        let quiet = quiet_ends(stdout.unwrap_or(b""), b"");
         return note_slice(stdout, quiet.stdout);
     };
-    match panic_message_before(bytes, quiet.stderr) {
+    match heuristic_panic_message(bytes) {
         Some(part) => Some(TestOutputErrorSlice::PanicMessage {
             stderr_subslice: part,
         }),
-        None => match error_str_before(bytes, quiet.stderr) {
-            Some(part) => Some(TestOutputErrorSlice::ErrorStr {
-                stderr_subslice: part,
-            }),
-            None => note_slice(stdout, quiet.stdout),
-        },
+        None => later_slice(stdout, bytes),
+    }
+}
+
+/// The first of the two other slices, where there is no panic slice.
+fn later_slice<'a>(stdout: Option<&'a [u8]>, stderr: &'a [u8]) -> Option<TestOutputErrorSlice<'a>>
+    requires { IsPanicSlice stderr.now None }
+    ensures { IsExtract (option_copied stdout.entry) (Some stderr.now)
+        (option_map extract_of result) }
+{
+    let quiet = quiet_ends(stdout.unwrap_or(b""), stderr);
+    match error_str_before(stderr, quiet.stderr) {
+        Some(part) => Some(TestOutputErrorSlice::ErrorStr {
+            stderr_subslice: part,
+        }),
+        None => note_slice(stdout, quiet.stdout),
     }
 }
 
@@ -110,16 +123,7 @@ pub fn heuristic_panic_message(stderr: &[u8]) -> Option<ByteSubslice<'_>>
         → found ≡ option_map slice_of result }
     ensures part { IfSome result (λ x. IsPart stderr.now (slice_of x)) }
 {
-    panic_message_before(stderr, stderr.len())
-}
-
-/// The same, where no sign of a panic begins at `end` or behind it. An extraction has looked for
-/// the signs of all three slices at once, so each heuristic has a twin, which leaves the end out.
-fn panic_message_before(stderr: &[u8], end: usize) -> Option<ByteSubslice<'_>>
-    requires { IsQuietFrom stderr.now (codes "\nthread '") end }
-    ensures { IsPanicSlice stderr.now (option_map slice_of result) }
-{
-    let head = last_head_before(stderr, end)?;
+    let head = last_head(stderr)?;
     let start = widened(stderr, head.start);
     Some(trimmed(stderr, start))
 }
@@ -137,7 +141,9 @@ pub fn heuristic_error_str(stderr: &[u8]) -> Option<ByteSubslice<'_>>
     error_str_before(stderr, stderr.len())
 }
 
-/// The same, where no sign of an error begins at `end` or behind it.
+/// The same, where no sign of an error begins at `end` or behind it. An extraction has looked for the
+/// signs of the error and of the note at once, so each of the two has a twin, which leaves the end
+/// out.
 fn error_str_before(stderr: &[u8], end: usize) -> Option<ByteSubslice<'_>>
     requires { IsQuietFrom stderr.now (codes "\nError: ") end }
     ensures { IsErrorSlice stderr.now (option_map slice_of result) }
@@ -235,8 +241,22 @@ fn trimmed(stderr: &[u8], start: usize) -> ByteSubslice<'_>
     ensures start { result.start ≡ start }
     ensures trimmed { IsTrimmedSlice stderr.now (slice_of result) }
 {
+    let end = spaces_start(stderr, start);
     ByteSubslice {
-        slice: (&stderr[start..]).trim_end(),
+        slice: (&stderr[start..end]).trim_end(),
         start,
+    }
+}
+
+/// Where the white space of ASCII begins that ends the bytes, at `start` or behind it.
+fn spaces_start(bytes: &[u8], start: usize) -> usize
+    requires { start ≤ length bytes.now }
+    ensures low { start ≤ result }
+    ensures within { result ≤ length bytes.now }
+    ensures spaces { AreSpaces bytes.now result (length bytes.now) }
+{
+    match (&bytes[start..]).rfind_not_byteset(SPACES) {
+        Some(last) => start + last + 1,
+        None => start,
     }
 }

@@ -1,30 +1,30 @@
 //! The search for the last taken head, from the back.
 
-ghost use Rattle.std.specs.Prelude.{codes, ◌+◌, ◌^◌, ◌≡◌, ◌≤◌, ◌<◌, ◌↔◌, ℕ, List, length, MatchOption, IsSome, IsTrue, Some};
+ghost use Rattle.std.specs.Prelude.{◌+◌, ◌^◌, ◌≡◌, ◌≤◌, ◌<◌, ◌↔◌, ℕ, List, length, MatchOption, IsSome, IsTrue, Some};
 ghost use Rattle.output_slice.specs.declared.panic_head.HeadSpan.{HeadSpan};
 ghost use Rattle.output_slice.specs.Head.{IsLineStart, IsHead};
 ghost use Rattle.output_slice.specs.Taken.{IsLastTaken, IsTaken, last_of};
 ghost use Rattle.output_slice.specs.Cut.{IsCut, head_behind};
 ghost use Rattle.output_slice.specs.Search.{AllHeadsEndBy, IsLastFrom, IsLastOpening, IsOpening, MayAllBeCrossed, MayCross};
-ghost use Rattle.output_slice.specs.Signs.{IsQuietFrom};
 
 use crate::byte_source::CountedBytes;
 use crate::lines::{is_line_start, last_byte, line_end, next_byte};
 use crate::panic_head::quotes::{OPENING_SIZE, WORD_SIZE};
 use crate::panic_head::{HeadSpan, last_panic_head};
-use crate::signs::{PANIC_SIGN, last_sign};
+use crate::signs::heads_end;
 use bstr::ByteSlice;
 
-/// The last line start at which `thread '` stands, where no sign of a panic begins at `end` or
-/// behind it.
-fn last_opening(bytes: &[u8], end: usize) -> Option<usize>
-    requires { IsQuietFrom bytes.now (codes "\nthread '") end }
+/// The start of a head, behind a line feed.
+const OPENING: &[u8] = b"\nthread '";
+
+/// The last line start at which `thread '` stands.
+fn last_opening(bytes: &[u8]) -> Option<usize>
     ensures { IsLastOpening bytes.now result }
 {
-    if let Some(feed) = last_sign(bytes, PANIC_SIGN, end) {
+    if let Some(feed) = bytes.rfind(OPENING) {
         return Some(feed + 1);
     }
-    if bytes.starts_with_str(&PANIC_SIGN[1..]) {
+    if bytes.starts_with_str(&OPENING[1..]) {
         return Some(0);
     }
     None
@@ -65,7 +65,7 @@ fn is_opening(bytes: &[u8], at: usize) -> bool
     requires { at ≤ length bytes.now }
     ensures { IsTrue result ↔ IsOpening bytes.now at }
 {
-    is_line_start(bytes, at) && (&bytes[at..]).starts_with_str(&PANIC_SIGN[1..])
+    is_line_start(bytes, at) && (&bytes[at..]).starts_with_str(&OPENING[1..])
 }
 
 /// The last line start at or before `at` that no head may cross, by what stands before it.
@@ -116,17 +116,17 @@ pub fn last_head(bytes: &[u8]) -> Option<HeadSpan>
     ensures only { (taken : List HeadSpan) → IsTaken bytes.now taken → result ≡ last_of taken }
     ensures found { IsSome result ↔ ((s : ℕ) × (e : ℕ) × IsHead bytes.now s e) }
 {
-    last_head_before(bytes, bytes.len())
+    last_head_before(bytes, heads_end(bytes))
 }
 
-/// The same, where no sign of a panic begins at `end` or behind it: an extraction has looked for
-/// the signs of all slices at once.
-pub(crate) fn last_head_before(bytes: &[u8], end: usize) -> Option<HeadSpan>
-    requires { IsQuietFrom bytes.now (codes "\nthread '") end }
+/// The same, where every head ends at `end` or before it.
+fn last_head_before(bytes: &[u8], end: usize) -> Option<HeadSpan>
+    requires within { end ≤ length bytes.now }
+    requires ends { AllHeadsEndBy bytes.now end }
     ensures { IsLastTaken bytes.now result }
 {
-    let mut rest = bytes;
-    while let Some(at) = last_opening(rest, end) {
+    let mut rest = &bytes[..end];
+    while let Some(at) = last_opening(rest) {
         let front = &rest[..window_end(rest, at)];
         let cut = cut_before(front, at);
         if let Some(head) = last_from(front, cut) {

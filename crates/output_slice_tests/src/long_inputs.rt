@@ -6,12 +6,13 @@ use output_slice::subslice::TestOutputErrorSlice;
 use std::alloc::{AllocError, Global};
 use std::io;
 
-/// What an input shows, and its bytes: a front, and a piece so many times.
+/// What an input shows, and its bytes: a front, a piece so many times, and an end.
 struct Long {
     shows: &'static str,
     front: &'static [u8],
     piece: &'static [u8],
     times: usize,
+    end: &'static [u8],
 }
 
 impl Long {
@@ -20,6 +21,7 @@ impl Long {
         for _ in 0..self.times {
             bytes.extend_from_slice(self.piece)?;
         }
+        bytes.extend_from_slice(self.end)?;
         Ok(bytes)
     }
 }
@@ -31,20 +33,26 @@ const READ: [Long; 3] = [
         front: b"",
         piece: b"thread '\n",
         times: 100_000,
+        end: b"",
     },
     Long {
         shows: "quotes",
         front: b"",
         piece: b"'",
         times: 1_000_000,
+        end: b"",
     },
     Long {
         shows: "a number without an end",
         front: b"thread 'a' (",
         piece: b"1",
         times: 1_000_000,
+        end: b"",
     },
 ];
+
+/// A line that holds what ends a head, and is none: without it no head is looked for.
+const NO_HEAD: &[u8] = b"the worker panicked at start\n";
 
 /// Inputs on which a search that looks through the rest of the input at every opening or at every
 /// window, or that compares all heads with each other, would not end in time.
@@ -54,36 +62,42 @@ const SEARCHED: [Long; 6] = [
         front: b"",
         piece: b"thread '\n",
         times: 1_000_000,
+        end: NO_HEAD,
     },
     Long {
         shows: "the same, set apart by text",
         front: b"",
         piece: b"thread 'a\none line\ntwo lines\nthree lines\n",
         times: 1_000_000,
+        end: NO_HEAD,
     },
     Long {
         shows: "heads",
         front: b"",
         piece: b"thread 'a' panicked at \n",
         times: 1_000_000,
+        end: b"",
     },
     Long {
         shows: "lines that open no head: a million windows",
         front: b"",
         piece: b"thread 'x' started\n",
         times: 1_000_000,
+        end: NO_HEAD,
     },
     Long {
         shows: "the same, set apart by text",
         front: b"",
         piece: b"thread 'x' started\n\none line\n",
         times: 1_000_000,
+        end: NO_HEAD,
     },
     Long {
         shows: "a head before all of these windows",
         front: b"thread 'a' panicked at b\n",
         piece: b"thread 'x' started\n",
         times: 1_000_000,
+        end: NO_HEAD,
     },
 ];
 

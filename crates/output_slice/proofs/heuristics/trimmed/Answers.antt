@@ -1,7 +1,7 @@
-use Rattle.std.proofs.lemmas.List.{take_rest}
-use Rattle.output_slice.proofs.TrimLemmas.{IsTrimmedSlice-trim_end}
+use Rattle.output_slice.proofs.TrimLemmas.{IsTrimmedSlice-front}
 use Rattle.output_slice.proofs.heuristics.trimmed.Goals as goal
 
 pub returns-clause-trimmed : goal.returns-clause-trimmed
 returns-clause-trimmed c =
-    rw (c.trim_end.ensures, take_rest) (IsTrimmedSlice-trim_end c.args.stderr.now c.args.start c.requires)
+    let e = c.spaces_start-end.ensures in
+    rw c.trim_end.ensures (IsTrimmedSlice-front c.args.stderr.now c.args.start c.spaces_start-end.result e.low e.within e.spaces)

@@ -1,12 +1,11 @@
-use Rattle.std.proofs.Common.{length, Option, codes}
+use Rattle.std.proofs.Common.{length, Option}
 use Rattle.output_slice.specs.declared.panic_head.HeadSpan.{HeadSpan}
-use Rattle.output_slice.specs.Signs.{IsQuietFrom}
 use Rattle.output_slice.specs.Taken.{IsLastTaken}
 use Rattle.output_slice.proofs.last_head.last_head_before.Given as goal
 
--- the last of the rest is the last of all, and the end of the rest is quiet too
+-- the last of the rest is the last of all
 abbrev pub invariant-loop-at : goal.invariant-loop-at
-invariant-loop-at l = ((found : Option HeadSpan) → IsLastTaken l.rest found → IsLastTaken l.fn.bytes found) × IsQuietFrom l.rest (codes "\nthread '") l.fn.end
+invariant-loop-at l = (found : Option HeadSpan) → IsLastTaken l.rest found → IsLastTaken l.fn.bytes found
 
 abbrev pub decreases-loop-at : goal.decreases-loop-at
 decreases-loop-at l = length l.rest
