@@ -1,24 +1,45 @@
 //! The attempts of a test, in order.
 
 use fixtures::{EXIT_ONE, PASS, finished_test};
+use run_events::attempts::{ExecuteStatus, ExecutionStatuses};
+use run_events::child::LiveSpec;
 use run_events::config::FlakyResult;
 use std::test::Fail;
+
+/// The number of an attempt, if there is one.
+fn number_of(attempt: Option<&ExecuteStatus<LiveSpec>>) -> Option<u32> {
+    attempt.map(|status| status.retry_data.attempt)
+}
+
+/// The numbers of attempts, as an iterator gives them: one from the front, one from the back, and
+/// two more from the front.
+fn numbers_from_both_ends(test: &ExecutionStatuses<LiveSpec>) -> [Option<u32>; 4] {
+    let mut attempts = test.iter();
+    let first = number_of(attempts.next());
+    let last = number_of(attempts.next_back());
+    let second = number_of(attempts.next());
+    [first, last, second, number_of(attempts.next())]
+}
+
+/// How many attempts come one after the other, numbered from 1.
+fn count_in_order(test: ExecutionStatuses<LiveSpec>) -> Option<u32> {
+    let mut number: u32 = 0;
+    let mut are_in_order = true;
+    for status in test {
+        number = number.saturating_add(1);
+        are_in_order = are_in_order && status.retry_data.attempt == number;
+    }
+    are_in_order.then_some(number)
+}
 
 #[test]
 fn attempts_come_from_both_ends(rt: HostRuntime) -> Result<(), Fail> {
     let earlier = [EXIT_ONE, EXIT_ONE];
     let test = finished_test(rt.alloc(), &earlier, PASS, false, FlakyResult::Pass)?;
-    let mut attempts = test.iter();
-    let first = attempts.next().map(|status| status.retry_data.attempt);
-    let last = attempts.next_back().map(|status| status.retry_data.attempt);
-    let second = attempts.next().map(|status| status.retry_data.attempt);
-    assert_eq!(rt; [first, second, last], [Some(1), Some(2), Some(3)]);
-    assert!(rt; attempts.next().is_none());
-    let mut number: u32 = 0;
-    for status in test {
-        number = number.saturating_add(1);
-        assert_eq!(rt; status.retry_data.attempt, number);
-    }
-    assert_eq!(rt; number, 3);
+    assert_eq!(rt;
+        numbers_from_both_ends(&test),
+        [Some(1), Some(3), Some(2), None]
+    );
+    assert_eq!(rt; count_in_order(test), Some(3));
     Ok(())
 }

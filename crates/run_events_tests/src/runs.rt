@@ -4,12 +4,14 @@ use fixtures::{
     EXEC_FAIL, EXIT_ONE, LEAK_FAIL, LEAK_PASS, PASS, TIMEOUT_FAIL, TIMEOUT_PASS, finished_script,
     finished_test,
 };
+use run_events::attempts::ExecutionStatuses;
+use run_events::child::LiveSpec;
 use run_events::config::FlakyResult;
 use run_events::levels::StatusLevel;
 use run_events::outcome::{RunFailureStep, RunOutcome};
-use run_events::results::CancelReason;
+use run_events::results::{CancelReason, ExecutionResult};
 use run_events::stats::{FinishedRun, FinishedUnit, RunStart, RunStats};
-use std::test::Fail;
+use std::alloc::{AllocError, Global};
 
 /// The start of a run of so many tests, with this reason.
 fn start_of(initial_run_count: usize, cancel_reason: Option<CancelReason>) -> RunStart {
@@ -21,9 +23,9 @@ fn start_of(initial_run_count: usize, cancel_reason: Option<CancelReason>) -> Ru
     }
 }
 
-#[test]
-fn a_run_counts_units_of_both_kinds(rt: HostRuntime) -> Result<(), Fail> {
-    let alloc = rt.alloc();
+/// The counters of a run of a flaky test, a slow one that failed, one that timed out, one that could
+/// not be run, and two setup scripts.
+fn counted(alloc: Global, start: RunStart) -> Result<RunStats, AllocError> {
     let flaky = finished_test(alloc, &[EXIT_ONE, EXIT_ONE], PASS, true, FlakyResult::Pass)?;
     let slow = finished_test(alloc, &[], EXIT_ONE, true, FlakyResult::Pass)?;
     let lost = finished_test(alloc, &[PASS], TIMEOUT_FAIL, true, FlakyResult::Pass)?;
@@ -38,6 +40,11 @@ fn a_run_counts_units_of_both_kinds(rt: HostRuntime) -> Result<(), Fail> {
         FinishedUnit::Script(&broken),
         FinishedUnit::Test(&lost),
     ];
+    Ok(RunStats::of_run(&units, start))
+}
+
+#[test]
+fn a_run_counts_units_of_both_kinds(rt: HostRuntime) -> Result<(), AllocError> {
     let start = RunStart {
         setup_scripts_initial_count: 2,
         skipped: 3,
@@ -61,16 +68,46 @@ fn a_run_counts_units_of_both_kinds(rt: HostRuntime) -> Result<(), Fail> {
         cancel_reason: Some(CancelReason::Signal),
         ..RunStats::default()
     };
-    assert_eq!(rt; RunStats::of_run(&units, start), wanted);
-    assert_eq!(rt;
-        RunStats::of_run(&[], start_of(0, None)),
-        RunStats::default()
-    );
+    assert_eq!(rt; counted(rt.alloc(), start)?, wanted);
     Ok(())
 }
 
 #[test]
-fn the_level_is_fail_exactly_where_the_test_counts_as_failed(rt: HostRuntime) -> Result<(), Fail> {
+fn a_run_without_units_counts_nothing(rt: HostRuntime) {
+    assert_eq!(rt;
+        RunStats::of_run(&[], start_of(0, None)),
+        RunStats::default()
+    );
+}
+
+/// Whether the level of a test is `Fail` exactly where it counts as failed.
+fn agree(test: &ExecutionStatuses<LiveSpec>) -> bool {
+    let stats = RunStats::of_run(&[FinishedUnit::Test(test)], start_of(0, None));
+    let fails = test.describe().status_level() == StatusLevel::Fail;
+    stats.failed_count() == usize::from(fails) && stats.has_failures() == fails
+}
+
+/// Whether they agree for a test that ended so after these attempts, slow or not, whether flaky tests
+/// pass or fail.
+fn agree_on(
+    alloc: Global,
+    earlier: &[ExecutionResult],
+    last: ExecutionResult,
+) -> Result<bool, AllocError> {
+    let mut all_agree = true;
+    for setting in [FlakyResult::Pass, FlakyResult::Fail] {
+        let slow = finished_test(alloc, earlier, last, true, setting)?;
+        all_agree = all_agree && agree(&slow);
+        let fast = finished_test(alloc, earlier, last, false, setting)?;
+        all_agree = all_agree && agree(&fast);
+    }
+    Ok(all_agree)
+}
+
+#[test]
+fn the_level_is_fail_exactly_where_the_test_counts_as_failed(
+    rt: HostRuntime,
+) -> Result<(), AllocError> {
     for last in [
         PASS,
         LEAK_PASS,
@@ -80,26 +117,20 @@ fn the_level_is_fail_exactly_where_the_test_counts_as_failed(rt: HostRuntime) ->
         TIMEOUT_FAIL,
         TIMEOUT_PASS,
     ] {
-        for earlier in [[].as_slice(), [EXIT_ONE].as_slice()] {
-            for setting in [FlakyResult::Pass, FlakyResult::Fail] {
-                for is_slow in [false, true] {
-                    let test = finished_test(rt.alloc(), earlier, last, is_slow, setting)?;
-                    let units = [FinishedUnit::Test(&test)];
-                    let stats = RunStats::of_run(&units, start_of(0, None));
-                    let fails = test.describe().status_level() == StatusLevel::Fail;
-                    let counts = stats.failed_count() == usize::from(fails);
-                    assert!(rt; counts && stats.has_failures() == fails, "{last:?}");
-                }
-            }
-        }
+        assert!(rt; agree_on(rt.alloc(), &[], last)?, "{last:?} at once");
+        assert!(rt;
+            agree_on(rt.alloc(), &[EXIT_ONE], last)?,
+            "{last:?} at last"
+        );
     }
     Ok(())
 }
 
-#[test]
-fn each_run_is_counted_for_itself(rt: HostRuntime) -> Result<(), Fail> {
-    let passed = finished_test(rt.alloc(), &[], PASS, false, FlakyResult::Pass)?;
-    let failed = finished_test(rt.alloc(), &[], EXIT_ONE, false, FlakyResult::Pass)?;
+/// The outcomes of a run that passed, of a cancelled one, and of all four runs: of one that passed,
+/// one that failed, a cancelled one and one without tests.
+fn outcomes(alloc: Global) -> Result<[RunOutcome; 3], AllocError> {
+    let passed = finished_test(alloc, &[], PASS, false, FlakyResult::Pass)?;
+    let failed = finished_test(alloc, &[], EXIT_ONE, false, FlakyResult::Pass)?;
     let passes = [FinishedUnit::Test(&passed)];
     let fails = [FinishedUnit::Test(&failed)];
     // The failed run is neither the first nor the last. As one run they would be cancelled.
@@ -121,14 +152,31 @@ fn each_run_is_counted_for_itself(rt: HostRuntime) -> Result<(), Fail> {
             start: start_of(0, None),
         },
     ];
-    let step = RunFailureStep::Test;
-    assert_eq!(rt; RunOutcome::of_runs(&runs[..0]), RunOutcome::NoTestsRun);
-    assert_eq!(rt; RunOutcome::of_runs(&runs[3..]), RunOutcome::NoTestsRun);
-    assert_eq!(rt; RunOutcome::of_runs(&runs[..1]), RunOutcome::Success);
-    assert_eq!(rt;
+    Ok([
+        RunOutcome::of_runs(&runs[..1]),
         RunOutcome::of_runs(&runs[2..]),
-        RunOutcome::Cancelled { step }
-    );
-    assert_eq!(rt; RunOutcome::of_runs(&runs), RunOutcome::Failed { step });
+        RunOutcome::of_runs(&runs),
+    ])
+}
+
+#[test]
+fn each_run_is_counted_for_itself(rt: HostRuntime) -> Result<(), AllocError> {
+    let step = RunFailureStep::Test;
+    let wanted = [
+        RunOutcome::Success,
+        RunOutcome::Cancelled { step },
+        RunOutcome::Failed { step },
+    ];
+    assert_eq!(rt; outcomes(rt.alloc())?, wanted);
     Ok(())
+}
+
+#[test]
+fn no_run_and_a_run_without_tests_run_no_tests(rt: HostRuntime) {
+    let none = FinishedRun {
+        units: &[],
+        start: start_of(0, None),
+    };
+    assert_eq!(rt; RunOutcome::of_runs(&[]), RunOutcome::NoTestsRun);
+    assert_eq!(rt; RunOutcome::of_runs(&[none]), RunOutcome::NoTestsRun);
 }

@@ -57,15 +57,41 @@ fn slots_are_compared(rt: HostRuntime) -> Result<(), AllocError> {
     Ok(())
 }
 
-fn started(alloc: Global) -> Result<TestEventKind<'static>, AllocError> {
-    Ok(TestEventKind::TestStarted {
+fn started(alloc: Global) -> Result<ReporterEvent<'static>, AllocError> {
+    let slot_assignment = in_group(alloc, "database")?;
+    let command_line = owned(alloc, &["app", "--exact", "adds"])?;
+    let kind = TestEventKind::TestStarted {
         stress_index: THIRD,
         test_instance: instance("adds"),
-        slot_assignment: in_group(alloc, "database")?,
+        slot_assignment,
         current_stats: SO_FAR,
         running: 3,
-        command_line: owned(alloc, &["app", "--exact", "adds"])?,
-    })
+        command_line,
+    };
+    told(alloc, kind)
+}
+
+/// Whether its fields are those that `started` put in.
+fn is_started(event: &ReporterEvent<'_>) -> bool {
+    let Some(
+        TestEventKind::TestStarted {
+            stress_index,
+            test_instance,
+            slot_assignment,
+            current_stats,
+            running,
+            command_line,
+        },
+    ) = kind_of(event)
+    else {
+        return false;
+    };
+    *running == 3
+        && *stress_index == THIRD
+        && is_instance(test_instance, "adds")
+        && is_in_group(slot_assignment, "database")
+        && *current_stats == SO_FAR
+        && are(command_line, &["app", "--exact", "adds"])
 }
 
 /// Whether it is the first of three attempts, slow, and exited with code 1.
@@ -77,19 +103,43 @@ fn is_slow_failure(status: &ExecuteStatus<LiveSpec>) -> bool {
         && status.is_slow
 }
 
-fn tried_again(alloc: Global) -> Result<TestEventKind<'static>, AllocError> {
-    Ok(TestEventKind::TestRetryStarted {
+fn tried_again(alloc: Global) -> Result<ReporterEvent<'static>, AllocError> {
+    let kind = TestEventKind::TestRetryStarted {
         stress_index: THIRD,
         test_instance: instance("adds"),
         slot_assignment: IN_NONE,
         retry_data: SECOND,
         running: 1,
         command_line: owned(alloc, &["app", "adds"])?,
-    })
+    };
+    told(alloc, kind)
 }
 
-fn finished(alloc: Global) -> Result<TestEventKind<'static>, AllocError> {
-    Ok(TestEventKind::TestFinished {
+/// Whether its fields are those that `tried_again` put in.
+fn is_tried_again(event: &ReporterEvent<'_>) -> bool {
+    let Some(
+        TestEventKind::TestRetryStarted {
+            stress_index,
+            test_instance,
+            slot_assignment,
+            retry_data,
+            running,
+            command_line,
+        },
+    ) = kind_of(event)
+    else {
+        return false;
+    };
+    *running == 1
+        && *stress_index == THIRD
+        && is_instance(test_instance, "adds")
+        && *slot_assignment == IN_NONE
+        && *retry_data == SECOND
+        && are(command_line, &["app", "adds"])
+}
+
+fn finished(alloc: Global) -> Result<ReporterEvent<'static>, AllocError> {
+    let kind = TestEventKind::TestFinished {
         stress_index: THIRD,
         test_instance: instance("adds"),
         success_output: TestOutputDisplay::Never,
@@ -100,7 +150,39 @@ fn finished(alloc: Global) -> Result<TestEventKind<'static>, AllocError> {
         run_statuses: finished_test(alloc, &[EXIT_ONE], LEAK_PASS, false, FlakyResult::Fail)?,
         current_stats: SO_FAR,
         running: 0,
-    })
+    };
+    told(alloc, kind)
+}
+
+/// Whether its fields are those that `finished` put in.
+fn is_finished(event: &ReporterEvent<'_>) -> bool {
+    let Some(
+        TestEventKind::TestFinished {
+            stress_index,
+            test_instance,
+            success_output,
+            failure_output,
+            junit_store_success_output,
+            junit_store_failure_output,
+            junit_flaky_fail_status,
+            run_statuses,
+            current_stats,
+            running,
+        },
+    ) = kind_of(event)
+    else {
+        return false;
+    };
+    *success_output == TestOutputDisplay::Never
+        && *failure_output == TestOutputDisplay::Final
+        && !*junit_store_success_output
+        && *junit_store_failure_output
+        && *running == 0
+        && *stress_index == THIRD
+        && is_instance(test_instance, "adds")
+        && junit_flaky_fail_status.name == "failure"
+        && are_two(run_statuses)
+        && *current_stats == SO_FAR
 }
 
 /// Whether the attempts are two, of a test that fails where it is flaky, and the last one leaked.
@@ -111,180 +193,110 @@ fn are_two(statuses: &ExecutionStatuses<LiveSpec>) -> bool {
         && is_result(&statuses.last_status().result, LEAK_PASS)
 }
 
-fn slow() -> TestEventKind<'static> {
-    TestEventKind::TestSlow {
+fn slow(alloc: Global) -> Result<ReporterEvent<'static>, AllocError> {
+    let kind = TestEventKind::TestSlow {
         stress_index: THIRD,
         test_instance: instance("divides"),
         retry_data: SECOND,
         elapsed: Duration::from_secs(60),
         will_terminate: false,
-    }
+    };
+    told(alloc, kind)
 }
 
-fn failed() -> TestEventKind<'static> {
-    TestEventKind::TestAttemptFailedWillRetry {
+/// Whether its fields are those that `slow` put in.
+fn is_slow(event: &ReporterEvent<'_>) -> bool {
+    let Some(
+        TestEventKind::TestSlow {
+            stress_index,
+            test_instance,
+            retry_data,
+            elapsed,
+            will_terminate,
+        },
+    ) = kind_of(event)
+    else {
+        return false;
+    };
+    !*will_terminate
+        && *stress_index == THIRD
+        && is_instance(test_instance, "divides")
+        && *retry_data == SECOND
+        && *elapsed == Duration::from_secs(60)
+}
+
+fn failed(alloc: Global) -> Result<ReporterEvent<'static>, AllocError> {
+    let kind = TestEventKind::TestAttemptFailedWillRetry {
         stress_index: None,
         test_instance: instance("adds"),
         run_status: attempt(EXIT_ONE, 1, true),
         delay_before_next_attempt: Duration::from_millis(250),
         failure_output: TestOutputDisplay::ImmediateFinal,
         running: 2,
-    }
+    };
+    told(alloc, kind)
 }
 
-fn skipped() -> TestEventKind<'static> {
-    TestEventKind::TestSkipped {
+/// Whether its fields are those that `failed` put in.
+fn is_failed(event: &ReporterEvent<'_>) -> bool {
+    let Some(
+        TestEventKind::TestAttemptFailedWillRetry {
+            stress_index,
+            test_instance,
+            run_status,
+            delay_before_next_attempt,
+            failure_output,
+            running,
+        },
+    ) = kind_of(event)
+    else {
+        return false;
+    };
+    stress_index.is_none()
+        && *failure_output == TestOutputDisplay::ImmediateFinal
+        && *running == 2
+        && is_instance(test_instance, "adds")
+        && is_slow_failure(run_status)
+        && *delay_before_next_attempt == Duration::from_millis(250)
+}
+
+fn skipped(alloc: Global) -> Result<ReporterEvent<'static>, AllocError> {
+    let kind = TestEventKind::TestSkipped {
         stress_index: None,
         test_instance: instance("is_ignored"),
         reason: MismatchReason { name: "ignored" },
         junit_report_skipped: ReportSkipPolicy { name: "all" },
-    }
+    };
+    told(alloc, kind)
 }
 
-/// An event of each kind.
-fn tests(alloc: Global) -> Result<Vec<ReporterEvent<'static>>, AllocError> {
-    let mut events = Vec::new(alloc);
-    events.push(told(alloc, started(alloc)?)?)?;
-    events.push(told(alloc, slow())?)?;
-    events.push(told(alloc, failed())?)?;
-    events.push(told(alloc, tried_again(alloc)?)?)?;
-    events.push(told(alloc, finished(alloc)?)?)?;
-    events.push(told(alloc, skipped())?)?;
-    Ok(events)
-}
-
-/// Its kind, and whether its fields are those that were put in.
-fn read_back(event: &ReporterEvent<'_>) -> (&'static str, bool) {
-    match kind_of(event) {
-        Some(
-            TestEventKind::TestStarted {
-                stress_index,
-                test_instance,
-                slot_assignment,
-                current_stats,
-                running,
-                command_line,
-            },
-        ) => (
-            "TestStarted",
-            *running == 3
-                && *stress_index == THIRD
-                && is_instance(test_instance, "adds")
-                && is_in_group(slot_assignment, "database")
-                && *current_stats == SO_FAR
-                && are(command_line, &["app", "--exact", "adds"]),
-        ),
-        Some(
-            TestEventKind::TestSlow {
-                stress_index,
-                test_instance,
-                retry_data,
-                elapsed,
-                will_terminate,
-            },
-        ) => (
-            "TestSlow",
-            !*will_terminate
-                && *stress_index == THIRD
-                && is_instance(test_instance, "divides")
-                && *retry_data == SECOND
-                && *elapsed == Duration::from_secs(60),
-        ),
-        Some(
-            TestEventKind::TestAttemptFailedWillRetry {
-                stress_index,
-                test_instance,
-                run_status,
-                delay_before_next_attempt,
-                failure_output,
-                running,
-            },
-        ) => (
-            "TestAttemptFailedWillRetry",
-            stress_index.is_none()
-                && *failure_output == TestOutputDisplay::ImmediateFinal
-                && *running == 2
-                && is_instance(test_instance, "adds")
-                && is_slow_failure(run_status)
-                && *delay_before_next_attempt == Duration::from_millis(250),
-        ),
-        Some(
-            TestEventKind::TestRetryStarted {
-                stress_index,
-                test_instance,
-                slot_assignment,
-                retry_data,
-                running,
-                command_line,
-            },
-        ) => (
-            "TestRetryStarted",
-            *running == 1
-                && *stress_index == THIRD
-                && is_instance(test_instance, "adds")
-                && *slot_assignment == IN_NONE
-                && *retry_data == SECOND
-                && are(command_line, &["app", "adds"]),
-        ),
-        Some(
-            TestEventKind::TestFinished {
-                stress_index,
-                test_instance,
-                success_output,
-                failure_output,
-                junit_store_success_output,
-                junit_store_failure_output,
-                junit_flaky_fail_status,
-                run_statuses,
-                current_stats,
-                running,
-            },
-        ) => (
-            "TestFinished",
-            *success_output == TestOutputDisplay::Never
-                && *failure_output == TestOutputDisplay::Final
-                && !*junit_store_success_output
-                && *junit_store_failure_output
-                && *running == 0
-                && *stress_index == THIRD
-                && is_instance(test_instance, "adds")
-                && junit_flaky_fail_status.name == "failure"
-                && are_two(run_statuses)
-                && *current_stats == SO_FAR,
-        ),
-        Some(
-            TestEventKind::TestSkipped {
-                stress_index,
-                test_instance,
-                reason,
-                junit_report_skipped,
-            },
-        ) => (
-            "TestSkipped",
-            stress_index.is_none()
-                && is_instance(test_instance, "is_ignored")
-                && reason.name == "ignored"
-                && junit_report_skipped.name == "all",
-        ),
-        _ => ("another kind", false),
-    }
+/// Whether its fields are those that `skipped` put in.
+fn is_skipped(event: &ReporterEvent<'_>) -> bool {
+    let Some(
+        TestEventKind::TestSkipped {
+            stress_index,
+            test_instance,
+            reason,
+            junit_report_skipped,
+        },
+    ) = kind_of(event)
+    else {
+        return false;
+    };
+    stress_index.is_none()
+        && is_instance(test_instance, "is_ignored")
+        && reason.name == "ignored"
+        && junit_report_skipped.name == "all"
 }
 
 #[test]
 fn tests_are_read_back(rt: HostRuntime) -> Result<(), AllocError> {
-    let events = tests(rt.alloc())?;
-    let kinds = [
-        "TestStarted",
-        "TestSlow",
-        "TestAttemptFailedWillRetry",
-        "TestRetryStarted",
-        "TestFinished",
-        "TestSkipped",
-    ];
-    assert_eq!(rt; events.len(), kinds.len());
-    for (event, kind) in events.iter().zip(&kinds) {
-        let (found, is_same) = read_back(event);
-        assert!(rt; found == *kind && is_same, "{kind}");
-    }
+    let alloc = rt.alloc();
+    assert!(rt; is_started(&started(alloc)?), "TestStarted");
+    assert!(rt; is_slow(&slow(alloc)?), "TestSlow");
+    assert!(rt; is_failed(&failed(alloc)?), "TestAttemptFailedWillRetry");
+    assert!(rt; is_tried_again(&tried_again(alloc)?), "TestRetryStarted");
+    assert!(rt; is_finished(&finished(alloc)?), "TestFinished");
+    assert!(rt; is_skipped(&skipped(alloc)?), "TestSkipped");
     Ok(())
 }

@@ -1,22 +1,22 @@
 //! Events of finished units lend them to the counters.
 
-use super::{SO_FAR, instance, owned, script_id, told};
+use super::{SO_FAR, instance, script_id, told};
 use fixtures::{EXIT_ONE, LEAK_FAIL, PASS, TIMEOUT_PASS, finished_script, finished_test};
-use run_events::attempts::ExecutionStatuses;
-use run_events::child::LiveSpec;
 use run_events::config::{FlakyResult, JunitFlakyFailStatus, TestOutputDisplay};
 use run_events::events::{ReporterEvent, TestEventKind};
 use run_events::outcome::{FinalRunStats, RunStatsFailureKind};
-use run_events::results::CancelReason;
+use run_events::results::{CancelReason, ExecutionResult};
 use run_events::stats::{FinishedUnit, RunStart, RunStats};
 use std::alloc::{AllocError, Global};
 
-/// The event of a test that finished so.
+/// The event of a test whose attempts ended so, the last of them slow or not.
 fn test_finished(
     alloc: Global,
-    test_name: &str,
-    run_statuses: ExecutionStatuses<LiveSpec>,
-) -> Result<ReporterEvent<'_>, AllocError> {
+    test_name: &'static str,
+    earlier: &[ExecutionResult],
+    last: ExecutionResult,
+    is_slow: bool,
+) -> Result<ReporterEvent<'static>, AllocError> {
     let kind = TestEventKind::TestFinished {
         stress_index: None,
         test_instance: instance(test_name),
@@ -25,7 +25,7 @@ fn test_finished(
         junit_store_success_output: false,
         junit_store_failure_output: true,
         junit_flaky_fail_status: JunitFlakyFailStatus { name: "failure" },
-        run_statuses,
+        run_statuses: finished_test(alloc, earlier, last, is_slow, FlakyResult::Pass)?,
         current_stats: SO_FAR,
         running: 0,
     };
@@ -34,13 +34,15 @@ fn test_finished(
 
 /// The event of the one setup script, which ran out of its time.
 fn script_finished(alloc: Global) -> Result<ReporterEvent<'static>, AllocError> {
+    let script_id = script_id(alloc)?;
+    let program = String::from_str(alloc, "sh")?;
     let kind = TestEventKind::SetupScriptFinished {
         stress_index: None,
         index: 0,
         total: 1,
-        script_id: script_id(alloc)?,
-        program: String::from_str(alloc, "sh")?,
-        args: owned(alloc, &[])?,
+        script_id,
+        program,
+        args: Vec::new(alloc),
         junit_store_success_output: false,
         junit_store_failure_output: true,
         no_capture: false,
@@ -66,35 +68,41 @@ fn finished_unit<'e>(event: &'e ReporterEvent<'_>) -> Option<FinishedUnit<'e>> {
 /// What a reporter is told of a run: a script that timed out, a flaky test, a slow one that leaked,
 /// a slow one that was to time out.
 fn events_of_run(alloc: Global) -> Result<Vec<ReporterEvent<'static>>, AllocError> {
-    let flaky = finished_test(alloc, &[EXIT_ONE], PASS, false, FlakyResult::Pass)?;
-    let leaked = finished_test(alloc, &[], LEAK_FAIL, true, FlakyResult::Pass)?;
-    let timed_out = finished_test(alloc, &[], TIMEOUT_PASS, true, FlakyResult::Pass)?;
     let mut events = Vec::new(alloc);
     events.push(script_finished(alloc)?)?;
-    events.push(test_finished(alloc, "flakes", flaky)?)?;
+    events.push(test_finished(alloc, "flakes", &[EXIT_ONE], PASS, false)?)?;
     events.push(ReporterEvent::Tick)?;
-    events.push(test_finished(alloc, "leaks", leaked)?)?;
+    events.push(test_finished(alloc, "leaks", &[], LEAK_FAIL, true)?)?;
     events.push(told(alloc, TestEventKind::InfoFinished { missing: 1 })?)?;
-    events.push(test_finished(alloc, "times_out", timed_out)?)?;
+    events.push(test_finished(alloc, "times_out", &[], TIMEOUT_PASS, true)?)?;
     Ok(events)
 }
 
-#[test]
-fn events_lend_their_units_to_the_counters(rt: HostRuntime) -> Result<(), AllocError> {
-    let events = events_of_run(rt.alloc())?;
-    let mut units = Vec::new(rt.alloc());
-    for event in &events {
+/// The counters of a run whose events are these.
+fn counted(
+    alloc: Global,
+    events: &[ReporterEvent<'_>],
+    start: RunStart,
+) -> Result<RunStats, AllocError> {
+    let mut units = Vec::new(alloc);
+    for event in events {
         if let Some(unit) = finished_unit(event) {
             units.push(unit)?;
         }
     }
+    Ok(RunStats::of_run(&units, start))
+}
+
+#[test]
+fn events_lend_their_units_to_the_counters(rt: HostRuntime) -> Result<(), AllocError> {
     let start = RunStart {
         initial_run_count: 4,
         setup_scripts_initial_count: 1,
         skipped: 2,
         cancel_reason: Some(CancelReason::GlobalTimeout),
     };
-    let stats = RunStats::of_run(&units, start);
+    let events = events_of_run(rt.alloc())?;
+    let stats = counted(rt.alloc(), &events, start)?;
     let wanted = RunStats {
         initial_run_count: 4,
         finished_count: 3,

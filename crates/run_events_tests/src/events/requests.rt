@@ -18,19 +18,17 @@ const FIRST_OF_THREE: RetryData = RetryData {
 };
 
 /// The answer of a setup script that is being ended.
-fn answer_of_script(alloc: Global) -> Result<TestEventKind<'static>, AllocError> {
-    let answer = SetupScriptInfoResponse {
+fn answer_of_script(alloc: Global) -> Result<SetupScriptInfoResponse, AllocError> {
+    let script_id = script_id(alloc)?;
+    let program = String::from_str(alloc, "sh")?;
+    let args = owned(alloc, &["-c", "make"])?;
+    Ok(SetupScriptInfoResponse {
         stress_index: THIRD,
-        script_id: script_id(alloc)?,
-        program: String::from_str(alloc, "sh")?,
-        args: owned(alloc, &["-c", "make"])?,
+        script_id,
+        program,
+        args,
         state: UnitState::Terminating(ending()),
         output: attempt(LEAK_PASS, 1, false).output,
-    };
-    Ok(TestEventKind::InfoResponse {
-        index: 0,
-        total: 2,
-        response: InfoResponse::SetupScript(answer),
     })
 }
 
@@ -46,19 +44,14 @@ fn is_script_that_ends(answer: &SetupScriptInfoResponse) -> bool {
 }
 
 /// The answer of a test that waits for its second attempt.
-fn answer_of_test(alloc: Global) -> Result<TestEventKind<'static>, AllocError> {
-    let answer = TestInfoResponse {
+fn answer_of_test() -> TestInfoResponse<'static> {
+    TestInfoResponse {
         stress_index: None,
         test_instance: instance("adds"),
         retry_data: FIRST_OF_THREE,
         state: delayed(),
         output: attempt(EXIT_ONE, 1, false).output,
-    };
-    Ok(TestEventKind::InfoResponse {
-        index: 1,
-        total: 2,
-        response: InfoResponse::Test(answer),
-    })
+    }
 }
 
 /// Whether it is that answer.
@@ -71,87 +64,116 @@ fn is_test_that_waits(answer: &TestInfoResponse<'_>) -> bool {
         && is_silent(&answer.output, EXIT_ONE)
 }
 
-fn asked() -> TestEventKind<'static> {
-    TestEventKind::InfoStarted {
-        total: 4,
-        run_stats: SO_FAR,
+/// One of two answers, of this place.
+fn answered(
+    alloc: Global,
+    index: usize,
+    response: InfoResponse<'_>,
+) -> Result<ReporterEvent<'_>, AllocError> {
+    let kind = TestEventKind::InfoResponse {
+        index,
+        total: 2,
+        response,
+    };
+    told(alloc, kind)
+}
+
+/// The answer of this place, of two.
+fn answer_at<'e, 'a>(event: &'e ReporterEvent<'a>, wanted: usize) -> Option<&'e InfoResponse<'a>> {
+    match kind_of(event)? {
+        TestEventKind::InfoResponse {
+            index,
+            total: 2,
+            response,
+        } if *index == wanted => Some(response),
+        _ => None,
     }
 }
 
-fn answered() -> TestEventKind<'static> {
-    TestEventKind::InfoFinished { missing: 2 }
-}
-
-fn entered() -> TestEventKind<'static> {
-    TestEventKind::InputEnter {
-        current_stats: SO_FAR,
-        running: 8,
+/// Whether it is the first answer, of the setup script.
+fn is_answer_of_script(event: &ReporterEvent<'_>) -> bool {
+    match answer_at(event, 0) {
+        Some(InfoResponse::SetupScript(answer)) => is_script_that_ends(answer),
+        _ => false,
     }
 }
 
-/// An event of each kind, and an answer of each.
-fn requests(alloc: Global) -> Result<Vec<ReporterEvent<'static>>, AllocError> {
-    let mut events = Vec::new(alloc);
-    events.push(told(alloc, asked())?)?;
-    events.push(told(alloc, answer_of_script(alloc)?)?)?;
-    events.push(told(alloc, answer_of_test(alloc)?)?)?;
-    events.push(told(alloc, answered())?)?;
-    events.push(told(alloc, entered())?)?;
-    Ok(events)
-}
-
-/// Its kind, and whether its fields are those that were put in.
-fn read_back(event: &ReporterEvent<'_>) -> (&'static str, bool) {
-    match kind_of(event) {
-        Some(TestEventKind::InfoStarted { total, run_stats }) => (
-            "InfoStarted",
-            *total == 4 && *run_stats == SO_FAR,
-        ),
-        Some(
-            TestEventKind::InfoResponse {
-                index,
-                total,
-                response: InfoResponse::SetupScript(answer),
-            },
-        ) => (
-            "InfoResponse of a script",
-            *index == 0 && *total == 2 && is_script_that_ends(answer),
-        ),
-        Some(
-            TestEventKind::InfoResponse {
-                index,
-                total,
-                response: InfoResponse::Test(answer),
-            },
-        ) => (
-            "InfoResponse of a test",
-            *index == 1 && *total == 2 && is_test_that_waits(answer),
-        ),
-        Some(TestEventKind::InfoFinished { missing }) => ("InfoFinished", *missing == 2),
-        Some(
-            TestEventKind::InputEnter {
-                current_stats,
-                running,
-            },
-        ) => ("InputEnter", *running == 8 && *current_stats == SO_FAR),
-        _ => ("another kind", false),
+/// Whether it is the second answer, of the test.
+fn is_answer_of_test(event: &ReporterEvent<'_>) -> bool {
+    match answer_at(event, 1) {
+        Some(InfoResponse::Test(answer)) => is_test_that_waits(answer),
+        _ => false,
     }
 }
 
 #[test]
-fn requests_are_read_back(rt: HostRuntime) -> Result<(), AllocError> {
-    let events = requests(rt.alloc())?;
-    let kinds = [
-        "InfoStarted",
-        "InfoResponse of a script",
-        "InfoResponse of a test",
-        "InfoFinished",
-        "InputEnter",
-    ];
-    assert_eq!(rt; events.len(), kinds.len());
-    for (event, kind) in events.iter().zip(&kinds) {
-        let (found, is_same) = read_back(event);
-        assert!(rt; found == *kind && is_same, "{kind}");
+fn answers_are_read_back(rt: HostRuntime) -> Result<(), AllocError> {
+    let alloc = rt.alloc();
+    let of_script = InfoResponse::SetupScript(answer_of_script(alloc)?);
+    let first = answered(alloc, 0, of_script)?;
+    assert!(rt; is_answer_of_script(&first), "InfoResponse of a script");
+    let second = answered(alloc, 1, InfoResponse::Test(answer_of_test()))?;
+    assert!(rt; is_answer_of_test(&second), "InfoResponse of a test");
+    Ok(())
+}
+
+fn asked(alloc: Global) -> Result<ReporterEvent<'static>, AllocError> {
+    let kind = TestEventKind::InfoStarted {
+        total: 4,
+        run_stats: SO_FAR,
+    };
+    told(alloc, kind)
+}
+
+/// Whether its fields are those that `asked` put in.
+fn is_asked(event: &ReporterEvent<'_>) -> bool {
+    match kind_of(event) {
+        Some(TestEventKind::InfoStarted { total, run_stats }) => {
+            *total == 4 && *run_stats == SO_FAR
+        }
+        _ => false,
     }
+}
+
+fn all_answered(alloc: Global) -> Result<ReporterEvent<'static>, AllocError> {
+    told(alloc, TestEventKind::InfoFinished { missing: 2 })
+}
+
+/// Whether its field is that which `all_answered` put in.
+fn is_all_answered(event: &ReporterEvent<'_>) -> bool {
+    matches!(
+        kind_of(event),
+        Some(TestEventKind::InfoFinished { missing: 2 })
+    )
+}
+
+fn entered(alloc: Global) -> Result<ReporterEvent<'static>, AllocError> {
+    let kind = TestEventKind::InputEnter {
+        current_stats: SO_FAR,
+        running: 8,
+    };
+    told(alloc, kind)
+}
+
+/// Whether its fields are those that `entered` put in.
+fn is_entered(event: &ReporterEvent<'_>) -> bool {
+    let Some(
+        TestEventKind::InputEnter {
+            current_stats,
+            running,
+        },
+    ) = kind_of(event)
+    else {
+        return false;
+    };
+    *running == 8 && *current_stats == SO_FAR
+}
+
+#[test]
+fn requests_are_read_back(rt: HostRuntime) -> Result<(), AllocError> {
+    let alloc = rt.alloc();
+    assert!(rt; is_asked(&asked(alloc)?), "InfoStarted");
+    assert!(rt; is_all_answered(&all_answered(alloc)?), "InfoFinished");
+    assert!(rt; is_entered(&entered(alloc)?), "InputEnter");
     Ok(())
 }

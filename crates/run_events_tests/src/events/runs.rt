@@ -65,32 +65,49 @@ const ONE_FAILED: RunFinishedStats = RunFinishedStats::Stress(StressRunStats {
     last_final_stats: FinalRunStats::Success,
 });
 
-fn begun(alloc: Global) -> Result<TestEventKind<'static>, AllocError> {
-    Ok(TestEventKind::RunStarted {
+fn begun(alloc: Global) -> Result<ReporterEvent<'static>, AllocError> {
+    let profile_name = String::from_str(alloc, "ci")?;
+    let cli_args = owned(alloc, &["run", "--workspace"])?;
+    let kind = TestEventKind::RunStarted {
         test_list: &TESTS,
         run_id: Uuid::from_u128(7),
-        profile_name: String::from_str(alloc, "ci")?,
-        cli_args: owned(alloc, &["run", "--workspace"])?,
+        profile_name,
+        cli_args,
         stress_condition: Some(StressCondition::Duration(Duration::from_secs(3_600))),
-    })
+    };
+    told(alloc, kind)
 }
 
-/// The end of a rerun that did not meet some of its tests, of which it names one.
-fn rerun_over(alloc: Global) -> Result<TestEventKind<'static>, AllocError> {
-    let mut not_seen = Vec::new(alloc);
-    not_seen.push(OwnedTestInstanceId {
+/// Whether its fields are those that `begun` put in.
+fn is_begun(event: &ReporterEvent<'_>) -> bool {
+    let Some(
+        TestEventKind::RunStarted {
+            test_list,
+            run_id,
+            profile_name,
+            cli_args,
+            stress_condition,
+        },
+    ) = kind_of(event)
+    else {
+        return false;
+    };
+    are_tests(test_list)
+        && *run_id == Uuid::from_u128(7)
+        && profile_name.as_str() == "ci"
+        && are(cli_args, &["run", "--workspace"])
+        && is_for_an_hour(stress_condition)
+}
+
+/// Some tests that a rerun did not meet, of which one is named.
+fn not_seen(alloc: Global) -> Result<TestsNotSeen, AllocError> {
+    let test = OwnedTestInstanceId {
         binary_id: String::from_str(alloc, "app::bin/app")?,
         test_name: String::from_str(alloc, "was_renamed")?,
-    })?;
-    Ok(TestEventKind::RunFinished {
-        run_id: Uuid::from_u128(8),
-        start_time: LAST,
-        elapsed: Duration::ZERO,
-        run_stats: ONE_FAILED,
-        outstanding_not_seen: Some(TestsNotSeen {
-            not_seen,
-            total_not_seen: 12,
-        }),
+    };
+    Ok(TestsNotSeen {
+        not_seen: vec![in alloc; test]?,
+        total_not_seen: 12,
     })
 }
 
@@ -106,125 +123,123 @@ fn are_not_seen(found: &TestsNotSeen) -> bool {
     }
 }
 
-fn sub_run_begun() -> TestEventKind<'static> {
-    TestEventKind::StressSubRunStarted {
-        progress: an_hour(2),
+/// The end of a rerun that did not meet some of its tests.
+fn rerun_over(alloc: Global) -> Result<ReporterEvent<'static>, AllocError> {
+    let kind = TestEventKind::RunFinished {
+        run_id: Uuid::from_u128(8),
+        start_time: LAST,
+        elapsed: Duration::ZERO,
+        run_stats: ONE_FAILED,
+        outstanding_not_seen: Some(not_seen(alloc)?),
+    };
+    told(alloc, kind)
+}
+
+/// Whether its fields are those that `rerun_over` put in.
+fn is_rerun_over(event: &ReporterEvent<'_>) -> bool {
+    let Some(
+        TestEventKind::RunFinished {
+            run_id,
+            start_time,
+            elapsed,
+            run_stats,
+            outstanding_not_seen: Some(tests),
+        },
+    ) = kind_of(event)
+    else {
+        return false;
+    };
+    *run_id == Uuid::from_u128(8)
+        && is_moment(start_time, LAST)
+        && elapsed.is_zero()
+        && *run_stats == ONE_FAILED
+        && are_not_seen(tests)
+}
+
+fn sub_run_begun(alloc: Global) -> Result<ReporterEvent<'static>, AllocError> {
+    let progress = an_hour(2);
+    told(alloc, TestEventKind::StressSubRunStarted { progress })
+}
+
+/// Whether its field is that which `sub_run_begun` put in.
+fn is_sub_run_begun(event: &ReporterEvent<'_>) -> bool {
+    match kind_of(event) {
+        Some(TestEventKind::StressSubRunStarted { progress }) => *progress == an_hour(2),
+        _ => false,
     }
 }
 
-fn sub_run_over() -> TestEventKind<'static> {
-    TestEventKind::StressSubRunFinished {
+fn sub_run_over(alloc: Global) -> Result<ReporterEvent<'static>, AllocError> {
+    let kind = TestEventKind::StressSubRunFinished {
         progress: an_hour(3),
         sub_elapsed: Duration::from_millis(1_500),
         sub_stats: SO_FAR,
-    }
+    };
+    told(alloc, kind)
 }
 
-fn over() -> TestEventKind<'static> {
-    TestEventKind::RunFinished {
+/// Whether its fields are those that `sub_run_over` put in.
+fn is_sub_run_over(event: &ReporterEvent<'_>) -> bool {
+    let Some(
+        TestEventKind::StressSubRunFinished {
+            progress,
+            sub_elapsed,
+            sub_stats,
+        },
+    ) = kind_of(event)
+    else {
+        return false;
+    };
+    *progress == an_hour(3) && *sub_elapsed == Duration::from_millis(1_500) && *sub_stats == SO_FAR
+}
+
+fn over(alloc: Global) -> Result<ReporterEvent<'static>, AllocError> {
+    let kind = TestEventKind::RunFinished {
         run_id: Uuid::from_u128(7),
         start_time: FIRST,
         elapsed: Duration::from_secs(59),
         run_stats: RunFinishedStats::Single(SO_FAR),
         outstanding_not_seen: None,
-    }
+    };
+    told(alloc, kind)
 }
 
-/// An event of each kind, and the end of a rerun.
-fn runs(alloc: Global) -> Result<Vec<ReporterEvent<'static>>, AllocError> {
-    let mut events = Vec::new(alloc);
-    events.push(told(alloc, begun(alloc)?)?)?;
-    events.push(told(alloc, sub_run_begun())?)?;
-    events.push(told(alloc, sub_run_over())?)?;
-    events.push(told(alloc, over())?)?;
-    events.push(told(alloc, rerun_over(alloc)?)?)?;
-    Ok(events)
-}
-
-/// Its kind, and whether its fields are those that were put in.
-fn read_back(event: &ReporterEvent<'_>) -> (&'static str, bool) {
-    match kind_of(event) {
-        Some(
-            TestEventKind::RunStarted {
-                test_list,
-                run_id,
-                profile_name,
-                cli_args,
-                stress_condition,
-            },
-        ) => (
-            "RunStarted",
-            are_tests(test_list)
-                && *run_id == Uuid::from_u128(7)
-                && profile_name.as_str() == "ci"
-                && are(cli_args, &["run", "--workspace"])
-                && is_for_an_hour(stress_condition),
-        ),
-        Some(TestEventKind::StressSubRunStarted { progress }) => (
-            "StressSubRunStarted",
-            *progress == an_hour(2),
-        ),
-        Some(
-            TestEventKind::StressSubRunFinished {
-                progress,
-                sub_elapsed,
-                sub_stats,
-            },
-        ) => (
-            "StressSubRunFinished",
-            *progress == an_hour(3)
-                && *sub_elapsed == Duration::from_millis(1_500)
-                && *sub_stats == SO_FAR,
-        ),
-        Some(
-            TestEventKind::RunFinished {
-                run_id,
-                start_time,
-                elapsed,
-                run_stats,
-                outstanding_not_seen: None,
-            },
-        ) => (
-            "RunFinished",
-            *run_id == Uuid::from_u128(7)
-                && is_moment(start_time, FIRST)
-                && *elapsed == Duration::from_secs(59)
-                && *run_stats == RunFinishedStats::Single(SO_FAR),
-        ),
-        Some(
-            TestEventKind::RunFinished {
-                run_id,
-                start_time,
-                elapsed,
-                run_stats,
-                outstanding_not_seen: Some(tests),
-            },
-        ) => (
-            "RunFinished of a rerun",
-            *run_id == Uuid::from_u128(8)
-                && is_moment(start_time, LAST)
-                && elapsed.is_zero()
-                && *run_stats == ONE_FAILED
-                && are_not_seen(tests),
-        ),
-        _ => ("another kind", false),
-    }
+/// Whether its fields are those that `over` put in.
+fn is_over(event: &ReporterEvent<'_>) -> bool {
+    let Some(
+        TestEventKind::RunFinished {
+            run_id,
+            start_time,
+            elapsed,
+            run_stats,
+            outstanding_not_seen: None,
+        },
+    ) = kind_of(event)
+    else {
+        return false;
+    };
+    *run_id == Uuid::from_u128(7)
+        && is_moment(start_time, FIRST)
+        && *elapsed == Duration::from_secs(59)
+        && *run_stats == RunFinishedStats::Single(SO_FAR)
 }
 
 #[test]
 fn runs_are_read_back(rt: HostRuntime) -> Result<(), AllocError> {
-    let events = runs(rt.alloc())?;
-    let kinds = [
-        "RunStarted",
-        "StressSubRunStarted",
-        "StressSubRunFinished",
-        "RunFinished",
-        "RunFinished of a rerun",
-    ];
-    assert_eq!(rt; events.len(), kinds.len());
-    for (event, kind) in events.iter().zip(&kinds) {
-        let (found, is_same) = read_back(event);
-        assert!(rt; found == *kind && is_same, "{kind}");
-    }
+    let alloc = rt.alloc();
+    assert!(rt; is_begun(&begun(alloc)?), "RunStarted");
+    assert!(rt;
+        is_sub_run_begun(&sub_run_begun(alloc)?),
+        "StressSubRunStarted"
+    );
+    assert!(rt;
+        is_sub_run_over(&sub_run_over(alloc)?),
+        "StressSubRunFinished"
+    );
+    assert!(rt; is_over(&over(alloc)?), "RunFinished");
+    assert!(rt;
+        is_rerun_over(&rerun_over(alloc)?),
+        "RunFinished of a rerun"
+    );
     Ok(())
 }

@@ -16,42 +16,97 @@ fn is_script(id: &ScriptId, program: &String, args: &[String], wanted: &[&str]) 
     id.0.as_str() == "make-database" && program.as_str() == "sh" && are(args, wanted)
 }
 
-fn started(alloc: Global) -> Result<TestEventKind<'static>, AllocError> {
-    Ok(TestEventKind::SetupScriptStarted {
+fn started(alloc: Global) -> Result<ReporterEvent<'static>, AllocError> {
+    let script_id = script_id(alloc)?;
+    let program = String::from_str(alloc, "sh")?;
+    let args = owned(alloc, &["-c", "make"])?;
+    let kind = TestEventKind::SetupScriptStarted {
         stress_index: THIRD,
         index: 1,
         total: 4,
-        script_id: script_id(alloc)?,
-        program: String::from_str(alloc, "sh")?,
-        args: owned(alloc, &["-c", "make"])?,
+        script_id,
+        program,
+        args,
         no_capture: true,
-    })
+    };
+    told(alloc, kind)
 }
 
-fn slow(alloc: Global) -> Result<TestEventKind<'static>, AllocError> {
-    Ok(TestEventKind::SetupScriptSlow {
+/// Whether its fields are those that `started` put in.
+fn is_started(event: &ReporterEvent<'_>) -> bool {
+    let Some(
+        TestEventKind::SetupScriptStarted {
+            stress_index,
+            index,
+            total,
+            script_id,
+            program,
+            args,
+            no_capture,
+        },
+    ) = kind_of(event)
+    else {
+        return false;
+    };
+    (*index, *total) == (1, 4)
+        && *no_capture
+        && *stress_index == THIRD
+        && is_script(script_id, program, args, &["-c", "make"])
+}
+
+fn slow(alloc: Global) -> Result<ReporterEvent<'static>, AllocError> {
+    let script_id = script_id(alloc)?;
+    let program = String::from_str(alloc, "sh")?;
+    let args = owned(alloc, &[])?;
+    let kind = TestEventKind::SetupScriptSlow {
         stress_index: None,
-        script_id: script_id(alloc)?,
-        program: String::from_str(alloc, "sh")?,
-        args: owned(alloc, &[])?,
+        script_id,
+        program,
+        args,
         elapsed: Duration::from_secs(30),
         will_terminate: true,
-    })
+    };
+    told(alloc, kind)
 }
 
-fn finished(alloc: Global) -> Result<TestEventKind<'static>, AllocError> {
-    Ok(TestEventKind::SetupScriptFinished {
+/// Whether its fields are those that `slow` put in.
+fn is_slow(event: &ReporterEvent<'_>) -> bool {
+    let Some(
+        TestEventKind::SetupScriptSlow {
+            stress_index,
+            script_id,
+            program,
+            args,
+            elapsed,
+            will_terminate,
+        },
+    ) = kind_of(event)
+    else {
+        return false;
+    };
+    stress_index.is_none()
+        && *will_terminate
+        && is_script(script_id, program, args, &[])
+        && *elapsed == Duration::from_secs(30)
+}
+
+fn finished(alloc: Global) -> Result<ReporterEvent<'static>, AllocError> {
+    let script_id = script_id(alloc)?;
+    let program = String::from_str(alloc, "sh")?;
+    let args = owned(alloc, &["-c"])?;
+    let kind = TestEventKind::SetupScriptFinished {
         stress_index: THIRD,
         index: 3,
         total: 4,
-        script_id: script_id(alloc)?,
-        program: String::from_str(alloc, "sh")?,
-        args: owned(alloc, &["-c"])?,
+        script_id,
+        program,
+        args,
         junit_store_success_output: false,
         junit_store_failure_output: true,
         no_capture: false,
         run_status: finished_script(LEAK_FAIL),
-    })
+    };
+    told(alloc, kind)
 }
 
 /// Whether the script leaked, which fails, and is in all else as `finished_script` makes it.
@@ -66,92 +121,39 @@ fn is_leak(status: &SetupScriptExecuteStatus<LiveSpec>) -> bool {
         && status.error_summary.is_none()
 }
 
-/// An event of each kind.
-fn scripts(alloc: Global) -> Result<Vec<ReporterEvent<'static>>, AllocError> {
-    let mut events = Vec::new(alloc);
-    events.push(told(alloc, started(alloc)?)?)?;
-    events.push(told(alloc, slow(alloc)?)?)?;
-    events.push(told(alloc, finished(alloc)?)?)?;
-    Ok(events)
-}
-
-/// Its kind, and whether its fields are those that were put in.
-fn read_back(event: &ReporterEvent<'_>) -> (&'static str, bool) {
-    match kind_of(event) {
-        Some(
-            TestEventKind::SetupScriptStarted {
-                stress_index,
-                index,
-                total,
-                script_id,
-                program,
-                args,
-                no_capture,
-            },
-        ) => (
-            "SetupScriptStarted",
-            *index == 1
-                && *total == 4
-                && *no_capture
-                && *stress_index == THIRD
-                && is_script(script_id, program, args, &["-c", "make"]),
-        ),
-        Some(
-            TestEventKind::SetupScriptSlow {
-                stress_index,
-                script_id,
-                program,
-                args,
-                elapsed,
-                will_terminate,
-            },
-        ) => (
-            "SetupScriptSlow",
-            stress_index.is_none()
-                && *will_terminate
-                && is_script(script_id, program, args, &[])
-                && *elapsed == Duration::from_secs(30),
-        ),
-        Some(
-            TestEventKind::SetupScriptFinished {
-                stress_index,
-                index,
-                total,
-                script_id,
-                program,
-                args,
-                junit_store_success_output,
-                junit_store_failure_output,
-                no_capture,
-                run_status,
-            },
-        ) => (
-            "SetupScriptFinished",
-            *index == 3
-                && *total == 4
-                && !*junit_store_success_output
-                && *junit_store_failure_output
-                && !*no_capture
-                && *stress_index == THIRD
-                && is_script(script_id, program, args, &["-c"])
-                && is_leak(run_status),
-        ),
-        _ => ("another kind", false),
-    }
+/// Whether its fields are those that `finished` put in.
+fn is_finished(event: &ReporterEvent<'_>) -> bool {
+    let Some(
+        TestEventKind::SetupScriptFinished {
+            stress_index,
+            index,
+            total,
+            script_id,
+            program,
+            args,
+            junit_store_success_output,
+            junit_store_failure_output,
+            no_capture,
+            run_status,
+        },
+    ) = kind_of(event)
+    else {
+        return false;
+    };
+    (*index, *total) == (3, 4)
+        && !*junit_store_success_output
+        && *junit_store_failure_output
+        && !*no_capture
+        && *stress_index == THIRD
+        && is_script(script_id, program, args, &["-c"])
+        && is_leak(run_status)
 }
 
 #[test]
 fn scripts_are_read_back(rt: HostRuntime) -> Result<(), AllocError> {
-    let events = scripts(rt.alloc())?;
-    let kinds = [
-        "SetupScriptStarted",
-        "SetupScriptSlow",
-        "SetupScriptFinished",
-    ];
-    assert_eq!(rt; events.len(), kinds.len());
-    for (event, kind) in events.iter().zip(&kinds) {
-        let (found, is_same) = read_back(event);
-        assert!(rt; found == *kind && is_same, "{kind}");
-    }
+    let alloc = rt.alloc();
+    assert!(rt; is_started(&started(alloc)?), "SetupScriptStarted");
+    assert!(rt; is_slow(&slow(alloc)?), "SetupScriptSlow");
+    assert!(rt; is_finished(&finished(alloc)?), "SetupScriptFinished");
     Ok(())
 }

@@ -14,100 +14,106 @@ fn stats_at(reason: CancelReason) -> RunStats {
     }
 }
 
-fn cancelled() -> TestEventKind<'static> {
-    TestEventKind::RunBeginCancel {
+fn cancelled(alloc: Global) -> Result<ReporterEvent<'static>, AllocError> {
+    let kind = TestEventKind::RunBeginCancel {
         setup_scripts_running: 1,
         current_stats: stats_at(CancelReason::Interrupt),
         running: 6,
-    }
+    };
+    told(alloc, kind)
 }
 
-fn killed() -> TestEventKind<'static> {
-    TestEventKind::RunBeginKill {
+/// Whether its fields are those that `cancelled` put in.
+fn is_cancelled(event: &ReporterEvent<'_>) -> bool {
+    let Some(
+        TestEventKind::RunBeginCancel {
+            setup_scripts_running,
+            current_stats,
+            running,
+        },
+    ) = kind_of(event)
+    else {
+        return false;
+    };
+    let counts = (*setup_scripts_running, *running) == (1, 6);
+    counts && *current_stats == stats_at(CancelReason::Interrupt)
+}
+
+fn killed(alloc: Global) -> Result<ReporterEvent<'static>, AllocError> {
+    let kind = TestEventKind::RunBeginKill {
         setup_scripts_running: 0,
         current_stats: stats_at(CancelReason::SecondSignal),
         running: 5,
-    }
+    };
+    told(alloc, kind)
 }
 
-fn paused() -> TestEventKind<'static> {
-    TestEventKind::RunPaused {
+/// Whether its fields are those that `killed` put in.
+fn is_killed(event: &ReporterEvent<'_>) -> bool {
+    let Some(
+        TestEventKind::RunBeginKill {
+            setup_scripts_running,
+            current_stats,
+            running,
+        },
+    ) = kind_of(event)
+    else {
+        return false;
+    };
+    let counts = (*setup_scripts_running, *running) == (0, 5);
+    counts && *current_stats == stats_at(CancelReason::SecondSignal)
+}
+
+fn paused(alloc: Global) -> Result<ReporterEvent<'static>, AllocError> {
+    let kind = TestEventKind::RunPaused {
         setup_scripts_running: 2,
         running: 0,
-    }
+    };
+    told(alloc, kind)
 }
 
-fn continued() -> TestEventKind<'static> {
-    TestEventKind::RunContinued {
+/// Whether its fields are those that `paused` put in.
+fn is_paused(event: &ReporterEvent<'_>) -> bool {
+    let Some(
+        TestEventKind::RunPaused {
+            setup_scripts_running,
+            running,
+        },
+    ) = kind_of(event)
+    else {
+        return false;
+    };
+    (*setup_scripts_running, *running) == (2, 0)
+}
+
+fn continued(alloc: Global) -> Result<ReporterEvent<'static>, AllocError> {
+    let kind = TestEventKind::RunContinued {
         setup_scripts_running: 1,
         running: 3,
-    }
+    };
+    told(alloc, kind)
 }
 
-/// An event of each kind.
-fn stops(alloc: Global) -> Result<Vec<ReporterEvent<'static>>, AllocError> {
-    let mut events = Vec::new(alloc);
-    events.push(told(alloc, cancelled())?)?;
-    events.push(told(alloc, killed())?)?;
-    events.push(told(alloc, paused())?)?;
-    events.push(told(alloc, continued())?)?;
-    Ok(events)
-}
-
-/// Its kind, and whether its fields are those that `stops` put in.
-fn read_back(event: &ReporterEvent<'_>) -> (&'static str, bool) {
-    match kind_of(event) {
-        Some(
-            TestEventKind::RunBeginCancel {
-                setup_scripts_running,
-                current_stats,
-                running,
-            },
-        ) => {
-            let counts = (*setup_scripts_running, *running) == (1, 6);
-            let stats = *current_stats == stats_at(CancelReason::Interrupt);
-            ("RunBeginCancel", counts && stats)
-        }
-        Some(
-            TestEventKind::RunBeginKill {
-                setup_scripts_running,
-                current_stats,
-                running,
-            },
-        ) => {
-            let counts = (*setup_scripts_running, *running) == (0, 5);
-            let stats = *current_stats == stats_at(CancelReason::SecondSignal);
-            ("RunBeginKill", counts && stats)
-        }
-        Some(
-            TestEventKind::RunPaused {
-                setup_scripts_running,
-                running,
-            },
-        ) => ("RunPaused", (*setup_scripts_running, *running) == (2, 0)),
-        Some(
-            TestEventKind::RunContinued {
-                setup_scripts_running,
-                running,
-            },
-        ) => ("RunContinued", (*setup_scripts_running, *running) == (1, 3)),
-        _ => ("another kind", false),
-    }
+/// Whether its fields are those that `continued` put in.
+fn is_continued(event: &ReporterEvent<'_>) -> bool {
+    let Some(
+        TestEventKind::RunContinued {
+            setup_scripts_running,
+            running,
+        },
+    ) = kind_of(event)
+    else {
+        return false;
+    };
+    (*setup_scripts_running, *running) == (1, 3)
 }
 
 #[test]
 fn stops_are_read_back(rt: HostRuntime) -> Result<(), AllocError> {
-    let events = stops(rt.alloc())?;
-    let kinds = [
-        "RunBeginCancel",
-        "RunBeginKill",
-        "RunPaused",
-        "RunContinued",
-    ];
-    assert_eq!(rt; events.len(), kinds.len());
-    for (event, kind) in events.iter().zip(&kinds) {
-        let (found, is_same) = read_back(event);
-        assert!(rt; found == *kind && is_same, "{kind}");
-    }
+    let alloc = rt.alloc();
+    assert!(rt; is_cancelled(&cancelled(alloc)?), "RunBeginCancel");
+    assert!(rt; is_killed(&killed(alloc)?), "RunBeginKill");
+    assert!(rt; is_paused(&paused(alloc)?), "RunPaused");
+    assert!(rt; is_continued(&continued(alloc)?), "RunContinued");
     Ok(())
 }
