@@ -1,5 +1,5 @@
 -- What codes stand for: a code is a place in the list of its enumeration, from 0.
-use Rattle.std.specs.Prelude.{ℤ, List, [], ◌∷◌, Option, None, Some, Bool, false, true}
+use Rattle.std.specs.Prelude.{ℤ, List, [], ◌∷◌, Option, None, Some, false, true}
 use Rattle.run_events_levels.specs.declared.levels.FinalStatusLevel.{FinalStatusLevel}
 use Rattle.run_events_levels.specs.declared.levels.FinalStatusLevel.TheVariants as final
 use Rattle.run_events_levels.specs.declared.levels.OutputStoreFinal.{OutputStoreFinal}

@@ -1,4 +1,4 @@
-use Rattle.std.proofs.Common.{◌≡◌, ◌∙◌, All, IsSome, ap, refl, subst, sym, take, get_or, option_map}
+use Rattle.std.proofs.Common.{◌∙◌, All, IsSome, ap, refl, subst, sym, option_map}
 use Rattle.std.specs.Option.{unwrap_or}
 use Rattle.std.proofs.lemmas.List.{take_more}
 use Rattle.std.proofs.lemmas.List.Elements.{All-push}
