@@ -1,0 +1,5 @@
+pub mod Kept
+pub mod Lines
+pub mod Report
+pub mod Run
+pub mod Steps
