@@ -2,9 +2,10 @@
 //!
 //! `bench MEGABYTES` prints for each row `NAME RATIO GROWTH VERDICT`, and last how many rows are as
 //! it is wanted. RATIO is the time of a call as a multiple of the time of one pass over its input:
-//! a search for a byte that is not there, or for units and summaries one read of each. GROWTH is the
-//! time of the call as a multiple of its time at half the size; it is judged where the call takes a
-//! millisecond or more. A time is the least of 15. RATIO leaves out that an engine reads its input.
+//! a search for a byte that is not there; for units and summaries one read of each, and for reports
+//! of test runs the reading of each line by `serde_json`. GROWTH is the time of the call as a multiple
+//! of its time at half the size; it is judged where the call takes a millisecond or more. A time is
+//! the least of 15. RATIO leaves out that an engine of `run-digest` reads its input.
 //!
 //! `bench small` makes the same calls on small inputs, and prints `NAME ok` for each row.
 //!
@@ -17,6 +18,7 @@ use crate::extraction::Extraction;
 use crate::report::Measured;
 use crate::rows::{Kind, Row};
 use crate::size::Size;
+use crate::test_runs::TestRun;
 use crate::timing::{Times, least_times};
 use crate::units::{Counting, SubRuns, tests};
 use anyhow::Result;
@@ -31,6 +33,7 @@ mod logs;
 mod report;
 mod rows;
 mod size;
+mod test_runs;
 mod timing;
 mod units;
 
@@ -69,6 +72,11 @@ fn times<R: AllocGlobal + Clock>(rt: &R, kind: &Kind, size: Size) -> Result<Time
         Kind::SubRuns => {
             let mut whole = SubRuns::new(alloc, size.share(500_000))?;
             let mut half = SubRuns::new(alloc, size.half().share(500_000))?;
+            least_times(rt, &mut whole, &mut half)
+        }
+        Kind::Report(ending) => {
+            let mut whole = TestRun::new(alloc, *ending, size)?;
+            let mut half = TestRun::new(alloc, *ending, size.half())?;
             least_times(rt, &mut whole, &mut half)
         }
     }
@@ -117,6 +125,7 @@ fn measure_all<R: AllocGlobal + Clock + Print>(rt: &R, size: Size) -> io::Result
     measure(rt, &rows::ordinary(), size, &mut tally)?;
     measure(rt, &rows::adverse(), size, &mut tally)?;
     measure(rt, &rows::counting(), size, &mut tally)?;
+    measure(rt, &rows::reports(), size, &mut tally)?;
     if size != Size::SMALL {
         println!(rt; "{} of {} rows within", tally.within, tally.rows)?;
     }

@@ -2,6 +2,7 @@
 
 use crate::inputs::{Output, Place};
 use crate::logs::{LOG, QUOTELESS_LOG};
+use crate::test_runs::Ending;
 
 /// What is measured.
 #[derive(Clone, Copy)]
@@ -23,6 +24,9 @@ pub(crate) enum Kind {
 
     /// The outcome of sub-runs.
     SubRuns,
+
+    /// The report of a test run whose tests end so.
+    Report(Ending),
 }
 
 /// A row: its name, the highest ratio that is wanted, in thousandths, or `None` where growth alone
@@ -42,12 +46,21 @@ fn pieces(piece: &'static [u8], count: u32) -> Output {
     }
 }
 
+/// The same before a line that holds what ends a head, and is none: without it no head is looked
+/// for.
+fn before_no_head(output: Output) -> Output {
+    Output {
+        end: b"the worker panicked at start\n",
+        ..output
+    }
+}
+
 /// The rows of ordinary output, of 64 megabytes where that is the size.
 pub(crate) fn ordinary() -> [Row; 6] {
     let log = pieces(LOG, 100_000);
     let opening = Output {
         front: b"thread 'a\n",
-        ..pieces(QUOTELESS_LOG, 1_000_000)
+        ..before_no_head(pieces(QUOTELESS_LOG, 1_000_000))
     };
     let front = Output {
         front: PANIC,
@@ -75,9 +88,9 @@ pub(crate) fn adverse() -> [Row; 8] {
         panic_at: Place::LastPiece,
         ..pieces(b"thread 'main' panicked at src/lib.rs:1:1:\n", 1_000_000)
     };
-    let openings = pieces(b"thread 'a\n", 1_000_000);
-    let started = pieces(b"thread 'x' started\n", 1_000_000);
-    let spaced = pieces(b"thread 'a\none line\ntwo lines\nthree lines\n", 300_000);
+    let openings = before_no_head(pieces(b"thread 'a\n", 1_000_000));
+    let started = before_no_head(pieces(b"thread 'x' started\n", 1_000_000));
+    let spaced = before_no_head(pieces(b"thread 'a\none line\ntwo lines\nthree lines\n", 300_000));
     let notes = pieces(b"note: test did not panic as expecte_\n", 1_000_000);
     let white = Output {
         front: b"thread 'a' panicked at b",
@@ -110,5 +123,13 @@ pub(crate) fn counting() -> [Row; 3] {
         ("units", None, Kind::Units),
         ("sub-runs", None, Kind::SubRuns),
         ("engine-count", None, Kind::Count),
+    ]
+}
+
+/// The rows of reports.
+pub(crate) fn reports() -> [Row; 2] {
+    [
+        ("report-passed", Some(1_500), Kind::Report(Ending::Passed)),
+        ("report-failed", Some(1_500), Kind::Report(Ending::Failed)),
     ]
 }
