@@ -6,17 +6,49 @@ use crate::of_output_slice::{failure_in, has_panicked};
 use crate::of_run_digest_devices::copy;
 use crate::of_run_digest_engine::first_bad_line;
 use crate::of_run_events::{ends_well, finished_at_first, stats_of_test};
+use crate::of_test_report_engine::succeeds;
 use crate::of_test_report_events::test_count_of;
+use crate::of_test_report_suite::suite_behind;
+use crate::of_test_report_text::failure_text;
 use run_digest_devices::memory_device::{MemorySink, MemorySource};
 use run_events::config::TestOutputDisplay;
 use run_events::stats::FinishedUnit;
 use std::io;
+use test_report_events::event::{TestEnd, TestResult};
 
 /// A run whose line 3 names no result.
 const BAD_RUN: &[u8] = b"run 2 0 -\ntest pass\ntest maybe\n";
 
 /// A line at which a suite begins.
 const SUITE: &[u8] = b"{ \"type\": \"suite\", \"event\": \"started\", \"test_count\": 10 }";
+
+/// A test that failed at its second attempt, and wrote in red.
+const FAILED: TestEnd<'static> = TestEnd {
+    name: "divides",
+    attempts: 2,
+    result: TestResult::Failed,
+    output: Some("\u{1b}[31mby zero\n"),
+    message: None,
+};
+
+/// Lines at which a test begins and passes, and another begins.
+const PARSES_BEGINS: &[u8] =
+    b"{ \"type\": \"test\", \"event\": \"started\", \"name\": \"parses\" }";
+
+const PARSES_PASSES: &[u8] = b"{ \"type\": \"test\", \"event\": \"ok\", \"name\": \"parses\" }";
+
+const PRINTS_BEGINS: &[u8] =
+    b"{ \"type\": \"test\", \"event\": \"started\", \"name\": \"prints\" }";
+
+/// The lines of a run that ended while its third test was running.
+const ABORTED_RUN: &[u8] = b"{ \"type\": \"suite\", \"event\": \"started\", \"test_count\": 3 }\n\
+      { \"type\": \"test\", \"event\": \"started\", \"name\": \"parses\" }\n\
+      { \"type\": \"test\", \"event\": \"ok\", \"name\": \"parses\" }\n\
+      { \"type\": \"test\", \"event\": \"started\", \"name\": \"divides\" }\n\
+      { \"type\": \"test\", \"event\": \"failed\", \"name\": \"divides\", \
+      \"stdout\": \"thread 'divides' panicked at src/lib.rs:4:5:\\nby zero\\n\" }\n\
+      { \"type\": \"test\", \"event\": \"started\", \"name\": \"loops\" }\n\
+      what a test printed\n";
 
 /// Prints what each of the callers answers, for the output of a test and the units of a run.
 pub(crate) fn show<R: AllocGlobal + Print>(
@@ -41,7 +73,10 @@ pub(crate) fn show<R: AllocGlobal + Print>(
     show_first_pages(rt)?;
     show_bad_line(rt)?;
     show_copy(rt)?;
-    show_test_count(rt)
+    show_test_count(rt)?;
+    show_suite(rt)?;
+    show_failure(rt)?;
+    show_report(rt)
 }
 
 /// Prints what the callers of first pages answer, for two ends and one display.
@@ -84,5 +119,39 @@ fn show_test_count<R: AllocGlobal + Print>(rt: &R) -> io::Result<()> {
     match test_count_of(rt.alloc(), SUITE)? {
         Some(count) => println!(rt; "  a suite of {count} tests"),
         None => println!(rt; "  no suite"),
+    }
+}
+
+/// Prints the text of the failed test.
+fn show_failure<R: AllocGlobal + Print>(rt: &R) -> io::Result<()> {
+    let text = failure_text(rt.alloc(), FAILED)?;
+    print!(rt; "  a failed test:\n{text}")
+}
+
+/// Prints how a suite of three tests stands behind its lines.
+fn show_suite<R: AllocGlobal + Print>(rt: &R) -> io::Result<()> {
+    let suite = suite_behind(
+        rt.alloc(),
+        3,
+        &[PARSES_BEGINS, PARSES_PASSES, PRINTS_BEGINS],
+    )?;
+    println!(rt;
+        "  a suite of 3 tests: {} passed, {} running",
+        suite.stats().passed,
+        suite.running().len()
+    )
+}
+
+/// Prints the report of the run that ended early.
+fn show_report<R: AllocGlobal + Print>(rt: &R) -> io::Result<()> {
+    let mut buffer = [0; 512];
+    let mut source = MemorySource::new(ABORTED_RUN, None);
+    let mut sink = MemorySink::new(&mut buffer, None);
+    match succeeds(rt.alloc(), &mut source, &mut sink) {
+        Ok(success) => {
+            let text = String::from_utf8_lossy(rt.alloc(), sink.written())?;
+            print!(rt; "  a run that ended early, success {success}:\n{text}")
+        }
+        Err(fault) => println!(rt; "  {fault}"),
     }
 }
