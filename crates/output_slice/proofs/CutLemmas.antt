@@ -14,7 +14,7 @@ use Rattle.std.proofs.lemmas.List.{length-map}
 use Rattle.std.proofs.lemmas.Option.{slice_get-get_or, slice_get-map, slice_get_within, get_or_from_slice_get}
 use Rattle.output_slice.specs.declared.panic_head.HeadSpan.{HeadSpan}
 use Rattle.output_slice.specs.Taken.{IsTaken, IsLastTaken, last_of}
-use Rattle.output_slice.proofs.TakenLemmas.{IsTaken-from_leftmost, IsTaken-nil, Leftmost, leftmost-before, IsTaken-exists, leftmost-taken}
+use Rattle.output_slice.proofs.TakenLemmas.{IsTaken-from_leftmost, Leftmost, leftmost-before, IsTaken-exists, leftmost-taken}
 
 -- where a head holds a line feed, no quote stands from its name up to there
 pub head-feed : (b : List ℕ) (s e k : ℕ) → IsHead b s e → s ≤ k → k < e → get_or b k 0 ≡ 10
@@ -214,7 +214,7 @@ last-behind b c h cut last =
 pub last-before : (b : List ℕ) (c : ℕ) (found : Option HeadSpan) → IsCut b c → ((s e : ℕ) → ¬ IsHead (drop c b) s e)
     → IsLastTaken (take c b) found → IsLastTaken b found
 last-before b c found cut none last =
-    (last.0, rw append-nil at (divides b c last.0 [] cut last.1 (IsTaken-nil (drop c b) none)), last.2)
+    (last.0, rw append-nil at (divides b c last.0 [] cut last.1 (IsTaken-from_leftmost (drop c b) [] (λ s e low. none s e))), last.2)
 
 -- bytes behind every head change nothing
 pub last-within-front : (b : List ℕ) (e : ℕ) (found : Option HeadSpan) → e ≤ length b → AllHeadsEndBy b e

@@ -1,14 +1,15 @@
 -- Bytes divide into lines in one way, and the line of the first note.
-use Rattle.std.proofs.Common.{◌≡◌, ◌≢◌, inl, inr, ℕ, suc, ◌+◌, ◌-◌, ◌<◌, List, [], ◌∷◌, ◌++◌, length, get_or, refl, sym, ap, ◌∙◌, arith, append-nil, All, AllPairs, ◌≤◌, ◌⊎◌, take, drop, subst, length-append, length-drop, length-take, take-append-drop, not, ◌==◌, sum_by, Some, None, codes, get_or-take, length-take-le, take_all}
+use Rattle.std.proofs.Common.{◌≡◌, ◌≢◌, inl, inr, ℕ, zero, suc, ◌+◌, ◌-◌, ◌<◌, List, [], ◌∷◌, ◌++◌, length, get_or, refl, sym, ap, ◌∙◌, arith, append-nil, All, AllPairs, ◌≤◌, ◌⊎◌, take, drop, subst, length-append, length-drop, length-take, take-append-drop, not, ◌==◌, sum_by, Some, None, codes, get_or-take, length-take-le, take_all}
 use Rattle.std.specs.List.{concat}
-use Rattle.std.proofs.lemmas.Bool.{cases_eq, cases_lt}
+use Rattle.std.proofs.lemmas.Bool.{cases_lt}
 use Rattle.std.proofs.lemmas.List.Elements.{All-cons, All-head, All-tail, All-nil}
 use Rattle.std.proofs.lemmas.List.Kept.{AllPairs-cons}
 use Rattle.std.proofs.lemmas.Bool.Decides.{nat_tests}
 use Rattle.std.proofs.lemmas.List.{get_or_past, drop_all}
 use Rattle.std.proofs.lemmas.List.Sums.{sum_by-cons}
-use Rattle.bstr.specs.Text.{lines_of, Contains, part, without_terminator}
-use Rattle.bstr.proofs.lemmas.LineLemmas.{lines-append, lines-nil, lines-one, EndsLine}
+use Rattle.bstr.specs.Text.{line_len, lines_of, Contains, part, without_terminator}
+use Rattle.bstr.proofs.lemmas.LineLemmas.{line_len-bounds, lines-append, lines-nil, lines-one, lines-step, EndsLine}
+use Rattle.bstr.proofs.lemmas.LengthLemmas.{length-lines_of}
 use Rattle.bstr.specs.Find.{FindsNeedle}
 use Rattle.bstr.proofs.lemmas.RestLemmas.{concat-lines_of}
 use Rattle.output_slice.specs.Lines.{IsLine, AreLines}
@@ -42,49 +43,41 @@ lines-same (l ∷ ls) each ends =
 pub AreLines-same : (b : List ℕ) (lines : List (List ℕ)) → AreLines b lines → lines ≡ lines_of b
 AreLines-same b lines h = lines-same lines h.each h.ends ∙ ap lines_of h.joined
 
--- one more byte before a division
-more-lines : (x : ℕ) (b : List ℕ) (ls : List (List ℕ)) → AreLines b ls
-    → (lines : List (List ℕ)) × AreLines (x ∷ b) lines
-more-lines x b ls h = elim (cases_eq x 10) [
-  | inl feed ↦ alone (λ k d low. feed)
-  | inr other ↦ before ls refl other
-] where
-  -- a line of the one byte
-  alone : All (Ended (x ∷ [])) ls → (lines : List (List ℕ)) × AreLines (x ∷ b) lines
-  alone ended = (
-    (x ∷ []) ∷ ls,
-    record {
-      joined = ap (λ t. x ∷ t) h.joined;
-      each = All-cons IsLine (x ∷ []) ls (record { some = omega arith; feed = λ k is. grind arith }) h.each;
-      ends = AllPairs-cons Ended (x ∷ []) ls ended h.ends;
-    },
-  )
+-- the first line has no line feed before its last byte, which is one where bytes follow
+first-line : (b : List ℕ) → ((k : ℕ) → k + 1 < line_len b → get_or b k 0 ≢ 10) × (line_len b < length b → get_or b (line_len b - 1) 0 ≡ 10)
+unfolding line_len
+first-line [] = (λ k low. absurd (omega arith), λ low. absurd (omega arith))
+first-line (x ∷ b) = (
+  λ k low. let before = (first-line b).0 (k - 1) in grind (arith, nat_tests),
+  λ low. let last = (first-line b).1 in let bounds = line_len-bounds b in grind (arith, nat_tests),
+)
 
-  before : (ms : List (List ℕ)) → ls ≡ ms → x ≢ 10 → (lines : List (List ℕ)) × AreLines (x ∷ b) lines
-  before [] is other = alone (rw is (All-nil _))
-  before (l ∷ ms) is other =
-      let whole = rw is at h in
-      let line = All-head IsLine l ms whole.each in
-      let some = line.some in (
-        (x ∷ l) ∷ ms,
-        record {
-          joined = ap (λ t. x ∷ t) whole.joined;
-          each = All-cons IsLine (x ∷ l) ms
-              (record { some = omega arith; feed = λ k is. let before = line.feed (k - 1) in grind arith })
-              (All-tail IsLine l ms whole.each);
-          ends =
-              AllPairs-cons Ended (x ∷ l) ms (λ k d low.
-              let place : length (x ∷ l) - 1 ≡ suc (length l - 1) = omega arith in rw place (whole.ends 0 (suc k) d (omega arith) (omega arith)))
-              (λ i j d low high. whole.ends (suc i) (suc j) d (omega arith) (omega arith));
-        },
-      )
+-- the lines are a division, by the number of bytes
+divided : (n : ℕ) (b : List ℕ) → length b ≤ n → AreLines b (lines_of b)
+divided n [] low = rw lines-nil (record { joined = refl; each = All-nil _; ends = λ i j d low high. absurd (omega arith) })
+divided zero (x ∷ b) low = absurd (omega arith)
+divided (suc n) (x ∷ b) low =
+    let bs = x ∷ b in
+    let size = line_len bs in
+    let bounds = line_len-bounds bs (omega arith) in
+    let left = length-drop size bs in
+    let front = length-take size bs in
+    let first = first-line bs in
+    let rest = divided n (drop size bs) (omega arith) in
+    let line : IsLine (take size bs) = record {
+      some = omega arith;
+      feed = λ k is. let before = first.0 k in let past = get_or_past (take size bs) k 0 in grind (arith, get_or-take);
+    } in
+    let ended : All (Ended (take size bs)) (lines_of (drop size bs)) = λ k d more.
+    let few = length-lines_of (drop size bs) in let last = first.1 (omega arith) in grind (arith, get_or-take) in
+    rw (lines-step bs (omega arith)) (record {
+      joined = ap (λ t. take size bs ++ t) rest.joined ∙ take-append-drop size bs;
+      each = All-cons IsLine (take size bs) (lines_of (drop size bs)) line rest.each;
+      ends = AllPairs-cons Ended (take size bs) (lines_of (drop size bs)) ended rest.ends;
+    })
 
--- the lines are a division
 pub AreLines-lines_of : (b : List ℕ) → AreLines b (lines_of b)
-AreLines-lines_of b = let some = divided b in rw (AreLines-same b some.0 some.1) at some.1 where
-  divided : (b : List ℕ) → (lines : List (List ℕ)) × AreLines b lines
-  divided [] = ([], record { joined = refl; each = All-nil _; ends = λ i j d low high. absurd (omega arith) })
-  divided (x ∷ b) = let rest = divided b in more-lines x b rest.0 rest.1
+AreLines-lines_of b = divided (length b) b (omega arith)
 
 -- the length of joined lines is the sum of their lengths
 pub length-concat : (xs : List (List ℕ)) → length (concat xs) ≡ sum_by length xs

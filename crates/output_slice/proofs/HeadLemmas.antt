@@ -12,7 +12,7 @@ use Rattle.std.proofs.lemmas.List.{get_or_default, get_or_past}
 use Rattle.bstr.specs.Find.{OccursAt}
 use Rattle.bstr.specs.Text.{part}
 use Rattle.output_slice.specs.Head.{IsDigit, IsTail, IsLineStart, IsName, IsHead}
-use Rattle.output_slice.specs.Steps.{AreDigits, ArePlain, IsDigitRun, NoDigitAt, IsTailEnd, IsTextEnd, AgreesFor, ReadsUpTo, TextReads, IsNamedHeadEnd, IsOpened, IsOpenedHeadEnd, IsNextQuote, NoQuoteBetween}
+use Rattle.output_slice.specs.Steps.{ArePlain, IsDigitRun, NoDigitAt, IsTailEnd, IsTextEnd, AgreesFor, ReadsUpTo, TextReads, IsNamedHeadEnd, IsOpened, IsOpenedHeadEnd, IsNextQuote, NoQuoteBetween}
 use Rattle.output_slice.proofs.CharLemmas.{IsDigitRun-same}
 use Rattle.output_slice.proofs.OccursLemmas.{get_or-part, length-part, occurs-front, occurs-back, occurs-both, occurs-part, part-occurs, agrees, agrees-passes, text-passes}
 
@@ -33,18 +33,15 @@ digits-plain (c ∷ cs) all =
     list_all-append is_plain (encode_utf8 c) (encode_utf8_all cs)
     ∙ and_from _ _ (digit-plain c (All-head P c cs all).1) (digits-plain cs (All-tail P c cs all))
 
--- nor of a tail
-text-plain : (text : List ℕ) → IsTail text → list_all is_plain text ≡ true
-text-plain text h = elim h [
-  | inl plain ↦ ap (list_all is_plain) plain
-  | inr n ↦ simp (n.2, n.1.3, list_all-append, digits-plain n.1.0 n.1.2)
-]
-
 -- where a tail stands there is neither
 pub tail-plain : (b : List ℕ) (at e : ℕ) → e ≤ length b → IsTail (part at e b) → ArePlain b at e
 tail-plain b at e high h k low up =
     let size = length-part b at e high in
-    let test = AllPass-from_list_all is_plain (part at e b) (text-plain (part at e b) h) (k - at) 0 (omega arith) in
+    let plain : list_all is_plain (part at e b) ≡ true = elim h [
+      | inl text ↦ ap (list_all is_plain) text
+      | inr n ↦ simp (n.2, n.1.3, list_all-append, digits-plain n.1.0 n.1.2)
+    ] in
+    let test = AllPass-from_list_all is_plain (part at e b) plain (k - at) 0 (omega arith) in
     let same : get_or (part at e b) (k - at) 0 ≡ get_or b k 0 = grind (arith, get_or-part) in
     grind (arith, nat_tests)
 
@@ -55,12 +52,7 @@ agrees-plain b text at n h all k low high =
     let test = agrees-passes is_plain b text at n h all k low high in
     grind (arith, nat_tests)
 
--- nor where digits stand
-AreDigits-plain : (b : List ℕ) (from to : ℕ) → AreDigits b from to → ArePlain b from to
-AreDigits-plain b from to h k low high =
-    agrees-plain b (encode_utf8_all h.chars) from _ (agrees b _ from h.stands) (digits-plain h.chars h.digits) k low
-    (omega (arith, h.ends))
-
+-- nor in two parts of bytes that have neither
 plain-join : (b : List ℕ) (i j k : ℕ) → ArePlain b i j → ArePlain b j k → ArePlain b i k
 plain-join b i j k h l = grind arith
 
@@ -180,6 +172,7 @@ pub numbered-end : (b : List ℕ) (at close old mid mid' new : ℕ) (found : Opt
 numbered-end b at close old mid mid' new found opens run is few few' ascii r f =
     let t = text-read b (codes ") panicked at ") close mid' new found r f in
     let digits = run.digits in
+    let number = agrees-plain b _ (at + 2) _ (agrees b _ (at + 2) digits.stands) (digits-plain digits.chars digits.digits) in
     let long : at + 3 ≤ close = omega arith in (
       ends found f,
       record {
@@ -187,7 +180,7 @@ numbered-end b at close old mid mid' new found opens run is few few' ascii r f =
         low = omega arith;
         high = t.1.fits;
         plain = plain-join b at (at + 2) (close + t.0) (agrees-plain b (codes " (") at 2 (agrees b (codes " (") at opens) refl)
-            (plain-join b (at + 2) close (close + t.0) (AreDigits-plain b (at + 2) close digits)
+            (plain-join b (at + 2) close (close + t.0) (rw (← digits.ends) at number)
             (agrees-plain b (codes ") panicked at ") close t.0 t.1 refl));
         far = omega arith;
         near = omega arith;

@@ -1,5 +1,5 @@
 -- Each slice is a part of its parent and not empty, and is the only one.
-use Rattle.std.proofs.Common.{◌≡◌, ℕ, ◌+◌, List, [], ◌∷◌, ◌++◌, length, refl, sym, ap, subst, ◌∙◌, arith, All, Option, Some, None, IfSome, option_map, sum_by, ◌<◌, ◌≤◌, get_or, drop, length-append, get_or-drop, length-take, ◌⊎◌, inl, inr, IsTrue, encode_utf8_all, get_or-append-add, get_or-take, length-take-le}
+use Rattle.std.proofs.Common.{◌≡◌, ℕ, ◌+◌, List, [], ◌∷◌, ◌++◌, length, refl, sym, ap, subst, ◌∙◌, arith, All, Option, Some, None, IfSome, option_map, sum_by, ◌<◌, get_or, drop, length-append, get_or-drop, length-take, ◌⊎◌, inl, inr, IsTrue, encode_utf8_all, get_or-append-add, get_or-take, length-take-le}
 use Rattle.std.proofs.lemmas.List.Elements.{All-contains, All-head, All-tail, Contains-append_right}
 use Rattle.std.proofs.lemmas.Option.{same_Some}
 use Rattle.std.specs.Char.{IsScalar, is_whitespace}
@@ -57,19 +57,6 @@ widened-letter b s e t head wide = elim wide [
   | inr plain ↦ let first = head.opening.reads 0 in inr (grind arith)
 ]
 
--- a line without its end is its front, and lacks two bytes at most
-line-front : (line : List ℕ)
-    → (length (without_terminator line) ≤ length line) × (length line ≤ length (without_terminator line) + 2)
-    × ((k : ℕ) → k < length (without_terminator line) → get_or (without_terminator line) k 0 ≡ get_or line k 0)
-line-front line = grind (arith, nat_tests, get_or-take, length-take)
-
--- a line that holds the note is a part, without its end too
-note-part : (b : List ℕ) (before : List (List ℕ)) (line : List ℕ) (rest : List (List ℕ)) (x : Slice)
-    → concat (before ++ line ∷ rest) ≡ b → IsNote line
-    → x.start ≡ sum_by length before → x.bytes ≡ without_terminator line → IsPart b x
-note-part b before line rest x joined note is text =
-    grind (arith, concat-append, get_or-append, get_or-append-add, get_or-take, length-append, length-concat, length-take-le, line-front)
-
 -- a panic slice is a part
 pub IsPanicSlice-part : (b : List ℕ) (x : Slice) → IsPanicSlice b (Some x) → IsPart b x
 IsPanicSlice-part b x p =
@@ -79,9 +66,12 @@ IsPanicSlice-part b x p =
 pub IsErrorSlice-part : (b : List ℕ) (x : Slice) → IsErrorSlice b (Some x) → IsPart b x
 IsErrorSlice-part b x p = trimmed-part b x p.1 (inl (let first = p.0.1.1.reads 0 in grind arith))
 
--- a note line is a part
+-- a note line is a part: without its end it lacks two bytes at most
 pub IsNoteLine-part : (b : List ℕ) (x : Slice) → IsNoteLine b (Some x) → IsPart b x
-IsNoteLine-part b x p = let h = p.2 in note-part b h.0 h.1 h.2 x (ap concat (sym h.3) ∙ p.1.joined) h.5 h.6 h.7
+IsNoteLine-part b x p =
+    let h = p.2 in
+    let joined = ap concat (sym h.3) ∙ p.1.joined in
+    grind (arith, nat_tests, concat-append, get_or-append, get_or-append-add, get_or-take, length-append, length-concat, length-take-le, length-take, h.5, h.6, h.7)
 
 -- what holds of each slice holds of what is found
 pub found-part : (Is : List ℕ → Option Slice → Type 0) → ((b : List ℕ) (x : Slice) → Is b (Some x) → IsPart b x)
@@ -183,24 +173,15 @@ OfStream-same Is same None f g p q = p ∙ sym q
 OfStream-same Is same (Some b) f g p q = same b f g p q
 
 module _ (out err : Option (List ℕ)) where
-  panics : (f g : Option Slice) → OfStream IsPanicSlice err f → OfStream IsPanicSlice err g → f ≡ g
-  panics = OfStream-same IsPanicSlice IsPanicSlice-same err
-
-  errors : (f g : Option Slice) → OfStream IsErrorSlice err f → OfStream IsErrorSlice err g → f ≡ g
-  errors = OfStream-same IsErrorSlice IsErrorSlice-same err
-
-  notes : (f g : Option Slice) → OfStream IsNoteLine out f → OfStream IsNoteLine out g → f ≡ g
-  notes = OfStream-same IsNoteLine IsNoteLine-same out
-
   -- there is one extraction
   pub IsExtract-same : (f g : Option Extract) → IsExtract out err f → IsExtract out err g → f ≡ g
   IsExtract-same None None p q = refl
-  IsExtract-same (Some (panic_slice x)) (Some (panic_slice y)) p q = cc (panics (Some x) (Some y) p q)
-  IsExtract-same (Some (panic_slice x)) g p q = cc (panics (Some x) None p q.0)
-  IsExtract-same f (Some (panic_slice y)) p q = cc (panics (Some y) None q p.0)
-  IsExtract-same (Some (error_slice x)) (Some (error_slice y)) p q = cc (errors (Some x) (Some y) p.1 q.1)
-  IsExtract-same (Some (error_slice x)) g p q = cc (errors (Some x) None p.1 q.1)
-  IsExtract-same f (Some (error_slice y)) p q = cc (errors (Some y) None q.1 p.1)
-  IsExtract-same (Some (note_line x)) (Some (note_line y)) p q = cc (notes (Some x) (Some y) p.2 q.2)
-  IsExtract-same (Some (note_line x)) None p q = cc (notes (Some x) None p.2 q.2)
-  IsExtract-same None (Some (note_line y)) p q = cc (notes (Some y) None q.2 p.2)
+  IsExtract-same (Some (panic_slice x)) (Some (panic_slice y)) p q = cc (OfStream-same IsPanicSlice IsPanicSlice-same err (Some x) (Some y) p q)
+  IsExtract-same (Some (panic_slice x)) g p q = cc (OfStream-same IsPanicSlice IsPanicSlice-same err (Some x) None p q.0)
+  IsExtract-same f (Some (panic_slice y)) p q = cc (OfStream-same IsPanicSlice IsPanicSlice-same err (Some y) None q p.0)
+  IsExtract-same (Some (error_slice x)) (Some (error_slice y)) p q = cc (OfStream-same IsErrorSlice IsErrorSlice-same err (Some x) (Some y) p.1 q.1)
+  IsExtract-same (Some (error_slice x)) g p q = cc (OfStream-same IsErrorSlice IsErrorSlice-same err (Some x) None p.1 q.1)
+  IsExtract-same f (Some (error_slice y)) p q = cc (OfStream-same IsErrorSlice IsErrorSlice-same err (Some y) None q.1 p.1)
+  IsExtract-same (Some (note_line x)) (Some (note_line y)) p q = cc (OfStream-same IsNoteLine IsNoteLine-same out (Some x) (Some y) p.2 q.2)
+  IsExtract-same (Some (note_line x)) None p q = cc (OfStream-same IsNoteLine IsNoteLine-same out (Some x) None p.2 q.2)
+  IsExtract-same None (Some (note_line y)) p q = cc (OfStream-same IsNoteLine IsNoteLine-same out (Some y) None q.2 p.2)

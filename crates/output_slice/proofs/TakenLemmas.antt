@@ -1,5 +1,5 @@
 -- There is one list of taken heads.
-use Rattle.std.proofs.Common.{◌≡◌, ℕ, suc, ◌+◌, ◌-◌, ◌<◌, ◌≤◌, ◌⊎◌, ◌↔◌, zero, List, [], ◌∷◌, length, get_or, refl, sym, ap, subst, ◌∙◌, arith, inl, inr, ◌≢◌, ◌==◌, Bool, not, nat_le, ◌&&◌, ◌||◌, codes, All, Decides, ◌++◌, chars, encode_utf8_all, length-append, take_at, AllPairs, Contains, Option, Some, None, IsSome, is_some}
+use Rattle.std.proofs.Common.{◌≡◌, ℕ, suc, ◌+◌, ◌-◌, ◌<◌, ◌≤◌, ◌⊎◌, ◌↔◌, zero, List, [], ◌∷◌, length, get_or, refl, sym, ap, subst, ◌∙◌, arith, inl, inr, ◌≢◌, ◌==◌, Bool, not, nat_le, ◌&&◌, ◌||◌, codes, All, Decides, ◌++◌, chars, encode_utf8_all, length-append, take_at, AllPairs, Contains, Option, Some, None, IsSome}
 use Rattle.std.proofs.lemmas.Bool.{cases_lt, cases_eq, cases_Bool}
 use Rattle.std.proofs.lemmas.List.Elements.{All-cons, All-head, All-tail, All-nil, All-contains, All-weaker, Contains-get_or}
 use Rattle.std.proofs.lemmas.List.Kept.{AllPairs-cons}
@@ -28,10 +28,6 @@ record TakenFrom (b : List ℕ) (from : ℕ) (taken : List HeadSpan) : Type 0 wh
   low : All (λ h. from ≤ h.start) taken
   rule : (h : HeadSpan) → from ≤ h.start → IsHead b h.start h.stop
       → (Contains taken h ↔ All (λ g. g.start < h.start → g.stop ≤ h.start) taken)
-
--- what a list has it has behind one more
-contains-later : (x y : HeadSpan) (xs : List HeadSpan) → Contains xs y → Contains (x ∷ xs) y
-contains-later x y xs h = (suc h.0, omega (arith, h.1), h.2)
 
 -- what a list with one more in front has
 contains-cases : (x y : HeadSpan) (xs : List HeadSpan) → Contains (x ∷ xs) y → (x ≡ y) ⊎ Contains xs y
@@ -80,7 +76,7 @@ module _ (b : List ℕ) (from : ℕ) (x : HeadSpan) (xs : List HeadSpan) (first 
     λ all. elim (cases_lt x.start y.start) [
       | inl l ↦
           let past = All-head (Before y) x xs all l in
-          contains-later x y xs ((h.rule y past head).1 (All-tail (Before y) x xs all))
+          let later = (h.rule y past head).1 (All-tail (Before y) x xs all) in (suc later.0, omega (arith, later.1), later.2)
       | inr early ↦
           let least = first.least y.start y.stop low head in
           let at : y.start ≡ x.start = omega arith in
@@ -132,7 +128,7 @@ rest-starts x xs h rising = All-contains (λ g. x.start < g.start) xs h (λ k d 
 
 same-rest : (x : HeadSpan) (xs ys : List HeadSpan) → Rising (x ∷ xs) → ((h : HeadSpan) → Contains (x ∷ xs) h → Contains (x ∷ ys) h)
     → (h : HeadSpan) → Contains xs h → Contains ys h
-same-rest x xs ys rising to h among = elim (contains-cases x h ys (to h (contains-later x h xs among))) [
+same-rest x xs ys rising to h among = elim (contains-cases x h ys (to h (suc among.0, omega (arith, among.1), among.2))) [
   | inl same ↦ absurd (omega (arith, rest-starts x xs h rising among, ap (λ (g : HeadSpan). g.start) same))
   | inr more ↦ more
 ]
@@ -170,34 +166,25 @@ IsLastTaken-head b h l =
     let within = slice_get_within taken at h (sym l.2) in
     rw (get_or_from_slice_get taken at h h (sym l.2)) at (l.1.heads at h within)
 
--- there is a last one exactly where there is a head
-pub IsTaken-some : (b : List ℕ) (xs : List HeadSpan) → IsTaken b xs
-    → IsSome (last_of xs) ↔ ((s : ℕ) × (e : ℕ) × IsHead b s e)
-IsTaken-some b [] h = (
-  λ none. cc,
-  λ head. let among = (h.rule (record { start = head.0; stop = head.1 }) head.2).1 (All-nil _) in absurd (omega (arith, among.1)),
-)
-IsTaken-some b (x ∷ xs) h = (
-  λ some. (x.start, x.stop, All-head (λ g. IsHead b g.start g.stop) x xs h.heads),
-  λ head. ap is_some (slice_get-get_or (x ∷ xs) (length (x ∷ xs) - 1) x (omega arith)),
-)
-
 -- what is the last of one list by the rule is the last of each
 pub IsLastTaken-only : (b : List ℕ) (found : Option HeadSpan) (taken : List HeadSpan) → IsLastTaken b found
     → IsTaken b taken → found ≡ last_of taken
 IsLastTaken-only b found taken last is = last.2 ∙ ap last_of (IsTaken-same b last.0 taken last.1 is)
 
--- so there is a last taken head exactly where there is a head
+-- there is a last taken head exactly where there is a head
 pub IsLastTaken-some : (b : List ℕ) (found : Option HeadSpan) → IsLastTaken b found
     → IsSome found ↔ ((s : ℕ) × (e : ℕ) × IsHead b s e)
-IsLastTaken-some b found last = rw last.2 (IsTaken-some b last.0 last.1)
+IsLastTaken-some b (Some h) last = (λ some. (h.start, h.stop, IsLastTaken-head b h last), λ head. refl)
+IsLastTaken-some b None ([], is, none) = (
+  λ some. absurd (cc),
+  λ head. absurd (omega (arith, ((is.rule (record { start = head.0; stop = head.1 }) head.2).1 (All-nil _)).1)),
+)
+IsLastTaken-some b None (x ∷ xs, is, none) =
+    let other = none ∙ slice_get-get_or (x ∷ xs) (length (x ∷ xs) - 1) x (omega arith) in absurd (cc)
 
 -- where there is no head, none is taken
-pub IsTaken-nil : (b : List ℕ) → ((s e : ℕ) → ¬ IsHead b s e) → IsTaken b []
-IsTaken-nil b none = IsTaken-from_leftmost b [] (λ s e low. none s e)
-
 pub IsLastTaken-none : (b : List ℕ) → ((s e : ℕ) → ¬ IsHead b s e) → IsLastTaken b None
-IsLastTaken-none b none = ([], IsTaken-nil b none, refl)
+IsLastTaken-none b none = ([], IsTaken-from_leftmost b [] (λ s e low. none s e), refl)
 
 -- what holds, or does not
 abbrev Known : Type 0 → Type 0

@@ -8,7 +8,7 @@ ghost use Rattle.output_slice.specs.Cut.{IsCut, head_behind};
 ghost use Rattle.output_slice.specs.Search.{AllHeadsEndBy, IsLastFrom, IsLastOpening, IsOpening, MayAllBeCrossed, MayCross};
 
 use crate::byte_source::CountedBytes;
-use crate::lines::{is_line_start, last_byte, line_end, next_byte};
+use crate::lines::{is_line_start, last_byte, line_end, line_start, next_byte};
 use crate::panic_head::quotes::{OPENING_SIZE, WORD_SIZE};
 use crate::panic_head::{HeadSpan, last_panic_head};
 use crate::signs::heads_end;
@@ -17,10 +17,15 @@ use bstr::ByteSlice;
 /// The start of a head, behind a line feed.
 const OPENING: &[u8] = b"\nthread '";
 
-/// The last line start at which `thread '` stands.
+/// The last line start at which `thread '` stands. The last line is looked at first: where many lines
+/// open, most searches end with it.
 fn last_opening(bytes: &[u8]) -> Option<usize>
     ensures { IsLastOpening bytes.now result }
 {
+    let last = line_start(bytes, bytes.len().saturating_sub(1));
+    if is_opening(bytes, last) {
+        return Some(last);
+    }
     if let Some(feed) = bytes.rfind(OPENING) {
         return Some(feed + 1);
     }
