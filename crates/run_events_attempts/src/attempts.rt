@@ -69,6 +69,10 @@ pub struct ExecuteStatus<S: OutputSpec> {
     /// What its process left.
     pub output: ChildExecutionOutputDescription<S>,
 
+    /// Whether it took longer than the slow timeout. Fields lie in memory in this order, and a count
+    /// reads this one and the next of each test: so it waits for memory once.
+    pub is_slow: bool,
+
     /// How it ended. Of the results of a test's attempts, counters and levels go by that of the last
     /// alone; beside it by how many there were, whether the last was slow, and the setting.
     pub result: ExecutionResultDescription,
@@ -78,9 +82,6 @@ pub struct ExecuteStatus<S: OutputSpec> {
 
     /// How long it took.
     pub time_taken: Duration,
-
-    /// Whether it took longer than the slow timeout.
-    pub is_slow: bool,
 
     /// How long the runner waited before it, as retries with a backoff do.
     pub delay_before_start: Duration,
