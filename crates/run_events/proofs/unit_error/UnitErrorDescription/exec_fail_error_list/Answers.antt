@@ -1,0 +1,5 @@
+use Rattle.std.proofs.Common.{rules}
+use Rattle.run_events.proofs.unit_error.UnitErrorDescription.exec_fail_error_list.Goals as goal
+
+pub returns-clause-list : goal.returns-clause-list
+returns-clause-list c = search rules
