@@ -69,8 +69,8 @@ pub struct ExecuteStatus<S: OutputSpec> {
     /// What its process left.
     pub output: ChildExecutionOutputDescription<S>,
 
-    /// Whether it took longer than the slow timeout. Fields lie in memory in this order, and a count
-    /// reads this one and the next of each test: so it waits for memory once.
+    /// Whether it took longer than the slow timeout. It stands before the result since a count reads
+    /// both of each test, and fields that are written side by side lie so in memory today.
     pub is_slow: bool,
 
     /// How it ended. Of the results of a test's attempts, counters and levels go by that of the last
