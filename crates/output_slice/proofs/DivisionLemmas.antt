@@ -52,7 +52,7 @@ first-line (x ∷ b) = (
   λ low. let last = (first-line b).1 in let bounds = line_len-bounds b in grind (arith, nat_tests),
 )
 
--- the lines are a division, by the number of bytes
+-- by the number of bytes
 divided : (n : ℕ) (b : List ℕ) → length b ≤ n → AreLines b (lines_of b)
 divided n [] low = rw lines-nil (record { joined = refl; each = All-nil _; ends = λ i j d low high. absurd (omega arith) })
 divided zero (x ∷ b) low = absurd (omega arith)
@@ -76,6 +76,7 @@ divided (suc n) (x ∷ b) low =
       ends = AllPairs-cons Ended (take size bs) (lines_of (drop size bs)) ended rest.ends;
     })
 
+-- the lines are a division
 pub AreLines-lines_of : (b : List ℕ) → AreLines b (lines_of b)
 AreLines-lines_of b = divided (length b) b (omega arith)
 

@@ -77,11 +77,11 @@ blank-more bs white h = by_char (decoded bs).char refl white where
       let spelled = SpellsChar-decoded bs c is in
       (c ∷ h.0, All-cons IsWhite c h.0 (spelled.scalar, white) h.1, spelled.bytes ∙ ap (λ text. encode_utf8 c ++ text) h.2)
 
--- up to where pieces that stand at `off` are kept
+-- where the part ends that a trim of pieces keeps, the first of which stands at `off`; `end` where it keeps none
 abbrev kept_of : ℕ → ℕ → List Decoded → ℕ
 kept_of end off ps = kept_end is_whitespace end (spans_from off ps)
 
--- up to a place behind which the bytes are blank, or to the end before
+-- that is a place behind which the bytes are blank, or `end` where all of them are
 kept : (f : ℕ) (bs : List ℕ) (off end : ℕ) → length bs ≤ f
     → (k : ℕ) × (k ≤ length bs) × IsBlank (drop k bs)
     × (((0 < k) × (kept_of end off (pieces bs) ≡ off + k)) ⊎ ((k ≡ 0) × (kept_of end off (pieces bs) ≡ end)))
@@ -107,6 +107,7 @@ kept (suc f) (x ∷ xs) off end short =
           (p.size + h.0, omega (arith, h.1), rw drop-drop at h.2, inl (omega arith, grind (arith, h.3)))
     ])
 
+-- a trim keeps no more than there is
 kept-within : (xs : List ℕ) → kept_of 0 0 (pieces xs) ≤ length xs
 kept-within xs = let h = kept (length xs) xs 0 0 (omega arith) in grind (arith, h.1, h.3)
 
@@ -125,13 +126,14 @@ blank-kept (c ∷ cs) all end off =
       drop_at text (encode_utf8_all cs) (length text) refl,
     ) (rw (first.1, kept_end) rest)
 
--- nor does it behind other pieces
+-- pieces that keep nothing more do so behind others too
 pieces-kept : (ps qs : List Decoded) → ((end off : ℕ) → kept_of end off qs ≡ end) → (end off : ℕ)
     → kept_of end off (ps ++ qs) ≡ kept_of end off ps
 unfolding spans_from kept_end
 pieces-kept [] qs h end off = h end off
 pieces-kept (p ∷ ps) qs h end off = pieces-kept ps qs h _ (off + p.size)
 
+-- so blank text at the end changes nothing
 kept-before : (xs ys : List ℕ) → IsBlank ys → kept_of 0 0 (pieces (xs ++ ys)) ≡ kept_of 0 0 (pieces xs)
 kept-before xs ys (cs, all, is) =
     rw is (ap (kept_of 0 0) (pieces-append (length xs) xs (encode_utf8_all cs) (omega arith) (clean cs all))
@@ -162,10 +164,8 @@ IsTrimmedSlice-trim_end b s low =
           low = omega arith;
           high = omega (arith, h.1);
           before = λ i from up blank.
-              let front = part s i b in
-              let same = kept-before front (drop i b) blank in
-              let within = kept-within front in
-              let few = length-take (i - s) (drop s b) in
+              let same = kept-before (part s i b) (drop i b) blank in
+              let within = kept-within (part s i b) in let few = length-take (i - s) (drop s b) in
               absurd (omega (arith, rw (← split-at b s i from) at same));
         },
         rw drop-drop at h.2,
@@ -173,7 +173,7 @@ IsTrimmedSlice-trim_end b s low =
       ap (λ k. take k (drop s b)) (omega arith),
     )
 
--- a byte behind `from` that is none of the others is white space of ASCII
+-- a byte that a search for what is no white space of ASCII passes over is such white space
 pub space-behind : (b : List ℕ) (from k : ℕ) → from ≤ k
     → ¬ (not_in (9 ∷ 10 ∷ 11 ∷ 12 ∷ 13 ∷ 32 ∷ []) (get_or (drop from b) (k - from) 0) ≡ true) → IsSpace (get_or b k 0)
 unfolding is_in

@@ -17,8 +17,8 @@ use bstr::ByteSlice;
 /// The start of a head, behind a line feed.
 const OPENING: &[u8] = b"\nthread '";
 
-/// The last line start at which `thread '` stands. The last line is looked at first: where many lines
-/// open, most searches end with it.
+/// The last line start at which `thread '` stands. The last line is looked at first: where every line
+/// opens, it is the answer, and no search follows.
 fn last_opening(bytes: &[u8]) -> Option<usize>
     ensures { IsLastOpening bytes.now result }
 {
