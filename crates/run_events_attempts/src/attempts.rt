@@ -69,8 +69,9 @@ pub struct ExecuteStatus<S: OutputSpec> {
     /// What its process left.
     pub output: ChildExecutionOutputDescription<S>,
 
-    /// Whether it took longer than the slow timeout. It stands before the result since a count reads
-    /// both of each test, and fields that are written side by side lie so in memory today.
+    // Right before the result: a count reads both of each test's last attempt, and fields lie in
+    // memory today in the order in which they are written.
+    /// Whether it took longer than the slow timeout.
     pub is_slow: bool,
 
     /// How it ended. Of the results of a test's attempts, counters and levels go by that of the last
