@@ -105,10 +105,9 @@ all_zero = record {
 abbrev pub plus_if : ℕ → Bool → ℕ
 plus_if n holds = n + (if holds then 1 else 0)
 
--- the statistics after one more test: each counter whose rule holds of it is one higher
-abbrev pub with_test : RunStats → TestView → RunStats
-with_test s t = record s {
-  finished_count = s.finished_count + 1;
+-- the statistics after one more test, but for `finished_count`: each counter whose rule holds of it is one higher
+abbrev pub with_result : RunStats → TestView → RunStats
+with_result s t = record s {
   passed = plus_if s.passed (is_passed t);
   passed_slow = plus_if s.passed_slow (is_passed_slow t);
   passed_timed_out = plus_if s.passed_timed_out (is_passed_timed_out t);
@@ -119,6 +118,19 @@ with_test s t = record s {
   leaky = plus_if s.leaky (is_leaky t);
   leaky_failed = plus_if s.leaky_failed (is_leaky_failed t);
   exec_failed = plus_if s.exec_failed (is_exec_failed t);
+}
+
+-- the statistics after one more test: `finished_count` and each counter whose rule holds of it are one higher
+abbrev pub with_test : RunStats → TestView → RunStats
+with_test s t = record (with_result s t) {
+  finished_count = s.finished_count + 1;
+}
+
+-- the statistics with `failed` one higher, and `failed_slow` too where the test is slow
+abbrev pub with_failed : RunStats → Bool → RunStats
+with_failed s is_slow = record s {
+  failed = s.failed + 1;
+  failed_slow = plus_if s.failed_slow is_slow;
 }
 
 -- the statistics after one more script

@@ -12,6 +12,11 @@ use run_events_settings::config::{FlakyResult, LeakTimeoutResult, SlowTimeoutRes
 
 /// The counters of tests, and of each whether a finished test raises it. The number of finished
 /// tests is not among them: every test raises it.
+/// [`RunStats::can_count_view`] asks it; [`RunStats::on_test_view`] goes by the cases itself, and
+/// writes less. The contracts of both name the same rules.
+///
+/// [`RunStats::can_count_view`]: crate::stats::RunStats::can_count_view
+/// [`RunStats::on_test_view`]: crate::stats::RunStats::on_test_view
 #[derive(Clone, Copy, Default)]
 pub(super) struct RaisedByTest {
     pub(super) passed: bool,

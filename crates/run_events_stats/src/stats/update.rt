@@ -1,9 +1,10 @@
 //! How a finished unit changes the counters.
 
-ghost use Rattle.std.specs.Prelude.{◌≡◌, ◌↔◌, ◌<◌, ◌^◌, IsTrue};
+ghost use Rattle.std.specs.Prelude.{◌≡◌, ◌↔◌, ◌<◌, ◌^◌, IsTrue, false, true};
 ghost use Rattle.run_events_attempts.specs.Attempts.{view_of};
 ghost use Rattle.run_events_levels.specs.TestView.{said_of};
-ghost use Rattle.run_events_stats.specs.Counters.{ScriptCountersFit, TestCountersFit, plus_if, with_script, with_test};
+ghost use Rattle.run_events_results.specs.Results.{succeeds};
+ghost use Rattle.run_events_stats.specs.Counters.{ScriptCountersFit, TestCountersFit, plus_if, with_failed, with_script, with_result, with_test};
 
 use crate::stats::RunStats;
 use crate::stats::raised::{RaisedByScript, RaisedByTest};
@@ -11,6 +12,7 @@ use run_events_attempts::attempts::{ExecutionStatuses, SetupScriptExecuteStatus}
 use run_events_child::child::LiveSpec;
 use run_events_levels::view::TestView;
 use run_events_results::results::ExecutionResultDescription;
+use run_events_settings::config::FlakyResult;
 
 impl RunStats {
     /// Counts one more finished test by what decides its counters: each counter whose rule holds of
@@ -19,22 +21,77 @@ impl RunStats {
     /// Every counter that the test raises must be below `usize::MAX`, as [`can_count_view`] tests.
     ///
     /// [`can_count_view`]: RunStats::can_count_view
+    #[inline]
     pub fn on_test_view(&mut self, test: &TestView<'_>)
         requires { TestCountersFit (with_test self.old (said_of test.now)) }
         ensures { self.new ≡ with_test self.old (said_of test.now) }
     {
-        let raised = RaisedByTest::of(test);
+        // By the cases of the result, and not through `RaisedByTest`: so only those counters are
+        // written that are raised, two to five of eleven.
         self.finished_count += 1;
-        self.passed = counter_after(self.passed, raised.passed);
-        self.passed_slow = counter_after(self.passed_slow, raised.passed_slow);
-        self.passed_timed_out = counter_after(self.passed_timed_out, raised.passed_timed_out);
-        self.flaky = counter_after(self.flaky, raised.flaky);
-        self.failed = counter_after(self.failed, raised.failed);
-        self.failed_slow = counter_after(self.failed_slow, raised.failed_slow);
-        self.failed_timed_out = counter_after(self.failed_timed_out, raised.failed_timed_out);
-        self.leaky = counter_after(self.leaky, raised.leaky);
-        self.leaky_failed = counter_after(self.leaky_failed, raised.leaky_failed);
-        self.exec_failed = counter_after(self.exec_failed, raised.exec_failed);
+        if test.result.is_success() {
+            self.count_success(test);
+        } else {
+            self.count_failure(test);
+        }
+    }
+
+    /// Raises what a test raises whose last attempt succeeded, but for the number of finished
+    /// tests: it counts as failed where it was retried and is set to fail then.
+    #[inline]
+    fn count_success(&mut self, test: &TestView<'_>)
+        requires success { succeeds (said_of test.now).result ≡ true }
+        requires room { TestCountersFit (with_result self.old (said_of test.now)) }
+        ensures { self.new ≡ with_result self.old (said_of test.now) }
+    {
+        if matches!(test.result, ExecutionResultDescription::Leak { .. }) {
+            self.leaky += 1;
+        }
+        let is_retried = test.attempts > 1;
+        if is_retried && test.flaky_result == FlakyResult::Fail {
+            self.raise_failed(test.is_slow);
+            return;
+        }
+        self.passed += 1;
+        if is_retried {
+            self.flaky += 1;
+        }
+        if matches!(test.result, ExecutionResultDescription::Timeout { .. }) {
+            self.passed_timed_out += 1;
+        } else if test.is_slow {
+            self.passed_slow += 1;
+        }
+    }
+
+    /// Raises what a test raises whose last attempt did not succeed, but for the number of finished
+    /// tests.
+    #[inline]
+    fn count_failure(&mut self, test: &TestView<'_>)
+        requires failure { succeeds (said_of test.now).result ≡ false }
+        requires room { TestCountersFit (with_result self.old (said_of test.now)) }
+        ensures { self.new ≡ with_result self.old (said_of test.now) }
+    {
+        match test.result {
+            ExecutionResultDescription::Timeout { .. } => self.failed_timed_out += 1,
+            ExecutionResultDescription::ExecFail => self.exec_failed += 1,
+            ExecutionResultDescription::Leak { .. } => {
+                self.leaky_failed += 1;
+                self.raise_failed(test.is_slow);
+            }
+            _ => self.raise_failed(test.is_slow),
+        }
+    }
+
+    /// Raises `failed`, and `failed_slow` where the test is slow.
+    #[inline]
+    fn raise_failed(&mut self, is_slow: bool)
+        requires { TestCountersFit (with_failed self.old is_slow) }
+        ensures { self.new ≡ with_failed self.old is_slow }
+    {
+        self.failed += 1;
+        if is_slow {
+            self.failed_slow += 1;
+        }
     }
 
     /// Whether one more finished test can be counted: every counter that it raises is below
