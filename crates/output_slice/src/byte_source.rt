@@ -1,12 +1,12 @@
-//! Bytes that are read one at a time, and counted.
+//! Bytes that are read one at a time, with a count of the reads.
 
 ghost use Rattle.std.specs.Prelude.{◌≡◌, ◌+◌, ◌<◌, ◌^◌, ℕ, List, length, slice_index};
 
 use std::marker::Model;
 
-/// Some bytes, and how many reads of them there were.
+/// Bytes that are read one at a time, with a count of the reads.
 ///
-/// `last_panic_head` reads bytes through this alone, so that its reads can be counted.
+/// `last_panic_head` reads its input only through this trait, so its reads can be counted.
 pub trait ByteSource {
     // The bytes.
     ghost bytes: { Self → List ℕ };
@@ -14,17 +14,17 @@ pub trait ByteSource {
     // How many reads there were.
     ghost count: { Self → ℕ };
 
-    /// How many bytes there are. This is no read.
+    /// Returns the number of bytes. This does not count as a read.
     fn len(&self) -> usize
         ensures { result ≡ length (bytes self.now) };
 
-    /// How many reads there were.
+    /// Returns the number of reads so far.
     fn reads(&self) -> u128
         ensures { result ≡ count self.now };
 
-    /// Reads the byte at `at`, counted from 0. The count rises by one.
+    /// Reads the byte at offset `at`, and raises the count by one.
     ///
-    /// `at` must be below [`ByteSource::len`], and the count below `u128::MAX`.
+    /// `at` must be less than [`ByteSource::len`], and the count less than `u128::MAX`.
     fn byte(&mut self, at: usize) -> u8
         requires within { at < length (bytes self.old) }
         requires room { count self.old + 1 < 2 ^ 128 }
@@ -33,7 +33,7 @@ pub trait ByteSource {
         ensures same { bytes self.new ≡ bytes self.old };
 }
 
-/// A slice whose reads are counted. Contracts see it as its bytes and the count.
+/// A slice whose reads are counted.
 #[derive(Drop)]
 pub struct CountedBytes<'a> {
     bytes: &'a [u8],
@@ -41,13 +41,14 @@ pub struct CountedBytes<'a> {
 }
 
 impl<'a> Model for CountedBytes<'a> {
+    // Contracts see it as its bytes and the count.
     ghost Value = { List ℕ × ℕ };
 
     ghost view = { λ s. (s.bytes.now, s.count) };
 }
 
 impl<'a> CountedBytes<'a> {
-    /// The bytes, with no read of them yet.
+    /// Returns a source of these bytes, with a count of 0.
     pub fn new(bytes: &'a [u8]) -> Self
         ensures { result ≡ (bytes.now, 0) }
     {

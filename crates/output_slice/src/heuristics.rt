@@ -1,4 +1,4 @@
-//! The three heuristics, and which of them is used.
+//! The three heuristics, and the choice between them.
 
 ghost use Rattle.std.specs.Prelude.{codes, ◌≡◌, ◌≤◌, ◌<◌, ℕ, ◌+◌, ◌-◌, length, slice_index, Option, None, Some, option_map, IfSome};
 ghost use Rattle.std.specs.Option.{option_copied};
@@ -18,15 +18,16 @@ use crate::subslice::{ByteSubslice, TestOutputErrorSlice};
 use bstr::ByteSlice;
 use std::num::NonZero;
 
-/// The white space of ASCII, which is passed over byte by byte: that is faster than by characters.
+/// The white space of ASCII. It is skipped byte by byte, which is faster than by characters.
 const SPACES: &[u8] = b"\t\n\x0b\x0c\r ";
 
 impl<'a> TestOutputErrorSlice<'a> {
-    /// The part of a test's output that says why it failed: the panic slice of standard error, else
-    /// its error slice, else the note line of standard output. A stream that was not captured is
-    /// `None`. Output whose two streams were captured as one is handed in as both.
+    /// Finds the part of a test's output that explains its failure: the last panic message in
+    /// `stderr`, or else its first `Error: ` message, or else the "test did not panic" note in
+    /// `stdout`.
     ///
-    /// The rules are those of nextest-runner: see [`heuristic_panic_message`],
+    /// Pass `None` for a stream that was not captured, and the same bytes twice if both streams were
+    /// captured as one. The rules are those of nextest-runner: see [`heuristic_panic_message`],
     /// [`heuristic_error_str`] and [`heuristic_should_panic`].
     pub fn heuristic_extract(stdout: Option<&'a [u8]>, stderr: Option<&'a [u8]>) -> Option<Self>
         ensures value { IsExtract (option_copied stdout.entry) (option_copied stderr.entry)
@@ -39,11 +40,22 @@ impl<'a> TestOutputErrorSlice<'a> {
         ensures part { IfSome result (λ x. LiesIn (option_copied stdout.entry)
             (option_copied stderr.entry) (extract_of x)) }
     {
-        first_slice(stdout, stderr)
+        let Some(bytes) = stderr else {
+            let quiet = quiet_ends(stdout.unwrap_or(b""), b"");
+            return note_slice(stdout, quiet.stdout);
+        };
+        match heuristic_panic_message(bytes) {
+            Some(part) => Some(Self::PanicMessage {
+                stderr_subslice: part,
+            }),
+            None => later_slice(stdout, bytes),
+        }
     }
 
-    /// What [`Self::heuristic_extract`] finds, with at most `limit` bytes of it, the first ones. The
-    /// cut may fall inside a character, and white space before it stays; so do start and kind.
+    /// Returns the part that [`Self::heuristic_extract`] finds, cut to its first `limit` bytes.
+    ///
+    /// The cut may fall inside a character, and white space before it stays. The kind and the start
+    /// are those of the whole part.
     pub fn heuristic_extract_capped(
         stdout: Option<&'a [u8]>,
         stderr: Option<&'a [u8]>,
@@ -65,27 +77,7 @@ impl<'a> TestOutputErrorSlice<'a> {
     }
 }
 
-/// The first of the three slices that there is.
-fn first_slice<'a>(
-    stdout: Option<&'a [u8]>,
-    stderr: Option<&'a [u8]>,
-) -> Option<TestOutputErrorSlice<'a>>
-    ensures { IsExtract (option_copied stdout.entry) (option_copied stderr.entry)
-        (option_map extract_of result) }
-{
-    let Some(bytes) = stderr else {
-        let quiet = quiet_ends(stdout.unwrap_or(b""), b"");
-        return note_slice(stdout, quiet.stdout);
-    };
-    match heuristic_panic_message(bytes) {
-        Some(part) => Some(TestOutputErrorSlice::PanicMessage {
-            stderr_subslice: part,
-        }),
-        None => later_slice(stdout, bytes),
-    }
-}
-
-/// The first of the two other slices, where there is no panic slice.
+/// Returns the error slice of `stderr`, or else the note line of `stdout`. There is no panic slice.
 fn later_slice<'a>(stdout: Option<&'a [u8]>, stderr: &'a [u8]) -> Option<TestOutputErrorSlice<'a>>
     requires { IsPanicSlice stderr.now None }
     ensures { IsExtract (option_copied stdout.entry) (Some stderr.now)
@@ -100,7 +92,7 @@ fn later_slice<'a>(stdout: Option<&'a [u8]>, stderr: &'a [u8]) -> Option<TestOut
     }
 }
 
-/// The note line of standard output, where it was captured; no note begins at `end` or behind it.
+/// Returns the note line of `stdout` if it was captured. No note begins at or after `end`.
 fn note_slice(stdout: Option<&[u8]>, end: usize) -> Option<TestOutputErrorSlice<'_>>
     requires { IsNoteQuiet stdout end }
     ensures { IsExtract (option_copied stdout.entry) None (option_map extract_of result) }
@@ -111,12 +103,12 @@ fn note_slice(stdout: Option<&[u8]>, end: usize) -> Option<TestOutputErrorSlice<
     })
 }
 
-/// The panic slice: from the last taken head of `stderr`, or from the start of the line before it
-/// where that begins with `Error:`, up to the white space at the end. None where there is no head.
+/// Returns the last panic message in `stderr`, without the white space at the end, or `None`.
 ///
-/// A head is `thread '`, a name and `' panicked at `, as Rust's panic hook writes it at a line start;
-/// heads are taken leftmost first, and disjoint. Line ends between the line before and the head are
-/// passed over. The very first line of the output is never taken for a line before.
+/// The message begins at the last head: `thread '`, a name and `' panicked at ` at the start of a
+/// line, as Rust's panic hook writes it. Heads are matched from left to right and do not overlap. If
+/// the line before the head begins with `Error:`, the message begins at that line. Empty lines
+/// between the two are skipped, and the first line of `stderr` is never taken for such a line.
 pub fn heuristic_panic_message(stderr: &[u8]) -> Option<ByteSubslice<'_>>
     ensures value { IsPanicSlice stderr.now (option_map slice_of result) }
     ensures only { (found : Option Slice) → IsPanicSlice stderr.now found
@@ -128,10 +120,10 @@ pub fn heuristic_panic_message(stderr: &[u8]) -> Option<ByteSubslice<'_>>
     Some(trimmed(stderr, start))
 }
 
-/// The error slice: from the first line of `stderr` that begins with `Error: ` up to the white space
-/// at the end. None where no line begins so.
+/// Returns the part of `stderr` from its first line that begins with `Error: `, without the white
+/// space at the end, or `None` if no line begins with it.
 ///
-/// So Rust prints the error of a test or of a `main` that returns a `Result`.
+/// Rust prints the error of a test or of a `main` that returns a `Result` in this form.
 pub fn heuristic_error_str(stderr: &[u8]) -> Option<ByteSubslice<'_>>
     ensures value { IsErrorSlice stderr.now (option_map slice_of result) }
     ensures only { (found : Option Slice) → IsErrorSlice stderr.now found
@@ -141,9 +133,10 @@ pub fn heuristic_error_str(stderr: &[u8]) -> Option<ByteSubslice<'_>>
     error_str_before(stderr, stderr.len())
 }
 
-/// The same, where no sign of an error begins at `end` or behind it. An extraction has looked for the
-/// signs of the error and of the note at once, so each of the two has a twin, which leaves the end
-/// out.
+/// Returns the error slice, given that no error marker begins at or after `end`.
+///
+/// `heuristic_extract` has looked for the markers of the error and of the note in one pass, and
+/// passes on what it knows of the end.
 fn error_str_before(stderr: &[u8], end: usize) -> Option<ByteSubslice<'_>>
     requires { IsQuietFrom stderr.now (codes "\nError: ") end }
     ensures { IsErrorSlice stderr.now (option_map slice_of result) }
@@ -152,8 +145,8 @@ fn error_str_before(stderr: &[u8], end: usize) -> Option<ByteSubslice<'_>>
     Some(trimmed(stderr, start))
 }
 
-/// The first line start at which an error stands, where no sign of one begins at `end` or behind
-/// it.
+/// Returns the offset of the first line that begins with `Error: `, given that no error marker begins
+/// at or after `end`.
 fn error_start(stderr: &[u8], end: usize) -> Option<usize>
     requires { IsQuietFrom stderr.now (codes "\nError: ") end }
     ensures { IsFirst (IsErrorStart stderr.now) 0 (length stderr.now + 1) result }
@@ -165,10 +158,10 @@ fn error_start(stderr: &[u8], end: usize) -> Option<usize>
     Some(feed + 1)
 }
 
-/// The note line: the first line of `stdout` that holds `note: test did not panic as expected`,
-/// without the `\n` or `\r\n` that ends it. None where no line holds it.
+/// Returns the first line of `stdout` that contains `note: test did not panic as expected`, without
+/// the `\n` or `\r\n` that ends it, or `None` if no line contains it.
 ///
-/// So the test harness says that a test with `should_panic` did not panic.
+/// The test harness writes this line if a test with `should_panic` did not panic.
 pub fn heuristic_should_panic(stdout: &[u8]) -> Option<ByteSubslice<'_>>
     ensures value { IsNoteLine stdout.now (option_map slice_of result) }
     ensures only { (found : Option Slice) → IsNoteLine stdout.now found
@@ -178,7 +171,7 @@ pub fn heuristic_should_panic(stdout: &[u8]) -> Option<ByteSubslice<'_>>
     should_panic_before(stdout, stdout.len())
 }
 
-/// The same, where no note begins at `end` or behind it.
+/// Returns the note line, given that no note begins at or after `end`.
 fn should_panic_before(stdout: &[u8], end: usize) -> Option<ByteSubslice<'_>>
     requires { IsQuietFrom stdout.now (codes "note: test did not panic as expected") end }
     ensures { IsNoteLine stdout.now (option_map slice_of result) }
@@ -192,7 +185,7 @@ fn should_panic_before(stdout: &[u8], end: usize) -> Option<ByteSubslice<'_>>
     })
 }
 
-/// The line without the `\n` or `\r\n` that ends it.
+/// Returns the line without the `\n` or `\r\n` that ends it.
 fn without_end(line: &[u8]) -> &[u8]
     ensures { result.now ≡ without_terminator line.now }
 {
@@ -203,7 +196,7 @@ fn without_end(line: &[u8]) -> &[u8]
     }
 }
 
-/// The start of the line before `start`, if it begins with `Error:`, and else `start`.
+/// Returns the start of the line before `start` if that begins with `Error:`, or else `start`.
 #[tactic(auto, using(crate::proofs::OccursLemmas::reads))]
 fn widened(stderr: &[u8], start: usize) -> usize
     requires { start ≤ length stderr.now }
@@ -221,7 +214,7 @@ fn widened(stderr: &[u8], start: usize) -> usize
     }
 }
 
-/// Where the line ends begin that stand before `start`.
+/// Returns the offset of the first of the line breaks that end at `start`.
 fn breaks_start(stderr: &[u8], start: usize) -> usize
     requires { start ≤ length stderr.now }
     ensures within { result ≤ start }
@@ -235,7 +228,7 @@ fn breaks_start(stderr: &[u8], start: usize) -> usize
     at
 }
 
-/// The bytes from `start` on without the white space at the end.
+/// Returns the bytes from `start`, without the white space at the end.
 fn trimmed(stderr: &[u8], start: usize) -> ByteSubslice<'_>
     requires { start ≤ length stderr.now }
     ensures start { result.start ≡ start }
@@ -248,7 +241,7 @@ fn trimmed(stderr: &[u8], start: usize) -> ByteSubslice<'_>
     }
 }
 
-/// Where the white space of ASCII begins that ends the bytes, at `start` or behind it.
+/// Returns the offset of the ASCII white space that ends the bytes, at least `start`.
 fn spaces_start(bytes: &[u8], start: usize) -> usize
     requires { start ≤ length bytes.now }
     ensures low { start ≤ result }

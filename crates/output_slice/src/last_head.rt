@@ -1,4 +1,4 @@
-//! The search for the last taken head, from the back.
+//! The search for the last panic head, from the end of the output.
 
 ghost use Rattle.std.specs.Prelude.{◌+◌, ◌^◌, ◌≡◌, ◌≤◌, ◌<◌, ◌↔◌, ℕ, List, length, MatchOption, IsSome, IsTrue, Some};
 ghost use Rattle.output_slice.specs.declared.panic_head.HeadSpan.{HeadSpan};
@@ -14,11 +14,12 @@ use crate::panic_head::{HeadSpan, last_panic_head};
 use crate::signs::heads_end;
 use bstr::ByteSlice;
 
-/// The start of a head, behind a line feed.
+/// A line feed and the prefix of a head.
 const OPENING: &[u8] = b"\nthread '";
 
-/// The last line start at which `thread '` stands. The last line is looked at first: where every line
-/// opens, it is the answer, and no search follows.
+/// Returns the offset of the last line that begins with `thread '`.
+///
+/// The last line is tested first: if every line begins with the prefix, no search is needed.
 fn last_opening(bytes: &[u8]) -> Option<usize>
     ensures { IsLastOpening bytes.now result }
 {
@@ -35,7 +36,7 @@ fn last_opening(bytes: &[u8]) -> Option<usize>
     None
 }
 
-/// A place by which every head ends, where the last opening is at `at`.
+/// Returns an offset that no head extends past, given that the last `thread '` prefix is at `at`.
 fn window_end(bytes: &[u8], at: usize) -> usize
     requires { IsLastOpening bytes.now (Some at) }
     ensures low { at < result }
@@ -46,7 +47,7 @@ fn window_end(bytes: &[u8], at: usize) -> usize
     line_end(bytes, next_byte(bytes, b'\'', name).unwrap_or(name))
 }
 
-/// Where a head may begin that crosses the line start `at`. None where `at` is a cut.
+/// Returns the start of a possible head that contains the line start `at`, or `None` if no head can.
 fn crossing(bytes: &[u8], at: usize) -> Option<usize>
     requires within { at ≤ length bytes.now }
     requires line_start { IsLineStart bytes.now at }
@@ -64,7 +65,7 @@ fn crossing(bytes: &[u8], at: usize) -> Option<usize>
     }
 }
 
-/// Whether `thread '` stands at the line start `at`.
+/// Returns true if `at` is a line start and `thread '` begins there.
 #[tactic(auto, using(crate::proofs::OccursLemmas::reads))]
 fn is_opening(bytes: &[u8], at: usize) -> bool
     requires { at ≤ length bytes.now }
@@ -73,7 +74,7 @@ fn is_opening(bytes: &[u8], at: usize) -> bool
     is_line_start(bytes, at) && (&bytes[at..]).starts_with_str(&OPENING[1..])
 }
 
-/// The last line start at or before `at` that no head may cross, by what stands before it.
+/// Returns the last line start at or before `at` that no head can contain.
 fn cut_before(bytes: &[u8], at: usize) -> usize
     requires within { at ≤ length bytes.now }
     requires line_start { IsLineStart bytes.now at }
@@ -88,7 +89,7 @@ fn cut_before(bytes: &[u8], at: usize) -> usize
     cut
 }
 
-/// The last taken head, if one begins at the cut or after it.
+/// Returns the last head that begins at or after `cut`, if there is one.
 fn last_from(bytes: &[u8], cut: usize) -> Option<HeadSpan>
     requires { IsCut bytes.now cut }
     ensures { IsLastFrom bytes.now cut result }
@@ -98,7 +99,7 @@ fn last_from(bytes: &[u8], cut: usize) -> Option<HeadSpan>
     Some(head_behind(cut, head))
 }
 
-/// A head of what stands behind `place`, as a head of the whole.
+/// Converts a head of the bytes after `place` to a head of all bytes.
 fn head_behind(place: usize, head: HeadSpan) -> HeadSpan
     requires { (place + head.start < 2 ^ 64) × (place + head.stop < 2 ^ 64) }
     ensures { result ≡ head_behind place head }
@@ -109,13 +110,12 @@ fn head_behind(place: usize, head: HeadSpan) -> HeadSpan
     }
 }
 
-/// The last taken head of `bytes`, and none where there is no head: what [`last_panic_head`] finds,
-/// looked for from the back, so that a panic near the end of long output costs no search of what
-/// stands before it.
+/// Returns the last panic head in `bytes`, or `None`: the same head as [`last_panic_head`].
 ///
-/// The search goes window by window. A window begins at a line start that no head crosses, and ends
-/// where the window behind it begins. The taken heads of the whole are those of the windows, one
-/// window after the other, so the first window from the back that has a head has the last one.
+/// The search goes from the end to the start, so a panic near the end of long output is found
+/// without reading the bytes before it. It goes window by window: a window begins at a line start
+/// that no head contains, and ends at the start of the window after it. So the first window from
+/// the end that has a head has the last one.
 pub fn last_head(bytes: &[u8]) -> Option<HeadSpan>
     ensures last { IsLastTaken bytes.now result }
     ensures only { (taken : List HeadSpan) → IsTaken bytes.now taken → result ≡ last_of taken }
@@ -124,7 +124,7 @@ pub fn last_head(bytes: &[u8]) -> Option<HeadSpan>
     last_head_before(bytes, heads_end(bytes))
 }
 
-/// The same, where every head ends at `end` or before it.
+/// Returns the last panic head, given that no head extends past `end`.
 fn last_head_before(bytes: &[u8], end: usize) -> Option<HeadSpan>
     requires within { end ≤ length bytes.now }
     requires ends { AllHeadsEndBy bytes.now end }

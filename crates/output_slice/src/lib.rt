@@ -1,10 +1,10 @@
-//! The slice of a test's output that says why the test failed.
+//! Finds the part of a test's output that explains why the test failed.
 //!
-//! [`TestOutputErrorSlice::heuristic_extract`] looks through captured output for the message of the
-//! last panic, else for a line `Error: ..`, else for the note that a test did not panic. Output is
-//! bytes: nothing is asked of their encoding. No call of this crate takes memory.
+//! [`TestOutputErrorSlice::heuristic_extract`] looks for the message of the last panic, or else for a
+//! line that begins with `Error: `, or else for the note that a test did not panic. Output is any
+//! bytes; it need not be UTF-8.
 //!
-//! What the combined output of a test says of its failure:
+//! For output whose two streams were captured as one:
 //!
 //! ```rust
 //! pub fn failure_in(output: &[u8]) -> Option<TestOutputErrorSlice<'_>>

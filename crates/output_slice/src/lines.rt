@@ -7,18 +7,16 @@ ghost use Rattle.output_slice.specs.Steps.{IsLineEnd, NoFeedBetween};
 
 use bstr::ByteSlice;
 
-/// The first place of the byte from `from` on.
+/// Returns the offset of the first `byte` at or after `from`.
 pub(crate) fn next_byte(bytes: &[u8], byte: u8, from: usize) -> Option<usize>
     requires { from ≤ length bytes.now }
     ensures { IsFirst (λ k. slice_index bytes.now k ≡ byte) from (length bytes.now) result }
 {
-    match (&bytes[from..]).find_byte(byte) {
-        Some(gap) => Some(from + gap),
-        None => None,
-    }
+    let gap = (&bytes[from..]).find_byte(byte)?;
+    Some(from + gap)
 }
 
-/// The last place of the byte before `end`.
+/// Returns the offset of the last `byte` before `end`.
 pub(crate) fn last_byte(bytes: &[u8], byte: u8, end: usize) -> Option<usize>
     requires { end ≤ length bytes.now }
     ensures { IsLast (λ k. slice_index bytes.now k ≡ byte) 0 end result }
@@ -26,7 +24,7 @@ pub(crate) fn last_byte(bytes: &[u8], byte: u8, end: usize) -> Option<usize>
     (&bytes[..end]).rfind_byte(byte)
 }
 
-/// Whether `at` is a line start.
+/// Returns true if `at` is the start of a line.
 pub(crate) fn is_line_start(bytes: &[u8], at: usize) -> bool
     requires { at ≤ length bytes.now }
     ensures { IsTrue result ↔ IsLineStart bytes.now at }
@@ -34,7 +32,7 @@ pub(crate) fn is_line_start(bytes: &[u8], at: usize) -> bool
     at == 0 || bytes[at - 1] == b'\n'
 }
 
-/// The start of the line that `at` lies in.
+/// Returns the start of the line that contains `at`.
 pub(crate) fn line_start(bytes: &[u8], at: usize) -> usize
     requires { at ≤ length bytes.now }
     ensures within { result ≤ at }
@@ -47,7 +45,7 @@ pub(crate) fn line_start(bytes: &[u8], at: usize) -> usize
     }
 }
 
-/// The end of the line that `at` lies in, behind its line feed.
+/// Returns the end of the line that contains `at`, after its line feed.
 pub(crate) fn line_end(bytes: &[u8], at: usize) -> usize
     requires { at ≤ length bytes.now }
     ensures low { at ≤ result }

@@ -1,4 +1,4 @@
-//! The search for panic heads, one counted read at a time.
+//! The search for panic heads, which reads each byte through a counter.
 
 ghost use Rattle.std.specs.Prelude.{◌≡◌, ◌≤◌, ◌↔◌, ◌+◌, ◌*◌, ◌<◌, ◌^◌, ℕ, List, length, IsSome};
 ghost use Rattle.output_slice.specs.declared.panic_head.HeadSpan.{HeadSpan};
@@ -13,26 +13,26 @@ use crate::byte_source::ByteSource;
 use crate::panic_head::ends::opened_head_end;
 use crate::panic_head::quotes::{WORD_SIZE, next_quote};
 
-/// Where a head stands: the front of a panic message, as `thread 'main' panicked at `.
+/// The span of a head, which is the front of a panic message, for example `thread 'main' panicked at `.
 #[derive(Clone, Copy, Debug, PartialEq, Eq)]
 pub struct HeadSpan {
-    /// Where `thread '` stands, in bytes from 0.
+    /// The offset of `thread '`.
     pub start: usize,
 
-    /// The place behind the last space of ` panicked at `, in bytes from 0.
+    /// The offset after the last space of ` panicked at `.
     pub stop: usize,
 }
 
-/// The last taken head of the source's bytes, and none where there is no head.
+/// Returns the last panic head in the bytes of `source`, or `None`.
 ///
-/// A head stands at the start of the input or of a line: `thread '`, a name, which is one or more
-/// characters of UTF-8 without a quote (line feeds are allowed), `'`, and then ` panicked at ` or
-/// ` (N) panicked at ` with one or more decimal digits N. So Rust's default panic hook begins a
-/// message, and so nextest-runner recognizes it. The first head is taken, then the first that does
-/// not start before the taken one stops, and so on.
+/// A head begins at the start of a line: `thread '`, a name, `'`, and then ` panicked at ` or
+/// ` (N) panicked at ` with one or more decimal digits N. The name is one or more UTF-8 characters
+/// except quotes; line feeds are allowed. Rust's default panic hook begins a message in this form,
+/// and nextest-runner recognizes it by this form. Heads are matched from left to right and do not
+/// overlap.
 ///
-/// From one quote the search goes on to the next. Of n bytes it makes at most 3n + 8 reads; the
-/// source's count plus 8n + 8 must stay below 2^128.
+/// The search makes at most 3n + 8 reads of n bytes. The count of `source` plus 8n + 8 must be below
+/// 2^128.
 pub fn last_panic_head<S: ByteSource>(source: &mut S) -> Option<HeadSpan>
     requires room { S.count source.old + 8 * length (S.bytes source.old) + 8 < 2 ^ 128 }
     ensures last { IsLastTaken (S.bytes source.old) result }

@@ -1,9 +1,8 @@
-//! The signs of a slice: texts without which there is none, and from where on output has none of
-//! them.
+//! Markers: texts that a slice cannot do without, and the offset after which output has none.
 //!
-//! Most output has no sign at all, and then each is looked for in all of it, block by block from the
-//! back. That of a panic comes first and alone, since a panic decides. The other two are looked for
-//! side by side, while the block is at hand in the processor's cache.
+//! Most output has no marker, and then each marker is searched for in all of it, block by block from
+//! the end. The marker of a panic comes first and alone, since a panic message takes precedence. The
+//! other two are searched for together, while the block is in the processor's cache.
 
 ghost use Rattle.std.specs.Prelude.{codes, ◌≡◌, ◌≤◌, ◌+◌, length, min, IsTrue};
 ghost use Rattle.bstr.specs.Find.{FindsNeedle};
@@ -12,31 +11,31 @@ ghost use Rattle.output_slice.specs.Signs.{AreQuiet, IsQuietFrom};
 
 use bstr::ByteSlice;
 
-/// How many bytes a block has: so few that it is still in the processor's cache for the next
+/// The size of a block in bytes. It is small enough to stay in the processor's cache for the next
 /// search.
 const BLOCK_SIZE: usize = 131_072;
 
 /// The end of a panic's head.
 const PANIC_SIGN: &[u8] = b" panicked at ";
 
-/// The start of an error, behind a line feed.
+/// A line feed and the start of an error.
 pub(crate) const ERROR_SIGN: &[u8] = b"\nError: ";
 
 /// The note that a test did not panic.
 pub(crate) const NOTE: &[u8] = b"note: test did not panic as expected";
 
-/// Where in the note its sign begins, its last words: a text of at most 32 bytes is found faster
-/// than a longer one.
+/// The offset in the note of its last words, which are its marker: a search for at most 32 bytes is
+/// faster than for more.
 const NOTE_SIGN_START: usize = 11;
 
-/// From where on no sign begins, in each stream.
+/// For each stream, an offset at or after which no marker begins.
 #[derive(Clone, Copy)]
 pub(crate) struct QuietEnds {
     pub(crate) stdout: usize,
     pub(crate) stderr: usize,
 }
 
-/// A place by which every head ends.
+/// Returns an offset that no head extends past.
 pub(crate) fn heads_end(bytes: &[u8]) -> usize
     ensures within { result ≤ length bytes.now }
     ensures ends { AllHeadsEndBy bytes.now result }
@@ -44,8 +43,9 @@ pub(crate) fn heads_end(bytes: &[u8]) -> usize
     reach(bytes, PANIC_SIGN, panic_end(bytes))
 }
 
-/// From where on no sign of a panic begins: the search goes from the back, a block at a time, and
-/// ends with the first block that has one.
+/// Returns an offset at or after which no panic marker begins.
+///
+/// The search goes from the end, a block at a time, to the first block that has one.
 fn panic_end(bytes: &[u8]) -> usize
     ensures { IsQuietFrom bytes.now (codes " panicked at ") result }
 {
@@ -60,8 +60,10 @@ fn panic_end(bytes: &[u8]) -> usize
     end
 }
 
-/// From where on no error and no note begins: the search for their signs goes from the back of both
-/// streams, a block of each at a time, and ends with the first block that has a sign.
+/// Returns the offsets at or after which no error and no note begins.
+///
+/// The search goes from the end of both streams, a block of each at a time, to the first block that
+/// has a marker.
 pub(crate) fn quiet_ends(stdout: &[u8], stderr: &[u8]) -> QuietEnds
     ensures { AreQuiet stdout.now stderr.now result.stdout result.stderr }
 {
@@ -82,7 +84,7 @@ pub(crate) fn quiet_ends(stdout: &[u8], stderr: &[u8]) -> QuietEnds
     ends
 }
 
-/// Whether no sign begins at `starts` or behind it, where it is known of `ends`.
+/// Returns true if no marker begins at or after `starts`, given that none does at or after `ends`.
 fn are_quiet_between(stdout: &[u8], stderr: &[u8], starts: QuietEnds, ends: QuietEnds) -> bool
     requires quiet { AreQuiet stdout.now stderr.now ends.stdout ends.stderr }
     requires stdout { starts.stdout ≤ ends.stdout }
@@ -93,7 +95,7 @@ fn are_quiet_between(stdout: &[u8], stderr: &[u8], starts: QuietEnds, ends: Quie
         && is_quiet_between(stdout, &NOTE[NOTE_SIGN_START..], starts.stdout, ends.stdout)
 }
 
-/// Whether the sign does not begin at `start` or behind it, where it is known of `end`.
+/// Returns true if `sign` does not begin at or after `start`, given that it does not at or after `end`.
 fn is_quiet_between(bytes: &[u8], sign: &[u8], start: usize, end: usize) -> bool
     requires quiet { IsQuietFrom bytes.now sign.now end }
     requires order { start ≤ end }
@@ -104,14 +106,14 @@ fn is_quiet_between(bytes: &[u8], sign: &[u8], start: usize, end: usize) -> bool
     !block.contains_str(sign)
 }
 
-/// The place by which the sign ends wherever it begins before `end`.
+/// Returns the offset that `sign` does not extend past if it begins before `end`.
 fn reach(bytes: &[u8], sign: &[u8], end: usize) -> usize
     ensures { result ≡ min (end + length sign.now) (length bytes.now) }
 {
     end.saturating_add(sign.len()).min(bytes.len())
 }
 
-/// The first place of the sign, of which it is known that it does not begin at `end` or behind it.
+/// Returns the first offset of `sign`, given that it does not begin at or after `end`.
 pub(crate) fn first_sign(bytes: &[u8], sign: &[u8], end: usize) -> Option<usize>
     requires { IsQuietFrom bytes.now sign.now end }
     ensures { FindsNeedle bytes.now sign.now 0 result }

@@ -9,13 +9,13 @@ use bstr::ByteSlice;
 use std::fmt;
 use std::num::NonZero;
 
-/// A part of some bytes, its parent.
+/// A part of some bytes, and where it begins in them.
 #[derive(Clone, Copy)]
 pub struct ByteSubslice<'a> {
     /// The bytes of the part.
     pub slice: &'a [u8],
 
-    /// Where the part begins in its parent, in bytes from 0.
+    /// The offset of the part in the bytes that it was taken from.
     pub start: usize,
 }
 
@@ -32,22 +32,22 @@ impl<'a> ByteSubslice<'a> {
     }
 }
 
-/// The part of a test's output that says why the test failed.
+/// The part of a test's output that explains its failure.
 #[derive(Clone, Copy)]
 pub enum TestOutputErrorSlice<'a> {
-    /// The message of the last panic, with the line before it where that begins with `Error:`.
+    /// The message of the last panic, with the line before it if that begins with `Error:`.
     PanicMessage {
         /// A part of standard error.
         stderr_subslice: ByteSubslice<'a>,
     },
 
-    /// What a test that returns a `Result` prints of its error, from `Error: ` on.
+    /// The error that a test which returns a `Result` printed, from `Error: ` on.
     ErrorStr {
         /// A part of standard error.
         stderr_subslice: ByteSubslice<'a>,
     },
 
-    /// The line that says that a test which was to panic did not.
+    /// The line that says that a test with `should_panic` did not panic.
     ShouldPanic {
         /// A part of standard output.
         stdout_subslice: ByteSubslice<'a>,
@@ -55,7 +55,7 @@ pub enum TestOutputErrorSlice<'a> {
 }
 
 impl<'a> TestOutputErrorSlice<'a> {
-    /// The part, if it is one of standard error: that of a panic message or of an error.
+    /// Returns the part if it is from standard error: a panic message or an error.
     pub fn stderr_subslice(&self) -> Option<ByteSubslice<'a>>
         ensures { result ≡ stderr_part self.now }
     {
@@ -67,7 +67,7 @@ impl<'a> TestOutputErrorSlice<'a> {
         }
     }
 
-    /// The part, if it is one of standard output: that of a test which did not panic.
+    /// Returns the part if it is from standard output: the note that a test did not panic.
     pub fn stdout_subslice(&self) -> Option<ByteSubslice<'a>>
         ensures { result ≡ stdout_part self.now }
     {
@@ -77,7 +77,8 @@ impl<'a> TestOutputErrorSlice<'a> {
         }
     }
 
-    /// The part, of whichever stream: for output whose two streams were captured as one.
+    /// Returns the part, whichever stream it is from. Use it for output whose two streams were
+    /// captured as one.
     pub fn combined_subslice(&self) -> Option<ByteSubslice<'a>>
         ensures { result ≡ Some (part_of self.now) }
     {
@@ -113,12 +114,11 @@ impl<'a> TestOutputErrorSlice<'a> {
     }
 }
 
-/// Writes the part as text: its exact bytes where they are UTF-8, and U+FFFD for each malformed
-/// piece of it.
+/// Writes the part as text, with U+FFFD in place of each piece that is not UTF-8.
 impl<'a> fmt::Display for TestOutputErrorSlice<'a> {
     ghost output = { λ s. Some (shown_text s) };
 
     fn fmt<W: fmt::Write>(&self, f: &mut fmt::Formatter<W>) -> fmt::Result {
-        self.part().slice.as_bstr().fmt(f)
+        fmt::Display::fmt(&self.part().slice.as_bstr(), f)
     }
 }

@@ -1,4 +1,4 @@
-//! What bytes are read from and written to.
+//! Sources that bytes are read from, and sinks that they are written to.
 
 ghost use Rattle.std.specs.Prelude.{◌≡◌, ◌<◌, ◌≤◌, ℕ, Bool, true, false, List, Option, IfOk, OnOk, OnErr, length, take};
 ghost use Rattle.std.specs.Io.KnownBytes.{Appends, Consumes, IsAtEnd, Keeps};
@@ -15,16 +15,15 @@ pub trait Source {
     // Whether a read has failed.
     ghost failed: { Self → Bool };
 
-    /// Whether a read has failed.
+    /// Returns true if a read has failed.
     fn has_failed(&self) -> bool
         ensures { result ≡ failed self.now };
 
-    /// Takes the first bytes left, as many as it chooses, into the front of the buffer, and
-    /// answers how many bytes that are: never more than the buffer holds, and 0 only where none is
-    /// left.
+    /// Reads some bytes into the front of `buffer`, and returns how many. The result is 0 only at the
+    /// end.
     ///
-    /// The buffer must not be empty. After [`DeviceFailed`] the source has failed, and what it has
-    /// left is not known.
+    /// `buffer` must not be empty. After [`DeviceFailed`] the source has failed, and it is not known
+    /// which bytes are left.
     fn read(&mut self, buffer: &mut [u8]) -> Result<usize, DeviceFailed>
         requires { 0 < length buffer.old }
         ensures count { IfOk result (λ n. n ≤ length buffer.new) }
@@ -46,15 +45,14 @@ pub trait Sink {
     // Whether all that was written is on its way: the last write or flush was a flush that succeeded.
     ghost flushed: { Self → Bool };
 
-    /// Whether a write or a flush has failed.
+    /// Returns true if a write or a flush has failed.
     fn has_failed(&self) -> bool
         ensures { result ≡ failed self.now };
 
-    /// Appends the first bytes of the buffer, as many as it chooses but at least one, and answers
-    /// how many bytes that are.
+    /// Writes the first bytes of `buffer`, at least one, and returns how many.
     ///
-    /// The buffer must not be empty. After [`DeviceFailed`] the sink has failed, and the bytes
-    /// written are as they were.
+    /// `buffer` must not be empty. After [`DeviceFailed`] the sink has failed, and no byte was
+    /// written.
     fn write(&mut self, buffer: &[u8]) -> Result<usize, DeviceFailed>
         requires { 0 < length buffer.now }
         ensures some { IfOk result (λ n. 0 < n) }
@@ -66,9 +64,9 @@ pub trait Sink {
         ensures ok { OnOk result (failed self.new ≡ failed self.old) }
         ensures err { OnErr result (failed self.new ≡ true) };
 
-    /// Sends on what was written and held back. The bytes written are as they were.
+    /// Passes on all bytes that were written and are still in a buffer of the sink.
     ///
-    /// After [`DeviceFailed`] the sink has failed, and counts as not flushed.
+    /// After [`DeviceFailed`] the sink has failed, and is not flushed.
     fn flush(&mut self) -> Result<(), DeviceFailed>
         ensures kept { Keeps (written self.old) (written self.new) }
         ensures sent { OnOk result (flushed self.new ≡ true) }

@@ -1,4 +1,4 @@
-//! Why the program gives no answer.
+//! The faults that a program ends with.
 
 ghost use Rattle.std.specs.Prelude.{◌≡◌};
 ghost use Rattle.run_digest_devices.specs.Fault.{status_of};
@@ -6,41 +6,44 @@ ghost use Rattle.run_digest_devices.specs.Fault.{status_of};
 use std::alloc::{AllocError, AllocFailed};
 use std::fmt;
 
-/// Why the program gives no answer. Its Display is the line that the program writes to standard
-/// error.
+/// Why a program ends without a result. It is displayed as the line that the program writes to
+/// standard error, without a line feed.
 ///
-/// The faults of words and of lines stand here beside those of devices: each layer answers this
-/// one type, whose status and line hold for every fault.
+/// All layers of the programs return this type, so it has the faults of devices, of input lines and
+/// of arguments.
 #[derive(Clone, Copy, Debug, PartialEq, Eq)]
 pub enum Fault {
-    /// A line of the input does not say what its place allows.
+    /// A line of the input is not one of those that are allowed there.
     BadLine {
-        /// The number of the first such line, from 1.
+        /// The number of the first such line, counted from 1.
         number: usize,
     },
 
-    /// The words after the program's name ask for nothing that it does.
+    /// The command-line arguments do not name a command.
     BadWord,
 
-    /// The source failed.
+    /// A read failed.
     Read,
 
-    /// The sink failed.
+    /// A write or a flush failed.
     Write,
 
-    /// Memory was refused.
+    /// A number does not fit its counter.
+    CounterFull,
+
+    /// There was not enough memory.
     OutOfMemory,
 }
 
 impl Fault {
-    /// The exit status of the program: 2 where what it was given is at fault, 3 where the machine
-    /// is.
+    /// Returns the exit status of the program: 2 for a bad line or bad arguments, and 3 for any other
+    /// fault.
     pub fn status(&self) -> u8
         ensures { result ≡ status_of self.now }
     {
         match self {
             Fault::BadLine { .. } | Fault::BadWord => 2,
-            Fault::Read | Fault::Write | Fault::OutOfMemory => 3,
+            Fault::Read | Fault::Write | Fault::CounterFull | Fault::OutOfMemory => 3,
         }
     }
 }
@@ -51,7 +54,6 @@ impl From<AllocError> for Fault {
 
     ghost from_gives = { λ _ e. e ≡ OutOfMemory };
 
-    /// Answers [`Fault::OutOfMemory`].
     fn from(_: AllocError) -> Fault {
         Fault::OutOfMemory
     }
@@ -63,7 +65,6 @@ impl<T: Drop> From<AllocFailed<T>> for Fault {
 
     ghost from_gives = { λ _ e. e ≡ OutOfMemory };
 
-    /// Answers [`Fault::OutOfMemory`]. The value that the refusal hands back is dropped.
     fn from(_: AllocFailed<T>) -> Fault {
         Fault::OutOfMemory
     }
@@ -75,13 +76,13 @@ impl fmt::Display for Fault {
 
     ghost output = { λ f. Some (fault_text f) };
 
-    /// The line of the fault, without a line feed.
     fn fmt<W: fmt::Write>(&self, f: &mut fmt::Formatter<W>) -> fmt::Result {
         match self {
             Fault::BadLine { number } => write!(f, "line {number}: bad line"),
             Fault::BadWord => f.write_str("usage: run-digest extract|count"),
             Fault::Read => f.write_str("read failed"),
             Fault::Write => f.write_str("write failed"),
+            Fault::CounterFull => f.write_str("a number does not fit its counter"),
             Fault::OutOfMemory => f.write_str("out of memory"),
         }
     }

@@ -1,7 +1,6 @@
-//! What `run-digest` reads from and writes to, how all of it is read and written, and the faults
-//! that the program ends with.
+//! The sources and sinks of the programs, and the faults that the programs end with.
 //!
-//! All that a source has left goes to a sink:
+//! A function that copies all bytes of a source to a sink:
 //!
 //! ```rust
 //! pub fn copy<R: Source, W: Sink>(alloc: Global, source: &mut R, sink: &mut W) -> Result<(), Fault>

@@ -1,11 +1,11 @@
-//! Devices over memory, which fail where they are told to: to see what stands after a failure.
+//! A source and a sink over byte slices, which fail at a chosen call. They are for tests.
 
 ghost use Rattle.std.specs.Prelude.{◌≡◌, ◌≤◌, length};
 ghost use Rattle.run_digest_devices.specs.MemoryCalls.{after_call};
 
 use crate::device::{DeviceFailed, Sink, Source};
 
-/// How many calls come before the one that fails, after one more call.
+/// Returns the number of calls before the one that fails, after one more call.
 fn one_fewer(calls: Option<usize>) -> Option<usize>
     ensures { result ≡ after_call calls }
 {
@@ -15,7 +15,7 @@ fn one_fewer(calls: Option<usize>) -> Option<usize>
     }
 }
 
-/// Bytes of memory as a source.
+/// A byte slice as a source.
 #[derive(Clone, Copy)]
 pub struct MemorySource<'a> {
     bytes: &'a [u8],
@@ -27,8 +27,8 @@ impl<'a> MemorySource<'a> {
     ghost use Rattle.std.specs.Prelude.{◌≡◌, false};
     ghost use Rattle.run_digest_devices.specs.MemoryDevice.{left_of, reads_left, source_failed};
 
-    /// The bytes as a source that has not failed. The read of number `fail_at`, counted from 0,
-    /// will fail; with `None` no read will.
+    /// Returns a source of these bytes. The read number `fail_at`, counted from 0, will fail. With
+    /// `None` no read will.
     pub fn new(bytes: &'a [u8], fail_at: Option<usize>) -> Self
         ensures left { left_of result ≡ bytes.now }
         ensures reads { reads_left result ≡ fail_at }
@@ -56,9 +56,7 @@ impl Source for MemorySource<'_> {
         self.failed
     }
 
-    /// As [`Source::read`], with as many bytes as are left and fit the buffer; what the buffer holds
-    /// behind them is not said. It fails exactly where no read was to come before the one that
-    /// fails, and then no byte is taken.
+    /// Reads as many bytes as are left and fit `buffer`. After a failure the same bytes are left.
     fn read(&mut self, buffer: &mut [u8]) -> Result<usize, DeviceFailed>
         requires { 0 < length buffer.old }
         ensures count { IfOk result (λ n. n ≤ length buffer.new) }
@@ -86,7 +84,7 @@ impl Source for MemorySource<'_> {
     }
 }
 
-/// A stretch of memory as a sink.
+/// A byte slice as a sink.
 #[derive(Drop)]
 pub struct MemorySink<'a> {
     buffer: &'a mut [u8],
@@ -102,8 +100,8 @@ impl<'a> MemorySink<'a> {
     ghost use Rattle.run_digest_devices.specs.MemoryCalls.{after_call};
     ghost use Rattle.run_digest_devices.specs.MemoryDevice.{calls_left, room_of, sink_failed, sink_flushed, written_of};
 
-    /// The memory as a sink that has not failed, with nothing written. The write or flush of number
-    /// `fail_at`, counted from 0, will fail; with `None` none will for that reason.
+    /// Returns a sink that writes into `buffer`. The write or flush number `fail_at`, counted from 0,
+    /// will fail. With `None` a write fails only if `buffer` is full.
     pub fn new(buffer: &'a mut [u8], fail_at: Option<usize>) -> Self
         ensures written { written_of result ≡ [] }
         ensures room { room_of result ≡ length buffer.old }
@@ -120,14 +118,14 @@ impl<'a> MemorySink<'a> {
         }
     }
 
-    /// The bytes written.
+    /// Returns the bytes that were written.
     pub fn written(&self) -> &[u8]
         ensures { result.now ≡ written_of self.now }
     {
         &self.buffer[..self.len]
     }
 
-    /// Counts one more call, and answers whether it fails.
+    /// Counts a call, and returns true if it fails.
     fn call_fails(&mut self) -> bool
         ensures fails { IsTrue result ↔ (calls_left self.old ≡ Some 0) }
         ensures calls { calls_left self.new ≡ after_call (calls_left self.old) }
@@ -160,10 +158,7 @@ impl Sink for MemorySink<'_> {
         self.failed
     }
 
-    /// As [`Sink::write`], with as many bytes as there is room for: of a buffer that does not fit
-    /// whole the first bytes fill the room that is left, and no other byte is taken. It fails
-    /// exactly where no call was to come before the one that fails, or where there is no room, and
-    /// then no byte is taken.
+    /// Writes as many bytes of `buffer` as there is room for. It also fails if there is no room.
     fn write(&mut self, buffer: &[u8]) -> Result<usize, DeviceFailed>
         requires { 0 < length buffer.now }
         ensures some { IfOk result (λ n. 0 < n) }

@@ -1,10 +1,10 @@
-//! Readers and writers of std as devices.
+//! Readers and writers of `std` as sources and sinks.
 
 use crate::device::{DeviceFailed, Sink, Source};
 use std::io::{Read, Write};
 
-/// Any reader of std as a source. An error of the reader is a failure, also that of an interrupted
-/// call: the call is not made again.
+/// A reader of `std` as a source. Every error of the reader is a failure; an interrupted read is not
+/// tried again.
 #[derive(Drop)]
 pub struct StdSource<R> {
     reader: R,
@@ -15,7 +15,7 @@ impl<R: Read> StdSource<R> {
     ghost use Rattle.std.specs.Prelude.{◌≡◌, false};
     ghost use Rattle.run_digest_devices.specs.StdDevice.{reader_of, source_failed};
 
-    /// The reader as a source that has not failed. Nothing is read.
+    /// Returns a source over this reader. Nothing is read.
     pub fn new(reader: R) -> StdSource<R>
         ensures reader { reader_of result ≡ reader }
         ensures works { source_failed result ≡ false }
@@ -40,8 +40,7 @@ impl<R: Read> Source for StdSource<R> {
         self.failed
     }
 
-    /// As [`Source::read`], by one read of the reader. After a failure the bytes left are as they
-    /// were, where the reader tells them.
+    /// Reads by one read of the reader.
     fn read(&mut self, buffer: &mut [u8]) -> Result<usize, DeviceFailed>
         requires { 0 < length buffer.old }
         ensures count { IfOk result (λ n. n ≤ length buffer.new) }
@@ -63,8 +62,8 @@ impl<R: Read> Source for StdSource<R> {
     }
 }
 
-/// Any writer of std as a sink. An error of the writer is a failure, also that of an interrupted
-/// call, and so is a write that takes no byte: the call is not made again.
+/// A writer of `std` as a sink. Every error of the writer is a failure, and so is a write of no byte;
+/// an interrupted write is not tried again.
 #[derive(Drop)]
 pub struct StdSink<W> {
     writer: W,
@@ -76,7 +75,7 @@ impl<W: Write> StdSink<W> {
     ghost use Rattle.std.specs.Prelude.{◌≡◌, false};
     ghost use Rattle.run_digest_devices.specs.StdDevice.{sink_failed, sink_flushed, writer_of};
 
-    /// The writer as a sink that has not failed. Nothing is written.
+    /// Returns a sink over this writer. Nothing is written.
     pub fn new(writer: W) -> StdSink<W>
         ensures writer { writer_of result ≡ writer }
         ensures held { sink_flushed result ≡ false }
@@ -103,7 +102,7 @@ impl<W: Write> Sink for StdSink<W> {
         self.failed
     }
 
-    /// As [`Sink::write`], by one write of the writer. It also fails where that takes no byte.
+    /// Writes by one write of the writer.
     fn write(&mut self, buffer: &[u8]) -> Result<usize, DeviceFailed> {
         self.flushed = false;
         match self.writer.write(buffer) {
@@ -115,7 +114,7 @@ impl<W: Write> Sink for StdSink<W> {
         }
     }
 
-    /// As [`Sink::flush`], by one flush of the writer.
+    /// Flushes the writer.
     fn flush(&mut self) -> Result<(), DeviceFailed> {
         match self.writer.flush() {
             Ok(()) => {

@@ -1,4 +1,4 @@
-//! All of a source's bytes in, all of a text out.
+//! Reading all bytes of a source, and writing all of a text.
 
 ghost use Rattle.std.specs.Prelude.{◌≡◌, ◌↔◌, ◌⊎◌, true, false, IfOk, IfErr, IfSome, OnOk, OnErr, IsErr, IsErrOf};
 ghost use Rattle.std.specs.Io.KnownBytes.{Appends, IsAtEnd};
@@ -9,12 +9,10 @@ use crate::device::{Sink, Source};
 use crate::fault::Fault;
 use std::alloc::Global;
 
-/// All the bytes that a source has left. It must not have failed before.
+/// Returns all bytes that are left in a source, which must not have failed before.
 ///
-/// - [`Fault::Read`] exactly where the source fails.
-/// - [`Fault::OutOfMemory`] where memory is refused.
-///
-/// What the source has left after a fault is not said.
+/// - [`Fault::Read`] if and only if the source fails.
+/// - [`Fault::OutOfMemory`] if there is not enough memory.
 pub fn read_all<R: Source>(alloc: Global, source: &mut R) -> Result<Vec<u8>, Fault>
     requires { R.failed source.old ≡ false }
     ensures bytes { IfOk result (λ bytes. IfSome (R.left source.old) (λ all. bytes.items ≡ all)) }
@@ -36,10 +34,10 @@ pub fn read_all<R: Source>(alloc: Global, source: &mut R) -> Result<Vec<u8>, Fau
     }
 }
 
-/// Writes all of the text, then flushes the sink. It must not have failed before.
+/// Writes all of `text` and flushes the sink, which must not have failed before.
 ///
-/// [`Fault::Write`] comes exactly where the sink fails, and then a beginning of the text is
-/// written, and the sink counts as not flushed.
+/// The error is [`Fault::Write`] if and only if the sink fails. Then some first bytes of `text` were
+/// written, and the sink is not flushed.
 pub fn write_all<W: Sink>(sink: &mut W, text: &[u8]) -> Result<(), Fault>
     requires { W.failed sink.old ≡ false }
     ensures bytes { OnOk result (Appends (W.written sink.old) (W.written sink.new) text.now) }

@@ -174,6 +174,7 @@ counted_all items (Err fault) lines all same gives = tt
 pub refusal_given : (lines : List (List ℕ)) (fault : Fault) → Refuses fault (runs_of lines) → IsRefusal lines fault
 refusal_given lines (faults.BadLine number) e = let P : Result (List Run) ℕ → Type 0 = GivenRuns lines in subst P e (given lines)
 refusal_given lines faults.OutOfMemory e = tt
+refusal_given lines faults.CounterFull e = absurd e
 refusal_given lines faults.BadWord e = absurd e
 refusal_given lines faults.Read e = absurd e
 refusal_given lines faults.Write e = absurd e

@@ -36,6 +36,7 @@ broken_off (Err e) fault (Some input) old new read bytes text told failed write 
 refusal_answers : (fault : Fault) (old new : Option (List ℕ)) (lines : List (List ℕ)) → IsRefusal lines fault → Answers (Err fault) old new lines
 refusal_answers (faults.BadLine number) old new lines why = why
 refusal_answers faults.OutOfMemory old new lines why = tt
+refusal_answers faults.CounterFull old new lines why = absurd why
 refusal_answers faults.BadWord old new lines why = absurd why
 refusal_answers faults.Read old new lines why = absurd why
 refusal_answers faults.Write old new lines why = absurd why

@@ -32,6 +32,7 @@ Answers (Err faults.Write) old new lines =
 Answers (Err (faults.BadLine number)) old new lines = IsFirstBadLine lines number
 Answers (Err faults.Read) old new lines = Unit {0}
 Answers (Err faults.OutOfMemory) old new lines = Unit {0}
+Answers (Err faults.CounterFull) old new lines = ⊥
 Answers (Err faults.BadWord) old new lines = ⊥
 
 -- nothing was written, but with Ok or after a failed write
@@ -41,6 +42,7 @@ KeepsSink (Err faults.Write) old new = Unit {0}
 KeepsSink (Err (faults.BadLine number)) old new = Keeps old new
 KeepsSink (Err faults.Read) old new = Keeps old new
 KeepsSink (Err faults.OutOfMemory) old new = Keeps old new
+KeepsSink (Err faults.CounterFull) old new = ⊥
 KeepsSink (Err faults.BadWord) old new = ⊥
 
 -- nothing is left unread, but after a failed read or want of memory
@@ -50,4 +52,5 @@ ReadsToEnd (Err faults.Write) left = IsAtEnd left
 ReadsToEnd (Err (faults.BadLine number)) left = IsAtEnd left
 ReadsToEnd (Err faults.Read) left = Unit {0}
 ReadsToEnd (Err faults.OutOfMemory) left = Unit {0}
+ReadsToEnd (Err faults.CounterFull) left = ⊥
 ReadsToEnd (Err faults.BadWord) left = ⊥

@@ -21,6 +21,7 @@ pub record IsDigest (lines : List (List ℕ)) (text : List ℕ) (success : Bool)
 abbrev pub IsRefusal : List (List ℕ) → Fault → Type 0
 IsRefusal lines (faults.BadLine number) = IsFirstBadLine lines number
 IsRefusal lines faults.OutOfMemory = Unit {0}
+IsRefusal lines faults.CounterFull = ⊥
 IsRefusal lines faults.BadWord = ⊥
 IsRefusal lines faults.Read = ⊥
 IsRefusal lines faults.Write = ⊥

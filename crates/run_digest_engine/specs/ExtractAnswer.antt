@@ -37,6 +37,7 @@ AnswersExtract (Err faults.Write) old new input =
     (found : Option Extract) × IsExtracted input found × AppendsStart old new (extract_text found)
 AnswersExtract (Err faults.Read) old new input = Unit {0}
 AnswersExtract (Err faults.OutOfMemory) old new input = Unit {0}
+AnswersExtract (Err faults.CounterFull) old new input = ⊥
 AnswersExtract (Err faults.BadWord) old new input = ⊥
 AnswersExtract (Err (faults.BadLine number)) old new input = ⊥
 

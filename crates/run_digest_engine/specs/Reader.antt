@@ -175,6 +175,7 @@ runs_of (line ∷ lines) = start_line (start_of_words (codes "run") (words_of li
 abbrev pub Refuses : Fault → Result (List Run) ℕ → Type 0
 Refuses (faults.BadLine number) read = read ≡ Err number
 Refuses faults.OutOfMemory read = Unit {0}
+Refuses faults.CounterFull read = ⊥
 Refuses faults.BadWord read = ⊥
 Refuses faults.Read read = ⊥
 Refuses faults.Write read = ⊥

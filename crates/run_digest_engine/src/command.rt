@@ -1,14 +1,14 @@
-//! What the program is asked to do.
+//! The commands of `run-digest`.
 
 ghost use Rattle.std.specs.Prelude.{◌≡◌, map, string_bytes};
 ghost use Rattle.run_digest_engine.specs.Command.{command_of};
 
 use run_digest_devices::fault::Fault;
 
-/// What the program is asked to do.
+/// A command of `run-digest`.
 #[derive(Clone, Copy, Debug, PartialEq, Eq)]
 pub enum Command {
-    /// Find the part of a test's output that says why it failed.
+    /// Find the part of a test's output that explains its failure.
     Extract,
 
     /// Count the units of a run.
@@ -16,10 +16,10 @@ pub enum Command {
 }
 
 impl Command {
-    /// The command that is asked for by the words after the program's name. The word `extract`
-    /// asks for [`Command::Extract`]; `count`, or no word at all, for [`Command::Count`].
+    /// Returns the command that the command-line arguments name: [`Command::Extract`] for `extract`,
+    /// and [`Command::Count`] for `count` or no argument.
     ///
-    /// Any other word, and more than one, is [`Fault::BadWord`].
+    /// The error is [`Fault::BadWord`] for any other argument, and for more than one.
     pub fn from_words(words: &[String]) -> Result<Command, Fault>
         ensures { result ≡ command_of (map string_bytes words.now) }
     {

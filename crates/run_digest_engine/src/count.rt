@@ -1,4 +1,4 @@
-//! Counting runs: from the lines that tell of their units to the reports of their counters.
+//! Counting runs, from the lines of their units to the reports of their counters.
 
 ghost use Rattle.std.specs.Prelude.{◌≡◌, ◌↔◌, true, false, map, IfErr, IfOk, IfSome, OnOk, IsErrOf, string_bytes};
 ghost use Rattle.run_events.specs.Summary.{summary_of};
@@ -16,7 +16,7 @@ use run_events::outcome::{FinalRunStats, RunOutcome};
 use run_events::stats::RunStats;
 use std::alloc::{AllocError, Global};
 
-/// The summaries of runs, by their statistics.
+/// Returns the summaries of runs, given their statistics.
 fn summaries_of(alloc: Global, runs: &[RunStats]) -> Result<Vec<FinalRunStats>, AllocError>
     ensures { IfOk result (λ v. v.items ≡ map summary_of runs.now) }
 {
@@ -27,7 +27,7 @@ fn summaries_of(alloc: Global, runs: &[RunStats]) -> Result<Vec<FinalRunStats>, 
     Ok(summaries)
 }
 
-/// The text for an input, and whether the outcome of its runs is `Success`; or why there is none.
+/// Returns the text for an input, and whether the outcome of its runs is `Success`.
 fn digest(alloc: Global, bytes: &[u8]) -> Result<(String, bool), Fault>
     ensures digest { IfOk result (λ d. IsDigest (texts_of bytes.now) (string_bytes d.0) d.1) }
     ensures refusal { IfErr result (λ fault. IsRefusal (texts_of bytes.now) fault) }
@@ -39,29 +39,31 @@ fn digest(alloc: Global, bytes: &[u8]) -> Result<(String, bool), Fault>
     Ok((text, outcome == RunOutcome::Success))
 }
 
-/// Reads all of the source, which says a run, or the sub-runs of a repeated run, line by line, and
-/// writes for each of them in order a report: three lines with the numbers of its tests, those of
-/// its setup scripts, and its summary. Where there are more than one, a line with their outcome
-/// follows. Answers whether the outcome is `Success`; of a single run it is so exactly where the
-/// summary is.
+/// Reads the finished units of a run, or of the sub-runs of a repeated run, from `source`, and writes
+/// a report of each run to `sink`. Returns true if the outcome of all runs is `Success`.
 ///
-/// Line 1 is `run TESTS SCRIPTS REASON`: how many tests and scripts were to run, each at most
-/// 1,000,000, and why the run was cancelled, `-` for no reason. After it a line
-/// `sub-run TESTS SCRIPTS REASON` begins another sub-run. Each other line is a finished unit of the
-/// run that was begun last: `script R`, or `test R,R,..` with the results of 1 to 100 attempts, then
-/// perhaps ` slow` for a slow last attempt, then perhaps ` flaky-fail` for the setting that fails
-/// flaky tests. A line ends with `\n` or `\r\n`, which the last may lack; there are at most
-/// 10,000.
+/// A report is three lines: the numbers of the tests, those of the setup scripts, and the summary. If
+/// there is more than one run, a line with their outcome follows.
 ///
-/// Neither device may have failed before. Everything is read first, then the whole text is made,
-/// then it is written, then the sink is flushed.
+/// The input is at most 10,000 lines, which end with `\n` or `\r\n`. The last line end may be
+/// missing.
 ///
-/// - [`Fault::Read`] exactly where the source fails, [`Fault::Write`] exactly where the sink does.
-/// - [`Fault::BadLine`] with the number of the first bad line: one that says nothing which its place
-///   allows, line 10,001, or line 1 where there is none.
-/// - [`Fault::OutOfMemory`] where memory is refused.
+/// - Line 1 is `run TESTS SCRIPTS REASON`: how many tests and scripts were to run, each at most
+///   1,000,000, and why the run was cancelled, or `-`.
+/// - A line `sub-run TESTS SCRIPTS REASON` begins another sub-run.
+/// - A line `script R` is a finished setup script with its result.
+/// - A line `test R,R,..` is a finished test with the results of its 1 to 100 attempts. Then there can
+///   be ` slow` for a slow last attempt, and then ` flaky-fail` for the setting that fails flaky tests.
 ///
-/// Nothing is written where it fails, save by [`Fault::Write`], when a beginning of the text is.
+/// Neither device may have failed before. All input is read first, then the whole text is written,
+/// then the sink is flushed. After a fault nothing was written, except that after [`Fault::Write`]
+/// some first bytes of the text may have been written.
+///
+/// - [`Fault::Read`] if and only if the source fails, and [`Fault::Write`] if and only if the sink
+///   fails.
+/// - [`Fault::BadLine`] with the number of the first bad line: a line that is not allowed there, line
+///   10,001, or line 1 if there is none.
+/// - [`Fault::OutOfMemory`] if there is not enough memory.
 pub fn count<R: Source, W: Sink>(alloc: Global, source: &mut R, sink: &mut W) -> Result<bool, Fault>
     requires source_works { R.failed source.old ≡ false }
     requires sink_works { W.failed sink.old ≡ false }

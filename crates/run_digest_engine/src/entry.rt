@@ -1,4 +1,4 @@
-//! What a line after line 1 says.
+//! The lines after line 1.
 
 ghost use Rattle.std.specs.Prelude.{◌≡◌, option_map};
 ghost use Rattle.run_digest_engine.specs.EntryView.{entry_view};
@@ -10,20 +10,20 @@ use crate::words::parse_start;
 use run_events::results::ExecutionResult;
 use run_events::stats::RunStart;
 
-/// What a line after line 1 says.
+/// A line after line 1.
 #[derive(Clone, Copy)]
 pub(crate) enum Entry {
-    /// A setup script of the run that was begun last has finished with this result.
+    /// A finished setup script of the current run, with its result.
     Script(ExecutionResult),
 
-    /// A test of that run has finished.
+    /// A finished test of the current run.
     Test(FinishedTest),
 
     /// Another sub-run begins.
     SubRun(RunStart),
 }
 
-/// What a line after line 1 says, if anything. A line that is no text says nothing.
+/// Parses a line after line 1.
 pub(crate) fn parse_entry(line: &[u8]) -> Option<Entry>
     ensures { option_map entry_view result ≡ entry_of_words (words_of line.now) }
 {
@@ -33,7 +33,7 @@ pub(crate) fn parse_entry(line: &[u8]) -> Option<Entry>
     }
 }
 
-/// What the words of a line after line 1 say, if anything.
+/// Parses the words of a line after line 1.
 #[tactic(auto, unfolding(crate::specs::Reader::entry_of_words))]
 fn parse_words(mut words: Parts<'_>) -> Option<Entry>
     ensures { option_map entry_view result ≡ entry_of_words words.entry }

@@ -1,4 +1,4 @@
-//! Extracting: from a test's output to the part of it that says why the test failed.
+//! Finding the part of a test's output that explains its failure.
 
 ghost use Rattle.std.specs.Prelude.{◌≡◌, ◌↔◌, ◌⊎◌, true, false, IfErr, IfOk, IfSome, OnOk, IsErrOf, Option, option_map, string_bytes};
 ghost use Rattle.run_events.specs.Extraction.{Extract};
@@ -14,10 +14,10 @@ use run_events::output_slice::subslice::TestOutputErrorSlice;
 use std::alloc::{AllocError, Global};
 use std::num::NonZero;
 
-/// How many bytes of a slice are written at most.
+/// The greatest number of bytes of a part that are written.
 const MAX_SLICE: usize = 4_096;
 
-/// The first line for a slice.
+/// Returns the line before a part of output.
 #[tactic(auto, unfolding(crate::specs::ExtractAnswer::heading))]
 fn heading_of(alloc: Global, kind: &str, start: usize, len: usize) -> Result<String, AllocError>
     ensures { IfOk result (λ s. string_bytes s ≡ heading kind.now start len) }
@@ -25,7 +25,8 @@ fn heading_of(alloc: Global, kind: &str, start: usize, len: usize) -> Result<Str
     format!(in alloc; "{kind} {start} {len}\n")
 }
 
-/// The part of combined output that says why a test failed, at most [`MAX_SLICE`] bytes of it.
+/// Finds the part of combined output that explains the failure of a test, at most [`MAX_SLICE`] bytes
+/// of it.
 fn extracted(output: &[u8]) -> Option<TestOutputErrorSlice<'_>>
     ensures value { IsExtracted output.now (option_map extract_of result) }
     ensures only { (found : Option Extract) → IsExtracted output.now found
@@ -35,7 +36,7 @@ fn extracted(output: &[u8]) -> Option<TestOutputErrorSlice<'_>>
     TestOutputErrorSlice::heuristic_extract_capped(Some(output), Some(output), limit)
 }
 
-/// The text for what was extracted.
+/// Returns the text for a part of output.
 fn text_of(alloc: Global, found: Option<TestOutputErrorSlice<'_>>) -> Result<Vec<u8>, AllocError>
     ensures { IfOk result (λ text. text.items ≡ extract_text (option_map extract_of found.entry)) }
 {
@@ -57,19 +58,20 @@ fn text_of(alloc: Global, found: Option<TestOutputErrorSlice<'_>>) -> Result<Vec
     Ok(text)
 }
 
-/// Reads all of the source, takes it as a test's combined output, and writes the part of it that
-/// says why the test failed, at most 4,096 bytes of it. Answers whether there is one.
+/// Reads a test's combined output from `source`, and writes the part of it that explains its failure
+/// to `sink`, at most 4,096 bytes of it. Returns true if there is such a part.
 ///
-/// It writes `panic-message START LEN`, `error-str START LEN` or `should-panic START LEN`, START and
-/// LEN in bytes and START from 0, a line feed, the slice and a line feed; or `none` and a line feed.
+/// The first line is `panic-message START LEN`, `error-str START LEN` or `should-panic START LEN`,
+/// with the offset of the part and its length in bytes. Then come the part and a line feed. If there
+/// is no such part, the text is the line `none`.
 ///
-/// Neither device may have failed before. Everything is read first, then the whole text is made,
-/// then it is written, then the sink is flushed.
+/// Neither device may have failed before. All input is read first, then the whole text is written,
+/// then the sink is flushed. After a fault nothing was written, except that after [`Fault::Write`]
+/// some first bytes of the text may have been written.
 ///
-/// - [`Fault::Read`] exactly where the source fails, [`Fault::Write`] exactly where the sink does.
-/// - [`Fault::OutOfMemory`] where memory is refused.
-///
-/// Nothing is written where it fails, save by [`Fault::Write`], when a beginning of the text is.
+/// - [`Fault::Read`] if and only if the source fails, and [`Fault::Write`] if and only if the sink
+///   fails.
+/// - [`Fault::OutOfMemory`] if there is not enough memory.
 pub fn extract<R: Source, W: Sink>(
     alloc: Global,
     source: &mut R,

@@ -1,8 +1,8 @@
-//! What the program `run-digest` does, over any source and any sink of bytes. The devices and the
-//! faults stand in `run_digest_devices`.
+//! The commands of `run-digest`, over any source and any sink of bytes. The devices and the faults are
+//! in `run_digest_devices`.
 //!
-//! The runs that a source says are counted, with their reports to a sink. The answer is the number
-//! of the first bad line, if a line is bad; a failed write is no fault here:
+//! A call that counts the runs of a source and writes their reports to a sink. It returns the number
+//! of the first bad line, if there is one, and ignores a failed write:
 //!
 //! ```rust
 //! match count(alloc, source, sink) {

@@ -1,4 +1,4 @@
-//! What the lines of the input say of runs.
+//! Counting the runs of an input.
 
 ghost use Rattle.std.specs.Prelude.{◌≡◌, IfErr, IfOk, codes};
 ghost use Rattle.run_events.specs.Counters.{TestCountersFit, with_test};
@@ -19,10 +19,10 @@ use run_events::stats::{RunStart, RunStats};
 use run_events::view::TestView;
 use std::alloc::{AllocError, Global};
 
-/// How many lines the input has at most.
+/// The greatest number of lines of an input.
 const MAX_LINES: usize = 10_000;
 
-/// The start of the first run, as line 1 says it. A line that is no text says nothing.
+/// Parses line 1.
 #[tactic(auto, unfolding(crate::specs::Reader::start_of_words))]
 fn parse_first(line: &[u8]) -> Option<RunStart>
     ensures { result ≡ start_of_words (codes "run") (words_of line.now) }
@@ -51,8 +51,8 @@ fn count_test(stats: &mut RunStats, test: FinishedTest)
     });
 }
 
-/// Counts what a line says, and answers the statistics of the run that goes on. Where another
-/// sub-run begins, those of the run before are pushed to the runs that are over.
+/// Counts a line, and returns the statistics of the current run. If another sub-run begins, those of
+/// the run before it are pushed to `runs`.
 fn count_entry(
     runs: &mut Vec<RunStats>,
     mut stats: RunStats,
@@ -75,8 +75,7 @@ fn count_entry(
     Ok(stats)
 }
 
-/// The statistics of the runs that the lines say, of which this start begins the first. Line 1 is
-/// not among them, and there are at most [`MAX_LINES`] with it.
+/// Returns the statistics of the runs, given the start of the first run and the lines after line 1.
 fn stats_after(alloc: Global, start: RunStart, mut lines: Lines<'_>) -> Result<Vec<RunStats>, Fault>
     ensures stats { IfOk result (λ v. GivesStats (runs_from 2 (begun start) lines.entry) v.items) }
     ensures refusal { IfErr result
@@ -99,8 +98,8 @@ fn stats_after(alloc: Global, start: RunStart, mut lines: Lines<'_>) -> Result<V
     Ok(runs)
 }
 
-/// The statistics of the runs that the input says, at least one; or why there are none: the first
-/// bad line, or memory was refused.
+/// Returns the statistics of the runs of an input, which are at least one. The error is the first bad
+/// line.
 pub(crate) fn stats_in(alloc: Global, bytes: &[u8]) -> Result<Vec<RunStats>, Fault>
     ensures stats { IfOk result (λ v. AreCounted (texts_of bytes.now) v.items) }
     ensures refusal { IfErr result (λ fault. IsRefusal (texts_of bytes.now) fault) }

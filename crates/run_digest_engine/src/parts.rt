@@ -1,4 +1,4 @@
-//! Text that an ASCII character divides into parts.
+//! The parts of a text between occurrences of an ASCII character.
 
 ghost use Rattle.std.specs.Prelude.{◌≡◌, ◌==◌, ◌<◌, ◌∷◌, List, ℕ};
 ghost use Rattle.std.specs.List.{slice_split};
@@ -7,7 +7,7 @@ ghost use Rattle.run_digest_engine.specs.Parts.{parts_left};
 
 use std::marker::Model;
 
-/// The first part of a text, and what is left behind the character that divides it, if it does.
+/// Returns the first part of a text, and the text after `divider` if it occurs.
 fn first_part(text: &str, divider: char) -> (&str, Option<&str>)
     requires { divider < 128 }
     ensures { slice_split (λ b. b == divider) text.now
@@ -19,7 +19,7 @@ fn first_part(text: &str, divider: char) -> (&str, Option<&str>)
     }
 }
 
-/// The parts that are left of a text, which a character divides, first to last.
+/// An iterator over the parts of a text.
 #[derive(Drop)]
 pub(crate) struct Parts<'a> {
     rest: Option<&'a str>,
@@ -34,7 +34,7 @@ impl<'a> Model for Parts<'a> {
 }
 
 impl<'a> Parts<'a> {
-    /// The parts of a text. The character that divides it must be ASCII.
+    /// Returns an iterator over the parts of a text. `divider` must be an ASCII character.
     pub(crate) fn new(text: &'a str, divider: char) -> Parts<'a>
         requires { divider < 128 }
         ensures { result ≡ slice_split (λ b. b == divider) text.now }

@@ -1,4 +1,4 @@
-//! The text that tells of runs.
+//! The text of reports of runs.
 
 ghost use Rattle.std.specs.Prelude.{◌≡◌, ◌++◌, All, IfOk, OnOk, map, string_bytes};
 ghost use Rattle.std.specs.List.{concat};
@@ -13,7 +13,7 @@ use run_events::stats::RunStats;
 use std::alloc::{AllocError, Global};
 use std::fmt::{self, Write};
 
-/// The word of a reason, as line 1 spells it.
+/// Returns the word for a reason, as in line 1.
 fn reason_text(reason: Option<CancelReason>) -> &'static str
     ensures { result.now ≡ reason_word reason }
 {
@@ -31,7 +31,7 @@ fn reason_text(reason: Option<CancelReason>) -> &'static str
     }
 }
 
-/// The step at which a run ended, in words.
+/// The step of a run, displayed in words.
 #[derive(Clone, Copy)]
 struct StepText(RunStatsFailureKind);
 
@@ -53,7 +53,7 @@ impl fmt::Display for StepText {
     }
 }
 
-/// A summary, in words.
+/// A summary, displayed in words.
 #[derive(Clone, Copy)]
 struct SummaryText(FinalRunStats);
 
@@ -81,7 +81,7 @@ impl fmt::Display for SummaryText {
     }
 }
 
-/// An outcome in words.
+/// Returns the words for an outcome.
 #[tactic(auto, unfolding(crate::specs::Report::outcome_words))]
 fn outcome_text(outcome: RunOutcome) -> &'static str
     ensures { result.now ≡ outcome_words outcome }
@@ -104,7 +104,7 @@ fn outcome_text(outcome: RunOutcome) -> &'static str
     }
 }
 
-/// Appends the three lines for statistics. Both sums of failures must fit `usize`.
+/// Appends the three lines of a report. Both sums of failures must fit `usize`.
 #[tactic(auto, unfolding(crate::specs::Report::report_of, crate::specs::Report::tests_line, crate::specs::Report::scripts_line))]
 fn push_report(text: &mut String, stats: &RunStats) -> Result<(), AllocError>
     requires { FailuresFit stats.now }
@@ -123,7 +123,7 @@ fn push_report(text: &mut String, stats: &RunStats) -> Result<(), AllocError>
     writeln!(text, "summary {summary}")
 }
 
-/// The reports of runs, in order.
+/// Returns the reports of runs.
 fn report_texts(alloc: Global, runs: &[RunStats]) -> Result<String, AllocError>
     requires { All FailuresFit runs.now }
     ensures { IfOk result (λ s. string_bytes s ≡ concat (map report_of runs.now)) }
@@ -135,8 +135,8 @@ fn report_texts(alloc: Global, runs: &[RunStats]) -> Result<String, AllocError>
     Ok(text)
 }
 
-/// The text for runs with these statistics and their outcome: their reports, and the line of the
-/// outcome unless there is one run alone. Both sums of failures of each must fit `usize`.
+/// Returns the reports of runs, and the line of their outcome unless there is exactly one run. Both
+/// sums of failures of each run must fit `usize`.
 pub(crate) fn reports(
     alloc: Global,
     runs: &[RunStats],

@@ -1,4 +1,4 @@
-//! Finished units, as the lines of the input say them.
+//! The lines of finished units.
 
 ghost use Rattle.std.specs.Prelude.{◌≡◌, None, option_map};
 ghost use Rattle.run_events.specs.Described.{described_result};
@@ -10,26 +10,26 @@ use crate::words::{parse_flags, parse_result};
 use run_events::config::FlakyResult;
 use run_events::results::ExecutionResult;
 
-/// How many results a test has at most.
+/// The greatest number of results of a test.
 const MAX_RESULTS: usize = 100;
 
-/// A finished test: what of it decides its counters.
+/// The parts of a finished test that decide its counters.
 #[derive(Clone, Copy)]
 pub(crate) struct FinishedTest {
     /// The result of the last attempt.
     pub(crate) result: ExecutionResult,
 
-    /// How many attempts there were.
+    /// The number of attempts.
     pub(crate) attempts: usize,
 
-    /// Whether the last attempt was slow.
+    /// True if the last attempt was slow.
     pub(crate) is_slow: bool,
 
-    /// How the test counts where it is flaky.
+    /// How the test counts if it is flaky.
     pub(crate) flaky_result: FlakyResult,
 }
 
-/// The result of the script that the words after `script` say.
+/// Parses the words after `script`.
 #[tactic(auto, unfolding(crate::specs::Reader::script_of_words))]
 pub(crate) fn parse_script(mut words: Parts<'_>) -> Option<ExecutionResult>
     ensures { option_map (λ r. described_result r None) result ≡ script_of_words words.entry }
@@ -40,8 +40,8 @@ pub(crate) fn parse_script(mut words: Parts<'_>) -> Option<ExecutionResult>
     parse_result(word)
 }
 
-/// The last of a test's results, with one comma between two, and how many there are: at most
-/// [`MAX_RESULTS`].
+/// Parses the results of a test, which are separated by commas and at most [`MAX_RESULTS`]. Returns the
+/// last one and their number.
 fn parse_results(list: &str) -> Option<(ExecutionResult, usize)>
     ensures { option_map described_last result
         ≡ option_map last_and_count (results_of list.now) }
@@ -59,7 +59,7 @@ fn parse_results(list: &str) -> Option<(ExecutionResult, usize)>
     Some((last, count))
 }
 
-/// The test that the words after `test` say: the results of its attempts, and its flags.
+/// Parses the words after `test`: the results of the attempts, and the flags.
 #[tactic(auto, unfolding(crate::specs::Reader::test_of_words))]
 pub(crate) fn parse_test(mut words: Parts<'_>) -> Option<FinishedTest>
     ensures { option_map test_view result ≡ test_of_words words.entry }

@@ -1,4 +1,4 @@
-//! What the words of the input say.
+//! The words of an input.
 
 ghost use Rattle.std.specs.Prelude.{◌≡◌, ◌≤◌, true, None, length, option_map};
 ghost use Rattle.std.specs.Char.{is_ascii_digit};
@@ -11,13 +11,13 @@ use run_events::config::{FlakyResult, LeakTimeoutResult, SlowTimeoutResult};
 use run_events::results::{CancelReason, ExecutionResult, FailureStatus};
 use run_events::stats::RunStart;
 
-/// How many digits a number has at most.
+/// The greatest number of digits of a number.
 const MAX_DIGITS: usize = 7;
 
 /// The greatest number.
 const MAX_NUMBER: usize = 1_000_000;
 
-/// The result that a word names.
+/// Parses the word for a result.
 #[tactic(auto, unfolding(crate::specs::Reader::result_of))]
 pub(crate) fn parse_result(word: &str) -> Option<ExecutionResult>
     ensures { option_map (λ r. described_result r None) result ≡ result_of word.now }
@@ -45,7 +45,7 @@ pub(crate) fn parse_result(word: &str) -> Option<ExecutionResult>
     }
 }
 
-/// The reason that a word names, or that there is none.
+/// Parses the word for a reason. The result is `Some(None)` for `-`.
 #[tactic(auto, unfolding(crate::specs::Reader::reason_of))]
 fn parse_reason(word: &str) -> Option<Option<CancelReason>>
     ensures { result ≡ reason_of word.now }
@@ -65,13 +65,14 @@ fn parse_reason(word: &str) -> Option<Option<CancelReason>>
     }
 }
 
+/// Returns true if all bytes are decimal digits.
 fn are_digits(word: &[u8]) -> bool
     ensures { result ≡ list_all is_ascii_digit word.now }
 {
     word.iter().all(|b| b.is_ascii_digit())
 }
 
-/// The number that at most [`MAX_DIGITS`] digits spell.
+/// Returns the value of at most [`MAX_DIGITS`] digits.
 fn value_of(digits: &[u8]) -> usize
     requires digits { list_all is_ascii_digit digits.now ≡ true }
     requires few { length digits.now ≤ MAX_DIGITS }
@@ -84,7 +85,7 @@ fn value_of(digits: &[u8]) -> usize
     value
 }
 
-/// The number that a word spells: one to [`MAX_DIGITS`] digits, and at most [`MAX_NUMBER`].
+/// Parses a number: one to [`MAX_DIGITS`] digits, and at most [`MAX_NUMBER`].
 #[tactic(auto, unfolding(crate::specs::Reader::number_of))]
 fn parse_number(word: &[u8]) -> Option<usize>
     ensures { result ≡ number_of word.now }
@@ -99,7 +100,7 @@ fn parse_number(word: &[u8]) -> Option<usize>
     Some(value)
 }
 
-/// The start of a run that the words after its keyword say: two numbers and a reason.
+/// Parses the words after `run` or `sub-run`: two numbers and a reason.
 #[tactic(auto, unfolding(crate::specs::Reader::start_fields))]
 pub(crate) fn parse_start(mut words: Parts<'_>) -> Option<RunStart>
     ensures { result ≡ start_fields words.entry }
@@ -115,7 +116,7 @@ pub(crate) fn parse_start(mut words: Parts<'_>) -> Option<RunStart>
     }
 }
 
-/// What the words after a test's results say: whether the last attempt was slow, and the setting.
+/// Parses the words after the results of a test: whether the last attempt was slow, and the setting.
 #[tactic(auto, unfolding(crate::specs::Reader::flags_of))]
 pub(crate) fn parse_flags(mut words: Parts<'_>) -> Option<(bool, FlakyResult)>
     ensures { result ≡ flags_of words.entry }

@@ -37,6 +37,7 @@ fn faults_have_texts_and_statuses(rt: HostRuntime) -> Result<(), Fail> {
         (Fault::BadWord, 2, "usage: run-digest extract|count"),
         (Fault::Read, 3, "read failed"),
         (Fault::Write, 3, "write failed"),
+        (Fault::CounterFull, 3, "a number does not fit its counter"),
         (Fault::OutOfMemory, 3, "out of memory"),
     ] {
         let said = format!(in rt.alloc(); "{fault}")?;

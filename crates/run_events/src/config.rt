@@ -1,4 +1,4 @@
-//! Settings that decide how results count and what is shown, and values that are only carried.
+//! The settings that decide how results count and what a reporter shows, and other values in events.
 
 mod carried;
 

@@ -1,13 +1,13 @@
-//! What happens in a run, as reporters are told of it.
+//! The events of a run, for reporters.
 //!
-//! The dispatcher of a runner makes an event where something happened, and hands it to the
-//! reporters one after the other: the displayer, which shows the run on a terminal; the JUnit
-//! writer, which keeps what finished and writes its report at the end; the recorder, which stores
-//! the run so that it can be shown again. Counters in an event are a copy of the dispatcher's, as
-//! they stood when it made the event.
+//! The dispatcher of a runner makes an event when something happens, and passes it to the reporters
+//! one after the other: the displayer, which shows the run on a terminal; the JUnit writer, which
+//! keeps the finished units and writes its report at the end; and the recorder, which stores the run
+//! so that it can be shown again. The counters in an event are a copy of the dispatcher's counters at
+//! that time.
 //!
-//! That the fields of an event agree with each other and with the events before it is the
-//! dispatcher's part: nothing here looks at them.
+//! The dispatcher must make sure that the fields of an event agree with each other and with earlier
+//! events. Nothing here checks it.
 
 use crate::config::Moment;
 use std::time::Duration;
@@ -26,24 +26,24 @@ pub use crate::events::slots::TestSlotAssignment;
 pub use crate::events::terminate::{UnitTerminateMethod, UnitTerminateReason, UnitTerminateSignal};
 pub use crate::events::unit_state::{UnitState, UnitTerminatingState};
 
-/// What a reporter is told.
+/// An event for a reporter.
 #[derive(Drop)]
 pub enum ReporterEvent<'a> {
-    /// Time went on: told at intervals, so that a displayer can move its progress bar. It says
-    /// nothing of the run.
+    /// Some time passed. This event comes at intervals, so that a displayer can move its progress
+    /// bar.
     Tick,
 
     /// Something happened in the run.
     Test(Box<TestEvent<'a>>),
 }
 
-/// Something that happened in a run, and when.
+/// An event of a run, with its time.
 #[derive(Drop)]
 pub struct TestEvent<'a> {
-    /// When the event was made.
+    /// The time of the event.
     pub timestamp: Moment,
 
-    /// How long the run had lasted by then.
+    /// The time since the start of the run.
     pub elapsed: Duration,
 
     /// What happened.

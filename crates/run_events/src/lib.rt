@@ -1,10 +1,11 @@
-//! What a test runner tells its reporters: events, and in them results, what child processes left,
-//! the errors of units, attempts, levels, counters, summaries and outcomes of a run.
+//! The events that a test runner sends to its reporters, and the types in them: results, output and
+//! errors of child processes, attempts, levels, counters, summaries and outcomes.
 //!
-//! The layers below stand in crates of their own, `run_events_..`. What they hold is reached here
-//! too, so that a user names this crate alone.
+//! The layers below are in crates of their own, `run_events_..`. This crate re-exports them, so a
+//! user needs only this crate.
 //!
-//! The part of a test's output that says why it failed, if it is loaded:
+//! A function that returns the part of a test's output that explains its failure, if the output is
+//! loaded:
 //!
 //! ```rust
 //! fn message_of(

@@ -1,4 +1,4 @@
-//! What went wrong with a unit, a test or a setup script, from what its process left.
+//! The errors of a test or a setup script.
 
 ghost use Rattle.std.specs.Prelude.{◌≡◌, ◌++◌, ◌↔◌, [], IfOk, IfSome, IsOk, IsTrue, OnOk, Option, map, option_map, option_to_list};
 ghost use Rattle.std.specs.Option.{option_copied};
@@ -20,9 +20,9 @@ mod errors;
 
 pub use crate::unit_error::errors::{UnitAbortDescription, UnitError};
 
-/// What went wrong with a unit: an error in starting it, errors in reading from it and waiting for
-/// it, an abort that ended it, and of a failed test the part of its output that says why. All of it
-/// is borrowed from what its process left.
+/// The errors of a unit: the error in starting it, the errors in reading from it and waiting for it,
+/// its abort, and the part of a failed test's output that explains its failure. All of them are
+/// borrowed from the output of its process.
 #[derive(Clone, Copy)]
 pub struct UnitErrorDescription<'a> {
     kind: UnitKind,
@@ -33,26 +33,26 @@ pub struct UnitErrorDescription<'a> {
 }
 
 impl<'a> UnitErrorDescription<'a> {
-    /// Whether the errors of this unit can be described: of a test that has ended without success
-    /// the output is searched, and so must be loaded.
+    /// Returns true if the errors of this unit can be described. The output of a failed test is
+    /// searched, so it must be loaded.
     pub fn can_describe(kind: UnitKind, output: &ChildExecutionOutputDescription<LiveSpec>) -> bool
         ensures { IsTrue result ↔ CanDescribe kind output.now }
     {
         match output {
             ChildExecutionOutputDescription::StartError(_) => true,
-            ChildExecutionOutputDescription::Output {
-                result: end,
-                output,
-                ..
-            } => { !failed_test(kind, end) || output.is_loaded() }
+            ChildExecutionOutputDescription::Output { result, output, .. } => {
+                !failed_test(kind, result) || output.is_loaded()
+            }
         }
     }
 
-    /// What went wrong with a unit of this kind that left this.
+    /// Describes the errors of a unit of this kind with this output.
     ///
-    /// An error in starting it stands alone. An abort is told of any unit, a slice of output only of
-    /// a test that has ended without success. Output of both streams in one is searched as each of
-    /// the two. The output of such a test must be loaded, as [`Self::can_describe`] tells.
+    /// An error in starting the unit is the only error. Otherwise there can be an abort, and for a
+    /// failed test a part of its output. If both streams were captured as one, they are searched as
+    /// both.
+    ///
+    /// The output of a failed test must be loaded; [`Self::can_describe`] tests it.
     pub fn new(
         kind: UnitKind,
         output: &'a ChildExecutionOutputDescription<LiveSpec>,
@@ -79,15 +79,15 @@ impl<'a> UnitErrorDescription<'a> {
                 output_slice: None,
             },
             ChildExecutionOutputDescription::Output {
-                result: end,
+                result,
                 output,
                 errors,
             } => UnitErrorDescription {
                 kind,
                 start_error: None,
                 output_errors: errors.as_ref(),
-                abort: end.as_ref().and_then(abort_of),
-                output_slice: if failed_test(kind, end) {
+                abort: result.as_ref().and_then(abort_of),
+                output_slice: if failed_test(kind, result) {
                     extracted(output)
                 } else {
                     None
@@ -96,22 +96,22 @@ impl<'a> UnitErrorDescription<'a> {
         }
     }
 
-    /// The part of a failed test's output that says why it failed.
+    /// Returns the part of a failed test's output that explains its failure.
     pub fn output_slice(&self) -> Option<TestOutputErrorSlice<'a>>
         ensures { option_map extract_of result ≡ described_slice self.now }
     {
         self.output_slice
     }
 
-    /// All errors: that of the start, those of the output, the abort, the slice. They stand under
-    /// the description of what the unit's kind tries. `None` exactly where there is no error, and
-    /// then no memory is taken. The only error is that memory is refused.
+    /// Returns all errors, or `None` if there are none: the error of the start, those of the output,
+    /// the abort and the part of the output. Their description is that of the kind of unit.
     pub fn all_error_list(
         &self,
         alloc: Global,
     ) -> Result<Option<ErrorList<UnitError<'a>>>, AllocError>
         ensures list { IfOk result (IsListOf (executing_text (kind_of self.now))
             (all_errors self.now)) }
+        // Without errors no memory is taken.
         ensures empty { all_errors self.now ≡ [] → IsOk result }
     {
         let mut errors = Vec::new(alloc);
@@ -120,15 +120,15 @@ impl<'a> UnitErrorDescription<'a> {
         Ok(ErrorList::new(self.kind.executing_message(), errors))
     }
 
-    /// The errors that keep a unit from being run: that of the start, those of the output. They
-    /// stand under the description of what the unit's kind tries. `None` exactly where there are
-    /// none, and then no memory is taken. The only error is that memory is refused.
+    /// Returns the errors in running the unit, or `None` if there are none: the error of the start,
+    /// and those of the output. Their description is that of the kind of unit.
     pub fn exec_fail_error_list(
         &self,
         alloc: Global,
     ) -> Result<Option<ErrorList<UnitError<'a>>>, AllocError>
         ensures list { IfOk result (IsListOf (executing_text (kind_of self.now))
             (exec_fail_errors self.now)) }
+        // Without errors no memory is taken.
         ensures empty { exec_fail_errors self.now ≡ [] → IsOk result }
     {
         let mut exec_fail = Vec::new(alloc);
@@ -136,15 +136,15 @@ impl<'a> UnitErrorDescription<'a> {
         Ok(ErrorList::new(self.kind.executing_message(), exec_fail))
     }
 
-    /// The errors of the process itself: the abort, the slice. They stand under the description of
-    /// what the unit's kind tries. `None` exactly where there are none, and then no memory is taken.
-    /// The only error is that memory is refused.
+    /// Returns the errors of the process itself, or `None` if there are none: the abort and the part
+    /// of the output. Their description is that of the kind of unit.
     pub fn child_process_error_list(
         &self,
         alloc: Global,
     ) -> Result<Option<ErrorList<UnitError<'a>>>, AllocError>
         ensures list { IfOk result (IsListOf (executing_text (kind_of self.now))
             (child_process_errors self.now)) }
+        // Without errors no memory is taken.
         ensures empty { child_process_errors self.now ≡ [] → IsOk result }
     {
         let mut child_process = Vec::new(alloc);
@@ -152,6 +152,7 @@ impl<'a> UnitErrorDescription<'a> {
         Ok(ErrorList::new(self.kind.executing_message(), child_process))
     }
 
+    /// Appends the errors in running the unit.
     fn push_exec_fail(&self, errors: &mut Vec<UnitError<'a>>) -> Result<(), AllocError>
         ensures ok { OnOk result (map error_seen errors.new.items
             ≡ map error_seen errors.old.items ++ exec_fail_errors self.now) }
@@ -166,6 +167,7 @@ impl<'a> UnitErrorDescription<'a> {
         Ok(())
     }
 
+    /// Appends the errors of the process itself.
     fn push_child_process(&self, errors: &mut Vec<UnitError<'a>>) -> Result<(), AllocError>
         ensures ok { OnOk result (map error_seen errors.new.items
             ≡ map error_seen errors.old.items ++ child_process_errors self.now) }
@@ -181,6 +183,7 @@ impl<'a> UnitErrorDescription<'a> {
     }
 }
 
+/// Appends the errors in reading from a process and waiting for it.
 fn push_output_errors<'a>(
     list: &'a ErrorList<ChildErrorDescription>,
     errors: &mut Vec<UnitError<'a>>,
@@ -195,22 +198,22 @@ fn push_output_errors<'a>(
     Ok(())
 }
 
-/// Whether the unit is a test that has ended without success.
-fn failed_test(kind: UnitKind, end: &Option<ExecutionResultDescription>) -> bool
-    ensures { result ≡ is_failed_test kind end.now }
+/// Returns true if the unit is a failed test.
+fn failed_test(kind: UnitKind, status: &Option<ExecutionResultDescription>) -> bool
+    ensures { result ≡ is_failed_test kind status.now }
 {
-    match (kind, end) {
-        (UnitKind::Test, Some(end)) => !end.is_success(),
+    match (kind, status) {
+        (UnitKind::Test, Some(status)) => !status.is_success(),
         _ => false,
     }
 }
 
-/// The abort of a failure.
-fn abort_of(end: &ExecutionResultDescription) -> Option<UnitAbortDescription<'_>>
+/// Returns the abort of a failure, if there is one.
+fn abort_of(status: &ExecutionResultDescription) -> Option<UnitAbortDescription<'_>>
     ensures { option_to_list (option_map (λ a. abort_error a.description.now a.leaked) result)
-        ≡ aborts_in end.now }
+        ≡ aborts_in status.now }
 {
-    match end {
+    match status {
         ExecutionResultDescription::Fail {
             failure: FailureDescription::Abort { abort },
             leaked,
@@ -222,7 +225,7 @@ fn abort_of(end: &ExecutionResultDescription) -> Option<UnitAbortDescription<'_>
     }
 }
 
-/// The part of loaded output that says why a test failed.
+/// Returns the part of loaded output that explains the failure of a test.
 fn extracted(output: &ChildOutputDescription) -> Option<TestOutputErrorSlice<'_>>
     requires { IsLoaded output.now }
     ensures value { IsExtractOf output.now (option_map extract_of result) }
@@ -235,16 +238,16 @@ fn extracted(output: &ChildOutputDescription) -> Option<TestOutputErrorSlice<'_>
             TestOutputErrorSlice::heuristic_extract(captured(stdout), captured(stderr))
         }
         ChildOutputDescription::Combined { output } => {
-            let both = output.buf().as_slice();
+            let both = &output.buf()[..];
             TestOutputErrorSlice::heuristic_extract(Some(both), Some(both))
         }
         ChildOutputDescription::NotLoaded => unreachable!(),
     }
 }
 
-/// The bytes of a stream, if it was captured.
+/// Returns the bytes of a stream, if it was captured.
 fn captured(output: &Option<ChildSingleOutput>) -> Option<&[u8]>
     ensures { option_copied result ≡ output.now }
 {
-    output.as_ref().map(|output| output.buf().as_slice())
+    output.as_ref().map(|output| &output.buf()[..])
 }

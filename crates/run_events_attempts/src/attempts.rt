@@ -1,4 +1,4 @@
-//! The attempts to run a test or a setup script, and what is known of each.
+//! The attempts to run a test or a setup script.
 
 ghost use Rattle.std.specs.Prelude.{◌↔◌, ◌≤◌, IsTrue};
 
@@ -14,18 +14,19 @@ mod statuses;
 pub use crate::attempts::description::ExecutionDescription;
 pub use crate::attempts::statuses::{EmptyStatuses, ExecutionStatuses, ExecutionStatusesIter};
 
-/// Which attempt this is, of how many. Ordered by the attempt, then by the total.
+/// The number of an attempt, and how many there are at most. Ordered by the number, then by the
+/// total.
 #[derive(Clone, Copy, Debug, PartialEq, Eq, PartialOrd, Ord)]
 pub struct RetryData {
-    /// The number of the attempt, from 1.
+    /// The number of the attempt, counted from 1.
     pub attempt: u32,
 
-    /// How many attempts there are at most.
+    /// The greatest number of attempts.
     pub total_attempts: u32,
 }
 
 impl RetryData {
-    /// Whether no attempt follows this one: its number has reached the most there are.
+    /// Returns true if no attempt can follow this one, because its number is at least the total.
     pub fn is_last_attempt(&self) -> bool
         ensures { IsTrue result ↔ (self.now.total_attempts ≤ self.now.attempt) }
     {
@@ -33,88 +34,88 @@ impl RetryData {
     }
 }
 
-/// The errors of an attempt in words.
+/// The errors of an attempt as texts.
 #[derive(Debug, PartialEq, Eq, Drop)]
 pub struct ErrorSummary {
-    /// One line.
+    /// A summary in one line.
     pub short_message: String,
 
-    /// The whole.
+    /// The full description of the errors.
     pub description: String,
 }
 
-/// The slice of an attempt's output that says why it failed.
+/// The part of an attempt's output that explains its failure.
 #[derive(Debug, PartialEq, Eq, Drop)]
 pub struct OutputErrorSlice {
-    /// The slice as text, malformed bytes replaced.
+    /// The part as text, with U+FFFD in place of each piece that is not UTF-8.
     pub slice: String,
 
-    /// Where it begins in the output, in bytes from 0.
+    /// The offset of the part in the output, in bytes.
     pub start: usize,
 }
 
-/// The environment that a setup script leaves to the tests after it.
+/// The environment variables that a setup script sets for the tests after it.
 #[derive(Debug, PartialEq, Eq, Drop)]
 pub struct SetupScriptEnvMap {
-    /// Names and values.
+    /// The names of the variables and their values.
     pub env_map: BTreeMap<String, String>,
 }
 
 /// One finished attempt to run a test.
 #[derive(Drop)]
 pub struct ExecuteStatus<S: OutputSpec> {
-    /// Which attempt it was.
+    /// The number of the attempt.
     pub retry_data: RetryData,
 
-    /// What its process left.
+    /// The output and the errors of its process.
     pub output: ChildExecutionOutputDescription<S>,
 
     // Right before the result: a count reads both of each test's last attempt, and fields lie in
     // memory today in the order in which they are written.
-    /// Whether it took longer than the slow timeout.
+    /// True if it took longer than the slow timeout.
     pub is_slow: bool,
 
-    /// How it ended. Of the results of a test's attempts, counters and levels go by that of the last
-    /// alone; beside it by how many there were, whether the last was slow, and the setting.
+    /// The result of the attempt. The counters and levels of a test depend on the result of its last
+    /// attempt, and not on the results of earlier ones.
     pub result: ExecutionResultDescription,
 
-    /// When it began.
+    /// The time when it began.
     pub start_time: Moment,
 
     /// How long it took.
     pub time_taken: Duration,
 
-    /// How long the runner waited before it, as retries with a backoff do.
+    /// How long the runner waited before the attempt, for example because of a backoff.
     pub delay_before_start: Duration,
 
-    /// Its errors in words, where it had any.
+    /// The errors as texts, if there were any.
     pub error_summary: Option<ErrorSummary>,
 
-    /// The slice of its output that says why it failed, where one was found.
+    /// The part of its output that explains its failure, if one was found.
     pub output_error_slice: Option<OutputErrorSlice>,
 }
 
-/// A finished setup script. Scripts are run once.
+/// A finished setup script. A script is run only once.
 #[derive(Drop)]
 pub struct SetupScriptExecuteStatus<S: OutputSpec> {
-    /// What its process left.
+    /// The output and the errors of its process.
     pub output: ChildExecutionOutputDescription<S>,
 
-    /// How it ended. Counters go by this field alone.
+    /// The result of the script. The counters depend only on this field.
     pub result: ExecutionResultDescription,
 
-    /// When it began.
+    /// The time when it began.
     pub start_time: Moment,
 
     /// How long it took.
     pub time_taken: Duration,
 
-    /// Whether it took longer than the slow timeout.
+    /// True if it took longer than the slow timeout.
     pub is_slow: bool,
 
-    /// The environment that it left, where it succeeded.
+    /// The environment variables that it set, if it succeeded.
     pub env_map: Option<SetupScriptEnvMap>,
 
-    /// Its errors in words, where it had any.
+    /// The errors as texts, if there were any.
     pub error_summary: Option<ErrorSummary>,
 }

@@ -1,6 +1,6 @@
-//! The attempts of a finished test, and what they come to.
+//! The attempts of a finished test, and their description.
 //!
-//! How a test ended, in one word:
+//! A function that returns the result of a test in one word:
 //!
 //! ```rust
 //! fn word_of(test: &ExecutionStatuses<LiveSpec>) -> &'static str

@@ -1,10 +1,9 @@
-//! Moments of the clock.
+//! Times of day with an offset from UTC.
 
 use jiff::Timestamp;
 use jiff::tz::Offset;
 
-/// A moment of the clock, with the offset from UTC that was in force where it was taken. It is
-/// only carried: no call of the layer computes with it.
+/// A time of the clock with the offset from UTC at the place where it was read.
 #[derive(Clone, Copy, Debug)]
 pub struct Moment {
     /// The instant.

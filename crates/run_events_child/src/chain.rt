@@ -1,4 +1,4 @@
-//! Errors with what caused them, kept as texts.
+//! Errors with their causes, kept as texts.
 
 ghost use Rattle.std.specs.Prelude.{◌≡◌, [], map, string_bytes, IfOk, MatchOption, Some};
 ghost use Rattle.std.specs.Iterator.{YieldsFirstRef, item_count};
@@ -12,12 +12,12 @@ mod json;
 
 pub use crate::chain::json::FromValueError;
 
-/// An error as its message and the chain of what caused it: a form that outlives the error itself
-/// and can be stored.
+/// An error as its message and the messages of its causes. It can be stored, and outlives the error
+/// that it was made from.
 ///
-/// Contracts see it as its texts: the message, then the causes, the nearest first. It is dropped
-/// and compared in loops, so that takes no stack however long the chain is; the derived `Debug`
-/// goes down the chain.
+/// It is displayed as its message, without the causes. Two are equal if their messages and all
+/// messages of their causes are equal. It is dropped and compared in loops, so a long chain needs
+/// no stack; the derived `Debug` is recursive.
 #[derive(Debug)]
 pub struct SerializableError {
     message: String,
@@ -30,6 +30,7 @@ impl Model for SerializableError {
     ghost use Rattle.std.proofs.Common.{arith};
     ghost use Rattle.run_events_child.specs.ErrorChain.{ErrorChain, texts, text_count};
 
+    // Contracts see it as its texts: the message, then the causes, the nearest first.
     ghost Value = { ErrorChain };
 
     ghost view = { λ e. record {
@@ -55,14 +56,13 @@ impl Drop for SerializableError {
 }
 
 impl SerializableError {
-    /// An error with this message, caused by what the list says, the nearest cause first.
-    ///
-    /// Takes memory for each cause. Where it is refused, message and causes are dropped.
+    /// Returns an error with this message and these causes, the nearest cause first.
     pub fn from_message_and_causes(
         alloc: Global,
         message: String,
         mut causes: Vec<String>,
     ) -> Result<Self, AllocError>
+        // Takes memory for each cause. If it is refused, message and causes are dropped.
         ensures message { IfOk result (λ e. e.message ≡ string_bytes message) }
         ensures causes { IfOk result (λ e. e.causes ≡ map string_bytes causes.items) }
     {
@@ -73,21 +73,21 @@ impl SerializableError {
         Ok(SerializableError { message, source })
     }
 
-    /// The message, without its causes.
+    /// Returns the message, without the causes.
     pub fn message(&self) -> &str
         ensures { result.now ≡ self.now.message }
     {
         self.message.as_str()
     }
 
-    /// The nearest cause, with all that caused it; `None` for an error without a cause.
+    /// Returns the nearest cause, with its own causes, or `None` if there is no cause.
     pub fn source(&self) -> Option<&SerializableError>
         ensures { MatchOption result (self.now.causes ≡ []) (λ e. self.now.causes ≡ texts e.now) }
     {
         self.source.as_deref()
     }
 
-    /// The causes in order, the nearest first, each with all that caused it.
+    /// Returns an iterator over the causes, the nearest first. Each has its own causes.
     pub fn sources(&self) -> SerializableErrorSources<'_>
         ensures { result ≡ self.now.causes }
     {
@@ -102,7 +102,6 @@ impl fmt::Display for SerializableError {
 
     ghost styled_output = { λ e _. Some e.message };
 
-    /// The message, without its causes.
     fn fmt<W: fmt::Write>(&self, f: &mut fmt::Formatter<W>) -> fmt::Result {
         f.write_str(self.message())
     }
@@ -119,7 +118,6 @@ impl PartialEq for SerializableError {
 
     ghost laws = { partial_equiv_from_equiv (on_equiv texts (lists_equiv nat_list_eq_equiv)) };
 
-    /// Errors are equal where their texts are.
     fn eq(&self, other: &SerializableError) -> bool {
         let mut left = self;
         let mut right = other;
@@ -148,8 +146,6 @@ impl Eq for SerializableError {
 }
 
 /// An iterator over the causes of an error, the nearest first.
-///
-/// Contracts see it as the texts of the causes that are left.
 #[derive(Debug, Drop)]
 pub struct SerializableErrorSources<'a> {
     next: Option<&'a SerializableError>,
@@ -160,6 +156,7 @@ impl<'a> Model for SerializableErrorSources<'a> {
     ghost use Rattle.std.specs.Option.{option_map_or};
     ghost use Rattle.run_events_child.specs.ErrorChain.{texts};
 
+    // Contracts see it as the texts of the causes that are left.
     ghost Value = { List (List ℕ) };
 
     ghost view = { λ s. option_map_or (λ e. texts e.now) s.next [] };
@@ -172,7 +169,6 @@ impl<'a> Iterator for SerializableErrorSources<'a> {
 
     ghost remaining = { item_count cause_chains };
 
-    /// The next cause; `None` after the last.
     fn next(&mut self) -> Option<&'a SerializableError> {
         let error = self.next?;
         self.next = error.source();

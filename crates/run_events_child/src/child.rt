@@ -1,5 +1,4 @@
-//! What a child process left: its output, and the errors in starting it, reading from it or
-//! waiting for it.
+//! The output of a child process, and the errors in starting it, reading from it or waiting for it.
 
 ghost use Rattle.std.specs.Prelude.{◌≡◌};
 ghost use Rattle.run_events_child.specs.Execution.{errors_occurred};
@@ -20,14 +19,14 @@ pub use crate::child::output::{
     ChildOutput, ChildOutputDescription, ChildSingleOutput, ChildSplitOutput,
 };
 
-/// Says in what form the output of a child process is described: as it was captured, or as
-/// something else that stands for it.
+/// The form in which the output of a child process is described: as it was captured, or as something
+/// that represents it.
 pub trait OutputSpec {
-    /// The description of what was captured.
+    /// The description of captured output.
     type ChildOutputDesc;
 }
 
-/// Output as it was captured in this process.
+/// Output that was captured in this process.
 #[derive(Clone, Copy, Debug, PartialEq, Eq)]
 pub struct LiveSpec;
 
@@ -35,38 +34,37 @@ impl OutputSpec for LiveSpec {
     type ChildOutputDesc = ChildOutputDescription;
 }
 
-/// What a child process left, or why it was not started, as reporters are given it.
+/// The output and the errors of a child process, or why it was not started, as reporters get it.
 #[derive(Drop)]
 pub enum ChildExecutionOutputDescription<S: OutputSpec> {
-    /// It was started.
+    /// The process was started.
     Output {
-        /// How it ended; `None` while it still runs.
+        /// The result of the process, or `None` if it is still running.
         result: Option<ExecutionResultDescription>,
 
-        /// What was captured.
+        /// The captured output.
         output: S::ChildOutputDesc,
 
-        /// The errors in reading from it or waiting for it; `None` where there were none.
+        /// The errors in reading from it or waiting for it, or `None` if there were none.
         errors: Option<ErrorList<ChildErrorDescription>>,
     },
 
-    /// It was not started.
+    /// The process was not started.
     StartError(ChildStartErrorDescription),
 }
 
 impl<S: OutputSpec> ChildExecutionOutputDescription<S> {
-    /// Whether anything went wrong: the process was not started, there were errors in reading from
-    /// it or waiting for it, or it ended without success. A process that still runs has not failed.
+    /// Returns true if the process was not started, if there were errors in reading from it or
+    /// waiting for it, or if its result is not a success. A process that is still running has not
+    /// failed.
     pub fn has_errors(&self) -> bool
         ensures { result ≡ errors_occurred self.now }
     {
         match self {
             ChildExecutionOutputDescription::StartError(_) => true,
-            ChildExecutionOutputDescription::Output {
-                result: end,
-                errors,
-                ..
-            } => { errors.is_some() || end.as_ref().is_some_and(|end| !end.is_success()) }
+            ChildExecutionOutputDescription::Output { result, errors, .. } => {
+                errors.is_some() || result.as_ref().is_some_and(|status| !status.is_success())
+            }
         }
     }
 }

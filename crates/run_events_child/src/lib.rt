@@ -1,6 +1,7 @@
-//! What the child process of a unit leaves: its output, its errors, and their chains of causes.
+//! The output and the errors of the child process of a test or a setup script, and errors with their
+//! chains of causes.
 //!
-//! The JSON text of an error with its causes:
+//! A function that writes an error with its causes as JSON text:
 //!
 //! ```rust
 //! pub fn store(alloc: Global, error: &SerializableError) -> Result<String, AllocError>

@@ -1,18 +1,18 @@
-//! How much a test asks for attention, and what is shown of it.
+//! The levels of tests, and what a reporter shows of a test at its levels.
 
 mod output;
 
-/// How much a finished attempt or test asks for attention, the most first. A reporter that is set
-/// to a level writes a line for that level and for every level before it.
+/// The level of a finished attempt or test, ordered from the one that needs most attention. A
+/// reporter with a level writes a line for the tests of that level and of every lesser level.
 #[derive(Clone, Copy, Debug, PartialEq, Eq, PartialOrd, Ord)]
 pub enum StatusLevel {
-    /// No line at all.
+    /// No line.
     None,
 
     /// Tests that failed.
     Fail,
 
-    /// Tests that succeeded only after a first attempt, and attempts that are tried again.
+    /// Tests that succeeded after a retry, and attempts that are retried.
     Retry,
 
     /// Tests that took longer than the slow timeout.
@@ -27,21 +27,21 @@ pub enum StatusLevel {
     /// Tests that were skipped.
     Skip,
 
-    /// Everything.
+    /// All tests.
     All,
 }
 
-/// How much a finished test asks for attention once the run is over, the most first. A reporter
-/// that is set to a level lists the tests of that level and of every level before it.
+/// The level of a finished test at the end of the run, ordered from the one that needs most
+/// attention. A reporter with a level lists the tests of that level and of every lesser level.
 #[derive(Clone, Copy, Debug, PartialEq, Eq, PartialOrd, Ord)]
 pub enum FinalStatusLevel {
-    /// No test at all.
+    /// No test.
     None,
 
     /// Tests that failed.
     Fail,
 
-    /// Tests that succeeded only after a first attempt.
+    /// Tests that succeeded after a retry.
     Flaky,
 
     /// Tests that took longer than the slow timeout.
@@ -56,42 +56,42 @@ pub enum FinalStatusLevel {
     /// Tests that passed.
     Pass,
 
-    /// Everything.
+    /// All tests.
     All,
 }
 
-/// The levels that a reporter is set to.
+/// The levels of a reporter.
 #[derive(Clone, Copy)]
 pub struct StatusLevels {
-    /// Which finished attempts and tests are written as a line.
+    /// The level of the attempts and tests that get a line.
     pub status_level: StatusLevel,
 
-    /// Which tests are listed once the run is over.
+    /// The level of the tests that are listed at the end of the run.
     pub final_status_level: FinalStatusLevel,
 }
 
-/// What a reporter does with a test that has just finished.
+/// What a reporter does when a test has finished.
 #[derive(Clone, Copy, Debug, PartialEq, Eq)]
 pub struct OutputOnTestFinished {
-    /// Whether a line with the test's status is written.
+    /// True if the reporter writes a line with the status of the test.
     pub write_status_line: bool,
 
-    /// Whether the test's output is displayed at once.
+    /// True if the reporter displays the output of the test at once.
     pub show_immediate: bool,
 
-    /// What is stored for the end of the run.
+    /// What the reporter stores for the end of the run.
     pub store_final: OutputStoreFinal,
 }
 
-/// What is stored of a finished test for the end of the run.
+/// What a reporter stores of a finished test for the end of the run.
 #[derive(Clone, Copy, Debug, PartialEq, Eq)]
 pub enum OutputStoreFinal {
-    /// Nothing: the test is not listed at the end.
+    /// Nothing. The test is not listed at the end.
     No,
 
     /// The test is listed at the end.
     Yes {
-        /// Whether its output is displayed there as well.
+        /// True if its output is displayed there too.
         display_output: bool,
     },
 }

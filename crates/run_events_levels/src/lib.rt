@@ -1,7 +1,7 @@
-//! How much a finished test asks for attention, and what of it a reporter shows.
+//! The levels of finished tests, and what a reporter shows of a test at its levels.
 //!
-//! What a displayer that is set to `levels` shows of a finished test, by the reason why the run is
-//! cancelled, if it is:
+//! A method of a displayer that decides what it shows of a finished test. `reason` is the reason to
+//! cancel the run, if there is one:
 //!
 //! ```rust
 //! let view = test.view();

@@ -1,4 +1,4 @@
-//! What of a finished test decides its counters and its levels.
+//! The view of a finished test that decides its counters and its levels.
 
 ghost use Rattle.std.specs.Prelude.{◌≡◌, Some};
 ghost use Rattle.run_events_levels.specs.Level.{final_level_of, level_of};
@@ -8,27 +8,27 @@ use crate::levels::{FinalStatusLevel, StatusLevel};
 use run_events_results::results::ExecutionResultDescription;
 use run_events_settings::config::{FlakyResult, LeakTimeoutResult, SlowTimeoutResult};
 
-/// What of a finished test decides its counters and its levels, borrowed from its attempts. A
-/// caller that keeps no attempts makes it from what it knows.
+/// The parts of a finished test that decide its counters and its levels, borrowed from its attempts.
+/// A caller that does not keep attempts can make it from what it knows.
 #[derive(Clone, Copy, Debug, PartialEq, Eq)]
 pub struct TestView<'a> {
     /// The result of the last attempt.
     pub result: &'a ExecutionResultDescription,
 
-    /// How many attempts there were. None counts as one.
+    /// The number of attempts. 0 counts as 1.
     pub attempts: usize,
 
-    /// Whether the last attempt took longer than the slow timeout.
+    /// True if the last attempt took longer than the slow timeout.
     pub is_slow: bool,
 
-    /// How the test counts where it is flaky: where its last attempt succeeded after at least one
-    /// attempt before it.
+    /// How the test counts if it is flaky, that is if its last attempt succeeded and is not its
+    /// first.
     pub flaky_result: FlakyResult,
 }
 
 impl TestView<'_> {
-    /// How much the test asks for attention as it finishes: a flaky test by how it counts, a
-    /// failure as `Fail`, a success at the first attempt by its result alone.
+    /// Returns the level of the test when it finishes: `Retry` or `Fail` for a flaky test, `Fail` for
+    /// a failed one, and for a success at the first attempt the level of its result.
     pub fn status_level(&self) -> StatusLevel
         ensures { level_of (said_of self.now) ≡ Some result }
     {
@@ -50,9 +50,9 @@ impl TestView<'_> {
         }
     }
 
-    /// How much the test asks for attention at the end of the run: as its status level, but a flaky
-    /// test that is set to pass as `Flaky`, and a slow success at the first attempt as `Slow`,
-    /// whatever its result.
+    /// Returns the level of the test at the end of the run. It is like the status level, except that
+    /// a flaky test which counts as passed is `Flaky`, and that a slow success at the first attempt
+    /// is `Slow` whatever its result.
     pub fn final_status_level(&self) -> FinalStatusLevel
         ensures { final_level_of (said_of self.now) ≡ Some result }
     {

@@ -1,6 +1,6 @@
-//! How the attempts of units (tests and setup scripts) end, and why a run is cancelled.
+//! The results of attempts to run a test or a setup script, and the reasons to cancel a run.
 //!
-//! How an attempt ended, in one word:
+//! A function that returns the result of an attempt in one word:
 //!
 //! ```rust
 //! pub fn word_of_end(end: ExecutionResult) -> &'static str

@@ -1,4 +1,4 @@
-//! How an attempt ended, and why a run is cancelled.
+//! The results of attempts, and the reasons to cancel a run.
 
 ghost use Rattle.std.specs.Prelude.{◌≡◌};
 ghost use Rattle.run_events_results.specs.Results.{status_succeeds, status_word, succeeds, result_word};
@@ -14,31 +14,31 @@ pub use crate::results::failure::{
     AbortDescription, AbortStatus, FailureDescription, FailureStatus, SIGTERM,
 };
 
-/// How an attempt ended, as its runner saw it: plain numbers, no names.
+/// The result of an attempt as the runner saw it: exit codes and signal numbers, without names.
 #[derive(Clone, Copy, Debug, PartialEq, Eq)]
 pub enum ExecutionResult {
-    /// It succeeded.
+    /// The attempt succeeded.
     Pass,
 
-    /// It exited successfully, but a handle of it was still open after the leak timeout.
+    /// The attempt exited successfully, but one of its handles was still open after the leak timeout.
     Leak {
         /// How the leak counts.
         result: LeakTimeoutResult,
     },
 
-    /// It failed.
+    /// The attempt failed.
     Fail {
-        /// With what it ended.
+        /// The exit code or the abort.
         failure_status: FailureStatus,
 
-        /// Whether it left a handle open as well.
+        /// True if it also left a handle open.
         leaked: bool,
     },
 
-    /// It could not be executed: its process could not be started, say.
+    /// The attempt could not be executed, for example because its process could not be started.
     ExecFail,
 
-    /// It was ended because its time ran out.
+    /// The attempt was ended because its time ran out.
     Timeout {
         /// How running out of time counts.
         result: SlowTimeoutResult,
@@ -46,7 +46,7 @@ pub enum ExecutionResult {
 }
 
 impl ExecutionResult {
-    /// Whether the attempt succeeded: it passed, or leaked or ran out of time where that counts as
+    /// Returns true if the attempt passed, or if it leaked or ran out of time and that counts as
     /// passed.
     pub fn is_success(self) -> bool
         ensures { result ≡ status_succeeds self }
@@ -70,7 +70,7 @@ impl ExecutionResult {
         }
     }
 
-    /// The case in one word, as machine-readable reports write it.
+    /// Returns the word for the result in machine-readable reports, for example `exec-fail`.
     pub fn as_static_str(&self) -> &'static str
         ensures { result.now ≡ status_word self.now }
     {
@@ -84,32 +84,32 @@ impl ExecutionResult {
     }
 }
 
-/// How an attempt ended, in the form that reporters are given: as [`ExecutionResult`], with what
-/// was looked up of a failure.
+/// The result of an attempt as reporters get it: an [`ExecutionResult`] with the name of a signal or
+/// the message of a Windows status code.
 #[derive(Debug, PartialEq, Eq, Drop)]
 pub enum ExecutionResultDescription {
-    /// It succeeded.
+    /// The attempt succeeded.
     Pass,
 
-    /// It exited successfully, but a handle of it was still open after the leak timeout.
+    /// The attempt exited successfully, but one of its handles was still open after the leak timeout.
     Leak {
         /// How the leak counts.
         result: LeakTimeoutResult,
     },
 
-    /// It failed.
+    /// The attempt failed.
     Fail {
-        /// With what it ended.
+        /// The exit code or the abort.
         failure: FailureDescription,
 
-        /// Whether it left a handle open as well.
+        /// True if it also left a handle open.
         leaked: bool,
     },
 
-    /// It could not be executed: its process could not be started, say.
+    /// The attempt could not be executed, for example because its process could not be started.
     ExecFail,
 
-    /// It was ended because its time ran out.
+    /// The attempt was ended because its time ran out.
     Timeout {
         /// How running out of time counts.
         result: SlowTimeoutResult,
@@ -117,8 +117,7 @@ pub enum ExecutionResultDescription {
 }
 
 impl ExecutionResultDescription {
-    /// Describes a result, case by case. The name is that of the signal behind a failure; a result
-    /// without a signal drops it.
+    /// Describes a result. `name` is the name of the signal, and is dropped if there is no signal.
     pub fn from_status(status: ExecutionResult, name: Option<String>) -> Self
         ensures { result ≡ described_result status name }
     {
@@ -137,7 +136,7 @@ impl ExecutionResultDescription {
         }
     }
 
-    /// Whether the attempt succeeded: it passed, or leaked or ran out of time where that counts as
+    /// Returns true if the attempt passed, or if it leaked or ran out of time and that counts as
     /// passed.
     pub fn is_success(&self) -> bool
         ensures { result ≡ succeeds self.now }
@@ -161,7 +160,7 @@ impl ExecutionResultDescription {
         }
     }
 
-    /// The case in one word, as machine-readable reports write it.
+    /// Returns the word for the result in machine-readable reports, for example `exec-fail`.
     pub fn as_static_str(&self) -> &'static str
         ensures { result.now ≡ result_word self.now }
     {
@@ -174,9 +173,9 @@ impl ExecutionResultDescription {
         }
     }
 
-    /// Whether the attempt was ended in the way in which the runner itself ends a test: by the
-    /// signal [`SIGTERM`], or with the Windows job object. A test that was sent that signal by
-    /// another process is taken for one that the runner ended.
+    /// Returns true if the attempt was ended by the signal [`SIGTERM`] or with the Windows job
+    /// object, which is how the runner ends a test. A test that got this signal from another process
+    /// looks the same.
     pub fn is_termination_failure(&self) -> bool
         ensures { result ≡ spec.is_termination_failure self.now }
     {
@@ -190,30 +189,30 @@ impl ExecutionResultDescription {
     }
 }
 
-/// What kind of unit a process belongs to.
+/// The kind of unit that a process belongs to.
 #[derive(Clone, Copy, Debug, PartialEq, Eq)]
 pub enum UnitKind {
     /// A test.
     Test,
 
-    /// A script, as a setup script.
+    /// A script, for example a setup script.
     Script,
 }
 
 impl UnitKind {
-    /// Shown while a test's process is waited for.
+    /// The message while the runner waits for the process of a test.
     pub const WAITING_ON_TEST_MESSAGE: &'static str = "waiting on test process";
 
-    /// Shown while a script's process is waited for.
+    /// The message while the runner waits for the process of a script.
     pub const WAITING_ON_SCRIPT_MESSAGE: &'static str = "waiting on script process";
 
-    /// Describes what was tried where a test could not be run.
+    /// The description of the errors of a test.
     pub const EXECUTING_TEST_MESSAGE: &'static str = "executing test";
 
-    /// Describes what was tried where a script could not be run.
+    /// The description of the errors of a script.
     pub const EXECUTING_SCRIPT_MESSAGE: &'static str = "executing script";
 
-    /// The kind's message while its process is waited for.
+    /// Returns the message while the runner waits for the process of such a unit.
     pub fn waiting_on_message(&self) -> &'static str
         ensures { result.now ≡ waiting_text self.now }
     {
@@ -223,7 +222,7 @@ impl UnitKind {
         }
     }
 
-    /// The kind's description of what was tried.
+    /// Returns the description of the errors of such a unit.
     pub fn executing_message(&self) -> &'static str
         ensures { result.now ≡ executing_text self.now }
     {
@@ -234,14 +233,14 @@ impl UnitKind {
     }
 }
 
-/// Why a run is cancelled, the least severe reason first. A run that has a reason may only be
-/// given a greater one.
+/// Why a run is cancelled, ordered from the least severe reason to the most severe. The reason of a
+/// run may only be replaced by a greater one.
 #[derive(Clone, Copy, Debug, PartialEq, Eq, PartialOrd, Ord)]
 pub enum CancelReason {
     /// A setup script failed.
     SetupScriptFailure,
 
-    /// A test failed, and the run is to stop at a failure.
+    /// A test failed, and the run stops at a failure.
     TestFailure,
 
     /// A reporter could not write.
@@ -250,25 +249,25 @@ pub enum CancelReason {
     /// The run wrote more output than it may.
     OutputLimit,
 
-    /// A test failed, and the run is to stop at once and end the tests that still run.
+    /// A test failed, and the run stops at once and ends the tests that are still running.
     TestFailureImmediate,
 
-    /// The time for the whole run is over.
+    /// The time for the whole run ran out.
     GlobalTimeout,
 
-    /// The runner was sent a signal to end.
+    /// The runner got a signal to end.
     Signal,
 
     /// The user interrupted the run.
     Interrupt,
 
-    /// A second signal came while the run was ending after the first.
+    /// A second signal came while the run was ending.
     SecondSignal,
 }
 
 impl CancelReason {
-    /// The reason in words, as messages to a user name it. Both reasons that a failed test gives
-    /// have the same words.
+    /// Returns the reason in words, for messages to a user. The two reasons of a failed test have the
+    /// same words.
     pub fn to_static_str(self) -> &'static str
         ensures { result.now ≡ cancel_text self }
     {

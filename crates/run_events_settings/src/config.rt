@@ -1,9 +1,10 @@
-//! Settings that decide how results count and what is shown.
+//! The settings that decide how results count and what a reporter shows.
 
 ghost use Rattle.std.specs.Prelude.{◌≡◌};
 ghost use Rattle.run_events_settings.specs.Config.{is_final_display, is_immediate_display};
 
-/// How a flaky test counts: one whose last attempt succeeded after at least one attempt before it.
+/// How a flaky test counts. A test is flaky if its last attempt succeeded after at least one that
+/// did not.
 #[derive(Clone, Copy, Debug, Default, PartialEq, Eq)]
 pub enum FlakyResult {
     /// It counts as passed.
@@ -28,10 +29,10 @@ pub enum LeakTimeoutResult {
 /// How a test counts that was ended because its time ran out.
 #[derive(Clone, Copy, Debug, PartialEq, Eq)]
 pub enum SlowTimeoutResult {
-    /// Running out of time is what was wanted of it, and it passes.
+    /// The test is meant to run out of time, and passes.
     Pass,
 
-    /// Running out of time fails it.
+    /// Running out of time fails the test.
     Fail,
 }
 
@@ -52,7 +53,7 @@ pub enum TestOutputDisplay {
 }
 
 impl TestOutputDisplay {
-    /// Whether output is displayed as soon as the test finishes.
+    /// Returns true if output is displayed as soon as the test finishes.
     pub fn is_immediate(self) -> bool
         ensures { result ≡ is_immediate_display self }
     {
@@ -62,7 +63,7 @@ impl TestOutputDisplay {
         }
     }
 
-    /// Whether output is displayed at the end of the run.
+    /// Returns true if output is displayed at the end of the run.
     pub fn is_final(self) -> bool
         ensures { result ≡ is_final_display self }
     {

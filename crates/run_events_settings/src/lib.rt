@@ -1,7 +1,7 @@
-//! What a run is set to: how results count and what is shown, what it is for, and how often it is
-//! repeated.
+//! The settings of a run: how results count, what a reporter shows, whether the run is of tests or
+//! benchmarks, and how often it is repeated.
 //!
-//! Whether the output of a test is displayed at any time:
+//! A function that returns true if the output of a test is displayed at any time:
 //!
 //! ```rust
 //! pub fn is_displayed(display: TestOutputDisplay) -> bool

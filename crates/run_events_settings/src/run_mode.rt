@@ -1,23 +1,23 @@
-//! What a run is for.
+//! The mode of a run: tests or benchmarks.
 
 ghost use Rattle.std.specs.Prelude.{◌≡◌, Some};
 ghost use Rattle.run_events_settings.specs.Config.{is_benchmark_mode, mode_text};
 
 use std::fmt;
 
-/// Whether a run runs tests or benchmarks.
+/// The mode of a run, displayed as `test` or `benchmark`.
 #[derive(Clone, Copy, Debug, Default, PartialEq, Eq)]
 pub enum NextestRunMode {
-    /// It runs tests.
+    /// The run runs tests.
     #[default]
     Test,
 
-    /// It runs benchmarks.
+    /// The run runs benchmarks.
     Benchmark,
 }
 
 impl NextestRunMode {
-    /// Whether the run runs benchmarks.
+    /// Returns true if the run runs benchmarks.
     pub fn is_benchmark(self) -> bool
         ensures { result ≡ is_benchmark_mode self }
     {
@@ -30,7 +30,6 @@ impl fmt::Display for NextestRunMode {
 
     ghost styled_output = { λ m _. Some (mode_text m) };
 
-    /// `test` or `benchmark`.
     fn fmt<W: fmt::Write>(&self, f: &mut fmt::Formatter<W>) -> fmt::Result {
         match self {
             NextestRunMode::Test => f.write_str("test"),

@@ -1,4 +1,4 @@
-//! Runs that are repeated: how far such a run is, and what is left of it.
+//! Repeated runs: their progress and what remains of them.
 
 ghost use Rattle.std.specs.Prelude.{◌≡◌, ◌↔◌, ◌<◌, IsNone, IfSome, option_map};
 ghost use Rattle.std.specs.Duration.{as_nanos};
@@ -12,7 +12,7 @@ mod progress;
 
 pub use crate::stress::progress::{StressCount, StressProgress, StressRemaining};
 
-/// A duration that is not zero. A contract sees it as the duration.
+/// A duration that is not zero.
 #[derive(Clone, Copy, Debug, PartialEq, Eq)]
 pub struct NonZeroDuration {
     duration: Duration,
@@ -23,6 +23,7 @@ impl Model for NonZeroDuration {
     ghost use Rattle.std.specs.Duration.{as_nanos};
     ghost use Rattle.std.specs.declared.time.Duration.{Duration};
 
+    // Contracts see it as the duration.
     ghost Value = { Duration };
 
     ghost view = { λ d. d.duration };
@@ -33,7 +34,7 @@ impl Model for NonZeroDuration {
 }
 
 impl NonZeroDuration {
-    /// The same duration, or none exactly where it is zero.
+    /// Returns the duration as one that is not zero, or `None` if it is zero.
     pub fn new(duration: Duration) -> Option<Self>
         ensures zero { IsNone result ↔ (as_nanos duration ≡ 0) }
         ensures same { IfSome result (λ d. d ≡ duration) }
@@ -45,7 +46,7 @@ impl NonZeroDuration {
         }
     }
 
-    /// The duration, which is not zero.
+    /// Returns the duration.
     pub fn get(self) -> Duration
         ensures same { result ≡ self }
         ensures not_zero { 0 < as_nanos result }
@@ -54,19 +55,20 @@ impl NonZeroDuration {
     }
 }
 
-/// Which sub-run of a repeated run this is, of how many. Ordered by the sub-run, then by the total,
-/// where an unknown total is the least.
+/// The number of a sub-run of a repeated run, and how many there are.
+///
+/// Ordered by the number, then by the total. An unknown total is less than a known one.
 #[derive(Clone, Copy, Debug, PartialEq, Eq, PartialOrd, Ord, Hash)]
 pub struct StressIndex {
-    /// The number of the sub-run, from 0.
+    /// The number of the sub-run, counted from 0.
     pub current: u32,
 
-    /// How many sub-runs there are to be, where that is known beforehand.
+    /// The number of sub-runs, if it is known beforehand.
     pub total: Option<NonZero<u32>>,
 }
 
 impl StressIndex {
-    /// How many sub-runs there are to be, as a plain number.
+    /// Returns the number of sub-runs, if it is known beforehand.
     pub fn total_get(&self) -> Option<u32>
         ensures { result ≡ option_map non_zero_u32_get self.now.total }
     {

@@ -1,6 +1,6 @@
-//! The counters of a run, and what they amount to: its summary and its outcome.
+//! The counters of a run, its summary and its outcome.
 //!
-//! The exit status of a run, from its finished units:
+//! A function that returns the exit status of a run, given its finished units:
 //!
 //! ```rust
 //! pub fn of_run(units: &[FinishedUnit<'_>], start: RunStart) -> u8

@@ -1,4 +1,4 @@
-//! What a run amounts to.
+//! The summary of a run and its outcome.
 
 ghost use Rattle.std.specs.Prelude.{◌≡◌};
 ghost use Rattle.run_events_stats.specs.Outcome.{step_of};
@@ -11,28 +11,27 @@ mod run_outcome;
 pub use crate::outcome::finished::{RunFinishedStats, StressFinalRunStats, StressRunStats};
 pub use crate::outcome::run_outcome::RunOutcome;
 
-/// What the counters of a finished run amount to, and so what its exit status is made of.
+/// The summary of a finished run by its counters. The exit status of a runner follows from it.
 #[derive(Clone, Copy, Debug, PartialEq, Eq)]
 pub enum FinalRunStats {
-    /// All setup scripts and tests that were to run did run, at least one test among them, and
-    /// none failed.
+    /// All setup scripts and tests that were to run did run, at least one test did, and none failed.
     Success,
 
-    /// Nothing failed and nothing is missing, but no test was run.
+    /// Nothing failed and all that was to run did run, but there was no test.
     NoTestsRun,
 
-    /// The run ended before its time, or a failure came with a reason that is no failure itself.
+    /// The run ended early, or something failed in a run that was cancelled for another reason.
     Cancelled {
-        /// Why the run was cancelled, where a reason was given.
+        /// Why the run was cancelled, if a reason was given.
         reason: Option<CancelReason>,
 
-        /// At which step.
+        /// The step at which it failed or was cancelled.
         kind: RunStatsFailureKind,
     },
 
     /// A setup script or a test failed.
     Failed {
-        /// At which step.
+        /// The step at which it failed or was cancelled.
         kind: RunStatsFailureKind,
     },
 }
@@ -40,21 +39,21 @@ pub enum FinalRunStats {
 /// The step of a run at which it failed or was cancelled.
 #[derive(Clone, Copy, Debug, PartialEq, Eq)]
 pub enum RunStatsFailureKind {
-    /// At a setup script, before any test.
+    /// A setup script, before any test.
     SetupScript,
 
-    /// At the tests.
+    /// The tests.
     Test {
-        /// How many tests were to run.
+        /// The number of tests that were to run.
         initial_run_count: usize,
 
-        /// How many of them did not finish, not below 0.
+        /// The number of tests that did not finish, or 0 if more finished than were to run.
         not_run: usize,
     },
 }
 
 impl RunStatsFailureKind {
-    /// The step alone, without its numbers.
+    /// Returns the step without its numbers.
     pub fn step(&self) -> RunFailureStep
         ensures { result ≡ step_of self.now }
     {
@@ -65,13 +64,13 @@ impl RunStatsFailureKind {
     }
 }
 
-/// The step of a run at which it failed or was cancelled, without numbers. Where sub-runs failed at
-/// different steps, the greater step counts.
+/// The step of a run at which it failed or was cancelled, without numbers. If sub-runs failed at
+/// different steps, the greater step is that of the repeated run.
 #[derive(Clone, Copy, Debug, PartialEq, Eq, PartialOrd, Ord)]
 pub enum RunFailureStep {
-    /// At the tests.
+    /// The tests.
     Test,
 
-    /// At a setup script.
+    /// A setup script.
     SetupScript,
 }

@@ -3,100 +3,119 @@
 use run_events_attempts::attempts::{ExecutionStatuses, SetupScriptExecuteStatus};
 use run_events_child::child::LiveSpec;
 use run_events_results::results::CancelReason;
+use std::fmt;
 
 mod raised;
 mod run;
 mod summary;
 mod update;
 
-/// How many setup scripts and tests were to run, how many finished, and with what. Each counter is
-/// a number of units.
+/// The counters of a run: how many setup scripts and tests were to run, how many finished, and with
+/// what results.
 ///
-/// A finished test counts by its last attempt, the number of its attempts and its setting for
-/// flaky tests; a setup script counts by its result.
+/// A finished test is counted by its last attempt, the number of its attempts and its setting for
+/// flaky tests. A setup script is counted by its result.
 #[derive(Clone, Copy, Debug, Default, PartialEq, Eq)]
 pub struct RunStats {
-    /// The tests that were to run when the run began. Where the run ended before its time it is
-    /// above `finished_count`.
+    /// The tests that were to run when the run began. It is greater than `finished_count` if the run
+    /// ended early.
     pub initial_run_count: usize,
 
     /// The tests that finished.
     pub finished_count: usize,
 
-    /// The setup scripts that were to run when the run began. Where the run ended before its time
-    /// it may be above `setup_scripts_finished_count`.
+    /// The setup scripts that were to run when the run began. It can be greater than
+    /// `setup_scripts_finished_count` if the run ended early.
     pub setup_scripts_initial_count: usize,
 
     /// The setup scripts that finished.
     pub setup_scripts_finished_count: usize,
 
-    /// The setup scripts that passed, or leaked where that passes.
+    /// The setup scripts that passed, or that leaked if that counts as passed.
     pub setup_scripts_passed: usize,
 
-    /// The setup scripts that failed, or leaked where that fails.
+    /// The setup scripts that failed, or that leaked if that counts as failed.
     pub setup_scripts_failed: usize,
 
     /// The setup scripts that could not be executed.
     pub setup_scripts_exec_failed: usize,
 
-    /// The setup scripts whose time ran out, also where a test would have passed so.
+    /// The setup scripts that ran out of time, even if that counts as passed.
     pub setup_scripts_timed_out: usize,
 
-    /// The tests that passed: they succeeded, and not as flaky tests that are set to fail.
+    /// The tests that passed. A flaky test that counts as failed is not one of them.
     pub passed: usize,
 
-    /// The slow tests among `passed`, but for those whose time ran out.
+    /// The slow tests among `passed`, except those that ran out of time.
     pub passed_slow: usize,
 
-    /// The tests among `passed` whose time ran out.
+    /// The tests among `passed` that ran out of time.
     pub passed_timed_out: usize,
 
-    /// The tests among `passed` that succeeded only after a first attempt.
+    /// The tests among `passed` that succeeded after a retry.
     pub flaky: usize,
 
-    /// The tests that failed, leaked where that fails, or are flaky and set to fail.
+    /// The tests that failed, that leaked if that counts as failed, or that are flaky and count as
+    /// failed.
     pub failed: usize,
 
     /// The slow tests among `failed`.
     pub failed_slow: usize,
 
-    /// The tests that failed because their time ran out. They are not among `failed`.
+    /// The tests that failed because they ran out of time. They are not among `failed`.
     pub failed_timed_out: usize,
 
-    /// The tests that leaked where that passes, also where they are flaky and set to fail: so not
-    /// all of them are among `passed`.
+    /// The tests that leaked if that counts as passed. A flaky one that counts as failed is among
+    /// `failed`, and the others are among `passed`.
     pub leaky: usize,
 
-    /// The tests among `failed` that leaked where that fails.
+    /// The tests among `failed` that leaked if that counts as failed.
     pub leaky_failed: usize,
 
     /// The tests that could not be executed. They are not among `failed`.
     pub exec_failed: usize,
 
-    /// The tests that were skipped. No update changes it.
+    /// The tests that were skipped. Counting a unit does not change it.
     pub skipped: usize,
 
-    /// Why the run was cancelled, if it was. No update changes it.
+    /// Why the run was cancelled, if it was. Counting a unit does not change it.
     pub cancel_reason: Option<CancelReason>,
 }
 
-/// What is known of a run apart from its finished units.
+/// A unit was not counted, because a counter that it raises is `usize::MAX`.
+#[derive(Clone, Copy, Debug, PartialEq, Eq)]
+pub struct CounterFull;
+
+/// Writes `a counter is full`.
+impl fmt::Display for CounterFull {
+    ghost use Rattle.std.specs.Prelude.{Some, codes};
+
+    ghost output = { λ _. Some (codes "a counter is full") };
+
+    ghost styled_output = { λ _ _. Some (codes "a counter is full") };
+
+    fn fmt<W: fmt::Write>(&self, f: &mut fmt::Formatter<W>) -> fmt::Result {
+        f.write_str("a counter is full")
+    }
+}
+
+/// The facts of a run apart from its finished units.
 #[derive(Clone, Copy, Debug)]
 pub struct RunStart {
-    /// How many tests were to run.
+    /// The number of tests that were to run.
     pub initial_run_count: usize,
 
-    /// How many setup scripts were to run.
+    /// The number of setup scripts that were to run.
     pub setup_scripts_initial_count: usize,
 
-    /// How many tests were skipped.
+    /// The number of tests that were skipped.
     pub skipped: usize,
 
     /// Why the run was cancelled, if it was.
     pub cancel_reason: Option<CancelReason>,
 }
 
-/// A finished unit of a run, lent.
+/// A borrowed finished unit of a run.
 #[derive(Clone, Copy)]
 pub enum FinishedUnit<'a> {
     /// A setup script.
@@ -106,12 +125,12 @@ pub enum FinishedUnit<'a> {
     Test(&'a ExecutionStatuses<LiveSpec>),
 }
 
-/// A run that is over, lent: its finished units and its start. Of a repeated run it is one sub-run.
+/// A finished run, or a finished sub-run of a repeated run: its borrowed finished units and its start.
 #[derive(Clone, Copy)]
 pub struct FinishedRun<'a> {
     /// The finished units, in any order.
     pub units: &'a [FinishedUnit<'a>],
 
-    /// What is known of the run apart from them.
+    /// The facts of the run apart from its finished units.
     pub start: RunStart,
 }

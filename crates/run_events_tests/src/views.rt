@@ -1,9 +1,10 @@
 //! Tests that are counted by their views, which a caller makes that keeps no attempts.
 
+use fixtures::{PASS, finished_script, finished_test};
 use run_events::config::FlakyResult;
 use run_events::levels::{FinalStatusLevel, StatusLevel};
 use run_events::results::ExecutionResultDescription;
-use run_events::stats::RunStats;
+use run_events::stats::{CounterFull, RunStats};
 use run_events::view::TestView;
 use std::test::Fail;
 
@@ -42,5 +43,45 @@ fn a_view_is_counted_and_has_levels(rt: HostRuntime) -> Result<(), Fail> {
     };
     assert!(rt; !full.can_count_view(&test));
     assert!(rt; !full.can_count_script_result(&passed));
+    Ok(())
+}
+
+#[test]
+fn a_unit_is_counted_where_there_is_room(rt: HostRuntime) -> Result<(), Fail> {
+    let script = finished_script(PASS);
+    let test = finished_test(rt.alloc(), &[], PASS, false, FlakyResult::Pass)?;
+    let room_for_one = RunStats {
+        passed: usize::MAX - 1,
+        setup_scripts_passed: usize::MAX - 1,
+        ..RunStats::default()
+    };
+    let full = RunStats {
+        finished_count: 1,
+        passed: usize::MAX,
+        setup_scripts_finished_count: 1,
+        setup_scripts_passed: usize::MAX,
+        ..RunStats::default()
+    };
+    let mut stats = room_for_one;
+    assert_eq!(rt; stats.try_on_test_finished(&test), Ok(()));
+    assert_eq!(rt; stats.try_on_setup_script_finished(&script), Ok(()));
+    assert_eq!(rt; stats, full);
+    assert_eq!(rt; stats.try_on_test_finished(&test), Err(CounterFull));
+    assert_eq!(rt;
+        stats.try_on_setup_script_finished(&script),
+        Err(CounterFull)
+    );
+    assert_eq!(rt; stats.try_on_test_view(&test.view()), Err(CounterFull));
+    assert_eq!(rt;
+        stats.try_on_script_result(&script.result),
+        Err(CounterFull)
+    );
+    assert_eq!(rt; stats, full);
+    stats = room_for_one;
+    assert_eq!(rt; stats.try_on_test_view(&test.view()), Ok(()));
+    assert_eq!(rt; stats.try_on_script_result(&script.result), Ok(()));
+    assert_eq!(rt; stats, full);
+    let said = format!(in rt.alloc(); "{CounterFull}")?;
+    assert!(rt; said.as_str() == "a counter is full");
     Ok(())
 }

@@ -7,8 +7,7 @@ use Rattle.std.proofs.lemmas.List.Concat.{flat_map-append}
 use Rattle.std.proofs.lemmas.List.Elements.{All-append, All-contains, All-nil, All-push, All-take, Contains-push}
 use Rattle.std.specs.Io.KnownBytes.{Consumes}
 use Rattle.std.specs.List.{AllZip, flat_map}
-use Rattle.std.specs.Prelude.{◌==◌, All, Err, Ok, OnOk, if◌then◌else◌, is_ok, slice_index, true}
-use Rattle.std.specs.declared.result.Result.{Result}
+use Rattle.std.specs.Prelude.{◌==◌, All, slice_index, true}
 use Rattle.test_report_events.specs.Event.{EventView}
 use Rattle.test_report_engine.specs.Kept.{HasRead, HasReadAll, KeepsLines}
 use Rattle.test_report_engine.specs.Lines.{IsOneLine, Tells, not_empty, with_feed}
@@ -131,11 +130,6 @@ divided-at bytes front back at is_front is_back within feed =
     let behind : take (length back - 1) (drop 1 back) ≡ drop (at + 1) bytes = take_rest back 1 ∙ ap (λ x. drop 1 x) back_is in
     sym (take-append-drop at bytes) ∙ ap (λ x. take at bytes ++ x) (sym is_back ∙ back_is) ∙ ap (λ x. x ++ 10 ∷ drop (at + 1) bytes) (sym is_front)
     ∙ ap (λ x. front ++ 10 ∷ x) (sym behind) ∙ sym (append_assoc front (10 ∷ []) (take (length back - 1) (drop 1 back)))
-
--- what a vector has where it grew
-pub where-grown : {T E : Type 0} (result : Result T E) (new grown old : List ℕ) → new ≡ (if is_ok result then grown else old) → OnOk result (new ≡ grown)
-where-grown (Ok x) new grown old is = is
-where-grown (Err e) new grown old is = tt
 
 -- bytes have been read but for the rest
 pub record ReadsSoFar (old new : Reading) (bytes rest : List ℕ) : Type 0 where

@@ -2,7 +2,7 @@
 use Rattle.std.proofs.Common.{◌≡◌, ℕ, ◌+◌, List, [], ◌∷◌, ◌++◌, Bool, true, false, ◌||◌, length, map, MatchBool, refl, ap, sym, ◌∙◌, subst, arith, string_bytes, if◌then◌else◌}
 use Rattle.std.specs.Prelude.{is_some, sum_by, Err, IfOk, OnOk, Ok, String, IfNone, IfSome, IsSome, Option, Some, None}
 use Rattle.std.specs.Option.{option_to_list}
-use Rattle.std.specs.declared.alloc.AllocError.{AllocError}
+use Rattle.test_report_suite.specs.declared.suite.SuiteError.{SuiteError}
 use Rattle.std.specs.declared.alloc.Global.{Global}
 use Rattle.std.specs.declared.result.Result.{Result}
 use Rattle.std.proofs.lemmas.List.{append-nil}
@@ -214,7 +214,7 @@ takes-ok old new kept line told is told_is follows (Some s) goes_on =
     let on = going old kept s is goes_on in
     takes-inside old new kept line told s.count s.lines s.behind on.0 (told_is s.count s.lines on.1) (follows s.count s.lines on.1)
 
-pub takes-line : (r : Result Bool AllocError) (old new : Suite) (kept : Option Suite) (line : Option EventView) → kept ≡ Some old
+pub takes-line : (r : Result Bool SuiteError) (old new : Suite) (kept : Option Suite) (line : Option EventView) → kept ≡ Some old
     → IfOk r (λ told. (count : ℕ) (lines : List (Option EventView)) → IsSuiteOf old count lines → told ≡ is_told lines line)
     → OnOk r ((count : ℕ) (lines : List (Option EventView)) → IsSuiteOf old count lines → IsSuiteOf new count (lines ++ line ∷ []))
     → IfOk r (λ told. (last : Option SuiteLines) → GoesOn kept last → Takes kept (Some new) line told last)

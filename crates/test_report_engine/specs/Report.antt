@@ -69,6 +69,7 @@ Answers options (Err faults.Write) old new input =
     (o : RunOutcome) × (text : List ℕ) × IsReportOf options input o text × AppendsStart old new text
 Answers options (Err faults.Read) old new input = Unit {0}
 Answers options (Err faults.OutOfMemory) old new input = Unit {0}
+Answers options (Err faults.CounterFull) old new input = Unit {0}
 Answers options (Err faults.BadWord) old new input = ⊥
 Answers options (Err (faults.BadLine number)) old new input = ⊥
 
@@ -78,14 +79,16 @@ KeepsSink (Ok success) old new = Unit {0}
 KeepsSink (Err faults.Write) old new = Unit {0}
 KeepsSink (Err faults.Read) old new = Keeps old new
 KeepsSink (Err faults.OutOfMemory) old new = Keeps old new
+KeepsSink (Err faults.CounterFull) old new = Keeps old new
 KeepsSink (Err faults.BadWord) old new = ⊥
 KeepsSink (Err (faults.BadLine number)) old new = ⊥
 
--- nothing is left unread, but after a failed read or want of memory
+-- nothing is left unread, but after a failed read, a full counter or want of memory
 abbrev pub ReadsToEnd : Result Bool Fault → Option (List ℕ) → Type 0
 ReadsToEnd (Ok success) left = IsAtEnd left
 ReadsToEnd (Err faults.Write) left = IsAtEnd left
 ReadsToEnd (Err faults.Read) left = Unit {0}
 ReadsToEnd (Err faults.OutOfMemory) left = Unit {0}
+ReadsToEnd (Err faults.CounterFull) left = Unit {0}
 ReadsToEnd (Err faults.BadWord) left = ⊥
 ReadsToEnd (Err (faults.BadLine number)) left = ⊥

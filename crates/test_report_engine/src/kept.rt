@@ -1,4 +1,4 @@
-//! What is kept of a run while its lines come.
+//! The state of a run between its lines.
 
 ghost use Rattle.std.specs.Prelude.{◌≡◌, ◌+◌, ◌++◌, ◌∷◌, [], false, is_some, List, Option, None, Some, IfNone, IfOk, IfSome, OnOk, option_map, string_bytes};
 ghost use Rattle.std.specs.Option.{option_to_list};
@@ -12,16 +12,16 @@ ghost use Rattle.test_report_suite.specs.Suite.{IsSuiteOf};
 
 use run_events_stats::outcome::{FinalRunStats, RunOutcome};
 use run_events_stats::stats::RunStats;
-use std::alloc::{AllocError, Global};
+use std::alloc::Global;
 use test_report_events::event::{Event, TestEnd, TestResult};
 use test_report_suite::counted::count_end;
-use test_report_suite::suite::Suite;
+use test_report_suite::suite::{Suite, SuiteError};
 use test_report_text::failure::push_failure;
 use test_report_text::options::Options;
 use test_report_text::summary::{push_suite, push_totals};
 
-/// What is kept of a run while its lines come: the texts of failed tests and of suites that are
-/// over, the numbers of all, and the suite that goes on.
+/// The state of a run between its lines: the texts of failed tests and of finished suites, the totals,
+/// and the open suite.
 #[derive(Drop)]
 pub(crate) struct Kept {
     pub(crate) options: Options,
@@ -35,7 +35,7 @@ pub(crate) struct Kept {
 }
 
 impl Kept {
-    /// What is kept before the first line.
+    /// Returns the state before the first line.
     pub(crate) fn new(alloc: Global, options: Options) -> Kept
         ensures begins { KeepsLines result [] }
         ensures options { result.options ≡ options }
@@ -52,12 +52,12 @@ impl Kept {
         }
     }
 
-    /// Takes what the next line says, if it says anything.
+    /// Takes the event of the next line, or `None` for a line that is no event.
     pub(crate) fn on_line(
         &mut self,
         alloc: Global,
         line: Option<Event<'_>>,
-    ) -> Result<(), AllocError>
+    ) -> Result<(), SuiteError>
         ensures keeps { OnOk result ((lines : List (Option EventView)) → KeepsLines self.old lines
             → KeepsLines self.new (lines ++ option_map event_view line.entry ∷ [])) }
         ensures options { self.new.options ≡ self.old.options }
@@ -72,8 +72,8 @@ impl Kept {
         }
     }
 
-    /// Closes a suite: its text and its summary are kept.
-    fn close(&mut self, suite: &Suite, has_end: bool) -> Result<(), AllocError>
+    /// Closes a suite, and keeps its text and its summary.
+    fn close(&mut self, suite: &Suite, has_end: bool) -> Result<(), SuiteError>
         ensures closes { OnOk result ((s : SuiteLines) → IsSuiteOf suite.now s.count s.lines
             → has_end ≡ is_some s.behind → Closes self.old self.new s) }
         ensures same { self.new ≡ record self.old {
@@ -83,7 +83,7 @@ impl Kept {
     {
         let stats = suite.stats();
         if !stats.failed_counts_fit() {
-            return Err(AllocError);
+            return Err(SuiteError::CounterFull);
         }
         let number = self.summaries.len() + 1;
         push_suite(&mut self.suites, number, &stats, has_end, suite.running())?;
@@ -91,8 +91,8 @@ impl Kept {
         Ok(())
     }
 
-    /// Closes the suite that goes on, if one does: no line says that it ended.
-    fn close_last(&mut self) -> Result<(), AllocError>
+    /// Closes the open suite, if there is one, as a suite without an end.
+    fn close_last(&mut self) -> Result<(), SuiteError>
         ensures closes { OnOk result ((before : List (Option EventView)) (over : List SuiteLines)
             (last : Option SuiteLines) → Keeps self.old before over last
             → Keeps self.new before (over ++ option_to_list last) None) }
@@ -104,8 +104,8 @@ impl Kept {
         Ok(())
     }
 
-    /// A suite begins. One that goes on ends without a line that says so.
-    fn begin_suite(&mut self, alloc: Global, test_count: usize) -> Result<(), AllocError>
+    /// Begins a suite. An open suite is closed without an end.
+    fn begin_suite(&mut self, alloc: Global, test_count: usize) -> Result<(), SuiteError>
         ensures keeps { OnOk result ((lines : List (Option EventView)) → KeepsLines self.old lines
             → KeepsLines self.new (lines ++ Some (SuiteStarts test_count) ∷ [])) }
         ensures options { self.new.options ≡ self.old.options }
@@ -115,8 +115,8 @@ impl Kept {
         Ok(())
     }
 
-    /// The suite that goes on ends, if one does; otherwise the line is passed over.
-    fn end_suite(&mut self) -> Result<(), AllocError>
+    /// Ends the open suite. If there is none, the line is passed over.
+    fn end_suite(&mut self) -> Result<(), SuiteError>
         ensures keeps { OnOk result ((lines : List (Option EventView)) → KeepsLines self.old lines
             → KeepsLines self.new (lines ++ Some SuiteEnds ∷ [])) }
         ensures options { self.new.options ≡ self.old.options }
@@ -128,7 +128,7 @@ impl Kept {
     }
 
     /// Counts a line that is no event of the run.
-    fn pass_over(&mut self) -> Result<(), AllocError>
+    fn pass_over(&mut self) -> Result<(), SuiteError>
         ensures counts { OnOk result
             (self.new ≡ record self.old { passed_over = self.old.passed_over + 1 }) }
         ensures options { self.new.options ≡ self.old.options }
@@ -137,8 +137,8 @@ impl Kept {
         Ok(())
     }
 
-    /// Takes a line that neither begins nor ends a suite.
-    fn on_test_line(&mut self, alloc: Global, line: Option<Event<'_>>) -> Result<(), AllocError>
+    /// Takes the event of a line that neither begins nor ends a suite.
+    fn on_test_line(&mut self, alloc: Global, line: Option<Event<'_>>) -> Result<(), SuiteError>
         ensures keeps { OnOk result ((lines : List (Option EventView)) → KeepsLines self.old lines
             → is_boundary (option_map event_view line.entry) ≡ false
             → KeepsLines self.new (lines ++ option_map event_view line.entry ∷ [])) }
@@ -153,9 +153,9 @@ impl Kept {
         }
     }
 
-    /// Adds a test of a suite that ended: to the totals, or to those that were not run; and the
-    /// text of one that failed.
-    fn on_end(&mut self, alloc: Global, end: TestEnd<'_>) -> Result<(), AllocError>
+    /// Adds the end of a test to the totals, or to the skipped tests if it was ignored, and appends
+    /// the text of a failed test.
+    fn on_end(&mut self, alloc: Global, end: TestEnd<'_>) -> Result<(), SuiteError>
         ensures adds { OnOk result (AddsEnd self.old self.new (end_view end.entry)) }
         ensures options { self.new.options ≡ self.old.options }
     {
@@ -164,24 +164,25 @@ impl Kept {
                 self.skipped = one_more(self.skipped)?;
                 Ok(())
             }
-            TestResult::Passed => count_end(&mut self.totals, end),
+            TestResult::Passed => Ok(count_end(&mut self.totals, end)?),
             TestResult::Failed | TestResult::TimedOut => {
                 count_end(&mut self.totals, end)?;
-                push_failure(&mut self.failures, alloc, end, self.options)
+                push_failure(&mut self.failures, alloc, end, self.options)?;
+                Ok(())
             }
         }
     }
 
-    /// Ends the run: a suite that goes on is closed. The text of the failed tests then goes on with
-    /// that of the suites and with the totals: it is the report. Answers the outcome of the run.
-    pub(crate) fn finish(&mut self) -> Result<RunOutcome, AllocError>
+    /// Closes the open suite, and appends the texts of the suites and the totals to that of the failed
+    /// tests, which is then the report. Returns the outcome of the run.
+    pub(crate) fn finish(&mut self) -> Result<RunOutcome, SuiteError>
         ensures { IfOk result (λ o. (lines : List (Option EventView)) → KeepsLines self.old lines
             → (run : Run) × IsRun run lines
             × IsReport self.old.options run o (string_bytes self.new.failures)) }
     {
         self.close_last()?;
         if !self.totals.failed_counts_fit() {
-            return Err(AllocError);
+            return Err(SuiteError::CounterFull);
         }
         let outcome = RunOutcome::of_sub_runs(self.summaries.as_slice());
         self.failures.push_str(self.suites.as_str())?;
@@ -196,12 +197,13 @@ impl Kept {
     }
 }
 
-/// Gives a line to the suite that goes on, if one does, and answers whether it is an event of it.
+/// Gives the event of a line to the open suite, if there is one. Returns true if it is an event of the
+/// suite.
 fn take_line(
     suite: &mut Option<Suite>,
     alloc: Global,
     line: Option<Event<'_>>,
-) -> Result<bool, AllocError>
+) -> Result<bool, SuiteError>
     ensures { IfOk result (λ told. (last : Option SuiteLines) → GoesOn suite.old last
         → Takes suite.old suite.new (option_map event_view line.entry) told last) }
 {
@@ -211,7 +213,7 @@ fn take_line(
     }
 }
 
-/// How many tests the suite has that a line begins, if it begins one.
+/// Returns the number of tests of the suite that the event begins, if it begins one.
 fn begun_in(line: Option<Event<'_>>) -> Option<usize>
     ensures begins { IfSome result
         (λ count. option_map event_view line.entry ≡ Some (SuiteStarts count)) }
@@ -223,14 +225,14 @@ fn begun_in(line: Option<Event<'_>>) -> Option<usize>
     }
 }
 
-/// Whether a line ends a suite.
+/// Returns true if the event ends a suite.
 fn is_suite_end(line: Option<Event<'_>>) -> bool
     ensures { result ≡ ends_suite (option_map event_view line.entry) }
 {
     matches!(line, Some(Event::SuiteEnded))
 }
 
-/// The end of a test that a line tells of, if it tells of one.
+/// Returns the end of a test, if the event is one.
 fn end_in(line: Option<Event<'_>>) -> Option<TestEnd<'_>>
     ensures { option_map end_view result ≡ end_of (option_map event_view line.entry) }
 {
@@ -240,9 +242,9 @@ fn end_in(line: Option<Event<'_>>) -> Option<TestEnd<'_>>
     }
 }
 
-/// One more of what is counted. The only error is that the number does not fit.
-fn one_more(count: usize) -> Result<usize, AllocError>
+/// Increments a counter. Fails only if it is `usize::MAX`.
+fn one_more(count: usize) -> Result<usize, SuiteError>
     ensures { IfOk result (λ more. more ≡ count + 1) }
 {
-    count.checked_add(1).ok_or(AllocError)
+    count.checked_add(1).ok_or(SuiteError::CounterFull)
 }

@@ -1,7 +1,7 @@
-//! The report of a whole test run, from the lines in which Rust's test harness or nextest tells it,
-//! over any source and any sink of bytes.
+//! The report of a test run, from the JSON output of Rust's test harness or of nextest.
 //!
-//! The run that a source says is reported to a sink, and its success is the answer:
+//! A call that reads the events of a run from a source and writes its report to a sink. It returns true
+//! if the run succeeded:
 //!
 //! ```rust
 //! let options = Options {

@@ -1,4 +1,4 @@
-//! The lines of an input that comes in pieces.
+//! The lines of an input that is read in pieces.
 
 ghost use Rattle.std.specs.Prelude.{◌≡◌, ◌++◌, ◌∷◌, ℕ, [], List, Option, OnOk};
 ghost use Rattle.test_report_events.specs.Event.{EventView};
@@ -7,12 +7,13 @@ ghost use Rattle.test_report_engine.specs.Lines.{IsOneLine, Tells, with_feed};
 
 use crate::kept::Kept;
 use bstr::ByteSlice;
-use std::alloc::{AllocError, Global};
+use std::alloc::Global;
 use test_report_events::line::Line;
+use test_report_suite::suite::SuiteError;
 use test_report_text::options::Options;
 
-/// What is kept of an input that comes in pieces: what its lines so far tell, and the beginning of
-/// the line that goes on.
+/// The state of an input that is read in pieces: the run of its complete lines, and the beginning of
+/// the next line.
 #[derive(Drop)]
 pub(crate) struct Reading {
     pub(crate) kept: Kept,
@@ -20,7 +21,7 @@ pub(crate) struct Reading {
 }
 
 impl Reading {
-    /// Nothing has been read.
+    /// Returns the state before the first piece.
     pub(crate) fn new(alloc: Global, options: Options) -> Reading
         ensures nothing { HasRead result [] }
         ensures options { result.kept.options ≡ options }
@@ -32,22 +33,23 @@ impl Reading {
     }
 
     /// Takes the next piece of the input.
-    pub(crate) fn on_bytes(&mut self, alloc: Global, bytes: &[u8]) -> Result<(), AllocError>
+    pub(crate) fn on_bytes(&mut self, alloc: Global, bytes: &[u8]) -> Result<(), SuiteError>
         ensures reads { OnOk result ((input : List ℕ) → HasRead self.old input
             → HasRead self.new (input ++ bytes.now)) }
         ensures options { self.new.kept.options ≡ self.old.kept.options }
     {
         let mut rest = bytes;
         while let Some(at) = rest.find_byte(b'\n') {
-            let (line, behind) = rest.split_at(at);
+            let (line, after) = rest.split_at(at);
             self.on_line_end(alloc, line)?;
-            rest = &behind[1..];
+            rest = &after[1..];
         }
-        self.begun.extend_from_slice(rest)
+        self.begun.extend_from_slice(rest)?;
+        Ok(())
     }
 
-    /// Takes the end of a line, up to its line feed.
-    fn on_line_end(&mut self, alloc: Global, end: &[u8]) -> Result<(), AllocError>
+    /// Takes the end of a line, without its line feed.
+    fn on_line_end(&mut self, alloc: Global, end: &[u8]) -> Result<(), SuiteError>
         ensures reads { OnOk result ((input : List ℕ) → HasRead self.old input
             → IsOneLine end.now → HasRead self.new (input ++ with_feed end.now)) }
         ensures options { self.new.kept.options ≡ self.old.kept.options }
@@ -61,9 +63,8 @@ impl Reading {
         Ok(())
     }
 
-    /// Takes the end of the input: what stands behind the last line feed is a line, if it is not
-    /// empty.
-    pub(crate) fn finish(&mut self, alloc: Global) -> Result<(), AllocError>
+    /// Takes the end of the input. If there are bytes after the last line feed, they are a line.
+    pub(crate) fn finish(&mut self, alloc: Global) -> Result<(), SuiteError>
         ensures reads { OnOk result ((input : List ℕ) → HasRead self.old input
             → HasReadAll self.new.kept input) }
         ensures options { self.new.kept.options ≡ self.old.kept.options }
@@ -75,8 +76,8 @@ impl Reading {
     }
 }
 
-/// Reads a line, and takes what it says.
-fn tell(kept: &mut Kept, alloc: Global, bytes: &[u8]) -> Result<(), AllocError>
+/// Reads a line, and takes its event.
+fn tell(kept: &mut Kept, alloc: Global, bytes: &[u8]) -> Result<(), SuiteError>
     ensures keeps { OnOk result ((events : List (Option EventView)) → KeepsLines kept.old events
         → (event : Option EventView) × Tells bytes.now event
         × KeepsLines kept.new (events ++ event ∷ [])) }

@@ -1,4 +1,4 @@
-//! The report of a run: from the lines that tell of it.
+//! The report of a run, from the lines of its events.
 
 ghost use Rattle.std.specs.Prelude.{◌≡◌, ◌↔◌, ◌⊎◌, true, false, IfErr, IfOk, IfSome, OnOk, IsErrOf};
 ghost use Rattle.std.specs.Io.KnownBytes.{IsAtEnd};
@@ -15,16 +15,17 @@ use run_events_stats::outcome::RunOutcome;
 use std::alloc::Global;
 use test_report_text::options::Options;
 
-/// How many bytes are read at once.
+/// The number of bytes that are read at once.
 const CHUNK: usize = 16_384;
 
-/// Reads a source to its end, a piece at a time, and takes each of its lines as it ends.
+/// Reads a source to its end, piece by piece, and takes each line as soon as it is complete.
 fn read_lines<R: Source>(alloc: Global, source: &mut R, options: Options) -> Result<Reading, Fault>
     requires { R.failed source.old ≡ false }
     ensures reads { IfOk result (λ reading. IfSome (R.left source.old) (HasRead reading)) }
     ensures options { IfOk result (λ reading. reading.kept.options ≡ options) }
     ensures end { OnOk result (IsAtEnd (R.left source.new)) }
-    ensures errors { IfErr result (λ e. (e ≡ faults.Read) ⊎ (e ≡ faults.OutOfMemory)) }
+    ensures errors { IfErr result
+        (λ e. (e ≡ faults.Read) ⊎ (e ≡ faults.CounterFull) ⊎ (e ≡ faults.OutOfMemory)) }
     ensures read { IsErrOf result faults.Read ↔ (R.failed source.new ≡ true) }
 {
     let mut reading = Reading::new(alloc, options);
@@ -39,16 +40,17 @@ fn read_lines<R: Source>(alloc: Global, source: &mut R, options: Options) -> Res
         }
         reading.on_bytes(alloc, &chunk[..n])?;
     }
-    Err(Fault::OutOfMemory)
+    Err(Fault::CounterFull)
 }
 
-/// What is kept of the run that a source tells, all of it read.
+/// Returns the state of the run after all lines of a source.
 fn read_run<R: Source>(alloc: Global, source: &mut R, options: Options) -> Result<Kept, Fault>
     requires { R.failed source.old ≡ false }
     ensures reads { IfOk result (λ kept. IfSome (R.left source.old) (HasReadAll kept)) }
     ensures options { IfOk result (λ kept. kept.options ≡ options) }
     ensures end { OnOk result (IsAtEnd (R.left source.new)) }
-    ensures errors { IfErr result (λ e. (e ≡ faults.Read) ⊎ (e ≡ faults.OutOfMemory)) }
+    ensures errors { IfErr result
+        (λ e. (e ≡ faults.Read) ⊎ (e ≡ faults.CounterFull) ⊎ (e ≡ faults.OutOfMemory)) }
     ensures read { IsErrOf result faults.Read ↔ (R.failed source.new ≡ true) }
 {
     let mut reading = read_lines(alloc, source, options)?;
@@ -57,26 +59,30 @@ fn read_run<R: Source>(alloc: Global, source: &mut R, options: Options) -> Resul
     Ok(kept)
 }
 
-/// Reads all of the source, which tells a test run line by line, as Rust's test harness or nextest
-/// writes it in JSON, and writes its report. Answers whether the outcome of the run is `Success`.
+/// Reads the events of a test run from `source` and writes a report to `sink`. Returns true if the
+/// outcome of the run is `Success`.
 ///
-/// The run is what its lines say. Lines of tests count for the suite that began last, up to its
-/// end: any line begins a test that says so, a test ends where it was running in the suite, and a
-/// line of a test that is not running, or that says nothing, is passed over and counted.
+/// The input is the JSON output of Rust's test harness or of nextest, one event a line. The events of
+/// tests belong to the open suite, which is the one that began last and has not ended. A line is
+/// passed over and counted if it is no event, or if it is of a test that is not running.
 ///
-/// The report tells each failed test, in the order in which they ended; then each suite in which a
-/// test failed, or fewer tests ran than were to run, or of which no line says that it ended, or in
-/// which a test began and never ended, with the names of those; then the totals, the outcome of
-/// the run, which is the highest of its suites' outcomes, and the number of lines that were passed
-/// over.
+/// The report lists
 ///
-/// Neither device may have failed before. Everything is read first, then the whole report is
-/// written, then the sink is flushed.
+/// - each failed test, in the order in which they ended;
+/// - each suite in which a test failed, or fewer tests ran than were to run, or which has no end, or
+///   in which a test began and never ended, with the names of those tests;
+/// - the totals, the outcome of the run and the number of lines that were passed over.
 ///
-/// - [`Fault::Read`] exactly where the source fails, [`Fault::Write`] exactly where the sink does.
-/// - [`Fault::OutOfMemory`] where memory is refused, or a number does not fit its counter.
+/// The outcome of the run is the highest of the outcomes of its suites.
 ///
-/// Nothing is written where it fails, save by [`Fault::Write`], when a beginning of the report is.
+/// Neither device may have failed before. All input is read first, then the whole report is written,
+/// then the sink is flushed. After a fault nothing was written, except that after [`Fault::Write`]
+/// some first bytes of the report may have been written.
+///
+/// - [`Fault::Read`] if and only if the source fails, and [`Fault::Write`] if and only if the sink
+///   fails.
+/// - [`Fault::CounterFull`] if a number does not fit its counter.
+/// - [`Fault::OutOfMemory`] if there is not enough memory.
 pub fn report<R: Source, W: Sink>(
     alloc: Global,
     source: &mut R,
@@ -86,7 +92,8 @@ pub fn report<R: Source, W: Sink>(
     requires source_works { R.failed source.old ≡ false }
     requires sink_works { W.failed sink.old ≡ false }
     ensures faults { IfErr result
-        (λ e. (e ≡ faults.Read) ⊎ (e ≡ faults.Write) ⊎ (e ≡ faults.OutOfMemory)) }
+        (λ e. (e ≡ faults.Read) ⊎ (e ≡ faults.Write) ⊎ (e ≡ faults.CounterFull)
+        ⊎ (e ≡ faults.OutOfMemory)) }
     ensures read { IsErrOf result faults.Read ↔ (R.failed source.new ≡ true) }
     ensures write { IsErrOf result faults.Write ↔ (W.failed sink.new ≡ true) }
     ensures end { ReadsToEnd result (R.left source.new) }

@@ -1,18 +1,18 @@
-//! What a line says.
+//! The events of a test run.
 
-/// How a test ended.
+/// The result of a test.
 #[derive(Clone, Copy, Debug, PartialEq, Eq)]
 pub enum TestResult {
-    /// It passed.
+    /// The test passed.
     Passed,
 
-    /// It failed.
+    /// The test failed.
     Failed,
 
-    /// It failed because it took longer than it may.
+    /// The test failed because it ran out of time.
     TimedOut,
 
-    /// It was not run.
+    /// The test was not run.
     Ignored,
 }
 
@@ -22,29 +22,29 @@ pub struct TestEnd<'a> {
     /// The name of the test.
     pub name: &'a str,
 
-    /// How many attempts it took.
+    /// The number of attempts.
     pub attempts: usize,
 
-    /// How it ended.
+    /// The result of the test.
     pub result: TestResult,
 
-    /// What it wrote, standard output and standard error as one, where that was captured.
+    /// The output of the test, with both streams as one, if it was captured.
     pub output: Option<&'a str>,
 
-    /// What the harness says of it.
+    /// The message of the harness, if there is one.
     pub message: Option<&'a str>,
 }
 
-/// What a line says.
+/// An event of a test run.
 #[derive(Clone, Copy, Debug, PartialEq, Eq)]
 pub enum Event<'a> {
     /// A suite begins.
     SuiteStarted {
-        /// How many tests it has, those that it ignores among them.
+        /// The number of its tests, including ignored ones.
         test_count: usize,
     },
 
-    /// The suite that began last ends.
+    /// The open suite ends.
     SuiteEnded,
 
     /// A test begins.
@@ -53,7 +53,7 @@ pub enum Event<'a> {
         name: &'a str,
     },
 
-    /// A test takes long, and goes on.
+    /// A test is slow, and still running.
     TestSlow {
         /// The name of the test.
         name: &'a str,

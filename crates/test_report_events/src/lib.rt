@@ -1,6 +1,6 @@
-//! What the lines of a test run say, as Rust's test harness and cargo nextest write them in JSON.
+//! The events of a test run, from the JSON lines of Rust's test harness or of cargo nextest.
 //!
-//! A line is read, and what it says is looked up in it:
+//! A function that reads the number of tests in a line that begins a suite:
 //!
 //! ```rust
 //! let line = Line::read(alloc, bytes)?;

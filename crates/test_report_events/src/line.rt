@@ -11,18 +11,15 @@ use bstr::ByteSlice;
 use serde_json::Value;
 use std::alloc::{AllocError, Global};
 
-/// What was read of a line: the JSON value that it holds, if it holds one.
+/// A line of a test run, with its JSON value if it has one.
 #[derive(Debug, Drop)]
 pub struct Line {
     value: Option<Value>,
 }
 
 impl Line {
-    /// Reads a line. All of it is the text of its value; or, where all of it is no JSON, its end
-    /// is, from the last place on at which an object begins as those of events do: so an event is
-    /// told that stands behind what a test wrote without a line feed.
-    ///
-    /// The only error is that memory is refused.
+    /// Reads a line. If the whole line is not JSON, the value is read from the last offset at which an
+    /// event begins. So an event is found even if a test wrote to the same line before it.
     pub fn read(alloc: Global, bytes: &[u8]) -> Result<Line, AllocError>
         ensures { IfOk result (λ line. IsRead bytes.now (value_of line)) }
     {
@@ -36,8 +33,7 @@ impl Line {
         Ok(Line { value })
     }
 
-    /// What the line says, if anything: the table of the members of its object. There is no other
-    /// event that it says.
+    /// Returns the event of the line, or `None` if the line is no event.
     pub fn event(&self) -> Option<Event<'_>>
         ensures says { IfSome result (λ e. ValueSays (value_of self.now) (event_view e)) }
         ensures only { (said : EventView) → ValueSays (value_of self.now) said
@@ -47,7 +43,7 @@ impl Line {
     }
 }
 
-/// The value that bytes are the JSON text of, if they are one.
+/// Parses bytes as JSON, and returns `None` if they are not.
 fn value_from(alloc: Global, bytes: &[u8]) -> Result<Option<Value>, AllocError>
     ensures { IfOk result (λ found. IsValueOf bytes.now found) }
 {
@@ -58,8 +54,8 @@ fn value_from(alloc: Global, bytes: &[u8]) -> Result<Option<Value>, AllocError>
     }
 }
 
-/// The last place at which an object begins as those of events do: the harness writes a space
-/// behind its brace, and nextest none.
+/// Returns the last offset at which an event begins. The harness writes a space after the brace of an
+/// event, and nextest does not.
 fn last_object(line: &[u8]) -> Option<usize>
     ensures { FindsLastObject line.now result }
 {

@@ -1,4 +1,4 @@
-//! The members of an object, and what they say.
+//! The members of the JSON object of an event.
 
 ghost use Rattle.std.specs.Prelude.{◌≡◌, Some, IfSome, codes, option_map};
 ghost use Rattle.serde_json.specs.View.{view};
@@ -9,14 +9,14 @@ ghost use Rattle.test_report_events.specs.Table.{IsAttempts, end_said, failure_s
 use crate::event::{Event, TestEnd, TestResult};
 use serde_json::Value;
 
-/// The text of a member.
+/// Returns the text of a member.
 fn text_of<'a>(value: &'a Value, key: &str) -> Option<&'a str>
     ensures { option_map (λ text. text.now) result ≡ said.text_of key.now (view value.now) }
 {
     value.get(key).and_then(Value::as_str)
 }
 
-/// The number of a member.
+/// Returns the number of a member.
 fn number_of(value: &Value, key: &str) -> Option<usize>
     ensures { result ≡ said.number_of key.now (view value.now) }
 {
@@ -24,7 +24,7 @@ fn number_of(value: &Value, key: &str) -> Option<usize>
     usize::try_from(number).ok()
 }
 
-/// What the object of a suite says.
+/// Returns the event of a suite's object.
 #[tactic(auto, unfolding(crate::specs::Table::suite_said))]
 fn suite_event_of<'a>(value: &'a Value, event: &str) -> Option<Event<'a>>
     ensures { option_map event_view result ≡ suite_said event.now (view value.now) }
@@ -39,20 +39,20 @@ fn suite_event_of<'a>(value: &'a Value, event: &str) -> Option<Event<'a>>
     }
 }
 
-/// The end of a test.
-fn end_of<'a>(value: &'a Value, name: &'a str, attempts: usize, how: TestResult) -> TestEnd<'a>
-    ensures { end_view result ≡ end_said (view value.now) name.now attempts how }
+/// Returns the end of a test.
+fn end_of<'a>(value: &'a Value, name: &'a str, attempts: usize, test: TestResult) -> TestEnd<'a>
+    ensures { end_view result ≡ end_said (view value.now) name.now attempts test }
 {
     TestEnd {
         name,
         attempts,
-        result: how,
+        result: test,
         output: text_of(value, "stdout"),
         message: text_of(value, "message"),
     }
 }
 
-/// How a test failed.
+/// Returns the result of a failed test.
 #[tactic(auto, unfolding(crate::specs::Table::failure_said))]
 fn failure_of(value: &Value) -> TestResult
     ensures { result ≡ failure_said (view value.now) }
@@ -63,7 +63,7 @@ fn failure_of(value: &Value) -> TestResult
     }
 }
 
-/// What the object of a test with this name says.
+/// Returns the event of a test's object.
 #[tactic(auto, unfolding(crate::specs::Table::test_said))]
 fn test_event_of<'a>(
     value: &'a Value,
@@ -85,7 +85,7 @@ fn test_event_of<'a>(
     Some(Event::TestEnded(end_of(value, name, attempts, result)))
 }
 
-/// The number of attempts that digits say: it has no sign, and no zero in front.
+/// Parses a number of attempts, which has no sign and no leading zero.
 fn attempts_of(digits: &str) -> Option<usize>
     ensures { IsAttempts digits.now result }
 {
@@ -95,7 +95,7 @@ fn attempts_of(digits: &str) -> Option<usize>
     digits.parse().ok()
 }
 
-/// The name of a test, and how many attempts it took, as its written name says.
+/// Splits a written name into the name of a test and the number of its attempts.
 fn name_of(written: &str) -> (&str, usize)
     ensures { said.Names written.now result.0.now result.1 }
 {
@@ -107,7 +107,7 @@ fn name_of(written: &str) -> (&str, usize)
     (written, 1)
 }
 
-/// What the members of an object say: the table.
+/// Returns the event of an object.
 pub(crate) fn event_of(value: &Value) -> Option<Event<'_>>
     ensures says { IfSome result (λ e. said.Says (view value.now) (event_view e)) }
     ensures only { (event : EventView) → said.Says (view value.now) event

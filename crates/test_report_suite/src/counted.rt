@@ -1,4 +1,4 @@
-//! How the end of a test is counted.
+//! Counting the end of a test.
 
 ghost use Rattle.std.specs.Prelude.{◌≡◌, OnOk};
 ghost use Rattle.run_events_stats.specs.Counters.{with_test};
@@ -8,19 +8,18 @@ ghost use Rattle.test_report_suite.specs.Counted.{described_end, view_of_end};
 use run_events_levels::view::TestView;
 use run_events_results::results::{ExecutionResultDescription, FailureDescription};
 use run_events_settings::config::{FlakyResult, SlowTimeoutResult};
-use run_events_stats::stats::RunStats;
-use std::alloc::AllocError;
+use run_events_stats::stats::{CounterFull, RunStats};
 use test_report_events::event::{TestEnd, TestResult};
 
-/// The status with which Rust's test harness ends where a test failed.
+/// The exit code of Rust's test harness if a test failed.
 const HARNESS_FAILED: i32 = 101;
 
-/// The result of a test that ended so. Of a failure no line says more: it has the status of the
-/// harness. A test that was not run has no result, and [`count_end`] is not asked to count it.
-fn described(how: TestResult) -> ExecutionResultDescription
-    ensures { result ≡ described_end how }
+/// Describes the result of a test. The lines do not give the exit code of a failed test, so it is
+/// that of the harness. An ignored test has no result, and is not counted.
+fn described(test: TestResult) -> ExecutionResultDescription
+    ensures { result ≡ described_end test }
 {
-    match how {
+    match test {
         TestResult::Passed | TestResult::Ignored => ExecutionResultDescription::Pass,
         TestResult::Failed => ExecutionResultDescription::Fail {
             failure: FailureDescription::ExitCode {
@@ -34,9 +33,11 @@ fn described(how: TestResult) -> ExecutionResultDescription
     }
 }
 
-/// Counts a test that ended so, by its result and the number of its attempts. The only error is
-/// that a counter has no room: then nothing is counted.
-pub fn count_end(stats: &mut RunStats, end: TestEnd<'_>) -> Result<(), AllocError>
+/// Counts the end of a test, by its result and the number of its attempts.
+///
+/// The error is [`CounterFull`] if a counter that the test raises is `usize::MAX`. The counters are
+/// then unchanged.
+pub fn count_end(stats: &mut RunStats, end: TestEnd<'_>) -> Result<(), CounterFull>
     ensures counts { OnOk result
         (stats.new ≡ with_test stats.old (view_of_end (end_view end.entry))) }
 {
@@ -47,9 +48,5 @@ pub fn count_end(stats: &mut RunStats, end: TestEnd<'_>) -> Result<(), AllocErro
         is_slow: false,
         flaky_result: FlakyResult::Pass,
     };
-    if !stats.can_count_view(&view) {
-        return Err(AllocError);
-    }
-    stats.on_test_view(&view);
-    Ok(())
+    stats.try_on_test_view(&view)
 }

@@ -1,7 +1,7 @@
-//! A suite of a test run, counted line by line as the lines come.
+//! A suite of a test run, counted line by line.
 //!
-//! A line is an event of the run where it begins a test, or is of a test that is running; the suite
-//! says which, and keeps of it what its statistics and the names of the running tests need:
+//! A line is an event of the run if it begins a test, or if it is of a running test. The suite keeps
+//! its statistics and the names of the running tests:
 //!
 //! ```rust
 //! let mut suite = Suite::new(alloc, test_count);

@@ -1,4 +1,4 @@
-//! A suite, of which the lines come one by one.
+//! A suite that is counted line by line.
 
 ghost use Rattle.std.specs.Prelude.{◌≡◌, ◌++◌, ◌∷◌, ℕ, [], List, Option, Some, IfOk, OnOk, map, option_map, string_bytes};
 ghost use Rattle.test_report_events.specs.Event.{EventView, TestEnds, end_view, event_view};
@@ -7,13 +7,73 @@ ghost use Rattle.test_report_suite.specs.Lines.{is_running, is_told};
 ghost use Rattle.test_report_suite.specs.Suite.{AreRunning, IsSuiteOf};
 
 use crate::counted::count_end;
-use run_events_stats::stats::RunStats;
-use std::alloc::{AllocError, Global};
+use run_digest_devices::fault::Fault;
+use run_events_stats::stats::{CounterFull, RunStats};
+use std::alloc::{AllocError, AllocFailed, Global};
 use std::collections::BTreeSet;
 use test_report_events::event::{Event, TestEnd, TestResult};
 
-/// A suite that goes on, or is over: how many tests it has, what its tests so far come to, and
-/// which of them are running. It takes memory for the names of those alone.
+/// Why a line was not counted.
+#[derive(Clone, Copy, Debug, PartialEq, Eq)]
+pub enum SuiteError {
+    /// A counter is `usize::MAX`.
+    CounterFull,
+
+    /// There was not enough memory.
+    OutOfMemory,
+}
+
+impl From<CounterFull> for SuiteError {
+    ghost use Rattle.std.specs.Prelude.{◌≡◌};
+    ghost use Rattle.test_report_suite.specs.declared.suite.SuiteError.TheVariants.{CounterFull};
+
+    ghost from_gives = { λ _ e. e ≡ CounterFull };
+
+    fn from(_: CounterFull) -> SuiteError {
+        SuiteError::CounterFull
+    }
+}
+
+impl From<AllocError> for SuiteError {
+    ghost use Rattle.std.specs.Prelude.{◌≡◌};
+    ghost use Rattle.test_report_suite.specs.declared.suite.SuiteError.TheVariants.{OutOfMemory};
+
+    ghost from_gives = { λ _ e. e ≡ OutOfMemory };
+
+    fn from(_: AllocError) -> SuiteError {
+        SuiteError::OutOfMemory
+    }
+}
+
+impl<T: Drop> From<AllocFailed<T>> for SuiteError {
+    ghost use Rattle.std.specs.Prelude.{◌≡◌};
+    ghost use Rattle.test_report_suite.specs.declared.suite.SuiteError.TheVariants.{OutOfMemory};
+
+    ghost from_gives = { λ _ e. e ≡ OutOfMemory };
+
+    fn from(_: AllocFailed<T>) -> SuiteError {
+        SuiteError::OutOfMemory
+    }
+}
+
+impl From<SuiteError> for Fault {
+    ghost use Rattle.std.specs.Prelude.{◌≡◌, ◌⊎◌};
+    ghost use Rattle.run_digest_devices.specs.declared.fault.Fault.TheVariants as faults;
+    ghost use Rattle.test_report_suite.specs.declared.suite.SuiteError.TheVariants as errors;
+
+    ghost from_gives = { λ error fault. ((error ≡ errors.CounterFull) × (fault ≡ faults.CounterFull))
+        ⊎ ((error ≡ errors.OutOfMemory) × (fault ≡ faults.OutOfMemory)) };
+
+    fn from(error: SuiteError) -> Fault {
+        match error {
+            SuiteError::CounterFull => Fault::CounterFull,
+            SuiteError::OutOfMemory => Fault::OutOfMemory,
+        }
+    }
+}
+
+/// A suite of a test run: the number of its tests, its statistics so far, and the names of its
+/// running tests.
 #[derive(Drop)]
 pub struct Suite {
     test_count: usize,
@@ -23,7 +83,7 @@ pub struct Suite {
 }
 
 impl Suite {
-    /// A suite of so many tests, of which no line has come.
+    /// Returns a suite of `test_count` tests, before its first line.
     pub fn new(alloc: Global, test_count: usize) -> Suite
         ensures { IsSuiteOf result test_count [] }
     {
@@ -35,13 +95,13 @@ impl Suite {
         }
     }
 
-    /// Takes what the next line says, if it says anything, and answers whether that is an event of
-    /// the run: a test begins, or one that is running is slow or ends. What else a line says
-    /// changes nothing; that a suite begins or ends is not for this suite to tell.
+    /// Takes the event of the next line, or `None` for a line that is no event. Returns true if the
+    /// event is one of the run: a test begins, or a running test is slow or ends. Any other event
+    /// changes nothing, and neither does the beginning or the end of a suite.
     ///
-    /// The only error is that memory is refused, or a counter has no room. What is kept after it is
-    /// not said.
-    pub fn on_line(&mut self, alloc: Global, line: Option<Event<'_>>) -> Result<bool, AllocError>
+    /// The error is [`SuiteError::CounterFull`] if a counter is `usize::MAX`. The state of the suite
+    /// is then unspecified.
+    pub fn on_line(&mut self, alloc: Global, line: Option<Event<'_>>) -> Result<bool, SuiteError>
         ensures told { IfOk result (λ told. (count : ℕ) (lines : List (Option EventView))
             → IsSuiteOf self.old count lines
             → told ≡ is_told lines (option_map event_view line.entry)) }
@@ -60,8 +120,8 @@ impl Suite {
         }
     }
 
-    /// Takes the end of a test, and answers whether that test was running.
-    fn on_end(&mut self, end: TestEnd<'_>) -> Result<bool, AllocError>
+    /// Takes the end of a test, and returns true if the test was running.
+    fn on_end(&mut self, end: TestEnd<'_>) -> Result<bool, SuiteError>
         ensures told { IfOk result (λ told. (count : ℕ) (lines : List (Option EventView))
             → IsSuiteOf self.old count lines → told ≡ is_running end.entry.name.now lines) }
         ensures follows { OnOk result ((count : ℕ) (lines : List (Option EventView))
@@ -72,15 +132,15 @@ impl Suite {
             return Ok(false);
         }
         if end.result == TestResult::Ignored {
-            self.ignored = self.ignored.checked_add(1).ok_or(AllocError)?;
+            self.ignored = self.ignored.checked_add(1).ok_or(SuiteError::CounterFull)?;
         } else {
             count_end(&mut self.stats, end)?;
         }
         Ok(true)
     }
 
-    /// The statistics of the suite, with the tests that it ignored as skipped: these were not to
-    /// run.
+    /// Returns the statistics of the suite. Its ignored tests are counted as skipped, and not as tests
+    /// that were to run.
     pub fn stats(&self) -> RunStats
         ensures { (count : ℕ) (lines : List (Option EventView)) → IsSuiteOf self.now count lines
             → result ≡ suite_stats count lines }
@@ -92,7 +152,7 @@ impl Suite {
         }
     }
 
-    /// The names of the tests that are running.
+    /// Returns the names of the running tests.
     pub fn running(&self) -> &BTreeSet<String>
         ensures { (count : ℕ) (lines : List (Option EventView)) → IsSuiteOf self.now count lines
             → AreRunning lines (map string_bytes result.now.keys) }

@@ -11,7 +11,7 @@ use std::alloc::{AllocError, Global};
 use std::fmt::Write;
 use test_report_events::event::{TestEnd, TestResult};
 
-/// How a test ended, in words.
+/// Returns the words for the result of a test.
 fn result_text(result_of: TestResult) -> &'static str
     ensures { result.now ≡ result_words result_of }
 {
@@ -23,7 +23,7 @@ fn result_text(result_of: TestResult) -> &'static str
     }
 }
 
-/// Appends how many attempts a test took, where it took more than one.
+/// Appends the number of attempts, if it is more than one.
 #[tactic(auto, unfolding(crate::specs::Report::attempts_words))]
 fn push_attempts(text: &mut String, attempts: usize) -> Result<(), AllocError>
     ensures { OnOk result (string_bytes text.new
@@ -47,8 +47,8 @@ fn push_heading(text: &mut String, end: TestEnd<'_>) -> Result<(), AllocError>
     text.push('\n')
 }
 
-/// Appends the lines that tell why a test failed, by the bytes that say so. Where they are not
-/// UTF-8 U+FFFD stands for each malformed piece.
+/// Appends the lines that explain the failure of a test, with U+FFFD in place of each piece that is
+/// not UTF-8.
 fn push_reason(
     text: &mut String,
     alloc: Global,
@@ -68,22 +68,21 @@ fn push_reason(
     }
 }
 
-/// Appends what tells of a failed test: a line with how it failed, its name, and how many attempts
-/// it took where they were more than one; then why, in lines behind four spaces: the part of its
-/// output that says so, or else the message of the harness, or else the last ten lines of its
-/// output, or that nothing was captured.
+/// Appends the text of a failed test: a line with its result, its name and, if it is more than one,
+/// the number of its attempts. Then come lines that are indented by four spaces, with the part of
+/// its output that explains the failure, or else the message of the harness, or else the last ten
+/// lines of its output, or else a note that nothing was captured.
 ///
-/// Of these at most `limit` bytes are shown, up to the beginning of a character, and a line says
-/// how many bytes are not. Control characters are shown as escapes such as `\u{1b}`, but for line
-/// feeds and tabs; `raw` keeps them. In a name all of them are escapes.
-///
-/// The only error is that memory is refused; a part of the text may be appended then.
+/// At most `limit` bytes of these lines are shown, and a line gives the number of bytes that are not.
+/// The cut is at the beginning of a character. Control characters except line feeds and tabs are
+/// shown as escapes such as `\u{1b}`, unless `raw` is set. In a name all of them are escapes.
 pub fn push_failure(
     text: &mut String,
     alloc: Global,
     end: TestEnd<'_>,
     options: Options,
 ) -> Result<(), AllocError>
+    // If memory is refused, a part of the text may have been appended.
     ensures { OnOk result ((failure : List ℕ)
         × IsFailureText options (end_view end.entry) failure
         × (string_bytes text.new ≡ string_bytes text.old ++ failure)) }

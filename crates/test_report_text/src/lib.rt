@@ -1,7 +1,7 @@
 //! The text of a report of a test run, part by part.
 //!
-//! What tests wrote is shown so that it cannot drive the reader's terminal: control characters are
-//! escapes. Each part is appended to a text:
+//! Control characters in the output of tests are shown as escapes, so the report cannot control the
+//! reader's terminal. A call that appends the text of a failed test:
 //!
 //! ```rust
 //! let mut text = String::new(alloc);

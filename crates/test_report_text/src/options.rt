@@ -1,11 +1,11 @@
-//! What a report is set to.
+//! The options of a report.
 
-/// What a report is set to.
+/// The options of a report.
 #[derive(Clone, Copy, Debug, PartialEq, Eq)]
 pub struct Options {
-    /// How many bytes of what says why a test failed are shown at most.
+    /// The greatest number of bytes that are shown to explain the failure of a test.
     pub limit: usize,
 
-    /// Whether control characters that tests wrote are kept as they are.
+    /// True if control characters in the output of tests are not escaped.
     pub raw: bool,
 }

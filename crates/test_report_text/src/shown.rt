@@ -1,4 +1,4 @@
-//! How what tests wrote is shown.
+//! The form in which names and output are shown.
 
 ghost use Rattle.std.specs.Prelude.{◌≡◌, ◌++◌, ℕ, List, OnOk, string_bytes};
 ghost use Rattle.std.specs.List.{flat_map};
@@ -9,7 +9,7 @@ use crate::options::Options;
 use std::alloc::AllocError;
 use std::fmt::Write;
 
-/// Appends a character of a name: a control character as its escape.
+/// Appends a character of a name. A control character is shown as an escape.
 #[tactic(auto, unfolding(crate::specs::Shown::shown_char))]
 fn push_char(text: &mut String, c: char) -> Result<(), AllocError>
     ensures { OnOk result (string_bytes text.new ≡ string_bytes text.old ++ shown_char c) }
@@ -22,7 +22,7 @@ fn push_char(text: &mut String, c: char) -> Result<(), AllocError>
     }
 }
 
-/// Appends a name, in one line.
+/// Appends a name in one line.
 pub(crate) fn push_name(text: &mut String, name: &str) -> Result<(), AllocError>
     ensures { OnOk result (string_bytes text.new ≡ string_bytes text.old ++ shown_name name.now) }
 {
@@ -32,8 +32,8 @@ pub(crate) fn push_name(text: &mut String, name: &str) -> Result<(), AllocError>
     Ok(())
 }
 
-/// Appends a character of a text: behind a line feed the next line is indented, a tab stays, and
-/// another control character is an escape unless all are kept.
+/// Appends a character of a text. The line after a line feed is indented. A control character except a
+/// tab is shown as an escape unless `raw` is set.
 #[tactic(auto, unfolding(crate::specs::Shown::text_char))]
 fn push_text_char(text: &mut String, c: char, raw: bool) -> Result<(), AllocError>
     ensures { OnOk result (string_bytes text.new ≡ string_bytes text.old ++ text_char raw c) }
@@ -57,7 +57,7 @@ fn push_chars(text: &mut String, shown: &str, raw: bool) -> Result<(), AllocErro
     Ok(())
 }
 
-/// Appends how many bytes are not shown, where there are any.
+/// Appends the number of bytes that are not shown, if it is not 0.
 #[tactic(auto, unfolding(crate::specs::Shown::rest_line))]
 fn push_rest(text: &mut String, rest: usize) -> Result<(), AllocError>
     ensures { OnOk result (string_bytes text.new ≡ string_bytes text.old ++ rest_line rest) }
@@ -68,8 +68,8 @@ fn push_rest(text: &mut String, rest: usize) -> Result<(), AllocError>
     writeln!(text, "  bytes not shown: {rest}")
 }
 
-/// Appends a text, indented: at most as many bytes of it as the options have as limit, and then how
-/// many bytes are not shown.
+/// Appends an indented text, at most `limit` bytes of it, and then the number of bytes that are not
+/// shown.
 pub(crate) fn push_shown(text: &mut String, shown: &str, options: Options) -> Result<(), AllocError>
     ensures { OnOk result ((lines : List ℕ) × IsShown options.raw options.limit shown.now lines
         × (string_bytes text.new ≡ string_bytes text.old ++ lines)) }

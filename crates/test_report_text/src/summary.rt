@@ -1,4 +1,4 @@
-//! The text of suites, and of all of a run.
+//! The texts of suites and of the totals of a run.
 
 ghost use Rattle.std.specs.Prelude.{◌≡◌, ◌++◌, ℕ, List, OnOk, map, string_bytes};
 ghost use Rattle.std.specs.List.{flat_map};
@@ -12,22 +12,26 @@ use std::alloc::AllocError;
 use std::collections::BTreeSet;
 use std::fmt::Write;
 
-/// Appends a text, if it is to stand there.
-fn push_if(text: &mut String, stands: bool, part: &str) -> Result<(), AllocError>
+/// Appends a text if `is_shown` is true.
+fn push_if(text: &mut String, is_shown: bool, part: &str) -> Result<(), AllocError>
     ensures { OnOk result (string_bytes text.new
-        ≡ string_bytes text.old ++ only_if stands part.now) }
+        ≡ string_bytes text.old ++ only_if is_shown part.now) }
 {
-    if stands { text.push_str(part) } else { Ok(()) }
+    if is_shown {
+        text.push_str(part)
+    } else {
+        Ok(())
+    }
 }
 
-/// Whether fewer tests ran than were to run.
+/// Returns true if fewer tests ran than were to run.
 fn is_cut_short(stats: &RunStats) -> bool
     ensures { result ≡ ended_early stats.now }
 {
     stats.finished_count < stats.initial_run_count
 }
 
-/// Appends what is the matter with a suite.
+/// Appends the problems of a suite.
 #[tactic(auto, unfolding(crate::specs::Report::suite_marks))]
 fn push_marks(text: &mut String, stats: &RunStats, has_end: bool) -> Result<(), AllocError>
     ensures { OnOk result (string_bytes text.new
@@ -79,13 +83,12 @@ fn push_running(text: &mut String, running: &BTreeSet<String>) -> Result<(), All
     Ok(())
 }
 
-/// Appends what tells of a suite, by its number, its statistics, whether a line says that it ended,
-/// and the names of the tests that began in it and never ended: a line with what is the matter with
-/// it and how many of its tests ran and failed, and a line for each of these names. Where no test
-/// failed, all ran, a line says that it ended and no name is there, nothing is appended.
+/// Appends the text of a suite, given its number, its statistics, whether it has an end, and the names
+/// of the tests that began in it and never ended. The text is a line with the problems of the suite and
+/// with how many of its tests ran and failed, and then a line for each of the names. Nothing is
+/// appended for a suite without problems.
 ///
-/// The sums of its failures must fit `usize`. The only error is that memory is refused; a part of
-/// the text may be appended then.
+/// The sums of its failures must fit `usize`; [`RunStats::failed_counts_fit`] tests it.
 pub fn push_suite(
     text: &mut String,
     number: usize,
@@ -94,6 +97,7 @@ pub fn push_suite(
     running: &BTreeSet<String>,
 ) -> Result<(), AllocError>
     requires { FailuresFit stats.now }
+    // If memory is refused, a part of the text may have been appended.
     ensures { OnOk result (string_bytes text.new ≡ string_bytes text.old
         ++ suite_text number stats.now has_end (map string_bytes running.now.keys)) }
 {
@@ -104,7 +108,7 @@ pub fn push_suite(
     push_running(text, running)
 }
 
-/// The words of an outcome. Its step is always that of the tests: no line tells of a setup script.
+/// Returns the words for an outcome. The step is left out, because it is always that of the tests.
 #[tactic(auto, unfolding(crate::specs::Report::outcome_words))]
 fn outcome_text(outcome: RunOutcome) -> &'static str
     ensures { result.now ≡ outcome_words outcome }
@@ -117,7 +121,7 @@ fn outcome_text(outcome: RunOutcome) -> &'static str
     }
 }
 
-/// Appends how many lines were passed over, where there are any.
+/// Appends the number of lines that were passed over, if it is not 0.
 #[tactic(auto, unfolding(crate::specs::Report::passed_over_line))]
 fn push_passed_over(text: &mut String, passed_over: usize) -> Result<(), AllocError>
     ensures { OnOk result (string_bytes text.new
@@ -129,12 +133,10 @@ fn push_passed_over(text: &mut String, passed_over: usize) -> Result<(), AllocEr
     writeln!(text, "lines passed over {passed_over}")
 }
 
-/// Appends the last lines of a report: the totals of all suites, by the statistics of their tests
-/// and the number of those that were not run; the outcome of the run; and how many lines were
-/// passed over, where there are any.
+/// Appends the last lines of a report: the totals of all suites, the outcome of the run and, if it is
+/// not 0, the number of lines that were passed over.
 ///
-/// The sums of failures must fit `usize`. The only error is that memory is refused; a part of the
-/// text may be appended then.
+/// The sums of failures must fit `usize`; [`RunStats::failed_counts_fit`] tests it.
 #[tactic(auto, unfolding(crate::specs::Report::totals_text))]
 pub fn push_totals(
     text: &mut String,
@@ -144,6 +146,7 @@ pub fn push_totals(
     passed_over: usize,
 ) -> Result<(), AllocError>
     requires { FailuresFit stats.now }
+    // If memory is refused, a part of the text may have been appended.
     ensures { OnOk result (string_bytes text.new
         ≡ string_bytes text.old ++ totals_text stats.now skipped outcome passed_over) }
 {

@@ -1,4 +1,4 @@
-//! Why a test failed.
+//! The part of a test's output that explains its failure.
 
 ghost use Rattle.std.specs.Prelude.{◌≡◌, option_copied, option_map};
 ghost use Rattle.std.specs.Str.{trim_end};
@@ -8,10 +8,10 @@ ghost use Rattle.test_report_text.specs.Why.{extract_bytes, IsLastLines, IsTextE
 use bstr::ByteSlice;
 use output_slice::subslice::TestOutputErrorSlice;
 
-/// How many of the last lines of its output tell of a test that says nothing else.
+/// The number of last lines of its output that are shown if nothing else explains a failure.
 const LAST_LINES: usize = 10;
 
-/// The last lines of a text, at most [`LAST_LINES`].
+/// Returns the last lines of a text, at most [`LAST_LINES`].
 fn last_lines(text: &[u8]) -> &[u8]
     ensures { IsLastLines LAST_LINES text.now result.now }
 {
@@ -25,7 +25,8 @@ fn last_lines(text: &[u8]) -> &[u8]
     &text[start + 1..]
 }
 
-/// The last lines of output without the white space at its end, if there is anything else.
+/// Returns the last lines of output, without the white space at its end. Returns `None` if there is only
+/// white space.
 fn end_of(output: &str) -> Option<&[u8]>
     ensures { IsTextEnd (trim_end output.now) (option_map (λ lines. lines.now) result) }
 {
@@ -36,14 +37,14 @@ fn end_of(output: &str) -> Option<&[u8]>
     Some(last_lines(text.as_bytes()))
 }
 
-/// The bytes of a text, if it is there.
+/// Returns the bytes of a text, if it is present.
 fn bytes_of(text: Option<&str>) -> Option<&[u8]>
     ensures { option_copied result ≡ option_map (λ text. text.now) text.entry }
 {
     text.map(str::as_bytes)
 }
 
-/// The bytes of a part of the output.
+/// Returns the bytes of a part of the output.
 fn part_bytes<'a>(found: &TestOutputErrorSlice<'a>) -> Option<&'a [u8]>
     ensures { option_map (λ bytes. bytes.now) result
         ≡ Some (extract_bytes (extract_of found.now)) }
@@ -51,8 +52,8 @@ fn part_bytes<'a>(found: &TestOutputErrorSlice<'a>) -> Option<&'a [u8]>
     found.combined_subslice().map(|part| part.slice)
 }
 
-/// Why a test failed: the part of its output, both streams in one, that says so; or else what the
-/// harness says of it; or else the last lines of its output.
+/// Returns the explanation of a failure: the part of the output that explains it, or else the message of
+/// the harness, or else the last lines of the output.
 pub(crate) fn why_failed<'a>(output: Option<&'a str>, message: Option<&'a str>) -> Option<&'a [u8]>
     ensures { IsWhy (option_map (λ text. text.now) output.entry)
         (option_map (λ text. text.now) message.entry) (option_map (λ bytes. bytes.now) result) }

@@ -2,7 +2,7 @@
 //! port.
 //!
 //! Standard input is the list of cases, one a line, each beginning with the word of its kind; a line
-//! that begins with `#` says what the cases behind it show. A case that disagrees, and a line that
+//! that begins with `#` says what the cases after it show. A case that disagrees, and a line that
 //! is no case, is printed with its number; the last line says how many cases agree. The exit status
 //! is 0 where all do, and else 1.
 #![tactic(auto)]

@@ -24,8 +24,8 @@ fn agrees_as_it_is(alloc: Global, line: &str) -> Result<Option<bool>, AllocError
 }
 
 /// Whether the port agrees on a line; `None` for a line that is no case. So that it is seen that the
-/// replay tells one from the other, behind the word `changed` stands a case on which the port must
-/// not agree, and behind `malformed` a line that must be no case.
+/// replay tells one from the other, after the word `changed` stands a case on which the port must
+/// not agree, and after `malformed` a line that must be no case.
 pub(crate) fn agrees(alloc: Global, line: &str) -> Result<Option<bool>, AllocError> {
     match line.split_once(' ') {
         Some(("changed", changed)) => Ok(Some(agrees_as_it_is(alloc, changed)? == Some(false))),

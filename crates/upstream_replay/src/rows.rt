@@ -15,7 +15,7 @@ mod slices;
 mod stress;
 mod words;
 
-/// What the port answers; `None` for parts that are no question.
+/// Returns the port's answer, or `None` for parts that are no question.
 fn answer(alloc: Global, parts: &[&str]) -> Result<Option<String>, AllocError> {
     if let Some(text) = results::answer(alloc, parts)? {
         return Ok(Some(text));
@@ -35,7 +35,7 @@ fn answer(alloc: Global, parts: &[&str]) -> Result<Option<String>, AllocError> {
     errors::answer(alloc, parts)
 }
 
-/// Whether the port answers as wanted; `None` for a text that is no case.
+/// Returns true if the port's answer is the wanted one, or `None` for a text that is no case.
 pub(crate) fn agrees(alloc: Global, case: &str) -> Result<Option<bool>, AllocError> {
     let Some((question, wanted)) = case.split_once(" => ") else {
         return Ok(None);

@@ -154,7 +154,7 @@ fn level_pair<L: Copy>(levels: &[L; 8], place: usize) -> Option<(L, L)> {
     Some((*own, *of_test))
 }
 
-/// What a case asks of the port, but for the levels.
+/// What a case asks of the port, except the levels.
 #[derive(Drop)]
 struct Question {
     display: TestOutputDisplay,

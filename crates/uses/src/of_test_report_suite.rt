@@ -3,12 +3,12 @@
 ghost use Rattle.std.specs.Prelude.{IfOk, map};
 ghost use Rattle.uses.specs.Suite.{IsSuiteBehind};
 
-use std::alloc::{AllocError, Global};
+use std::alloc::Global;
 use test_report_events::line::Line;
-use test_report_suite::suite::Suite;
+use test_report_suite::suite::{Suite, SuiteError};
 
-/// A suite of so many tests behind these lines.
-pub fn suite_behind(alloc: Global, test_count: usize, lines: &[&[u8]]) -> Result<Suite, AllocError>
+/// Returns a suite of `test_count` tests after these lines.
+pub fn suite_behind(alloc: Global, test_count: usize, lines: &[&[u8]]) -> Result<Suite, SuiteError>
     ensures { IfOk result (λ suite.
         IsSuiteBehind suite test_count (map (λ line. line.now) lines.now)) }
 {

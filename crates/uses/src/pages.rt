@@ -10,6 +10,7 @@ use crate::of_test_report_engine::succeeds;
 use crate::of_test_report_events::test_count_of;
 use crate::of_test_report_suite::suite_behind;
 use crate::of_test_report_text::failure_text;
+use run_digest_devices::fault::Fault;
 use run_digest_devices::memory_device::{MemorySink, MemorySource};
 use run_events::config::TestOutputDisplay;
 use run_events::stats::FinishedUnit;
@@ -130,16 +131,18 @@ fn show_failure<R: AllocGlobal + Print>(rt: &R) -> io::Result<()> {
 
 /// Prints how a suite of three tests stands behind its lines.
 fn show_suite<R: AllocGlobal + Print>(rt: &R) -> io::Result<()> {
-    let suite = suite_behind(
+    match suite_behind(
         rt.alloc(),
         3,
         &[PARSES_BEGINS, PARSES_PASSES, PRINTS_BEGINS],
-    )?;
-    println!(rt;
-        "  a suite of 3 tests: {} passed, {} running",
-        suite.stats().passed,
-        suite.running().len()
-    )
+    ) {
+        Ok(suite) => println!(rt;
+            "  a suite of 3 tests: {} passed, {} running",
+            suite.stats().passed,
+            suite.running().len()
+        ),
+        Err(error) => println!(rt; "  {}", Fault::from(error)),
+    }
 }
 
 /// Prints the report of the run that ended early.

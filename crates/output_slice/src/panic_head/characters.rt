@@ -1,4 +1,4 @@
-//! Characters of names and of numbers.
+//! The characters of names and of numbers.
 
 ghost use Rattle.std.specs.Prelude.{◌≡◌, ◌≤◌, ◌↔◌, ◌+◌, ◌-◌, ◌*◌, ◌<◌, ◌^◌, length, slice_index, IsTrue};
 ghost use Rattle.std.specs.Str.{IsUtf8};
@@ -9,7 +9,7 @@ ghost use Rattle.output_slice.specs.Steps.{CharReads, IsDigitRun, IsSizedChar, R
 use crate::byte_source::ByteSource;
 use unicode::properties::GeneralCategory;
 
-/// The character that begins at `at` and ends by `stop`, and how many bytes it has.
+/// Returns the UTF-8 character at `at` and its size in bytes, or `None` if none ends by `stop`.
 fn char_at<S: ByteSource>(source: &mut S, at: usize, stop: usize) -> Option<(char, usize)>
     requires low { at < stop }
     requires high { stop ≤ length (S.bytes source.old) }
@@ -37,7 +37,7 @@ fn char_at<S: ByteSource>(source: &mut S, at: usize, stop: usize) -> Option<(cha
     None
 }
 
-/// Whether the bytes from `from` to `to` are UTF-8.
+/// Returns true if the bytes from `from` to `to` are UTF-8.
 pub(crate) fn is_utf8_between<S: ByteSource>(source: &mut S, from: usize, to: usize) -> bool
     requires low { from ≤ to }
     requires high { to ≤ length (S.bytes source.old) }
@@ -56,7 +56,7 @@ pub(crate) fn is_utf8_between<S: ByteSource>(source: &mut S, from: usize, to: us
     true
 }
 
-/// Whether `c` is one of `0` to `9`, or a decimal digit past ASCII.
+/// Returns true if `c` is one of `0` to `9`, or a decimal digit outside ASCII.
 fn is_digit(c: char) -> bool
     ensures { IsTrue result ↔ IsDigit c }
 {
@@ -64,7 +64,7 @@ fn is_digit(c: char) -> bool
         || (c >= '\u{80}' && GeneralCategory::for_char(c) == GeneralCategory::DecimalNumber)
 }
 
-/// Where the digits end that stand from `from` on.
+/// Returns the end of the digits that begin at `from`.
 pub(crate) fn digits_end<S: ByteSource>(source: &mut S, from: usize) -> usize
     requires within { from ≤ length (S.bytes source.old) }
     requires room { S.count source.old + 2 * length (S.bytes source.old) < 2 ^ 128 + 2 * from }

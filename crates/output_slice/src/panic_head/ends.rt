@@ -1,4 +1,4 @@
-//! Where texts, tails and heads end.
+//! The ends of texts, tails and heads.
 
 ghost use Rattle.std.specs.Prelude.{◌≡◌, ◌≤◌, ◌+◌, ◌-◌, ◌*◌, ◌<◌, ◌^◌, length, slice_index, IfSome};
 ghost use Rattle.output_slice.specs.Head.{IsLineStart};
@@ -8,7 +8,7 @@ use crate::byte_source::ByteSource;
 use crate::panic_head::characters::{digits_end, is_utf8_between};
 use crate::panic_head::quotes::opens;
 
-/// Where `text` ends, if it stands at `at`.
+/// Returns the end of `text` if it begins at `at`.
 fn after_text<S: ByteSource>(source: &mut S, at: usize, text: &[u8]) -> Option<usize>
     requires room { S.count source.old + length (S.bytes source.old) < 2 ^ 128 + at }
     requires within { at ≤ length (S.bytes source.old) }
@@ -21,15 +21,15 @@ fn after_text<S: ByteSource>(source: &mut S, at: usize, text: &[u8]) -> Option<u
     if end - at < text.len() {
         return None;
     }
-    for i in 0..text.len() {
-        if source.byte(at + i) != text[i] {
+    for (i, byte) in text.iter().enumerate() {
+        if source.byte(at + i) != *byte {
             return None;
         }
     }
     Some(at + text.len())
 }
 
-/// Where the tail ends that stands at `at`.
+/// Returns the end of the tail that begins at `at`: the text of a head after its name.
 fn tail_end<S: ByteSource>(source: &mut S, at: usize) -> Option<usize>
     requires within { at ≤ length (S.bytes source.old) }
     requires room { S.count source.old + 2 * length (S.bytes source.old) + 6 < 2 ^ 128 + 2 * at }
@@ -51,7 +51,7 @@ fn tail_end<S: ByteSource>(source: &mut S, at: usize) -> Option<usize>
     after_text(source, close, b") panicked at ")
 }
 
-/// Where the head ends whose name stands between the quotes at `quote` and `close`.
+/// Returns the end of the head whose name is between the quotes at `quote` and `close`.
 fn named_head_end<S: ByteSource>(source: &mut S, quote: usize, close: usize) -> Option<usize>
     requires low { quote < close }
     requires high { close < length (S.bytes source.old) }
@@ -66,17 +66,16 @@ fn named_head_end<S: ByteSource>(source: &mut S, quote: usize, close: usize) -> 
     if quote + 1 == close {
         return None;
     }
-    // The tail comes first: a name is then read only where a tail stands behind it.
-    let Some(stop) = tail_end(source, close + 1) else {
-        return None;
-    };
+    // The tail comes first, so a name is read only if a tail follows it.
+    let stop = tail_end(source, close + 1)?;
     if !is_utf8_between(source, quote + 1, close) {
         return None;
     }
     Some(stop)
 }
 
-/// Where the head ends that `quote` opens, at `place` or after it. The next quote is at `close`.
+/// Returns the end of the head whose name begins after `quote`, if one begins there at or after
+/// `place`. The next quote is at `close`.
 pub(crate) fn opened_head_end<S: ByteSource>(
     source: &mut S,
     place: usize,
@@ -97,9 +96,7 @@ pub(crate) fn opened_head_end<S: ByteSource>(
         (S.count source.new) close result }
     ensures same { S.bytes source.new ≡ S.bytes source.old }
 {
-    let Some(close) = close else {
-        return None;
-    };
+    let close = close?;
     if !opens(source, place, quote) {
         return None;
     }

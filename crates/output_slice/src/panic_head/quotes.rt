@@ -1,4 +1,4 @@
-//! Quotes, and what stands before them.
+//! Quotes, and the prefix before them.
 
 ghost use Rattle.std.specs.Prelude.{◌≡◌, ◌≤◌, ◌↔◌, ◌+◌, ◌-◌, ◌<◌, ◌^◌, length, IsTrue, IfSome};
 ghost use Rattle.output_slice.specs.Head.{IsLineStart};
@@ -6,13 +6,13 @@ ghost use Rattle.output_slice.specs.Steps.{IsNextQuote, IsOpened, QuoteReads};
 
 use crate::byte_source::ByteSource;
 
-/// How many bytes the word `thread ` has, which stands before the opening quote of a head.
+/// The size of `thread `, which is before the opening quote of a head.
 pub(crate) const WORD_SIZE: usize = 7;
 
-/// How many bytes the word has with the quote.
+/// The size of `thread '`.
 pub(crate) const OPENING_SIZE: usize = WORD_SIZE + 1;
 
-/// The next quote at or after `from`.
+/// Returns the offset of the first quote at or after `from`.
 pub(crate) fn next_quote<S: ByteSource>(source: &mut S, from: usize) -> Option<usize>
     requires within { from ≤ length (S.bytes source.old) }
     requires room { S.count source.old + length (S.bytes source.old) < 2 ^ 128 + from }
@@ -31,7 +31,7 @@ pub(crate) fn next_quote<S: ByteSource>(source: &mut S, from: usize) -> Option<u
     None
 }
 
-/// Whether `thread ` stands before `quote` at a line start that is not before `place`.
+/// Returns true if `thread ` is before `quote`, at the start of a line and not before `place`.
 pub(crate) fn opens<S: ByteSource>(source: &mut S, place: usize, quote: usize) -> bool
     requires within { quote < length (S.bytes source.old) }
     requires room { place + 7 ≤ quote → S.count source.old + 8 < 2 ^ 128 }
@@ -46,13 +46,12 @@ pub(crate) fn opens<S: ByteSource>(source: &mut S, place: usize, quote: usize) -
         return false;
     }
     let start = quote - WORD_SIZE;
-    // The line start comes first: the word is then read only where a line starts.
+    // The line start comes first, so the prefix is read only at the start of a line.
     if start > 0 && source.byte(start - 1) != b'\n' {
         return false;
     }
-    let word = b"thread ";
-    for i in 0..WORD_SIZE {
-        if source.byte(start + i) != word[i] {
+    for (i, byte) in b"thread ".iter().enumerate() {
+        if source.byte(start + i) != *byte {
             return false;
         }
     }

@@ -1,40 +1,39 @@
-//! Values of the runner's other parts, which events only carry: no call of this crate looks into
-//! them.
+//! Values of other parts of a runner. Nothing in this crate reads them.
 
 use run_events_settings::stress::StressCount;
 use std::time::Duration;
 
-/// Which test it is, borrowed from the list of tests.
+/// The id of a test, borrowed from the list of tests.
 #[derive(Clone, Copy, Debug)]
 pub struct TestInstanceId<'a> {
-    /// The id of the binary that holds the test.
+    /// The id of the test binary.
     pub binary_id: &'a str,
 
-    /// The test's name in that binary.
+    /// The name of the test in the binary.
     pub test_name: &'a str,
 }
 
-/// Which test it is, held by itself: for tests that may not be in the list of this run.
+/// An owned id of a test, which need not be in the list of this run.
 #[derive(Debug, Drop)]
 pub struct OwnedTestInstanceId {
-    /// The id of the binary that holds the test.
+    /// The id of the test binary.
     pub binary_id: String,
 
-    /// The test's name in that binary.
+    /// The name of the test in the binary.
     pub test_name: String,
 }
 
 /// The tests that a runner knows of.
 #[derive(Debug, Drop)]
 pub struct TestList<'a> {
-    /// All tests, those that are to be skipped among them.
+    /// All tests, including those that will be skipped.
     pub instances: &'a [TestInstanceId<'a>],
 
-    /// How many of them are to run.
+    /// The number of tests that are to run.
     pub run_count: usize,
 }
 
-/// The name under which a setup script is configured.
+/// The name of a setup script in the configuration.
 #[derive(Debug, Drop)]
 pub struct ScriptId(
     /// The name.
@@ -44,40 +43,40 @@ pub struct ScriptId(
 /// The group that a test runs in. A group may limit how many of its tests run at a time.
 #[derive(Debug, PartialEq, Eq, Drop)]
 pub enum TestGroup {
-    /// The group of all tests that are given no other.
+    /// The group of all tests without another group.
     Global,
 
-    /// A group that is configured under this name.
+    /// A group with this name in the configuration.
     Custom(String),
 }
 
-/// For how long a run is to be repeated.
+/// How long or how often a run is repeated.
 #[derive(Debug, Drop)]
 pub enum StressCondition {
-    /// So many times.
+    /// A number of times.
     Count(StressCount),
 
-    /// Until this time is over.
+    /// An amount of time.
     Duration(Duration),
 }
 
-/// Why a test is not among those that are to run.
+/// Why a test will not run.
 #[derive(Clone, Copy, Debug)]
 pub struct MismatchReason {
-    /// The reason's name.
+    /// The name of the reason.
     pub name: &'static str,
 }
 
-/// Which skipped tests machine-readable reports are to list.
+/// Which skipped tests a machine-readable report lists.
 #[derive(Clone, Copy, Debug)]
 pub struct ReportSkipPolicy {
-    /// The policy's name.
+    /// The name of the policy.
     pub name: &'static str,
 }
 
-/// How a JUnit report is to show a flaky test that counts as failed.
+/// How a JUnit report shows a flaky test that counts as failed.
 #[derive(Clone, Copy, Debug)]
 pub struct JunitFlakyFailStatus {
-    /// The way's name.
+    /// The name of the form.
     pub name: &'static str,
 }

@@ -1,4 +1,4 @@
-//! What units answer where one asks in the middle of a run.
+//! The responses of units to a request for information.
 
 use crate::config::{ScriptId, TestInstanceId};
 use crate::events::unit_state::UnitState;
@@ -6,20 +6,20 @@ use run_events_attempts::attempts::RetryData;
 use run_events_child::child::{ChildExecutionOutputDescription, LiveSpec};
 use run_events_settings::stress::StressIndex;
 
-/// What a unit answers to a request for information.
+/// The response of a unit to a request for information.
 #[derive(Drop)]
 pub enum InfoResponse<'a> {
-    /// What a setup script answers.
+    /// The response of a setup script.
     SetupScript(SetupScriptInfoResponse),
 
-    /// What a test answers.
+    /// The response of a test.
     Test(TestInfoResponse<'a>),
 }
 
-/// What a setup script answers to a request for information.
+/// The response of a setup script to a request for information.
 #[derive(Drop)]
 pub struct SetupScriptInfoResponse {
-    /// Which sub-run it belongs to, where the run is repeated.
+    /// The sub-run that it belongs to, if the run is repeated.
     pub stress_index: Option<StressIndex>,
 
     /// The setup script.
@@ -31,29 +31,29 @@ pub struct SetupScriptInfoResponse {
     /// The arguments of that program.
     pub args: Vec<String>,
 
-    /// What it is doing.
+    /// Its current state.
     pub state: UnitState,
 
-    /// What was captured of it by then.
+    /// The output that was captured so far.
     pub output: ChildExecutionOutputDescription<LiveSpec>,
 }
 
-/// What a test answers to a request for information.
+/// The response of a test to a request for information.
 #[derive(Drop)]
 pub struct TestInfoResponse<'a> {
-    /// Which sub-run it belongs to, where the run is repeated.
+    /// The sub-run that it belongs to, if the run is repeated.
     pub stress_index: Option<StressIndex>,
 
     /// The test.
     pub test_instance: TestInstanceId<'a>,
 
-    /// Which attempt it is.
+    /// The number of the attempt.
     pub retry_data: RetryData,
 
-    /// What it is doing.
+    /// Its current state.
     pub state: UnitState,
 
-    /// What was captured of it by then. It is to be shown only where
-    /// [`UnitState::has_valid_output`] says so.
+    /// The output that was captured so far. It may be shown only if [`UnitState::has_valid_output`]
+    /// returns true.
     pub output: ChildExecutionOutputDescription<LiveSpec>,
 }

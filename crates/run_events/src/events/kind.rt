@@ -17,14 +17,13 @@ use run_events_stats::stats::RunStats;
 use std::time::Duration;
 use uuid::Uuid;
 
-/// What happened in a run. The kinds stand in the order in which a run meets them, those that may
-/// come at any time before its end.
+/// The kind of an event. The kinds are in the order of a run, with those that can come at any time
+/// before the end of the run.
 #[derive(Drop)]
 pub enum TestEventKind<'a> {
-    // The run begins.
+    // The start of the run.
 
-    /// The run begins: the first event of a run, when nothing has been counted yet. Read by
-    /// displayers and recorders.
+    /// The run begins. This is the first event of a run. Displayers and recorders read it.
     RunStarted {
         /// The tests that the runner knows of.
         test_list: &'a TestList<'a>,
@@ -38,29 +37,29 @@ pub enum TestEventKind<'a> {
         /// The command line of the runner.
         cli_args: Vec<String>,
 
-        /// For how long the run is repeated, where it is.
+        /// How long or how often the run is repeated, if it is.
         stress_condition: Option<StressCondition>,
     },
 
-    /// The next sub-run of a repeated run begins: the counters of the events up to its end are its
-    /// own, from zero. Read by displayers and recorders.
+    /// The next sub-run of a repeated run begins. The counters of the events up to its end are those
+    /// of the sub-run, from zero. Displayers and recorders read it.
     StressSubRunStarted {
-        /// How far the repeated run is.
+        /// The progress of the repeated run.
         progress: StressProgress,
     },
 
     // Setup scripts.
 
-    /// A setup script was started. Setup scripts run before the tests, one after the other. Read by
-    /// displayers and recorders.
+    /// A setup script was started. Setup scripts run before the tests, one after the other.
+    /// Displayers and recorders read it.
     SetupScriptStarted {
-        /// Which sub-run it belongs to, where the run is repeated.
+        /// The sub-run that it belongs to, if the run is repeated.
         stress_index: Option<StressIndex>,
 
-        /// Its place among the setup scripts, from 0.
+        /// Its position among the setup scripts, counted from 0.
         index: usize,
 
-        /// How many setup scripts there are.
+        /// The number of setup scripts.
         total: usize,
 
         /// The setup script.
@@ -72,14 +71,14 @@ pub enum TestEventKind<'a> {
         /// The arguments of that program.
         args: Vec<String>,
 
-        /// Whether some of its output is passed on and not captured.
+        /// True if some of its output is not captured but passed on.
         no_capture: bool,
     },
 
-    /// A setup script has run for a slow timeout, or for one more, and has not ended. Read by
-    /// displayers and recorders.
+    /// A setup script has run for a further slow timeout, and has not ended. Displayers and recorders
+    /// read it.
     SetupScriptSlow {
-        /// Which sub-run it belongs to, where the run is repeated.
+        /// The sub-run that it belongs to, if the run is repeated.
         stress_index: Option<StressIndex>,
 
         /// The setup script.
@@ -94,21 +93,21 @@ pub enum TestEventKind<'a> {
         /// How long it has run.
         elapsed: Duration,
 
-        /// Whether its time is over, and the runner is about to end it.
+        /// True if its time ran out, and the runner is about to end it.
         will_terminate: bool,
     },
 
-    /// A setup script finished. The dispatcher has counted it by then; where it did not succeed, and
-    /// the run is not cancelled yet, a `RunBeginCancel` follows. Read by displayers, by JUnit
-    /// writers, which report it as a case of its own, and by recorders.
+    /// A setup script finished. The dispatcher has already counted it. If it did not succeed and the
+    /// run is not cancelled yet, a `RunBeginCancel` follows. Displayers, JUnit writers and recorders
+    /// read it; a JUnit writer reports it as a case of its own.
     SetupScriptFinished {
-        /// Which sub-run it belongs to, where the run is repeated.
+        /// The sub-run that it belongs to, if the run is repeated.
         stress_index: Option<StressIndex>,
 
-        /// Its place among the setup scripts, from 0.
+        /// Its position among the setup scripts, counted from 0.
         index: usize,
 
-        /// How many setup scripts there are.
+        /// The number of setup scripts.
         total: usize,
 
         /// The setup script.
@@ -120,25 +119,25 @@ pub enum TestEventKind<'a> {
         /// The arguments of that program.
         args: Vec<String>,
 
-        /// Whether a JUnit report is to hold its output where it succeeded.
+        /// True if a JUnit report includes its output if it succeeded.
         junit_store_success_output: bool,
 
-        /// Whether a JUnit report is to hold its output where it failed.
+        /// True if a JUnit report includes its output if it failed.
         junit_store_failure_output: bool,
 
-        /// Whether some of its output is passed on and not captured.
+        /// True if some of its output is not captured but passed on.
         no_capture: bool,
 
-        /// How it ended, for `FinishedUnit::Script` to borrow.
+        /// The finished script. `FinishedUnit::Script` borrows it.
         run_status: SetupScriptExecuteStatus<LiveSpec>,
     },
 
     // Tests.
 
-    /// The first attempt of a test was started. The counters do not hold the test yet; it is among
-    /// the running ones. Read by displayers and recorders.
+    /// The first attempt of a test was started. The counters do not include the test yet, but the
+    /// number of running tests does. Displayers and recorders read it.
     TestStarted {
-        /// Which sub-run it belongs to, where the run is repeated.
+        /// The sub-run that it belongs to, if the run is repeated.
         stress_index: Option<StressIndex>,
 
         /// The test.
@@ -150,43 +149,43 @@ pub enum TestEventKind<'a> {
         /// The counters of the run.
         current_stats: RunStats,
 
-        /// How many tests run.
+        /// The number of running tests.
         running: usize,
 
         /// The command line of the attempt.
         command_line: Vec<String>,
     },
 
-    /// An attempt has run for a slow timeout, or for one more, and has not ended. Read by
-    /// displayers and recorders.
+    /// An attempt has run for a further slow timeout, and has not ended. Displayers and recorders
+    /// read it.
     TestSlow {
-        /// Which sub-run it belongs to, where the run is repeated.
+        /// The sub-run that it belongs to, if the run is repeated.
         stress_index: Option<StressIndex>,
 
         /// The test.
         test_instance: TestInstanceId<'a>,
 
-        /// Which attempt it is.
+        /// The number of the attempt.
         retry_data: RetryData,
 
         /// How long the attempt has run.
         elapsed: Duration,
 
-        /// Whether its time is over, and the runner is about to end it.
+        /// True if its time ran out, and the runner is about to end it.
         will_terminate: bool,
     },
 
-    /// An attempt failed, and another will follow: so never the last one. No counter changes by it,
-    /// and the test stays among the running ones. Read by displayers and recorders; a JUnit writer
-    /// finds the attempt in `TestFinished`.
+    /// An attempt failed, and another one will follow. It does not change a counter, and the test is
+    /// still running. Displayers and recorders read it; a JUnit writer finds the attempt in
+    /// `TestFinished`.
     TestAttemptFailedWillRetry {
-        /// Which sub-run it belongs to, where the run is repeated.
+        /// The sub-run that it belongs to, if the run is repeated.
         stress_index: Option<StressIndex>,
 
         /// The test.
         test_instance: TestInstanceId<'a>,
 
-        /// How the attempt ended.
+        /// The finished attempt.
         run_status: ExecuteStatus<LiveSpec>,
 
         /// How long the runner will wait before the next attempt.
@@ -195,14 +194,14 @@ pub enum TestEventKind<'a> {
         /// When the output of its failure is displayed.
         failure_output: TestOutputDisplay,
 
-        /// How many tests run.
+        /// The number of running tests.
         running: usize,
     },
 
-    /// A further attempt of a test was started. The test has been among the running ones since its
-    /// first attempt, in the same slots. Read by displayers and recorders.
+    /// A further attempt of a test was started. The test has been running since its first attempt, in
+    /// the same slots. Displayers and recorders read it.
     TestRetryStarted {
-        /// Which sub-run it belongs to, where the run is repeated.
+        /// The sub-run that it belongs to, if the run is repeated.
         stress_index: Option<StressIndex>,
 
         /// The test.
@@ -211,161 +210,158 @@ pub enum TestEventKind<'a> {
         /// Its slots and its group.
         slot_assignment: TestSlotAssignment,
 
-        /// Which attempt it is.
+        /// The number of the attempt.
         retry_data: RetryData,
 
-        /// How many tests run.
+        /// The number of running tests.
         running: usize,
 
         /// The command line of the attempt.
         command_line: Vec<String>,
     },
 
-    /// A test finished: its last attempt ended. The counters hold the test by then, and it is no
-    /// longer among the running ones; where the run is to stop at a failure and this is the first, a
-    /// `RunBeginCancel` follows. Read by displayers, JUnit writers and recorders.
+    /// A test finished, because its last attempt ended. The counters already include the test, and
+    /// the number of running tests does not. If it is the first failure and the run stops at a
+    /// failure, a `RunBeginCancel` follows. Displayers, JUnit writers and recorders read it.
     TestFinished {
-        /// Which sub-run it belongs to, where the run is repeated.
+        /// The sub-run that it belongs to, if the run is repeated.
         stress_index: Option<StressIndex>,
 
         /// The test.
         test_instance: TestInstanceId<'a>,
 
-        /// When its output is displayed where it succeeded.
+        /// When its output is displayed if it succeeded.
         success_output: TestOutputDisplay,
 
-        /// When its output is displayed where it failed.
+        /// When its output is displayed if it failed.
         failure_output: TestOutputDisplay,
 
-        /// Whether a JUnit report is to hold its output where it succeeded.
+        /// True if a JUnit report includes its output if it succeeded.
         junit_store_success_output: bool,
 
-        /// Whether a JUnit report is to hold its output where it failed.
+        /// True if a JUnit report includes its output if it failed.
         junit_store_failure_output: bool,
 
-        /// How a JUnit report is to show it where it is flaky and counts as failed.
+        /// How a JUnit report shows it if it is flaky and counts as failed.
         junit_flaky_fail_status: JunitFlakyFailStatus,
 
-        /// All its attempts, for `FinishedUnit::Test` to borrow.
+        /// All its attempts. `FinishedUnit::Test` borrows them.
         run_statuses: ExecutionStatuses<LiveSpec>,
 
         /// The counters of the run.
         current_stats: RunStats,
 
-        /// How many tests run.
+        /// The number of running tests.
         running: usize,
     },
 
-    /// A test is not among those that are to run. Read by displayers, JUnit writers and recorders.
+    /// A test will not run. Displayers, JUnit writers and recorders read it.
     TestSkipped {
-        /// Which sub-run it belongs to, where the run is repeated.
+        /// The sub-run that it belongs to, if the run is repeated.
         stress_index: Option<StressIndex>,
 
         /// The test.
         test_instance: TestInstanceId<'a>,
 
-        /// Why it is skipped.
+        /// Why the test is skipped.
         reason: MismatchReason,
 
-        /// Which skipped tests a JUnit report is to list.
+        /// Which skipped tests a JUnit report lists.
         junit_report_skipped: ReportSkipPolicy,
     },
 
     // Requests in the middle of a run.
 
-    /// The user asked what the units are doing, by a key or a signal, and those that run then were
-    /// asked. The counters are those of that moment. Read by displayers.
+    /// The user requested information by a key or a signal, and the running units were asked.
+    /// Displayers read it.
     InfoStarted {
-        /// How many units were asked: so many responses are to come.
+        /// The number of units that were asked, and so of the responses to come.
         total: usize,
 
         /// The counters of the run.
         run_stats: RunStats,
     },
 
-    /// A unit answered the request. Read by displayers.
+    /// A unit responded to the request for information. Displayers read it.
     InfoResponse {
-        /// How many units answered before it.
+        /// The number of responses before this one.
         index: usize,
 
-        /// How many units were asked.
+        /// The number of units that were asked.
         total: usize,
 
-        /// The answer.
+        /// The response.
         response: InfoResponse<'a>,
     },
 
-    /// All answers are there, or those that are not are waited for no longer. Read by displayers.
+    /// All units responded, or the runner no longer waits for the others. Displayers read it.
     InfoFinished {
-        /// How many units did not answer.
+        /// The number of units that did not respond.
         missing: usize,
     },
 
-    /// The user pressed Enter, and is to see a new line, or how far the run is: by the counters and
-    /// the running tests of that moment. Read by displayers.
+    /// The user pressed Enter. A displayer writes a new line or the progress of the run. Displayers
+    /// read it.
     InputEnter {
         /// The counters of the run.
         current_stats: RunStats,
 
-        /// How many tests run.
+        /// The number of running tests.
         running: usize,
     },
 
     // Stopping and going on.
 
-    /// The run begins to be cancelled, or is now for a greater reason. The reason stands in the
-    /// counters; the units that run then are waited for or ended, as the reason demands. Read by
-    /// displayers and recorders.
+    /// The run begins to be cancelled, or the reason became a greater one. The reason is in the
+    /// counters. The runner waits for the running units or ends them, which depends on the reason.
+    /// Displayers and recorders read it.
     RunBeginCancel {
-        /// How many setup scripts run.
+        /// The number of running setup scripts.
         setup_scripts_running: usize,
 
         /// The counters of the run.
         current_stats: RunStats,
 
-        /// How many tests run.
+        /// The number of running tests.
         running: usize,
     },
 
-    /// A further signal came while the run was being cancelled: it stands in the counters as the
-    /// reason, and the units that still run are killed. Read by displayers.
+    /// A further signal came while the run was being cancelled. The reason in the counters is now
+    /// that signal, and the running units are killed. Displayers read it.
     RunBeginKill {
-        /// How many setup scripts run.
+        /// The number of running setup scripts.
         setup_scripts_running: usize,
 
         /// The counters of the run.
         current_stats: RunStats,
 
-        /// How many tests run.
+        /// The number of running tests.
         running: usize,
     },
 
-    /// The runner was told to stop for a while, and the units that run are stopped with it: those
-    /// are counted here. Read by displayers and recorders.
+    /// The runner was paused, and the running units with it. Displayers and recorders read it.
     RunPaused {
-        /// How many setup scripts run.
+        /// The number of running setup scripts.
         setup_scripts_running: usize,
 
-        /// How many tests run.
+        /// The number of running tests.
         running: usize,
     },
 
-    /// The runner was told to go on, and the units that were stopped go on with it: those are
-    /// counted here. Read by displayers and recorders.
+    /// The runner was continued, and the paused units with it. Displayers and recorders read it.
     RunContinued {
-        /// How many setup scripts run.
+        /// The number of running setup scripts.
         setup_scripts_running: usize,
 
-        /// How many tests run.
+        /// The number of running tests.
         running: usize,
     },
 
     // The run ends.
 
-    /// A sub-run of a repeated run ended. The counters are those of this sub-run alone. Read by
-    /// displayers and recorders.
+    /// A sub-run of a repeated run ended. Displayers and recorders read it.
     StressSubRunFinished {
-        /// How far the repeated run is.
+        /// The progress of the repeated run.
         progress: StressProgress,
 
         /// How long the sub-run took.
@@ -375,9 +371,9 @@ pub enum TestEventKind<'a> {
         sub_stats: RunStats,
     },
 
-    /// The run ended: the last event of a run, with the counters at which it ended, whose summary
-    /// the exit status goes by. Read by displayers, which sum the run up, by JUnit writers, which
-    /// write their report, and by recorders.
+    /// The run ended. This is the last event of a run. The exit status of the runner follows from the
+    /// summary of the statistics. Displayers read it to sum up the run, JUnit writers to write their
+    /// report, and recorders.
     RunFinished {
         /// The id of the run.
         run_id: Uuid,
@@ -388,10 +384,10 @@ pub enum TestEventKind<'a> {
         /// How long it took.
         elapsed: Duration,
 
-        /// The counters of the run, or what a repeated run came to.
+        /// The statistics of the run.
         run_stats: RunFinishedStats,
 
-        /// Tests that a rerun was to run and did not meet, where there are any.
+        /// The tests that a rerun did not find, if there are any.
         outstanding_not_seen: Option<TestsNotSeen>,
     },
 }

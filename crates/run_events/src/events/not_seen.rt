@@ -1,14 +1,14 @@
-//! Tests that a rerun was to run and did not meet.
+//! The tests that a rerun did not find.
 
 use crate::config::OwnedTestInstanceId;
 
-/// The tests that an earlier run left over for this one, and of which this one told no event: they
-/// may have been removed or renamed since.
+/// The tests that an earlier run left for this one, and that have no event in this one. They may have
+/// been removed or renamed.
 #[derive(Debug, Drop)]
 pub struct TestsNotSeen {
-    /// Some of them, at most as many as are worth showing.
+    /// Some of these tests, as many as a reporter should show.
     pub not_seen: Vec<OwnedTestInstanceId>,
 
-    /// How many there are in all.
+    /// The number of all these tests.
     pub total_not_seen: usize,
 }

@@ -1,15 +1,15 @@
-//! Where a test is scheduled.
+//! The slots of running tests.
 
 use crate::config::TestGroup;
 
-/// The slots that a test holds while it runs, and its group. They are given to it before its first
-/// attempt, and it keeps them through all its attempts.
+/// The slots of a running test, and its group. A test gets them before its first attempt, and keeps
+/// them for all its attempts.
 #[derive(Debug, PartialEq, Eq, Drop)]
 pub struct TestSlotAssignment {
-    /// Its slot among all tests that run: from 0, the least that was free.
+    /// Its slot among all running tests: the least that was free, counted from 0.
     pub global_slot: u64,
 
-    /// Its slot among the running tests of its group, where that is not the global one.
+    /// Its slot among the running tests of its group, if that is not the global group.
     pub group_slot: Option<u64>,
 
     /// Its group.

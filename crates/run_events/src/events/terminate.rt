@@ -1,17 +1,17 @@
-//! Why and by what a runner ends a unit.
+//! How and why a runner ends a unit.
 
 ghost use Rattle.std.specs.Prelude.{Some};
 ghost use Rattle.run_events.specs.TerminateTexts.{terminate_reason_text, terminate_signal_text};
 
 use std::fmt;
 
-/// Why the runner ends a unit that still runs.
+/// Why the runner ends a running unit, displayed as `timeout`, `signal` or `interrupt`.
 #[derive(Clone, Copy, Debug)]
 pub enum UnitTerminateReason {
-    /// Its time ran out.
+    /// The unit ran out of time.
     Timeout,
 
-    /// The runner was sent a signal to end.
+    /// The runner got a signal to end.
     Signal,
 
     /// The user interrupted the run.
@@ -23,7 +23,6 @@ impl fmt::Display for UnitTerminateReason {
 
     ghost styled_output = { λ r _. Some (terminate_reason_text r) };
 
-    /// `timeout`, `signal` or `interrupt`.
     fn fmt<W: fmt::Write>(&self, f: &mut fmt::Formatter<W>) -> fmt::Result {
         match self {
             UnitTerminateReason::Timeout => f.write_str("timeout"),
@@ -33,7 +32,7 @@ impl fmt::Display for UnitTerminateReason {
     }
 }
 
-/// The way in which the runner ends a unit.
+/// How the runner ends a unit.
 #[derive(Clone, Copy, Debug)]
 pub enum UnitTerminateMethod {
     /// By a signal.
@@ -43,28 +42,28 @@ pub enum UnitTerminateMethod {
 /// The signal by which the runner ends a unit.
 #[derive(Clone, Copy, Debug, PartialEq, Eq)]
 pub enum UnitTerminateSignal {
-    /// An interrupt, as from the keyboard.
+    /// An interrupt, for example from the keyboard.
     Interrupt,
 
-    /// The request to end.
+    /// A request to end.
     Term,
 
     /// The terminal was closed.
     Hangup,
 
-    /// The request to quit, as from the keyboard.
+    /// A request to quit, for example from the keyboard.
     Quit,
 
-    /// The end that a process cannot refuse.
+    /// A signal that ends a process at once.
     Kill,
 }
 
+/// Writes the signal's name, for example `SIGTERM`.
 impl fmt::Display for UnitTerminateSignal {
     ghost output = { λ s. Some (terminate_signal_text s) };
 
     ghost styled_output = { λ s _. Some (terminate_signal_text s) };
 
-    /// The signal's name, as `SIGTERM`.
     fn fmt<W: fmt::Write>(&self, f: &mut fmt::Formatter<W>) -> fmt::Result {
         match self {
             UnitTerminateSignal::Interrupt => f.write_str("SIGINT"),

@@ -1,4 +1,4 @@
-//! What a unit is doing, where one asks in the middle of a run.
+//! The state of a unit during a run.
 
 ghost use Rattle.std.specs.Prelude.{◌≡◌};
 ghost use Rattle.run_events.specs.UnitState.{state_has_output};
@@ -7,23 +7,23 @@ use crate::events::terminate::{UnitTerminateMethod, UnitTerminateReason};
 use run_events_results::results::ExecutionResultDescription;
 use std::time::Duration;
 
-/// What a unit, a test or a setup script, is doing.
+/// The state of a test or a setup script.
 #[derive(Debug, Drop)]
 pub enum UnitState {
-    /// Its process runs.
+    /// The process is running.
     Running {
         /// The id of the process.
         pid: u32,
 
-        /// How long it has run.
+        /// How long it has been running.
         time_taken: Duration,
 
-        /// After how long it counted as slow, where it does.
+        /// The time after which it counted as slow, if it did.
         slow_after: Option<Duration>,
     },
 
-    /// Its process has ended, and the runner waits for its output to be closed: what still holds
-    /// it open after that wait is a leak.
+    /// The process has ended, and the runner waits for its output to be closed. Output that is still
+    /// open after that is a leak.
     Exiting {
         /// The id of the process.
         pid: u32,
@@ -31,55 +31,55 @@ pub enum UnitState {
         /// How long it ran.
         time_taken: Duration,
 
-        /// After how long it counted as slow, where it does.
+        /// The time after which it counted as slow, if it did.
         slow_after: Option<Duration>,
 
-        /// How it ended, as far as is known while it may still turn out to leak; `None`, which
-        /// counts as a failure, where its status could not be read.
+        /// The result unless the process leaks, or `None` if its status could not be read. `None`
+        /// counts as a failure.
         tentative_result: Option<ExecutionResultDescription>,
 
         /// How long the runner has waited.
         waiting_duration: Duration,
 
-        /// How much longer it will wait.
+        /// How much longer the runner will wait.
         remaining: Duration,
     },
 
     /// The runner is ending its process.
     Terminating(UnitTerminatingState),
 
-    /// Its process has ended, and nothing of it is waited for.
+    /// The process has ended, and the runner waits for nothing more of it.
     Exited {
-        /// How it ended.
+        /// The result.
         result: ExecutionResultDescription,
 
         /// How long it ran.
         time_taken: Duration,
 
-        /// After how long it counted as slow, where it does.
+        /// The time after which it counted as slow, if it did.
         slow_after: Option<Duration>,
     },
 
-    /// An attempt of a test failed, and the next one waits for its time. Setup scripts, which are
-    /// run once, are never in this state.
+    /// An attempt of a test failed, and the runner waits before the next one. A setup script is never
+    /// in this state, because it is run only once.
     DelayBeforeNextAttempt {
-        /// How the attempt before it ended.
+        /// The result of the previous attempt.
         previous_result: ExecutionResultDescription,
 
-        /// Whether that attempt was slow.
+        /// True if the previous attempt was slow.
         previous_slow: bool,
 
         /// How long the runner has waited.
         waiting_duration: Duration,
 
-        /// How much longer it will wait.
+        /// How much longer the runner will wait.
         remaining: Duration,
     },
 }
 
 impl UnitState {
-    /// Whether the output that comes with the state is that of the state's own attempt, and so
-    /// worth showing: in every state but the wait between two attempts.
+    /// Returns true if the output that comes with the state is that of the current attempt. This holds
+    /// in every state except the wait between two attempts.
     pub fn has_valid_output(&self) -> bool
         ensures { result ≡ state_has_output self.now }
     {
@@ -93,24 +93,24 @@ impl UnitState {
     }
 }
 
-/// How far the runner is with ending a unit.
+/// The state of a unit that the runner is ending.
 #[derive(Clone, Debug, Drop)]
 pub struct UnitTerminatingState {
     /// The id of the process.
     pub pid: u32,
 
-    /// How long it ran before.
+    /// How long it had been running before.
     pub time_taken: Duration,
 
     /// Why the runner ends it.
     pub reason: UnitTerminateReason,
 
-    /// In which way.
+    /// How the runner ends it.
     pub method: UnitTerminateMethod,
 
     /// How long the runner has waited for the process to end.
     pub waiting_duration: Duration,
 
-    /// How much longer it will wait before it kills the process.
+    /// How much longer the runner will wait before it kills the process.
     pub remaining: Duration,
 }

@@ -1,4 +1,4 @@
-//! Each error of a unit.
+//! The errors of a unit, one by one.
 
 ghost use Rattle.std.specs.Prelude.{Some};
 ghost use Rattle.run_events_results.specs.Texts.{unit_abort_text};
@@ -9,20 +9,20 @@ use run_events_child::child::{ChildErrorDescription, ChildStartErrorDescription}
 use run_events_results::results::AbortDescription;
 use std::fmt;
 
-/// That a unit's process was ended from outside.
+/// The abort of a unit's process. It is displayed as `process`, the text of the abort and, if the process
+/// left a handle open, ` (leaked handles)`.
 #[derive(Clone, Copy, Debug)]
 pub struct UnitAbortDescription<'a> {
     /// What ended it.
     pub description: &'a AbortDescription,
 
-    /// Whether it left a handle open as well.
+    /// True if the process also left a handle open.
     pub leaked: bool,
 }
 
 impl fmt::Display for UnitAbortDescription<'_> {
     ghost output = { λ a. Some (unit_abort_text a.description.now a.leaked) };
 
-    /// `process`, the abort's own text, and ` (leaked handles)` where it left a handle open.
     fn fmt<W: fmt::Write>(&self, f: &mut fmt::Formatter<W>) -> fmt::Result {
         let description = self.description;
         write!(f, "process {description}")?;
@@ -33,26 +33,25 @@ impl fmt::Display for UnitAbortDescription<'_> {
     }
 }
 
-/// One error of a unit. It is shown as what it holds.
+/// An error of a unit. It is displayed like the error that it contains.
 #[derive(Clone, Copy)]
 pub enum UnitError<'a> {
-    /// Its process was not started.
+    /// The process was not started.
     Start(&'a ChildStartErrorDescription),
 
-    /// Its process could not be read from or waited for.
+    /// The runner could not read from the process or wait for it.
     Output(&'a ChildErrorDescription),
 
-    /// Its process was ended from outside.
+    /// The process was ended from outside.
     Abort(UnitAbortDescription<'a>),
 
-    /// The part of its output that says why it failed.
+    /// The part of the output that explains the failure.
     Slice(TestOutputErrorSlice<'a>),
 }
 
 impl fmt::Display for UnitError<'_> {
     ghost output = { λ e. Some (unit_error_text e) };
 
-    /// The error that it holds, in that error's own words.
     fn fmt<W: fmt::Write>(&self, f: &mut fmt::Formatter<W>) -> fmt::Result {
         match self {
             UnitError::Start(error) => write!(f, "{error}"),

@@ -1,4 +1,4 @@
-//! What the attempts of a test come to.
+//! The description of a finished test by its attempts.
 
 ghost use Rattle.std.specs.Prelude.{◌≡◌, ◌↔◌, ◌<◌, IsTrue, Some, length};
 ghost use Rattle.run_events_attempts.specs.Description.{ComesTo, HasFinalLevel, IsConsistent, described_final_level, described_level, is_success_description, last_described};
@@ -10,12 +10,12 @@ use run_events_results::results::ExecutionResultDescription;
 use run_events_settings::config::{FlakyResult, LeakTimeoutResult, SlowTimeoutResult};
 use std::alloc::AllocError;
 
-/// What the attempts of a test come to: reporters print and record by it. Only the last attempt's
-/// result and the number of attempts decide it; nothing is said of earlier results.
+/// The description of a finished test, for reporters. It depends only on the number of attempts and
+/// the result of the last one.
 pub enum ExecutionDescription<'a, S: OutputSpec> {
     /// There was one attempt, and it succeeded.
     Success {
-        /// That attempt.
+        /// The only attempt.
         single_status: &'a ExecuteStatus<S>,
     },
 
@@ -24,10 +24,10 @@ pub enum ExecutionDescription<'a, S: OutputSpec> {
         /// The last attempt.
         last_status: &'a ExecuteStatus<S>,
 
-        /// The attempts before it, in order; at least one.
+        /// The attempts before the last, in order. There is at least one.
         prior_statuses: &'a [ExecuteStatus<S>],
 
-        /// How the test counts for it.
+        /// How the test counts.
         result: FlakyResult,
     },
 
@@ -36,7 +36,7 @@ pub enum ExecutionDescription<'a, S: OutputSpec> {
         /// The first attempt.
         first_status: &'a ExecuteStatus<S>,
 
-        /// The last attempt, which is the first where there was only one.
+        /// The last attempt, which is also the first if there was only one.
         last_status: &'a ExecuteStatus<S>,
 
         /// The attempts after the first, in order.
@@ -49,9 +49,9 @@ impl<S: OutputSpec> Clone for ExecutionDescription<'_, S> {
 
     ghost is_clone = { λ old new. new ≡ old };
 
+    // It takes no memory, so it always succeeds.
     ghost is_infallible = { λ _. ⊤ };
 
-    /// The same description. It takes no memory, and so always succeeds.
     fn clone(&self) -> Result<Self, AllocError> {
         Ok(*self)
     }
@@ -60,7 +60,7 @@ impl<S: OutputSpec> Clone for ExecutionDescription<'_, S> {
 impl<S: OutputSpec> Copy for ExecutionDescription<'_, S> {}
 
 impl<'a, S: OutputSpec> ExecutionDescription<'a, S> {
-    /// What attempts come to, of which there is at least one.
+    /// Describes attempts. There must be at least one.
     pub(crate) fn of_attempts(
         statuses: &'a [ExecuteStatus<S>],
         setting: FlakyResult,
@@ -88,8 +88,8 @@ impl<'a, S: OutputSpec> ExecutionDescription<'a, S> {
         }
     }
 
-    /// Whether the status of a success did succeed, which is so of every description that
-    /// [`ExecutionStatuses::describe`] makes. Where it is so, both levels may be asked for.
+    /// Returns true unless this is a `Success` of an attempt that did not succeed. Every description
+    /// that [`ExecutionStatuses::describe`] makes is consistent, and has both levels.
     ///
     /// [`ExecutionStatuses::describe`]: crate::attempts::ExecutionStatuses::describe
     pub fn is_consistent(&self) -> bool
@@ -102,10 +102,10 @@ impl<'a, S: OutputSpec> ExecutionDescription<'a, S> {
         }
     }
 
-    /// How much the test asks for attention as it finishes: a flaky test by how it counts, a
-    /// failure as `Fail`, a success by its result alone.
+    /// Returns the level of the test when it finishes: `Retry` or `Fail` for a flaky test, `Fail` for
+    /// a failed one, and for a success the level of its result.
     ///
-    /// The status of a success must have succeeded.
+    /// A `Success` must be of an attempt that succeeded; [`Self::is_consistent`] tests it.
     pub fn status_level(&self) -> StatusLevel
         requires { IsConsistent self.now }
         ensures { described_level self.now ≡ Some result }
@@ -129,10 +129,12 @@ impl<'a, S: OutputSpec> ExecutionDescription<'a, S> {
         }
     }
 
-    /// How much the test asks for attention at the end of the run: as its status level, but a flaky
-    /// test that is set to pass as `Flaky`, and a slow success as `Slow`, whatever its result.
+    /// Returns the level of the test at the end of the run. It is like the status level, except that
+    /// a flaky test which counts as passed is `Flaky`, and that a slow success is `Slow` whatever its
+    /// result.
     ///
-    /// The status of a success must be slow or have succeeded.
+    /// A `Success` must be of an attempt that was slow or succeeded; [`Self::is_consistent`] tests
+    /// that it succeeded.
     pub fn final_status_level(&self) -> FinalStatusLevel
         requires { HasFinalLevel self.now }
         ensures { described_final_level self.now ≡ Some result }
@@ -161,8 +163,8 @@ impl<'a, S: OutputSpec> ExecutionDescription<'a, S> {
         }
     }
 
-    /// Whether the setting for the output of successful tests applies: for a flaky test too, also
-    /// where it counts as failed.
+    /// Returns true if the setting for the output of successful tests applies. It also applies to a
+    /// flaky test, even if that counts as failed.
     pub fn is_success_for_output(&self) -> bool
         ensures { result ≡ is_success_description self.now }
     {
@@ -172,7 +174,7 @@ impl<'a, S: OutputSpec> ExecutionDescription<'a, S> {
         }
     }
 
-    /// The last attempt.
+    /// Returns the last attempt.
     pub fn last_status(&self) -> &'a ExecuteStatus<S>
         ensures { result.now ≡ last_described self.now }
     {

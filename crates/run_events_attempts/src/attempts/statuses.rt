@@ -1,4 +1,4 @@
-//! The attempts of one finished test.
+//! The attempts of a finished test.
 
 ghost use Rattle.std.specs.Prelude.{◌<◌, vec_len};
 
@@ -8,8 +8,8 @@ use run_events_child::child::OutputSpec;
 use run_events_levels::view::TestView;
 use run_events_settings::config::FlakyResult;
 
-/// All attempts of a finished test, in order, with how it counts where it is flaky. There is
-/// always at least one.
+/// All attempts of a finished test, in order, and how the test counts if it is flaky. There is always
+/// at least one attempt.
 #[derive(Drop)]
 pub struct ExecutionStatuses<S: OutputSpec> {
     statuses: Vec<ExecuteStatus<S>>,
@@ -17,7 +17,7 @@ pub struct ExecutionStatuses<S: OutputSpec> {
     ghost not_empty: { 0 < vec_len statuses },
 }
 
-/// The list of attempts is empty: there is no finished test without an attempt.
+/// The error if a list of attempts is empty. A finished test has at least one attempt.
 #[derive(Clone, Copy, Debug, PartialEq, Eq)]
 pub struct EmptyStatuses;
 
@@ -29,7 +29,9 @@ impl<S: OutputSpec> ExecutionStatuses<S> {
     ghost use Rattle.run_events_results.specs.Results.{succeeds};
     ghost use Rattle.run_events_levels.specs.TestView.{said_of};
 
-    /// A test with these attempts, in order, of which there must be at least one.
+    /// Returns a test with these attempts, in order.
+    ///
+    /// `statuses` must not be empty; [`ExecutionStatuses::try_from_parts`] tests it.
     pub fn new(statuses: Vec<ExecuteStatus<S>>, flaky_result: FlakyResult) -> Self
         requires { 0 < vec_len statuses }
         ensures attempts { attempts_of result ≡ statuses.items }
@@ -41,9 +43,9 @@ impl<S: OutputSpec> ExecutionStatuses<S> {
         }
     }
 
-    /// A test with these attempts, in order.
+    /// Returns a test with these attempts, in order.
     ///
-    /// [`EmptyStatuses`] exactly where there are none, as in a damaged record.
+    /// The error is [`EmptyStatuses`] if `statuses` is empty, for example in a damaged record.
     pub fn try_from_parts(
         statuses: Vec<ExecuteStatus<S>>,
         flaky_result: FlakyResult,
@@ -59,21 +61,21 @@ impl<S: OutputSpec> ExecutionStatuses<S> {
         Ok(ExecutionStatuses::new(statuses, flaky_result))
     }
 
-    /// How the test counts where it is flaky.
+    /// Returns how the test counts if it is flaky.
     pub fn flaky_result(&self) -> FlakyResult
         ensures { result ≡ setting_of self.now }
     {
         self.flaky_result
     }
 
-    /// The last attempt, which decides how the test counts.
+    /// Returns the last attempt, which decides how the test counts.
     pub fn last_status(&self) -> &ExecuteStatus<S>
         ensures { last_of (attempts_of self.now) ≡ Some result.now }
     {
-        &self.statuses[self.statuses.len() - 1]
+        self.statuses.last().unwrap()
     }
 
-    /// What of the test decides its counters and its levels.
+    /// Returns the parts of the test that decide its counters and its levels.
     pub fn view(&self) -> TestView<'_>
         ensures { said_of result ≡ view_of self.now }
     {
@@ -86,7 +88,7 @@ impl<S: OutputSpec> ExecutionStatuses<S> {
         }
     }
 
-    /// The number of attempts, at least 1.
+    /// Returns the number of attempts, which is at least 1.
     pub fn len(&self) -> usize
         ensures count { result ≡ length (attempts_of self.now) }
         ensures not_empty { 0 < result }
@@ -94,7 +96,7 @@ impl<S: OutputSpec> ExecutionStatuses<S> {
         self.statuses.len()
     }
 
-    /// Visits the attempts, the first one first; from the back, the last one first.
+    /// Returns an iterator over the attempts, in order.
     pub fn iter(&self) -> ExecutionStatusesIter<'_, S>
         ensures { attempts_left result ≡ attempts_of self.now }
     {
@@ -103,9 +105,8 @@ impl<S: OutputSpec> ExecutionStatuses<S> {
         }
     }
 
-    /// What the attempts come to: a success where there is one and it succeeded, flaky where there
-    /// are more and the last one succeeded, otherwise a failure. Of the results the last counts
-    /// alone.
+    /// Describes the test: a failure if the last attempt did not succeed, or else a success if there
+    /// is one attempt, or else flaky.
     pub fn describe(&self) -> ExecutionDescription<'_, S>
         ensures parts { ComesTo (attempts_of self.now) (setting_of self.now) result }
         ensures consistent { IsConsistent result }
@@ -118,7 +119,7 @@ impl<S: OutputSpec> ExecutionStatuses<S> {
     }
 }
 
-/// The attempts of a test that are left to visit, from both ends.
+/// An iterator over the attempts of a test.
 #[derive(Drop)]
 pub struct ExecutionStatusesIter<'a, S: OutputSpec> {
     rest: &'a [ExecuteStatus<S>],
@@ -134,7 +135,6 @@ impl<'a, S: OutputSpec> Iterator for ExecutionStatusesIter<'a, S> {
 
     ghost remaining = { item_count attempts_left };
 
-    /// The first attempt that is left; `None` where none is.
     fn next(&mut self) -> Option<&'a ExecuteStatus<S>> {
         let (first, rest) = self.rest.split_first()?;
         self.rest = rest;
@@ -148,7 +148,6 @@ impl<'a, S: OutputSpec> DoubleEndedIterator for ExecutionStatusesIter<'a, S> {
 
     ghost next_back_gives = { YieldsLastRef attempts_left };
 
-    /// The last attempt that is left; `None` where none is.
     fn next_back(&mut self) -> Option<&'a ExecuteStatus<S>> {
         let (last, rest) = self.rest.split_last()?;
         self.rest = rest;
@@ -156,7 +155,7 @@ impl<'a, S: OutputSpec> DoubleEndedIterator for ExecutionStatusesIter<'a, S> {
     }
 }
 
-/// Gives the attempts away, the first one first; from the back, the last one first.
+/// Iterates over the attempts, in order.
 impl<S: OutputSpec> IntoIterator for ExecutionStatuses<S>
 where
     S::ChildOutputDesc: Drop,

@@ -1,4 +1,4 @@
-//! Error chains as JSON values.
+//! Errors with their causes as JSON values.
 
 ghost use Rattle.std.specs.Prelude.{◌≡◌, ◌≤◌, codes, is_some, not, map, option_map, position, Err, IfOk, Ok, if◌then◌else◌};
 ghost use Rattle.std.specs.Result.{result_map_both};
@@ -14,28 +14,28 @@ use crate::chain::SerializableError;
 use serde_json::{Map, Value, put};
 use std::alloc::{AllocError, Global};
 
-/// Why a JSON value was not read as an error.
+/// Why a JSON value is not an error with its causes.
 #[derive(Clone, Copy, Debug, PartialEq, Eq)]
 pub enum FromValueError {
-    /// It is no object.
+    /// The value is not an object.
     NotAnObject,
 
-    /// It has no member `message`.
+    /// The object has no member `message`.
     MessageMissing,
 
-    /// Its member `message` is no text.
+    /// The member `message` is not a text.
     MessageNotText,
 
-    /// Its member `causes` is no list. `null` is none either.
+    /// The member `causes` is not a list. `null` is not a list either.
     CausesNotAList,
 
-    /// A cause is no text.
+    /// A cause is not a text.
     CauseNotText {
         /// The position of the first such cause, counted from 0.
         index: usize,
     },
 
-    /// Memory was refused.
+    /// There was not enough memory.
     OutOfMemory,
 }
 
@@ -44,18 +44,14 @@ impl From<AllocError> for FromValueError {
 
     ghost from_gives = { λ _ e. e ≡ OutOfMemory };
 
-    /// Answers [`FromValueError::OutOfMemory`].
     fn from(_: AllocError) -> FromValueError {
         FromValueError::OutOfMemory
     }
 }
 
 impl SerializableError {
-    /// The error as an object with two members: `message`, a text, and `causes`, a list of texts,
-    /// the nearest cause first, which is there also where it is empty.
-    ///
-    /// Takes memory for the object, its texts and its list. The only error is that memory is
-    /// refused.
+    /// Returns the error as an object with two members: `message`, a text, and `causes`, a list of
+    /// texts with the nearest cause first. The list is present even if it is empty.
     #[tactic(auto, using(crate::proofs::ChainLemmas::is_chain_value_from_object, crate::proofs::ChainLemmas::nests_from_object, crate::proofs::ChainLemmas::reads_from_object))]
     pub fn to_value(&self, alloc: Global) -> Result<Value, AllocError>
         ensures members { IfOk result (λ v. IsChainValue (view v) self.now) }
@@ -67,25 +63,28 @@ impl SerializableError {
         object_of(alloc, self)
     }
 
-    /// The error that a value is read as: an object with a text as `message` and a list of texts
-    /// as `causes`. Where `causes` is missing, the error has none. Other members are ignored.
+    /// Reads an error from an object with a text `message` and a list of texts `causes`. If `causes`
+    /// is missing, the error has no cause. Other members are ignored.
     ///
-    /// Of the refusals but [`FromValueError::OutOfMemory`] the first that applies is answered, in
-    /// the order of their declaration, and before any memory is taken. What [`Self::to_value`]
-    /// wrote is read as the same error again.
+    /// If several errors of [`FromValueError`] apply, returns the one that is declared first. A value
+    /// from [`Self::to_value`] is read as an equal error.
     #[tactic(auto, using(crate::proofs::ChainLemmas::reads_back_from_reads))]
     pub fn from_value(alloc: Global, value: &Value) -> Result<Self, FromValueError>
+        // The value is tested before any memory is taken.
         ensures reads { ReadsAs (read_chain (view value.now)) result }
         ensures reads_back { (c : ErrorChain) → IsChainValue (view value.now) c
             → IsChainUnlessMemory c result }
     {
-        read_value(alloc, value)
+        let message = message_of(value)?;
+        let causes = causes_of(value.get("causes"))?;
+        Ok(error_of(alloc, message, causes)?)
     }
 }
 
-/// The object of [`SerializableError::to_value`], whose clauses are proved from this one.
+/// Returns an error as an object with a message and a list of causes.
 #[tactic(auto, using(crate::proofs::ChainLemmas::messages_of_cause_chains))]
 fn object_of(alloc: Global, error: &SerializableError) -> Result<Value, AllocError>
+    // The clauses of `to_value` are proved from this one.
     ensures { IfOk result (λ v. view v ≡ chain_object error.now) }
 {
     let mut causes = Vec::new(alloc);
@@ -99,15 +98,7 @@ fn object_of(alloc: Global, error: &SerializableError) -> Result<Value, AllocErr
     Ok(Value::Object(members))
 }
 
-/// The reading of [`SerializableError::from_value`], whose clauses are proved from this one.
-fn read_value(alloc: Global, value: &Value) -> Result<SerializableError, FromValueError>
-    ensures { ReadsAs (read_chain (view value.now)) result }
-{
-    let message = message_of(value)?;
-    let causes = causes_of(value.get("causes"))?;
-    Ok(error_of(alloc, message, causes)?)
-}
-
+/// Returns the message of a value.
 fn message_of(value: &Value) -> Result<&str, FromValueError>
     ensures { result_map_both (λ s. s.now) (λ e. e) result
         ≡ (if is_some (as_object (view value.now))
@@ -126,6 +117,7 @@ fn message_of(value: &Value) -> Result<&str, FromValueError>
     }
 }
 
+/// Returns the causes in a member of a value, which are none if it is missing.
 #[tactic(auto, using(crate::proofs::ChainLemmas::values_in_items_of))]
 fn causes_of(member: Option<&Value>) -> Result<&[Value], FromValueError>
     ensures { result_map_both (λ vs. texts_of vs.now) (λ e. e) result
@@ -140,6 +132,7 @@ fn causes_of(member: Option<&Value>) -> Result<&[Value], FromValueError>
     }
 }
 
+/// Returns the values if all of them are texts.
 #[tactic(auto, using(crate::proofs::ChainLemmas::texts_of_views, crate::proofs::ChainLemmas::position_of_view))]
 fn all_texts(items: &[Value]) -> Result<&[Value], FromValueError>
     ensures { result_map_both (λ vs. texts_of vs.now) (λ e. e) result
@@ -151,20 +144,21 @@ fn all_texts(items: &[Value]) -> Result<&[Value], FromValueError>
     }
 }
 
+/// Returns the position of the first value that is not a text.
 fn first_no_text(items: &[Value]) -> Option<usize>
     ensures { result ≡ position (λ v. not (is_some (as_str (view v)))) items.now }
 {
     items.iter().position(|item| !item.is_string())
 }
 
-/// The error with this message and these causes, which are texts: no other list gets here, so the
-/// empty text is never taken.
+/// Returns the error with this message and these causes, which are all texts.
 fn error_of(alloc: Global, message: &str, causes: &[Value]) -> Result<SerializableError, AllocError>
     ensures message { IfOk result (λ e. e.message ≡ message.now) }
     ensures causes { IfOk result (λ e. e.causes ≡ texts_of causes.now) }
 {
     let mut texts = Vec::with_capacity(alloc, causes.len())?;
     for cause in causes {
+        // Every cause is a text here, so `unwrap_or` never takes its default.
         texts.push(String::from_str(alloc, cause.as_str().unwrap_or(""))?)?;
     }
     SerializableError::from_message_and_causes(alloc, String::from_str(alloc, message)?, texts)

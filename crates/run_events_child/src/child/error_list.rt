@@ -1,4 +1,4 @@
-//! Errors of one attempt at something, at least one.
+//! A list of at least one error.
 
 ghost use Rattle.std.specs.Prelude.{◌≡◌, ◌↔◌, ◌<◌, ◌≤◌, [], IsNone, IfSome, length, map, vec_capacity, vec_len};
 ghost use Rattle.std.specs.Slice.Iter.{iter_rest};
@@ -8,8 +8,7 @@ use crate::child::errors::{ChildError, ChildErrorDescription};
 use std::marker::Model;
 use std::slice::Iter;
 
-/// Errors that came up in one attempt at something, with a description of what was tried. There is
-/// always at least one.
+/// The errors of one operation, with a description of the operation. There is always at least one.
 #[derive(Debug, Drop)]
 pub struct ErrorList<T> {
     description: &'static str,
@@ -28,7 +27,7 @@ impl<T> Model for ErrorList<T> {
 }
 
 impl<T> ErrorList<T> {
-    /// The errors in their order, under the description; `None` exactly where there are none.
+    /// Returns a list of these errors, or `None` if there are none.
     pub fn new(description: &'static str, errors: Vec<T>) -> Option<Self>
         ensures empty { IsNone result ↔ (errors.items ≡ []) }
         ensures list { IfSome result (λ l. (l.description ≡ description.entry.now)
@@ -45,14 +44,14 @@ impl<T> ErrorList<T> {
         }
     }
 
-    /// What was tried.
+    /// Returns the description of the operation.
     pub fn description(&self) -> &'static str
         ensures { result.now ≡ self.now.description }
     {
         self.description
     }
 
-    /// The number of errors, at least 1.
+    /// Returns the number of errors, which is at least 1.
     pub fn len(&self) -> usize
         ensures count { result ≡ length self.now.items }
         ensures not_empty { 0 < result }
@@ -60,7 +59,7 @@ impl<T> ErrorList<T> {
         self.errors.len()
     }
 
-    /// The errors, in order.
+    /// Returns an iterator over the errors.
     pub fn iter(&self) -> Iter<'_, T>
         ensures { iter_rest result ≡ self.now.items }
     {
@@ -69,7 +68,8 @@ impl<T> ErrorList<T> {
 }
 
 impl ErrorList<ChildError> {
-    /// The errors described, in order, in the room given, which is empty and large enough.
+    /// Describes the errors, and keeps the descriptions in `room`, which must be empty and large
+    /// enough.
     pub(crate) fn described(
         self,
         room: Vec<ChildErrorDescription>,
@@ -89,6 +89,7 @@ impl ErrorList<ChildError> {
     }
 }
 
+/// Describes errors, and keeps the descriptions in `room`.
 fn described_items(
     errors: Vec<ChildError>,
     mut room: Vec<ChildErrorDescription>,

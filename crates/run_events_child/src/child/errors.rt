@@ -1,4 +1,4 @@
-//! What can go wrong with a child process, apart from its own failure.
+//! The errors in starting a child process, reading from it or waiting for it.
 
 ghost use Rattle.std.specs.Prelude.{◌≡◌, Some};
 ghost use Rattle.run_events_child.specs.ChildErrors.{child_error_text, error_cause, start_cause, start_error_text};
@@ -6,7 +6,7 @@ ghost use Rattle.run_events_child.specs.ChildErrors.{child_error_text, error_cau
 use crate::chain::SerializableError;
 use std::fmt;
 
-/// Why a child process was not started, as the runner has it.
+/// Why a child process was not started, as the runner gets it.
 #[derive(Debug, Drop)]
 pub enum ChildStartError {
     /// No temporary path could be made for a setup script.
@@ -16,50 +16,50 @@ pub enum ChildStartError {
     Spawn(SerializableError),
 }
 
-/// What went wrong in reading from a child process or waiting for it, as the runner has it.
+/// An error in reading from a child process or waiting for it, as the runner gets it.
 #[derive(Debug, Drop)]
 pub enum ChildFdError {
-    /// Its standard output could not be read.
+    /// The standard output could not be read.
     ReadStdout(SerializableError),
 
-    /// Its standard error could not be read.
+    /// The standard error could not be read.
     ReadStderr(SerializableError),
 
-    /// Its combined output could not be read.
+    /// The combined output could not be read.
     ReadCombined(SerializableError),
 
-    /// It could not be waited for.
+    /// The runner could not wait for the process.
     Wait(SerializableError),
 }
 
-/// What went wrong with a child process that was started, as the runner has it.
+/// An error with a child process that was started, as the runner gets it.
 #[derive(Debug, Drop)]
 pub enum ChildError {
-    /// It could not be read from or waited for.
+    /// The runner could not read from the process or wait for it.
     Fd(ChildFdError),
 
-    /// The file in which a setup script leaves its output could not be read.
+    /// The output file of a setup script could not be read.
     SetupScriptOutput(SerializableError),
 }
 
-/// Why a child process was not started.
+/// Why a child process was not started. It is displayed without its cause.
 #[derive(Debug, PartialEq, Eq, Drop)]
 pub enum ChildStartErrorDescription {
     /// No temporary path could be made for a setup script.
     TempPath {
-        /// What went wrong.
+        /// The cause of the error.
         source: SerializableError,
     },
 
     /// The process could not be spawned.
     Spawn {
-        /// What went wrong.
+        /// The cause of the error.
         source: SerializableError,
     },
 }
 
 impl ChildStartErrorDescription {
-    /// What went wrong, with all that caused it.
+    /// Returns the cause of the error, with its own causes.
     pub fn source(&self) -> &SerializableError
         ensures { result.now ≡ start_cause self.now }
     {
@@ -75,7 +75,6 @@ impl fmt::Display for ChildStartErrorDescription {
 
     ghost styled_output = { λ e _. Some (start_error_text e) };
 
-    /// What failed, without its cause.
     fn fmt<W: fmt::Write>(&self, f: &mut fmt::Formatter<W>) -> fmt::Result {
         match self {
             ChildStartErrorDescription::TempPath { .. } => {
@@ -91,7 +90,6 @@ impl From<ChildStartError> for ChildStartErrorDescription {
 
     ghost from_gives = { λ seen described. described ≡ described_start_error seen };
 
-    /// The same error, moved.
     fn from(error: ChildStartError) -> ChildStartErrorDescription {
         match error {
             ChildStartError::TempPath(source) => ChildStartErrorDescription::TempPath { source },
@@ -100,42 +98,42 @@ impl From<ChildStartError> for ChildStartErrorDescription {
     }
 }
 
-/// What went wrong with a child process that was started.
+/// An error with a child process that was started. It is displayed without its cause.
 #[derive(Debug, PartialEq, Eq, Drop)]
 pub enum ChildErrorDescription {
-    /// Its standard output could not be read.
+    /// The standard output could not be read.
     ReadStdout {
-        /// What went wrong.
+        /// The cause of the error.
         source: SerializableError,
     },
 
-    /// Its standard error could not be read.
+    /// The standard error could not be read.
     ReadStderr {
-        /// What went wrong.
+        /// The cause of the error.
         source: SerializableError,
     },
 
-    /// Its combined output could not be read.
+    /// The combined output could not be read.
     ReadCombined {
-        /// What went wrong.
+        /// The cause of the error.
         source: SerializableError,
     },
 
-    /// It could not be waited for.
+    /// The runner could not wait for the process.
     Wait {
-        /// What went wrong.
+        /// The cause of the error.
         source: SerializableError,
     },
 
-    /// The file in which a setup script leaves its output could not be read.
+    /// The output file of a setup script could not be read.
     SetupScriptOutput {
-        /// What went wrong.
+        /// The cause of the error.
         source: SerializableError,
     },
 }
 
 impl ChildErrorDescription {
-    /// What went wrong, with all that caused it.
+    /// Returns the cause of the error, with its own causes.
     pub fn source(&self) -> &SerializableError
         ensures { result.now ≡ error_cause self.now }
     {
@@ -154,7 +152,6 @@ impl fmt::Display for ChildErrorDescription {
 
     ghost styled_output = { λ e _. Some (child_error_text e) };
 
-    /// What failed, without its cause.
     fn fmt<W: fmt::Write>(&self, f: &mut fmt::Formatter<W>) -> fmt::Result {
         match self {
             ChildErrorDescription::ReadStdout { .. } => f.write_str(
@@ -179,7 +176,6 @@ impl From<ChildError> for ChildErrorDescription {
 
     ghost from_gives = { λ seen described. described ≡ described_error seen };
 
-    /// The same error, moved.
     fn from(error: ChildError) -> ChildErrorDescription {
         match error {
             ChildError::Fd(ChildFdError::ReadStdout(source)) => {

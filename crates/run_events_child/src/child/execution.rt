@@ -1,4 +1,4 @@
-//! What a child process left, from the runner to its reporters.
+//! The output and the errors of a child process, from the runner to its reporters.
 
 ghost use Rattle.std.specs.Prelude.{◌≡◌, IfErr, IfOk, IsOk, MatchResult, None, Some, option_map};
 ghost use Rattle.run_events_child.specs.ChildErrors.{described_errors};
@@ -11,42 +11,38 @@ use crate::child::{
 use run_events_results::results::{ExecutionResult, ExecutionResultDescription};
 use std::alloc::Global;
 
-/// What a child process left, or why it was not started, as the runner has it.
+/// The output and the errors of a child process, or why it was not started, as the runner gets it.
 #[derive(Drop)]
 pub enum ChildExecutionOutput {
-    /// It was started.
+    /// The process was started.
     Output {
-        /// How it ended; `None` while it still runs.
+        /// The result of the process, or `None` if it is still running.
         result: Option<ExecutionResult>,
 
-        /// What was captured.
+        /// The captured output.
         output: ChildOutput,
 
-        /// The errors in reading from it or waiting for it; `None` where there were none.
+        /// The errors in reading from it or waiting for it, or `None` if there were none.
         errors: Option<ErrorList<ChildError>>,
     },
 
-    /// It was not started.
+    /// The process was not started.
     StartError(ChildStartError),
 }
 
-/// What was handed in, handed back, since memory for its description was refused.
+/// The arguments of [`ChildExecutionOutputDescription::from_output`], returned unchanged.
 #[derive(Drop)]
 pub struct Refused {
-    /// What the child process left.
+    /// The output and the errors of the child process.
     pub output: ChildExecutionOutput,
 
-    /// The name of the signal that ended it, where one was handed in.
+    /// The name of the signal that ended the process.
     pub name: Option<String>,
 }
 
 impl ChildExecutionOutputDescription<LiveSpec> {
-    /// The description of what a child process left: the same case with all its parts, the errors
-    /// in their order. The name goes into the signal that ended the process, and is dropped where
-    /// none did.
-    ///
-    /// Without errors no memory is asked for. With errors it is asked for first, and where it is
-    /// refused, output and name come back as they were handed in.
+    /// Describes the output and the errors of a child process. `name` is the name of the signal that
+    /// ended the process, and is dropped if there is no signal.
     pub fn from_output(
         alloc: Global,
         output: ChildExecutionOutput,
@@ -56,7 +52,8 @@ impl ChildExecutionOutputDescription<LiveSpec> {
         ensures output { IfErr result (λ refused. refused.output ≡ output) }
         ensures name { IfErr result (λ refused. refused.name ≡ name) }
 
-        // Where there are no errors, no memory is taken.
+        // Without errors no memory is taken. With errors it is taken first, and if it is refused,
+        // output and name are returned unchanged.
         ensures no_errors { output_errors output ≡ None → IsOk result }
     {
         match output {
@@ -65,18 +62,20 @@ impl ChildExecutionOutputDescription<LiveSpec> {
                 Ok(ChildExecutionOutputDescription::StartError(error))
             }
             ChildExecutionOutput::Output {
-                result: end,
+                result,
                 output,
                 errors,
             } => match described_list(alloc, errors) {
                 Ok(errors) => Ok(ChildExecutionOutputDescription::Output {
-                    result: end.map(|end| ExecutionResultDescription::from_status(end, name)),
+                    result: result.map(|status| ExecutionResultDescription::from_status(
+                        status, name,
+                    )),
                     output: ChildOutputDescription::from(output),
                     errors,
                 }),
                 Err(errors) => Err(Refused {
                     output: ChildExecutionOutput::Output {
-                        result: end,
+                        result,
                         output,
                         errors: Some(errors),
                     },
@@ -87,11 +86,12 @@ impl ChildExecutionOutputDescription<LiveSpec> {
     }
 }
 
-/// The description of errors, or the errors back where memory for it is refused.
+/// Describes errors, or returns them unchanged.
 fn described_list(
     alloc: Global,
     errors: Option<ErrorList<ChildError>>,
 ) -> Result<Option<ErrorList<ChildErrorDescription>>, ErrorList<ChildError>>
+    // They are returned unchanged if memory for the descriptions is refused.
     ensures { MatchResult result (λ described. described ≡ option_map described_errors errors)
         (λ list. errors ≡ Some list) }
 {

@@ -6,7 +6,7 @@ ghost use Rattle.run_events_child.specs.ChildOutput.{IsLoaded, captured_lengths}
 use bytes::Bytes;
 use std::marker::Model;
 
-/// What was captured of one stream, or of both in one. A contract sees it as its bytes.
+/// The captured bytes of one stream, or of both streams in one.
 #[derive(Drop)]
 pub struct ChildSingleOutput {
     buf: Bytes,
@@ -15,6 +15,7 @@ pub struct ChildSingleOutput {
 impl Model for ChildSingleOutput {
     ghost use Rattle.std.specs.Prelude.{List, ℕ};
 
+    // Contracts see it as its bytes.
     ghost Value = { List ℕ };
 
     ghost view = { λ o. o.buf };
@@ -23,14 +24,13 @@ impl Model for ChildSingleOutput {
 impl From<Bytes> for ChildSingleOutput {
     ghost from_gives = { λ b o. o ≡ b };
 
-    /// The bytes, as what was captured.
     fn from(buf: Bytes) -> ChildSingleOutput {
         ChildSingleOutput { buf }
     }
 }
 
 impl ChildSingleOutput {
-    /// The captured bytes.
+    /// Returns the captured bytes.
     pub fn buf(&self) -> &Bytes
         ensures { result.now ≡ self.now }
     {
@@ -38,44 +38,44 @@ impl ChildSingleOutput {
     }
 }
 
-/// What was captured of two streams apart, as the runner has it.
+/// The captured output of two separate streams, as the runner gets it.
 #[derive(Drop)]
 pub struct ChildSplitOutput {
-    /// What was captured of standard output, if it was captured.
+    /// Standard output, if it was captured.
     pub stdout: Option<ChildSingleOutput>,
 
-    /// What was captured of standard error, if it was captured.
+    /// Standard error, if it was captured.
     pub stderr: Option<ChildSingleOutput>,
 }
 
-/// The captured output of a child process, as the runner has it.
+/// The captured output of a child process, as the runner gets it.
 #[derive(Drop)]
 pub enum ChildOutput {
-    /// Standard output and standard error apart.
+    /// Standard output and standard error, captured separately.
     Split(ChildSplitOutput),
 
     /// Both streams in one, in the order in which they were written.
     Combined {
-        /// What was captured.
+        /// The captured output.
         output: ChildSingleOutput,
     },
 }
 
-/// The captured output of a child process, as reporters are given it.
+/// The captured output of a child process, as reporters get it.
 #[derive(Drop)]
 pub enum ChildOutputDescription {
-    /// Standard output and standard error apart. A stream that was not captured is `None`.
+    /// Standard output and standard error, captured separately.
     Split {
-        /// What was captured of standard output.
+        /// Standard output, or `None` if it was not captured.
         stdout: Option<ChildSingleOutput>,
 
-        /// What was captured of standard error.
+        /// Standard error, or `None` if it was not captured.
         stderr: Option<ChildSingleOutput>,
     },
 
     /// Both streams in one, in the order in which they were written.
     Combined {
-        /// What was captured.
+        /// The captured output.
         output: ChildSingleOutput,
     },
 
@@ -84,7 +84,7 @@ pub enum ChildOutputDescription {
 }
 
 impl ChildOutputDescription {
-    /// Whether the output is there, so that its lengths and its slice may be asked for.
+    /// Returns true if the output was loaded.
     pub fn is_loaded(&self) -> bool
         ensures { IsTrue result ↔ IsLoaded self.now }
     {
@@ -94,11 +94,11 @@ impl ChildOutputDescription {
         }
     }
 
-    /// How many bytes were captured of standard output and of standard error, `None` for a stream
-    /// that was not captured. Of both streams in one the first number is the length of all, and the
-    /// second is `None`.
+    /// Returns the number of captured bytes of standard output and of standard error, or `None` for a
+    /// stream that was not captured. If both streams were captured as one, the first number is the
+    /// length of all, and the second is `None`.
     ///
-    /// The output must be loaded.
+    /// The output must be loaded; [`ChildOutputDescription::is_loaded`] tests it.
     pub fn stdout_stderr_len(&self) -> (Option<u64>, Option<u64>)
         requires { IsLoaded self.now }
         ensures { result ≡ captured_lengths self.now }
@@ -113,6 +113,7 @@ impl ChildOutputDescription {
     }
 }
 
+/// Returns the number of captured bytes of a stream.
 fn captured_length(output: &Option<ChildSingleOutput>) -> Option<u64>
     ensures { result ≡ option_map length output.now }
 {
@@ -124,7 +125,6 @@ impl From<ChildOutput> for ChildOutputDescription {
 
     ghost from_gives = { λ seen described. described ≡ described_output seen };
 
-    /// The same output, moved.
     fn from(output: ChildOutput) -> ChildOutputDescription {
         match output {
             ChildOutput::Split(ChildSplitOutput { stdout, stderr }) => {

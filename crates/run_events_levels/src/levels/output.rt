@@ -1,4 +1,4 @@
-//! The decision what to show of a finished test.
+//! The decision what a reporter shows of a finished test.
 
 ghost use Rattle.std.specs.Prelude.{◌≡◌, ◌≢◌, ◌≤◌, ◌==◌, ◌&&◌, IsTrue, Option, Some, false, true, if◌then◌else◌};
 ghost use Rattle.run_events_settings.specs.Config.{is_final_display, is_immediate_display};
@@ -12,24 +12,25 @@ use run_events_results::results::{CancelReason, ExecutionResultDescription};
 use run_events_settings::config::TestOutputDisplay;
 
 impl StatusLevels {
-    /// What is shown of a test that has just finished, and what is stored of it for the end of the
-    /// run.
+    /// Returns what a reporter shows of a test when it finishes, and what it stores for the end of
+    /// the run.
     ///
-    /// A line is written where the own status level is at or above the test's. Output is displayed
-    /// at once where the display is immediate. The test is stored where the display is final or the
-    /// own final level is at or above the test's, and its output is displayed at the end where the
-    /// display is final. A reason to cancel the run takes away from this:
+    /// The reporter writes a line if its status level is at least that of the test. It displays the
+    /// output at once if `display` is immediate. It stores the test if `display` is final or its
+    /// final level is at least that of the test, and then displays the output at the end if
+    /// `display` is final. With a reason to cancel the run, it shows and stores less:
     ///
-    /// - while the run stops at once after a failure, nothing is shown or stored of a test that
-    ///   failed by `SIGTERM` or with the Windows job object, which is how the runner ends a test;
-    /// - under a signal, output that is displayed at once is not displayed again at the end;
-    /// - under an interrupt or a second signal, nothing is shown or stored of any test.
+    /// - [`CancelReason::TestFailureImmediate`]: nothing of a test that was ended by `SIGTERM` or
+    ///   with the Windows job object, which is how the runner ends a test;
+    /// - [`CancelReason::Signal`]: output that was displayed at once is not displayed again at the
+    ///   end;
+    /// - [`CancelReason::Interrupt`] and [`CancelReason::SecondSignal`]: nothing of any test.
     ///
-    /// Whether the line is written does not depend on the reason.
+    /// The line does not depend on the reason.
     ///
-    /// Under a greater reason no more is shown or stored than under a lesser one, with one
-    /// exception: a test that the runner seems to have ended is hidden while the run stops at once,
-    /// and neither when the time for the run is over nor under a signal.
+    /// With a greater reason the reporter shows and stores no more than with a lesser one. The one
+    /// exception is a test that the runner seems to have ended: it is hidden with
+    /// `TestFailureImmediate`, but not with `GlobalTimeout` or `Signal`.
     pub fn compute_output_on_test_finished(
         &self,
         display: TestOutputDisplay,
@@ -72,8 +73,7 @@ impl StatusLevels {
         )
     }
 
-    /// What is shown and stored, by the cases of the reason. Its one clause is what the laws of
-    /// [`StatusLevels::compute_output_on_test_finished`] are proved from.
+    /// Returns what a reporter shows and stores, by the cases of the reason.
     fn output_of(
         &self,
         display: TestOutputDisplay,
@@ -82,6 +82,7 @@ impl StatusLevels {
         test_final_status_level: FinalStatusLevel,
         execution_result: &ExecutionResultDescription,
     ) -> OutputOnTestFinished
+        // The laws of `compute_output_on_test_finished` are proved from this clause.
         ensures { let asked = asked_of self.now display test_status_level test_final_status_level
             execution_result.now in
             result ≡ visibility asked cancel_status }
@@ -114,7 +115,7 @@ impl StatusLevels {
         }
     }
 
-    /// Whether a test is listed at the end of the run.
+    /// Returns true if a test of this level is listed at the end of the run.
     fn is_stored(&self, display: TestOutputDisplay, test_level: FinalStatusLevel) -> bool
         ensures { result ≡ is_stored self.now display test_level }
     {
@@ -122,7 +123,7 @@ impl StatusLevels {
     }
 }
 
-/// Nothing is shown but the line, and nothing is stored.
+/// Returns output that is at most the line.
 fn hidden(write_status_line: bool) -> OutputOnTestFinished
     ensures { result ≡ record {
       write_status_line = write_status_line;
@@ -137,7 +138,7 @@ fn hidden(write_status_line: bool) -> OutputOnTestFinished
     }
 }
 
-/// What is stored of a test, if it is stored.
+/// Returns what is stored of a test.
 fn stored(is_stored: bool, display_output: bool) -> OutputStoreFinal
     ensures { result ≡ (if is_stored then OutputStoreFinal.Yes display_output
         else OutputStoreFinal.No) }
@@ -149,14 +150,14 @@ fn stored(is_stored: bool, display_output: bool) -> OutputStoreFinal
     }
 }
 
-/// Whether output is displayed at the end of the run and not before.
+/// Returns true if output is displayed only at the end of the run.
 fn is_only_final(display: TestOutputDisplay) -> bool
     ensures { result ≡ (if is_immediate_display display then false else is_final_display display) }
 {
     matches!(display, TestOutputDisplay::Final)
 }
 
-/// Whether a test was ended because the run stops at once after a failure.
+/// Returns true if the runner ended the test because the run stops at once after a failure.
 fn is_stopped(
     cancel_status: Option<CancelReason>,
     execution_result: &ExecutionResultDescription,

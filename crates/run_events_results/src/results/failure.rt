@@ -1,4 +1,4 @@
-//! With what a failed process ended, and the texts of that.
+//! The exit codes and aborts of failed processes, and their texts.
 
 ghost use Rattle.std.specs.Prelude.{◌≡◌, Some};
 ghost use Rattle.run_events_results.specs.Described.{described_abort, described_failure};
@@ -7,20 +7,22 @@ ghost use Rattle.run_events_results.specs.Texts.{abort_text, code_digits, failur
 
 use std::fmt;
 
-/// The number of the signal that asks a process to end. It is the same on all platforms.
+/// The number of the signal that asks a process to end, which is the same on all platforms.
 pub const SIGTERM: i32 = 15;
 
-/// With what a failed process ended, as its runner saw it.
+/// The exit code or the abort of a failed process as the runner saw it.
 #[derive(Clone, Copy, Debug, PartialEq, Eq)]
 pub enum FailureStatus {
-    /// It exited with this code.
+    /// The process exited with this code.
     ExitCode(i32),
 
-    /// It was ended from outside.
+    /// The process was ended from outside.
     Abort(AbortStatus),
 }
 
-/// What ended a process from outside, as its runner saw it.
+/// What ended a process from outside, as the runner saw it.
+///
+/// Its `Debug` is on one line in every style, for example `UnixSignal(15)`.
 #[derive(Clone, Copy, PartialEq, Eq)]
 pub enum AbortStatus {
     /// A signal of this number.
@@ -32,7 +34,6 @@ impl fmt::Debug for AbortStatus {
 
     ghost debug_output = { λ s. Some (abort_status_text s) };
 
-    /// `UnixSignal(15)` for signal 15, on one line in every style.
     fn fmt<W: fmt::Write>(&self, f: &mut fmt::Formatter<W>) -> fmt::Result {
         match self {
             AbortStatus::UnixSignal(signal) => write!(f, "UnixSignal({signal})"),
@@ -40,24 +41,25 @@ impl fmt::Debug for AbortStatus {
     }
 }
 
-/// With what a failed process ended.
+/// The exit code or the abort of a failed process, displayed for example as `exited with code 3` or
+/// as the text of its [`AbortDescription`].
 #[derive(Debug, PartialEq, Eq, Drop)]
 pub enum FailureDescription {
-    /// It exited with this code.
+    /// The process exited with this code.
     ExitCode {
         /// The code.
         code: i32,
     },
 
-    /// It was ended from outside.
+    /// The process was ended from outside.
     Abort {
-        /// By what.
+        /// What ended it.
         abort: AbortDescription,
     },
 }
 
 impl FailureDescription {
-    /// Describes a failure, case by case. The name is that of the signal; an exit code drops it.
+    /// Describes a failure. `name` is the name of the signal, and is dropped for an exit code.
     pub fn from_status(status: FailureStatus, name: Option<String>) -> Self
         ensures { result ≡ described_failure status name }
     {
@@ -73,7 +75,6 @@ impl FailureDescription {
 impl fmt::Display for FailureDescription {
     ghost output = { λ f. Some (failure_text f) };
 
-    /// `exited with code 3` for an exit code, and the abort's own text for an abort.
     fn fmt<W: fmt::Write>(&self, f: &mut fmt::Formatter<W>) -> fmt::Result {
         match self {
             FailureDescription::ExitCode { code } => write!(f, "exited with code {code}"),
@@ -82,25 +83,28 @@ impl fmt::Display for FailureDescription {
     }
 }
 
-/// What ended a process from outside. All platforms' cases are here, since a report may be read on
-/// another platform than the run's.
+/// What ended a process from outside. The cases of all platforms are here, since a report can be
+/// read on a platform other than the one of the run.
+///
+/// It is displayed as `aborted with signal 15 (SIGTERM)`, `aborted with code 0xc0000005: message` or
+/// `terminated via job object`. A name or a message that is `None` is left out.
 #[derive(Debug, PartialEq, Eq, Drop)]
 pub enum AbortDescription {
     /// A signal.
     UnixSignal {
-        /// Its number.
+        /// The number of the signal.
         signal: i32,
 
-        /// Its name without `SIG`, where it was known.
+        /// The name of the signal without `SIG`, if it is known.
         name: Option<String>,
     },
 
     /// A Windows status code.
     WindowsNtStatus {
-        /// The code, as a signed number of 32 bits.
+        /// The code.
         code: i32,
 
-        /// The system's message for it, where there was one.
+        /// The message of the system for the code, if there is one.
         message: Option<String>,
     },
 
@@ -109,7 +113,7 @@ pub enum AbortDescription {
 }
 
 impl AbortDescription {
-    /// The description of an abort: the same case, with the name in a signal.
+    /// Describes an abort. `name` is the name of the signal.
     pub fn from_status(status: AbortStatus, name: Option<String>) -> Self
         ensures { result ≡ described_abort status name }
     {
@@ -118,6 +122,7 @@ impl AbortDescription {
         }
     }
 
+    /// Returns true if the runner itself ends a test like this.
     pub(crate) fn is_termination(&self) -> bool
         ensures { result ≡ spec.is_termination self.now }
     {
@@ -132,8 +137,6 @@ impl AbortDescription {
 impl fmt::Display for AbortDescription {
     ghost output = { λ a. Some (abort_text a) };
 
-    /// `aborted with signal 15 (SIGTERM)`, `aborted with code 0xc0000005: message` or
-    /// `terminated via job object`. Without a name or a message its part is left out.
     fn fmt<W: fmt::Write>(&self, f: &mut fmt::Formatter<W>) -> fmt::Result {
         match self {
             AbortDescription::UnixSignal { signal, name } => {
@@ -156,7 +159,7 @@ impl fmt::Display for AbortDescription {
     }
 }
 
-/// The 32 bits of a code, shown as eight lower-case hexadecimal digits.
+/// A code, displayed as eight lower-case hexadecimal digits.
 #[derive(Clone, Copy)]
 struct CodeDigits {
     code: i32,

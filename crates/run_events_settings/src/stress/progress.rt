@@ -1,4 +1,4 @@
-//! How far a repeated run is.
+//! The progress of a repeated run.
 
 ghost use Rattle.std.specs.Prelude.{◌≡◌, IfOk, option_map, string_bytes};
 ghost use Rattle.run_events_settings.specs.Stress.{IsRunId, TellsApart, completed_of, left_of, remaining_of, sub_run_id};
@@ -12,9 +12,9 @@ use uuid::Uuid;
 /// How many times a run is repeated.
 #[derive(Clone, Copy, Debug, PartialEq, Eq)]
 pub enum StressCount {
-    /// A number of times.
+    /// A fixed number of times.
     Count {
-        /// How many.
+        /// The number of times.
         count: NonZero<u32>,
     },
 
@@ -22,51 +22,51 @@ pub enum StressCount {
     Infinite,
 }
 
-/// What is left of a repeated run: more than nothing.
+/// What remains of a repeated run, which is never nothing.
 #[derive(Clone, Copy, Debug, PartialEq, Eq)]
 pub enum StressRemaining {
-    /// This many sub-runs.
+    /// A number of sub-runs.
     Count(NonZero<u32>),
 
-    /// Sub-runs without end.
+    /// The run has no end.
     Infinite,
 
-    /// This much time.
+    /// An amount of time.
     Time(NonZeroDuration),
 }
 
-/// How far a repeated run is. Reporters are told it at the start and at the end of each sub-run.
+/// The progress of a repeated run. Reporters get it at the start and at the end of each sub-run.
 #[derive(Clone, Copy, Debug, PartialEq, Eq)]
 pub enum StressProgress {
     /// The run is repeated a number of times, or without end.
     Count {
-        /// How many times.
+        /// How many times the run is repeated.
         total: StressCount,
 
-        /// The time that all sub-runs took so far.
+        /// The time that the sub-runs have taken so far.
         elapsed: Duration,
 
-        /// How many sub-runs are done.
+        /// The number of completed sub-runs.
         completed: u32,
     },
 
     /// The run is repeated for a time.
     Time {
-        /// For how long.
+        /// How long the run is repeated.
         total: Duration,
 
-        /// The time that all sub-runs took so far.
+        /// The time that the sub-runs have taken so far.
         elapsed: Duration,
 
-        /// How many sub-runs are done.
+        /// The number of completed sub-runs.
         completed: u32,
     },
 }
 
 impl StressProgress {
-    /// What is left of the run: the sub-runs of the total that are not done, or the time of the
-    /// total that has not elapsed, and none where that is nothing. Of a run without end, always
-    /// [`StressRemaining::Infinite`].
+    /// Returns what remains of the run: the number of sub-runs that are not done, or the time that
+    /// has not elapsed. Returns `None` if nothing remains, and [`StressRemaining::Infinite`] for a
+    /// run without end.
     pub fn remaining(&self) -> Option<StressRemaining>
         ensures { option_map left_of result ≡ remaining_of self.now }
     {
@@ -90,24 +90,22 @@ impl StressProgress {
         }
     }
 
-    /// The id of the sub-run that comes next: the run's id in lower-case hyphenated form,
-    /// `:@stress-`, and the number of sub-runs that are done, in decimal. No other sub-run, of this
-    /// run or of another, has this id.
-    ///
-    /// The only error is that no memory is left.
+    /// Returns the id of the next sub-run: the id of the run in lower-case hyphenated form,
+    /// `:@stress-`, and the number of completed sub-runs in decimal. No other sub-run, of this run or
+    /// of another, has the same id.
     pub fn unique_id(&self, alloc: Global, run_id: Uuid) -> Result<String, AllocError>
         ensures text { IfOk result (λ text. string_bytes text
             ≡ sub_run_id run_id (completed_of self.now)) }
         ensures tells_apart { IfOk result (λ text. TellsApart (string_bytes text) run_id
             (completed_of self.now)) }
     {
-        // That no other id has this text stands on the bytes of this one.
+        // For the proof: the id has sixteen bytes, so no other id has this text.
         let _greatest = greatest_of(run_id.as_bytes());
         let completed = self.completed();
         format!(in alloc; "{run_id}:@stress-{completed}")
     }
 
-    /// How many sub-runs are done.
+    /// Returns the number of completed sub-runs.
     fn completed(&self) -> u32
         ensures { result ≡ completed_of self.now }
     {
@@ -119,8 +117,7 @@ impl StressProgress {
     }
 }
 
-/// The greatest of the bytes of a run's id. It is asked for its contract alone: there are sixteen
-/// bytes, as the type of the argument says.
+/// Returns the greatest byte of a run's id.
 fn greatest_of(id: &[u8; 16]) -> Option<u8>
     ensures { IsRunId id.now }
 {

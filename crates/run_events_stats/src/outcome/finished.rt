@@ -1,4 +1,4 @@
-//! What is left of a run once it is over.
+//! The statistics of a finished run.
 
 ghost use Rattle.std.specs.Prelude.{◌≡◌};
 ghost use Rattle.run_events_stats.specs.Outcome.{final_stats_of, stress_summary_of};
@@ -7,8 +7,7 @@ use crate::outcome::FinalRunStats;
 use crate::stats::RunStats;
 use run_events_settings::stress::StressIndex;
 
-/// The statistics of a run that is over. The dispatcher hands them to reporters as the last thing
-/// of a run.
+/// The statistics of a finished run. They are in the last event of a run.
 #[derive(Clone, Copy, Debug, PartialEq, Eq)]
 pub enum RunFinishedStats {
     /// The run was not repeated.
@@ -19,7 +18,7 @@ pub enum RunFinishedStats {
 }
 
 impl RunFinishedStats {
-    /// The summary of a run that was not repeated, and of a repeated run that of its last sub-run.
+    /// Returns the summary of the run, or of the last sub-run if the run was repeated.
     pub fn final_stats(&self) -> FinalRunStats
         ensures { result ≡ final_stats_of self.now }
     {
@@ -33,13 +32,13 @@ impl RunFinishedStats {
 /// The statistics of a repeated run.
 #[derive(Clone, Copy, Debug, PartialEq, Eq)]
 pub struct StressRunStats {
-    /// How many sub-runs were done, of how many.
+    /// The number of completed sub-runs, and how many there were to be.
     pub completed: StressIndex,
 
-    /// How many sub-runs succeeded.
+    /// The number of sub-runs that succeeded.
     pub success_count: u32,
 
-    /// How many sub-runs failed.
+    /// The number of sub-runs that failed.
     pub failed_count: u32,
 
     /// The summary of the last sub-run.
@@ -47,9 +46,9 @@ pub struct StressRunStats {
 }
 
 impl StressRunStats {
-    /// What the statistics of a repeated run amount to: `Failed` where a sub-run was counted as
-    /// failed, else `Cancelled` or `NoTestsRun` where the last sub-run was that, and else
-    /// `Success`. So a run whose last sub-run failed without being counted is a `Success`.
+    /// Returns the summary of the repeated run: `Failed` if `failed_count` is not 0, or else
+    /// `Cancelled` or `NoTestsRun` if the last sub-run was that, or else `Success`. This includes a
+    /// last sub-run that failed but is not in `failed_count`.
     pub fn summarize_final(&self) -> StressFinalRunStats
         ensures { result ≡ stress_summary_of self.now }
     {
@@ -64,7 +63,7 @@ impl StressRunStats {
     }
 }
 
-/// What the statistics of a repeated run amount to.
+/// The summary of a repeated run.
 #[derive(Clone, Copy, Debug, PartialEq, Eq)]
 pub enum StressFinalRunStats {
     /// No sub-run was counted as failed, and the last was neither cancelled nor without tests.

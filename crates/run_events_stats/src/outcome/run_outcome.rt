@@ -6,34 +6,37 @@ ghost use Rattle.run_events_stats.specs.Outcome.{IsHighest, combined, outcome_of
 use crate::outcome::{FinalRunStats, RunFailureStep};
 use crate::stats::{FinishedRun, RunStats};
 
-/// The outcome of a run: its summary without reason and numbers. Of a repeated run it is the
-/// highest outcome of all sub-runs, where `NoTestsRun` is below `Success`, that is below
-/// `Cancelled`, and that below `Failed`; of two that are cancelled, or failed, the one at a setup
-/// script is the higher.
+/// The outcome of a run: its summary without the reason and the numbers. The outcome of a repeated run
+/// is the highest of those of its sub-runs.
+///
+/// From the lowest to the highest, the outcomes are `NoTestsRun`, `Success`, `Cancelled` and `Failed`.
+/// Of two that are cancelled, or of two that failed, the one at a setup script is higher.
 #[derive(Clone, Copy, Debug, PartialEq, Eq)]
 pub enum RunOutcome {
-    /// The run was successful. Of sub-runs: at least one was, and each other one either was or ran
-    /// no tests.
+    /// The run was successful. For a repeated run: at least one sub-run was successful, and every
+    /// other one was successful or ran no tests.
     Success,
 
-    /// Nothing failed and nothing is missing, but no test was run. Of sub-runs: so it is of each.
+    /// Nothing failed and all that was to run did run, but there was no test. For a repeated run:
+    /// this holds for every sub-run.
     NoTestsRun,
 
-    /// The run was cancelled. Of sub-runs: no failure among them, but a cancellation.
+    /// The run was cancelled. For a repeated run: a sub-run was cancelled, and none failed.
     Cancelled {
-        /// At which step. Of sub-runs: the greatest step of a cancelled one.
+        /// The step at which it was cancelled. For a repeated run: the greatest step of a cancelled
+        /// sub-run.
         step: RunFailureStep,
     },
 
-    /// The run failed. Of sub-runs: at least one failed.
+    /// The run failed. For a repeated run: a sub-run failed.
     Failed {
-        /// At which step. Of sub-runs: the greatest step of a failed one.
+        /// The step at which it failed. For a repeated run: the greatest step of a failed sub-run.
         step: RunFailureStep,
     },
 }
 
 impl RunOutcome {
-    /// The outcome of one run or sub-run: the same case, with the step.
+    /// Returns the outcome of a run or of a sub-run.
     pub fn from_final_stats(stats: FinalRunStats) -> Self
         ensures { result ≡ outcome_of stats }
     {
@@ -45,8 +48,8 @@ impl RunOutcome {
         }
     }
 
-    /// The higher of two outcomes. In whatever order and grouping outcomes are combined, the same
-    /// comes out; `NoTestsRun` changes nothing.
+    /// Returns the higher of two outcomes. The result for several outcomes does not depend on the
+    /// order in which they are combined, and `NoTestsRun` does not change it.
     pub fn combine(self, other: Self) -> Self
         ensures rank { outcome_rank result ≡ max (outcome_rank self) (outcome_rank other) }
         ensures one_of_both { (result ≡ self) ⊎ (result ≡ other) }
@@ -63,8 +66,8 @@ impl RunOutcome {
         self.higher(other)
     }
 
-    /// The outcome of a repeated run, from the summaries of all its sub-runs: the highest of their
-    /// outcomes, or `NoTestsRun` where there is none.
+    /// Returns the outcome of a repeated run, given the summaries of its sub-runs: the highest of
+    /// their outcomes, or `NoTestsRun` if there are none.
     pub fn of_sub_runs(sub_runs: &[FinalRunStats]) -> Self
         ensures { IsHighest (map outcome_of sub_runs.now) result }
     {
@@ -75,9 +78,8 @@ impl RunOutcome {
         highest
     }
 
-    /// The outcome of a repeated run, from the finished units and the start of each of its
-    /// sub-runs: the highest of their outcomes, or `NoTestsRun` where there is none. The units of
-    /// one sub-run count for that one alone.
+    /// Returns the outcome of a repeated run, given the finished units and the start of each of its
+    /// sub-runs: the highest of their outcomes, or `NoTestsRun` if there are none.
     pub fn of_runs(runs: &[FinishedRun<'_>]) -> Self
         ensures { IsHighest (map (λ run. outcome_of (run_summary run)) runs.now) result }
     {
@@ -89,9 +91,9 @@ impl RunOutcome {
         highest
     }
 
-    /// The higher of two outcomes, by their cases. Its one clause is what the laws of
-    /// [`RunOutcome::combine`] are proved from.
+    /// Returns the higher of two outcomes, by their cases.
     fn higher(self, other: Self) -> Self
+        // The laws of `combine` are proved from this clause.
         ensures { result ≡ combined self other }
     {
         match (self, other) {

@@ -1,4 +1,4 @@
-//! Which counters a finished unit raises: a test by its view, a setup script by its result.
+//! The counters that a finished unit raises: a test by its view, a setup script by its result.
 
 ghost use Rattle.std.specs.Prelude.{◌≡◌, ◌&&◌, false, not};
 ghost use Rattle.run_events_stats.specs.ScriptCounters.{script_exec_failed, script_failed, script_passed, script_timed_out};
@@ -10,13 +10,8 @@ use run_events_levels::view::TestView;
 use run_events_results::results::ExecutionResultDescription;
 use run_events_settings::config::{FlakyResult, LeakTimeoutResult, SlowTimeoutResult};
 
-/// The counters of tests, and of each whether a finished test raises it. The number of finished
-/// tests is not among them: every test raises it.
-/// [`RunStats::can_count_view`] asks it; [`RunStats::on_test_view`] goes by the cases itself, and
-/// writes less. The contracts of both name the same rules.
-///
-/// [`RunStats::can_count_view`]: crate::stats::RunStats::can_count_view
-/// [`RunStats::on_test_view`]: crate::stats::RunStats::on_test_view
+/// For each counter of tests, whether a finished test raises it. The number of finished tests is left
+/// out, because every test raises it.
 #[derive(Clone, Copy, Default)]
 pub(super) struct RaisedByTest {
     pub(super) passed: bool,
@@ -32,7 +27,7 @@ pub(super) struct RaisedByTest {
 }
 
 impl RaisedByTest {
-    /// Which counters a test raises.
+    /// Returns the counters that a test raises.
     pub(super) fn of(test: &TestView<'_>) -> RaisedByTest
         ensures passed { result.passed ≡ rule.is_passed (said_of test.now) }
         ensures passed_slow { result.passed_slow ≡ rule.is_passed_slow (said_of test.now) }
@@ -92,7 +87,7 @@ impl RaisedByTest {
         }
     }
 
-    /// Which counters a test raises whose last attempt passed.
+    /// Returns the counters that a test raises if its last attempt passed.
     fn of_success(test: &TestView<'_>) -> RaisedByTest
         ensures passed { result.passed ≡ not (rule.was_retried (said_of test.now)
             && flaky_fails test.now.flaky_result) }
@@ -118,8 +113,8 @@ impl RaisedByTest {
     }
 }
 
-/// The counters of setup scripts, and of each whether a finished script raises it. The number of
-/// finished scripts is not among them: every script raises it.
+/// For each counter of setup scripts, whether a finished script raises it. The number of finished
+/// scripts is left out, because every script raises it.
 #[derive(Clone, Copy, Default)]
 pub(super) struct RaisedByScript {
     pub(super) passed: bool,
@@ -129,15 +124,15 @@ pub(super) struct RaisedByScript {
 }
 
 impl RaisedByScript {
-    /// Which counters a script with this result raises.
-    pub(super) fn of(ended: &ExecutionResultDescription) -> RaisedByScript
-        ensures passed { result.passed ≡ script_passed ended.now }
-        ensures failed { result.failed ≡ script_failed ended.now }
-        ensures exec_failed { result.exec_failed ≡ script_exec_failed ended.now }
-        ensures timed_out { result.timed_out ≡ script_timed_out ended.now }
+    /// Returns the counters that a script with this result raises.
+    pub(super) fn of(script: &ExecutionResultDescription) -> RaisedByScript
+        ensures passed { result.passed ≡ script_passed script.now }
+        ensures failed { result.failed ≡ script_failed script.now }
+        ensures exec_failed { result.exec_failed ≡ script_exec_failed script.now }
+        ensures timed_out { result.timed_out ≡ script_timed_out script.now }
     {
         let none = RaisedByScript::default();
-        match ended {
+        match script {
             ExecutionResultDescription::Pass
             | ExecutionResultDescription::Leak {
                 result: LeakTimeoutResult::Pass,

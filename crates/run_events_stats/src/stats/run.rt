@@ -10,8 +10,7 @@ ghost use Rattle.run_events_stats.specs.declared.outcome.FinalRunStats.TheVarian
 use crate::stats::{FinishedUnit, RunStart, RunStats};
 
 impl RunStats {
-    /// The counters over finished units, in any order, from zero; the four fields of the start as
-    /// they are handed in.
+    /// Counts finished units, which can be in any order. The fields of `start` are copied.
     pub fn of_run(units: &[FinishedUnit<'_>], start: RunStart) -> RunStats
         ensures counts { result ≡ stats_of (map unit_view units.now) start }
 
@@ -42,9 +41,9 @@ impl RunStats {
         RunStats::count_units(units, start)
     }
 
-    /// The counters over finished units. Its one clause is what the laws of [`RunStats::of_run`] are
-    /// proved from.
+    /// Counts finished units.
     fn count_units(units: &[FinishedUnit<'_>], start: RunStart) -> RunStats
+        // The laws of `of_run` are proved from this clause.
         ensures { result ≡ stats_of (map unit_view units.now) start }
     {
         let mut stats = RunStats {
@@ -56,8 +55,8 @@ impl RunStats {
         };
         for unit in units {
             match unit {
-                FinishedUnit::Script(script) => stats.on_setup_script_finished(script),
-                FinishedUnit::Test(test) => stats.on_test_finished(test),
+                FinishedUnit::Script(script) => stats.raise_for_script(&script.result),
+                FinishedUnit::Test(test) => stats.raise_for_test(&test.view()),
             }
         }
         stats

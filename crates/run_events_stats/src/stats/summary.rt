@@ -1,4 +1,4 @@
-//! What the counters amount to.
+//! The summary of the counters.
 
 ghost use Rattle.std.specs.Prelude.{◌≡◌, ◌↔◌, ◌<◌, ◌^◌, ◌||◌, IsTrue};
 ghost use Rattle.run_events_stats.specs.Summary.{FailuresFit, any_script_failed, any_test_failed, failed_scripts, failed_tests, failure, summary_of};
@@ -8,8 +8,10 @@ use crate::stats::RunStats;
 use run_events_results::results::CancelReason;
 
 impl RunStats {
-    /// The number of tests that did not pass: `failed`, `exec_failed` and `failed_timed_out`
-    /// together, whose sum must fit `usize`.
+    /// Returns the number of tests that did not pass: the sum of `failed`, `exec_failed` and
+    /// `failed_timed_out`.
+    ///
+    /// The sum must fit `usize`; [`RunStats::failed_counts_fit`] tests it.
     pub fn failed_count(&self) -> usize
         requires { failed_tests self.now < 2 ^ 64 }
         ensures { result ≡ failed_tests self.now }
@@ -17,9 +19,10 @@ impl RunStats {
         self.failed + self.exec_failed + self.failed_timed_out
     }
 
-    /// The number of setup scripts that did not pass: `setup_scripts_failed`,
-    /// `setup_scripts_exec_failed` and `setup_scripts_timed_out` together, whose sum must fit
-    /// `usize`.
+    /// Returns the number of setup scripts that did not pass: the sum of `setup_scripts_failed`,
+    /// `setup_scripts_exec_failed` and `setup_scripts_timed_out`.
+    ///
+    /// The sum must fit `usize`; [`RunStats::failed_counts_fit`] tests it.
     pub fn failed_setup_script_count(&self) -> usize
         requires { failed_scripts self.now < 2 ^ 64 }
         ensures { result ≡ failed_scripts self.now }
@@ -27,8 +30,8 @@ impl RunStats {
         self.setup_scripts_failed + self.setup_scripts_exec_failed + self.setup_scripts_timed_out
     }
 
-    /// Whether both sums of failures fit `usize`, so that [`failed_count`] and
-    /// [`failed_setup_script_count`] may be called.
+    /// Returns true if both sums of failures fit `usize`, so that [`failed_count`] and
+    /// [`failed_setup_script_count`] can be called.
     ///
     /// [`failed_count`]: RunStats::failed_count
     /// [`failed_setup_script_count`]: RunStats::failed_setup_script_count
@@ -46,15 +49,15 @@ impl RunStats {
                 .is_some()
     }
 
-    /// Whether a test or a setup script did not pass, for any values of the counters: one of the
-    /// six counters of failures is above 0. They are looked at one by one and never added.
+    /// Returns true if any test or setup script failed. The six failure counters are compared with 0
+    /// one by one, so no sum can overflow.
     pub fn has_failures(&self) -> bool
         ensures { result ≡ (any_script_failed self.now || any_test_failed self.now) }
     {
         self.any_script_failed() || self.any_test_failed()
     }
 
-    /// Whether a setup script did not pass.
+    /// Returns true if a setup script did not pass.
     fn any_script_failed(&self) -> bool
         ensures { result ≡ any_script_failed self.now }
     {
@@ -63,15 +66,14 @@ impl RunStats {
             || self.setup_scripts_timed_out > 0
     }
 
-    /// Whether a test did not pass.
+    /// Returns true if a test did not pass.
     fn any_test_failed(&self) -> bool
         ensures { result ≡ any_test_failed self.now }
     {
         self.failed > 0 || self.exec_failed > 0 || self.failed_timed_out > 0
     }
 
-    /// What the counters of a finished run amount to, for any values of them. The first that
-    /// holds:
+    /// Returns the summary of a finished run, by the first of these that holds:
     ///
     /// 1. a setup script failed: a failure at the setup scripts;
     /// 2. not all setup scripts finished: cancelled at the setup scripts;
@@ -80,8 +82,8 @@ impl RunStats {
     /// 5. no test finished: `NoTestsRun`;
     /// 6. otherwise: `Success`.
     ///
-    /// A failure makes the run `Failed` where it has no reason to be cancelled, or one that is a
-    /// failure itself, and `Cancelled` with any other reason.
+    /// A failure is `Failed` if the run was not cancelled, or if it was cancelled because of a
+    /// failure. With any other reason it is `Cancelled`. Every value of the counters has a summary.
     pub fn summarize_final(&self) -> FinalRunStats
         ensures { result ≡ summary_of self.now }
     {
@@ -110,7 +112,7 @@ impl RunStats {
         }
     }
 
-    /// What a failure of this kind makes of the run, under its reason to be cancelled.
+    /// Returns the summary of a run with a failure at this step.
     fn summarize_failure(&self, kind: RunStatsFailureKind) -> FinalRunStats
         ensures { result ≡ failure self.now.cancel_reason kind }
     {

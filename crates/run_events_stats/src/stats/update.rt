@@ -1,13 +1,13 @@
-//! How a finished unit changes the counters.
+//! The changes of the counters by a finished unit.
 
-ghost use Rattle.std.specs.Prelude.{◌≡◌, ◌↔◌, ◌<◌, ◌^◌, IsTrue, false, true};
+ghost use Rattle.std.specs.Prelude.{◌≡◌, ◌↔◌, ◌<◌, ◌^◌, IsOk, IsTrue, OnErr, OnOk, false, true};
 ghost use Rattle.run_events_attempts.specs.Attempts.{view_of};
 ghost use Rattle.run_events_levels.specs.TestView.{said_of};
 ghost use Rattle.run_events_results.specs.Results.{succeeds};
 ghost use Rattle.run_events_stats.specs.Counters.{ScriptCountersFit, TestCountersFit, plus_if, with_failed, with_script, with_result, with_test};
 
-use crate::stats::RunStats;
 use crate::stats::raised::{RaisedByScript, RaisedByTest};
+use crate::stats::{CounterFull, RunStats};
 use run_events_attempts::attempts::{ExecutionStatuses, SetupScriptExecuteStatus};
 use run_events_child::child::LiveSpec;
 use run_events_levels::view::TestView;
@@ -15,19 +15,42 @@ use run_events_results::results::ExecutionResultDescription;
 use run_events_settings::config::FlakyResult;
 
 impl RunStats {
-    /// Counts one more finished test by what decides its counters: each counter whose rule holds of
-    /// it is raised by one, and every other field stays.
+    /// Counts a finished test, given the view of it.
     ///
-    /// Every counter that the test raises must be below `usize::MAX`, as [`can_count_view`] tests.
-    ///
-    /// [`can_count_view`]: RunStats::can_count_view
+    /// Every counter that the test raises must be less than `usize::MAX`;
+    /// [`RunStats::can_count_view`] tests it.
     #[inline]
     pub fn on_test_view(&mut self, test: &TestView<'_>)
         requires { TestCountersFit (with_test self.old (said_of test.now)) }
         ensures { self.new ≡ with_test self.old (said_of test.now) }
     {
-        // By the cases of the result, and not through `RaisedByTest`: so only those counters are
-        // written that are raised, two to five of eleven.
+        self.raise_for_test(test);
+    }
+
+    /// Counts a finished test, given the view of it.
+    ///
+    /// The error is [`CounterFull`] if a counter that the test raises is `usize::MAX`. The counters
+    /// are then unchanged.
+    pub fn try_on_test_view(&mut self, test: &TestView<'_>) -> Result<(), CounterFull>
+        ensures counted { OnOk result (self.new ≡ with_test self.old (said_of test.now)) }
+        ensures room { IsOk result ↔ TestCountersFit (with_test self.old (said_of test.now)) }
+        ensures kept { OnErr result (self.new ≡ self.old) }
+    {
+        if !self.can_count_view(test) {
+            return Err(CounterFull);
+        }
+        self.raise_for_test(test);
+        Ok(())
+    }
+
+    /// Raises the counters for a finished test, each of which must be less than `usize::MAX`.
+    #[inline]
+    pub(super) fn raise_for_test(&mut self, test: &TestView<'_>)
+        requires { TestCountersFit (with_test self.old (said_of test.now)) }
+        ensures { self.new ≡ with_test self.old (said_of test.now) }
+    {
+        // A match on the result writes only the counters that are raised, which are two to five of
+        // eleven. With `RaisedByTest` all of them would be written.
         self.finished_count += 1;
         if test.result.is_success() {
             self.count_success(test);
@@ -36,8 +59,8 @@ impl RunStats {
         }
     }
 
-    /// Raises what a test raises whose last attempt succeeded, but for the number of finished
-    /// tests: it counts as failed where it was retried and is set to fail then.
+    /// Raises the counters for a test whose last attempt succeeded, except the number of finished
+    /// tests. The test failed if it was retried and its setting fails flaky tests.
     #[inline]
     fn count_success(&mut self, test: &TestView<'_>)
         requires success { succeeds (said_of test.now).result ≡ true }
@@ -63,8 +86,8 @@ impl RunStats {
         }
     }
 
-    /// Raises what a test raises whose last attempt did not succeed, but for the number of finished
-    /// tests.
+    /// Raises the counters for a test whose last attempt did not succeed, except the number of
+    /// finished tests.
     #[inline]
     fn count_failure(&mut self, test: &TestView<'_>)
         requires failure { succeeds (said_of test.now).result ≡ false }
@@ -82,7 +105,7 @@ impl RunStats {
         }
     }
 
-    /// Raises `failed`, and `failed_slow` where the test is slow.
+    /// Raises `failed`, and `failed_slow` if the test is slow.
     #[inline]
     fn raise_failed(&mut self, is_slow: bool)
         requires { TestCountersFit (with_failed self.old is_slow) }
@@ -94,7 +117,7 @@ impl RunStats {
         }
     }
 
-    /// Whether one more finished test can be counted: every counter that it raises is below
+    /// Returns true if the test can be counted, because every counter that it raises is less than
     /// `usize::MAX`.
     pub fn can_count_view(&self, test: &TestView<'_>) -> bool
         ensures { IsTrue result ↔ TestCountersFit (with_test self.now (said_of test.now)) }
@@ -113,9 +136,10 @@ impl RunStats {
             && fits(self.exec_failed, raised.exec_failed)
     }
 
-    /// Counts one more finished test, by the view of its attempts.
+    /// Counts a finished test.
     ///
-    /// Every counter that the test raises must be below `usize::MAX`.
+    /// Every counter that the test raises must be less than `usize::MAX`;
+    /// [`RunStats::can_count_test`] tests it.
     pub fn on_test_finished(&mut self, test: &ExecutionStatuses<LiveSpec>)
         requires { TestCountersFit (with_test self.old (view_of test.now)) }
         ensures { self.new ≡ with_test self.old (view_of test.now) }
@@ -123,7 +147,22 @@ impl RunStats {
         self.on_test_view(&test.view());
     }
 
-    /// Whether one more finished test can be counted: every counter that it raises is below
+    /// Counts a finished test.
+    ///
+    /// The error is [`CounterFull`] if a counter that the test raises is `usize::MAX`. The counters
+    /// are then unchanged.
+    pub fn try_on_test_finished(
+        &mut self,
+        test: &ExecutionStatuses<LiveSpec>,
+    ) -> Result<(), CounterFull>
+        ensures counted { OnOk result (self.new ≡ with_test self.old (view_of test.now)) }
+        ensures room { IsOk result ↔ TestCountersFit (with_test self.old (view_of test.now)) }
+        ensures kept { OnErr result (self.new ≡ self.old) }
+    {
+        self.try_on_test_view(&test.view())
+    }
+
+    /// Returns true if the test can be counted, because every counter that it raises is less than
     /// `usize::MAX`.
     pub fn can_count_test(&self, test: &ExecutionStatuses<LiveSpec>) -> bool
         ensures { IsTrue result ↔ TestCountersFit (with_test self.now (view_of test.now)) }
@@ -131,14 +170,38 @@ impl RunStats {
         self.can_count_view(&test.view())
     }
 
-    /// Counts one more finished setup script by its result: each counter whose rule holds of it is
-    /// raised by one, and every other field stays.
+    /// Counts a finished setup script, given its result.
     ///
-    /// Every counter that the script raises must be below `usize::MAX`, as
-    /// [`can_count_script_result`] tests.
-    ///
-    /// [`can_count_script_result`]: RunStats::can_count_script_result
+    /// Every counter that the script raises must be less than `usize::MAX`;
+    /// [`RunStats::can_count_script_result`] tests it.
     pub fn on_script_result(&mut self, script: &ExecutionResultDescription)
+        requires { ScriptCountersFit (with_script self.old script.now) }
+        ensures { self.new ≡ with_script self.old script.now }
+    {
+        self.raise_for_script(script);
+    }
+
+    /// Counts a finished setup script, given its result.
+    ///
+    /// The error is [`CounterFull`] if a counter that the script raises is `usize::MAX`. The
+    /// counters are then unchanged.
+    pub fn try_on_script_result(
+        &mut self,
+        script: &ExecutionResultDescription,
+    ) -> Result<(), CounterFull>
+        ensures counted { OnOk result (self.new ≡ with_script self.old script.now) }
+        ensures room { IsOk result ↔ ScriptCountersFit (with_script self.old script.now) }
+        ensures kept { OnErr result (self.new ≡ self.old) }
+    {
+        if !self.can_count_script_result(script) {
+            return Err(CounterFull);
+        }
+        self.raise_for_script(script);
+        Ok(())
+    }
+
+    /// Raises the counters for a finished setup script, each of which must be less than `usize::MAX`.
+    pub(super) fn raise_for_script(&mut self, script: &ExecutionResultDescription)
         requires { ScriptCountersFit (with_script self.old script.now) }
         ensures { self.new ≡ with_script self.old script.now }
     {
@@ -156,8 +219,8 @@ impl RunStats {
         );
     }
 
-    /// Whether one more finished setup script can be counted: every counter that its result raises
-    /// is below `usize::MAX`.
+    /// Returns true if the setup script can be counted, because every counter that its result raises
+    /// is less than `usize::MAX`.
     pub fn can_count_script_result(&self, script: &ExecutionResultDescription) -> bool
         ensures { IsTrue result ↔ ScriptCountersFit (with_script self.now script.now) }
     {
@@ -169,9 +232,10 @@ impl RunStats {
             && fits(self.setup_scripts_timed_out, raised.timed_out)
     }
 
-    /// Counts one more finished setup script, by its result.
+    /// Counts a finished setup script.
     ///
-    /// Every counter that the script raises must be below `usize::MAX`.
+    /// Every counter that the script raises must be less than `usize::MAX`;
+    /// [`RunStats::can_count_script`] tests it.
     pub fn on_setup_script_finished(&mut self, script: &SetupScriptExecuteStatus<LiveSpec>)
         requires { ScriptCountersFit (with_script self.old script.now.result) }
         ensures { self.new ≡ with_script self.old script.now.result }
@@ -179,8 +243,23 @@ impl RunStats {
         self.on_script_result(&script.result);
     }
 
-    /// Whether one more finished setup script can be counted: every counter that it raises is
-    /// below `usize::MAX`.
+    /// Counts a finished setup script.
+    ///
+    /// The error is [`CounterFull`] if a counter that the script raises is `usize::MAX`. The
+    /// counters are then unchanged.
+    pub fn try_on_setup_script_finished(
+        &mut self,
+        script: &SetupScriptExecuteStatus<LiveSpec>,
+    ) -> Result<(), CounterFull>
+        ensures counted { OnOk result (self.new ≡ with_script self.old script.now.result) }
+        ensures room { IsOk result ↔ ScriptCountersFit (with_script self.old script.now.result) }
+        ensures kept { OnErr result (self.new ≡ self.old) }
+    {
+        self.try_on_script_result(&script.result)
+    }
+
+    /// Returns true if the setup script can be counted, because every counter that it raises is less
+    /// than `usize::MAX`.
     pub fn can_count_script(&self, script: &SetupScriptExecuteStatus<LiveSpec>) -> bool
         ensures { IsTrue result ↔ ScriptCountersFit (with_script self.now script.now.result) }
     {
@@ -188,7 +267,7 @@ impl RunStats {
     }
 }
 
-/// A counter, one higher where it is raised.
+/// Returns a counter, raised by one if `is_raised`.
 fn counter_after(counter: usize, is_raised: bool) -> usize
     requires { plus_if counter is_raised < 2 ^ 64 }
     ensures { result ≡ plus_if counter is_raised }
@@ -196,7 +275,7 @@ fn counter_after(counter: usize, is_raised: bool) -> usize
     counter + usize::from(is_raised)
 }
 
-/// Whether a counter has room to be raised, where it is.
+/// Returns true if a counter is not raised or is less than `usize::MAX`.
 fn fits(counter: usize, is_raised: bool) -> bool
     ensures { IsTrue result ↔ (plus_if counter is_raised < 2 ^ 64) }
 {

@@ -85,7 +85,7 @@ fn of_success(alloc: Global, word: &str) -> Result<Option<String>, AllocError> {
     Ok(Some(format!(in alloc; "{is_consistent}, {is_success}")?))
 }
 
-/// The number of an attempt, of so many.
+/// The number of an attempt, of this many.
 fn attempt_in(attempt: &str, total: &str) -> Option<RetryData> {
     Some(RetryData {
         attempt: attempt.parse().ok()?,
@@ -168,7 +168,7 @@ fn shown(
     )?))
 }
 
-/// What the port answers to a question of this group; `None` for any other.
+/// Returns the port's answer to a question of this group, or `None` for any other question.
 pub(super) fn answer(alloc: Global, parts: &[&str]) -> Result<Option<String>, AllocError> {
     match parts {
         ["describe", results, setting, is_slow] => of_test(alloc, results, setting, is_slow),

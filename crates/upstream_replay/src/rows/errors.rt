@@ -67,7 +67,7 @@ fn of_start(
     Ok(Some(text))
 }
 
-/// The errors in a list, one behind the other, after its description and their number; `none` for
+/// The errors in a list, one after the other, after its description and their number; `none` for
 /// no list.
 fn list_text(alloc: Global, list: Option<ErrorList<UnitError<'_>>>) -> Result<String, AllocError> {
     let Some(list) = list else {
@@ -271,7 +271,7 @@ fn counts_text(
     format!(in alloc; "{all} | {exec_fail} | {child_process}")
 }
 
-/// The errors of a test that passed, and could not be read from so many times.
+/// The errors of a test that passed, and could not be read from this many times.
 fn of_many_errors(alloc: Global, count: &str) -> Result<Option<String>, AllocError> {
     let Ok(count) = count.parse() else {
         return Ok(None);
@@ -288,7 +288,7 @@ fn of_many_errors(alloc: Global, count: &str) -> Result<Option<String>, AllocErr
     Ok(Some(counts_text(alloc, &described(alloc, left, "-")?)?))
 }
 
-/// What the port answers to a question of this group; `None` for any other.
+/// Returns the port's answer to a question of this group, or `None` for any other question.
 pub(super) fn answer(alloc: Global, parts: &[&str]) -> Result<Option<String>, AllocError> {
     match parts {
         ["SerializableError", json] => of_json(alloc, json),

@@ -88,7 +88,7 @@ fn of_constant(alloc: Global, name: &str) -> Result<Option<String>, AllocError> 
     }
 }
 
-/// What the port answers to a question of this group; `None` for any other.
+/// Returns the port's answer to a question of this group, or `None` for any other question.
 pub(super) fn answer(alloc: Global, parts: &[&str]) -> Result<Option<String>, AllocError> {
     match parts {
         ["mode", word] => of_mode(alloc, word),

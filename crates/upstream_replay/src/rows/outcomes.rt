@@ -137,7 +137,7 @@ fn combined(alloc: Global, first: &str, second: &str) -> Result<Option<String>, 
     Ok(Some(format!(in alloc; "{:?}", first.combine(second))?))
 }
 
-/// The summary of a repeated run with so many failed sub-runs, and how its last sub-run ended.
+/// The summary of a repeated run with this many failed sub-runs, and how its last sub-run ended.
 fn repeated(alloc: Global, failed_count: &str, last: &str) -> Result<Option<String>, AllocError> {
     let (Ok(failed_count), Some(last_final_stats)) = (failed_count.parse(), summary_in(last)) else {
         return Ok(None);
@@ -159,7 +159,7 @@ fn repeated(alloc: Global, failed_count: &str, last: &str) -> Result<Option<Stri
     }
 }
 
-/// What the port answers to a question of this group; `None` for any other.
+/// Returns the port's answer to a question of this group, or `None` for any other question.
 pub(super) fn answer(alloc: Global, parts: &[&str]) -> Result<Option<String>, AllocError> {
     match parts {
         ["summarize_final", reason, counters] => summary_of(alloc, reason, counters),

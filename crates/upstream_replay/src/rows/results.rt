@@ -70,7 +70,8 @@ fn of_abort(alloc: Global, abort: AbortDescription) -> Result<Option<String>, Al
     Ok(Some(format!(in alloc; "{text}, {is_ended}")?))
 }
 
-/// What the port answers to a question of this group or of names; `None` for any other.
+/// Returns the port's answer to a question of this group or of names, or `None` for any other
+/// question.
 pub(super) fn answer(alloc: Global, parts: &[&str]) -> Result<Option<String>, AllocError> {
     match parts {
         ["result", word] => of_result(alloc, word),

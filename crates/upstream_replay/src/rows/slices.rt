@@ -26,7 +26,7 @@ pub(super) fn slice_text(
     format!(in alloc; "{kind} {} {}", part.start, part.slice.len())
 }
 
-/// What is extracted of two streams. Where there is a limit at most so many bytes of it, and they
+/// What is extracted of two streams. Where there is a limit at most that many bytes of it, and they
 /// follow in hex.
 fn extracted(
     alloc: Global,
@@ -62,7 +62,7 @@ fn part_text(alloc: Global, found: Option<ByteSubslice<'_>>) -> Result<String, A
     }
 }
 
-/// What the port answers to a question of this group; `None` for any other.
+/// Returns the port's answer to a question of this group, or `None` for any other question.
 pub(super) fn answer(alloc: Global, parts: &[&str]) -> Result<Option<String>, AllocError> {
     match parts {
         ["heuristic_extract", stdout, stderr] => Ok(Some(extracted(alloc, stdout, stderr, None)?)),

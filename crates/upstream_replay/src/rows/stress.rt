@@ -6,7 +6,7 @@ use std::num::NonZero;
 use std::time::Duration;
 use uuid::Uuid;
 
-/// A run that is repeated so many times, `infinite` for no end.
+/// A run that is repeated this many times, `infinite` for no end.
 fn counted_in(total: &str, completed: &str) -> Option<StressProgress> {
     let total = match total {
         "infinite" => StressCount::Infinite,
@@ -21,7 +21,7 @@ fn counted_in(total: &str, completed: &str) -> Option<StressProgress> {
     })
 }
 
-/// A run that is repeated for so many nanoseconds.
+/// A run that is repeated for this many nanoseconds.
 fn timed_in(total: &str, elapsed: &str) -> Option<StressProgress> {
     Some(StressProgress::Time {
         total: Duration::from_nanos(total.parse().ok()?),
@@ -71,7 +71,7 @@ fn total_of(alloc: Global, total: &str) -> Result<Option<String>, AllocError> {
     Ok(Some(format!(in alloc; "{:?}", index.total_get())?))
 }
 
-/// What the port answers to a question of this group; `None` for any other.
+/// Returns the port's answer to a question of this group, or `None` for any other question.
 pub(super) fn answer(alloc: Global, parts: &[&str]) -> Result<Option<String>, AllocError> {
     match parts {
         ["remaining count", total, completed] => left_of(alloc, counted_in(total, completed)),

@@ -13,7 +13,7 @@ pub(super) fn text_in(alloc: Global, word: &str) -> Result<Option<String>, Alloc
     }
 }
 
-/// The text of a value, and the one under `#` behind it, should that be another.
+/// The text of a value, and the one under `#` after it, should that be another.
 pub(super) fn shown<T: fmt::Display>(alloc: Global, value: &T) -> Result<String, AllocError> {
     let text = format!(in alloc; "{value}")?;
     let under_sharp = format!(in alloc; "{value:#}")?;

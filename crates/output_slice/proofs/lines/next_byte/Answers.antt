@@ -8,10 +8,10 @@ passes : (b : List ℕ) (x from k : ℕ) → from ≤ k → get_or b k 0 ≡ x
     → is_byte x (get_or (drop from b) (k - from) 0) ≡ true
 passes b x from k low is = eq-eqb _ x (grind (arith, get_or-drop))
 
-pub returns-in-Some : goal.returns-in-Some
-returns-in-Some c =
+pub returns : goal.returns
+returns c =
     let size = length-drop c.args.from c.args.bytes.now in
-    let h = rw take_rest at c.in-Some.ensures in (
+    let h = rw take_rest at c.in_ok-gap.ensures in (
       record {
         low = omega arith;
         high = omega arith;
@@ -21,8 +21,8 @@ returns-in-Some c =
       grind (arith, get_or-drop),
     )
 
-pub returns-in-None : goal.returns-in-None
-returns-in-None c = λ k low up is.
+pub returns-in_err-gap : goal.returns-in_err-gap
+returns-in_err-gap c = rw c.from_residual.ensures λ k low up is.
     let size = length-drop c.args.from c.args.bytes.now in
-    (rw take_rest at c.in-None.ensures) (k - c.args.from) (omega arith) (omega arith)
+    (rw take_rest at c.in_err-gap.ensures) (k - c.args.from) (omega arith) (omega arith)
     (passes _ c.args.byte c.args.from k low is)

@@ -14,5 +14,5 @@ returns-clause-value g c =
     let f = c.if-not-opens.false in
     let e = rw c.opens.ensures.same at c.named_head_end.ensures.value in
     let n =
-    subst (IsNextQuote (g.S.ByteSource.bytes c.args.source.now) (c.args.quote + 1)) c.in-Some.is c.requires.next in
-    IsOpenedHeadEnd-opened _ c.args.place c.args.quote c.in-Some.close (v.0 f) c.requires.is_quote c.requires.high n c.named_head_end.result e
+    subst (IsNextQuote (g.S.ByteSource.bytes c.args.source.now) (c.args.quote + 1)) c.in_ok-close.was c.requires.next in
+    IsOpenedHeadEnd-opened _ c.args.place c.args.quote c.in_ok-close.close (v.0 f) c.requires.is_quote c.requires.high n c.named_head_end.result e

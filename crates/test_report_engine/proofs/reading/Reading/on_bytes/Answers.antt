@@ -1,6 +1,5 @@
 use Rattle.std.proofs.Common.{arith, refl}
-use Rattle.std.proofs.lemmas.Result.{on_ok_weaker}
-use Rattle.test_report_engine.proofs.Input.{all-bytes, divided-at, feedless, feedless-front, line-more, where-grown}
+use Rattle.test_report_engine.proofs.Input.{all-bytes, divided-at, feedless, feedless-front, line-more}
 use Rattle.test_report_engine.proofs.reading.Reading.on_bytes.Goals as goal
 
 pub loop-at-preserved : goal.loop-at-preserved
@@ -16,7 +15,5 @@ loop-at-preserved c =
 
 pub returns-clause-reads : goal.returns-clause-reads
 returns-clause-reads c =
-    on_ok_weaker c.extend_from_slice.result
-    (λ grown. all-bytes c.args.self.now c.loop-at.self (record { kept = c.loop-at.self.kept; begun = c.extend_from_slice.new.self }) c.args.bytes.now c.loop-at.rest.now c.loop-at.invariant refl grown
-    (feedless c.loop-at.rest.now (λ k below. c.in_default.ensures k (omega arith) below)))
-    (where-grown c.extend_from_slice.result _ _ _ c.extend_from_slice.ensures.items)
+    all-bytes c.args.self.now c.loop-at.self (record { kept = c.loop-at.self.kept; begun = c.extend_from_slice.new.self }) c.args.bytes.now c.loop-at.rest.now c.loop-at.invariant refl
+    c.in_ok-extend_from_slice.ensures.items (feedless c.loop-at.rest.now (λ k below. c.in_default.ensures k (omega arith) below))
