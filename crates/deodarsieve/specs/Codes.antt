@@ -1,4 +1,4 @@
--- What codes stand for: a code is a place in the list of its enumeration, from 0.
+-- The values of codes: a code is a position in the list of its enumeration, from 0.
 use Rattle.std.specs.Prelude.{ℤ, List, [], ◌∷◌, Option, None, Some, false, true}
 use Rattle.run_events_levels.specs.declared.levels.FinalStatusLevel.{FinalStatusLevel}
 use Rattle.run_events_levels.specs.declared.levels.FinalStatusLevel.TheVariants as final
@@ -24,7 +24,7 @@ use Rattle.run_events_stats.specs.declared.outcome.finished.StressFinalRunStats.
 use Rattle.run_events_stats.specs.declared.outcome.run_outcome.RunOutcome.{RunOutcome}
 use Rattle.run_events_stats.specs.declared.outcome.run_outcome.RunOutcome.TheVariants as outcome
 
--- how an attempt ended, with this number where it has one; names and leaks of failures do not cross
+-- the results of an attempt, with this number if they have one; names and leaks of failures do not cross
 abbrev pub results : ℤ → List ExecutionResultDescription
 results number =
     result.Pass
@@ -74,7 +74,7 @@ displays = display.Immediate ∷ display.ImmediateFinal ∷ display.Final ∷ di
 abbrev pub stores : List OutputStoreFinal
 stores = store.No ∷ store.Yes false ∷ store.Yes true ∷ []
 
--- what a repeated run amounts to
+-- the summaries of a repeated run
 abbrev pub stress_finals : List StressFinalRunStats
 stress_finals = stress.NoTestsRun ∷ stress.Success ∷ stress.Cancelled ∷ stress.Failed ∷ []
 

@@ -1,5 +1,5 @@
--- What the structs of C stand for, where all their codes name something.
-use Rattle.std.specs.Prelude.{◌≡◌, ◌≢◌, ◌≤◌, ◌⊎◌, ◌+◌, ◌*◌, ◌-◌, ◌<◌, ◌^◌, ◌&&◌, ℕ, Bool, if◌then◌else◌, nat_lt, ◌==◌, List, [], ◌∷◌, length, slice_get, Option, None, Some, IsSomeAnd, option_and_then, option_map, unwrap_or}
+-- The values that the structs of C stand for, if all their codes name something.
+use Rattle.std.specs.Prelude.{◌≡◌, ◌≢◌, ◌≤◌, ◌⊎◌, ◌+◌, ◌*◌, ◌-◌, ◌<◌, ◌^◌, ℕ, Bool, if◌then◌else◌, nat_lt, ◌==◌, List, [], ◌∷◌, length, slice_get, Option, None, Some, IsSomeAnd, option_and_then, option_map, unwrap_or}
 use Rattle.deodarsieve.specs.Codes.{displays, final_levels, flaky_results, levels, outcomes, reasons, results, stores}
 use Rattle.deodarsieve.specs.declared.layout.FfiDuration.{FfiDuration}
 use Rattle.deodarsieve.specs.declared.layout.FfiFailedCounts.{FfiFailedCounts}
@@ -35,31 +35,35 @@ use Rattle.run_events_stats.specs.declared.outcome.run_outcome.RunOutcome.{RunOu
 use Rattle.run_events_stats.specs.declared.outcome.run_outcome.RunOutcome.TheVariants as outcome
 use Rattle.run_events_stats.specs.declared.stats.RunStats.{RunStats}
 
--- what stands in a list at a code, where that is something
+-- the value at a code in a list, if there is one
 abbrev pub named : {A : Type 0} → List (Option A) → ℕ → Option A
 named values code = option_and_then (λ value. value) (slice_get values code)
 
--- a stream, where it was captured
+-- a stream, if it was captured
 abbrev pub captured : Bool → List ℕ → Option (List ℕ)
 captured is_captured stream = if is_captured then Some stream else None
 
--- the slice by which what was found is written
+-- the slice that is written for what was found
 abbrev pub slice_out : Option Extract → FfiSlice
 slice_out None = record { kind = 0; start = 0; length = 0 }
 slice_out (Some (panic_slice x)) = record { kind = 1; start = x.start; length = length x.bytes }
 slice_out (Some (error_slice x)) = record { kind = 2; start = x.start; length = length x.bytes }
 slice_out (Some (note_line x)) = record { kind = 3; start = x.start; length = length x.bytes }
 
--- the part is not empty, and lies within the stream that its kind says, which was captured
+-- nothing was found, or the part is not empty and lies within the stream that its kind names, which was captured
 abbrev pub LiesWithin : Option (List ℕ) → Option (List ℕ) → FfiSlice → Type 0
 LiesWithin out err s =
     (s.kind ≡ 0) ⊎ ((0 < s.length) × IsSomeAnd (if s.kind == 3 then out else err) (λ stream. s.start + s.length ≤ length stream))
+
+-- a number of reads as it is written: the greatest number of 64 bits if it is above that
+abbrev pub reads_out : ℕ → ℕ
+reads_out reads = if nat_lt reads (2 ^ 64) then reads else 2 ^ 64 - 1
 
 -- the head
 abbrev pub head_in : FfiHead → Option HeadSpan
 head_in h = if h.is_found then Some (record { start = h.start; stop = h.stop }) else None
 
--- what is shown and stored of a finished test, as it is written
+-- what is displayed and stored of a finished test, read from what is written
 abbrev pub output_in : FfiOutput → Option OutputOnTestFinished
 output_in o = option_map (λ stored. record {
   write_status_line = o.write_status_line;
@@ -67,11 +71,11 @@ output_in o = option_map (λ stored. record {
   store_final = stored;
 }) (slice_get stores o.store_final)
 
--- how an attempt ended
+-- the result of an attempt
 abbrev pub result_in : FfiResult → Option ExecutionResultDescription
 result_in r = slice_get (results r.number) r.kind
 
--- what of a finished test decides its counters and its levels
+-- the part of a finished test that decides its counters and its levels
 abbrev pub view_in : FfiTestView → Option TestView
 view_in v = option_and_then (λ ended. option_map (λ setting. record {
   result = ended;
@@ -80,7 +84,7 @@ view_in v = option_and_then (λ ended. option_map (λ setting. record {
   setting = setting;
 }) (slice_get flaky_results v.flaky_result)) (result_in v.result)
 
--- the same of a test whose codes were read
+-- the same part of a test whose codes were read
 abbrev pub owned_view : FinishedTest → TestView
 owned_view t = record { result = t.result; attempts = t.attempts; is_slow = t.is_slow; setting = t.flaky_result }
 
@@ -89,7 +93,7 @@ abbrev pub own_levels_in : FfiFinishedTest → Option StatusLevels
 own_levels_in t = option_and_then (λ level. option_map (λ final. record { status_level = level; final_status_level = final })
     (slice_get final_levels t.final_status_level)) (slice_get levels t.status_level)
 
--- what a finished test asks for under them
+-- what a finished test asks for under those levels
 abbrev pub asked_in : FfiFinishedTest → Option Asked
 asked_in t =
     option_and_then (λ own.
@@ -102,7 +106,7 @@ asked_in t =
     (slice_get displays t.display))
     (own_levels_in t)
 
--- what is shown and stored of a finished test
+-- what is displayed and stored of a finished test
 abbrev pub visibility_in : FfiFinishedTest → Option OutputOnTestFinished
 visibility_in t = option_and_then (λ asked. option_map (visibility asked) (slice_get reasons t.cancel_reason)) (asked_in t)
 
@@ -139,18 +143,9 @@ test_counted s t = option_and_then (λ stats. option_map (λ view. with_test sta
 abbrev pub script_counted : FfiRunStats → FfiResult → Option RunStats
 script_counted s r = option_and_then (λ stats. option_map (λ ended. with_script stats ended) (result_in r)) (stats_in s)
 
--- both counts of failures, where they fit
-abbrev pub failed_counts_of : RunStats → Option (ℕ × ℕ)
-failed_counts_of s =
-    if nat_lt (failed_tests s) (2 ^ 64) && nat_lt (failed_scripts s) (2 ^ 64) then Some (failed_tests s, failed_scripts s) else None
-
--- both counts of failures
-abbrev pub failed_counts_in : FfiRunStats → Option (ℕ × ℕ)
-failed_counts_in s = option_and_then failed_counts_of (stats_in s)
-
--- both counts of failures, as they are written
-abbrev pub counts_out : FfiFailedCounts → Option (ℕ × ℕ)
-counts_out c = Some (c.tests, c.setup_scripts)
+-- the numbers of tests and of setup scripts that did not pass
+abbrev pub failures_of : RunStats → FfiFailedCounts
+failures_of s = record { tests = failed_tests s; setup_scripts = failed_scripts s }
 
 -- the step of a failure or a cancellation, with its numbers
 abbrev pub kind_in : FfiFinalStats → Option RunStatsFailureKind
@@ -164,17 +159,17 @@ cancelled_in f = option_and_then (λ why. option_map (λ step. summary.Cancelled
 abbrev pub failed_in : FfiFinalStats → Option FinalRunStats
 failed_in f = option_map (λ step. summary.Failed step) (kind_in f)
 
--- what the counters of a finished run amount to
+-- the summary of a finished run
 abbrev pub final_in : FfiFinalStats → Option FinalRunStats
 final_in f = named (Some summary.NoTestsRun ∷ Some summary.Success ∷ cancelled_in f ∷ failed_in f ∷ []) f.kind
 
--- whatever its kind and its step do not have is 0
+-- a member that its kind and its step do not have is 0
 pub record HasNoMore (f : FfiFinalStats) : Type 0 where
   pub reason : f.kind ≢ 2 → f.reason ≡ 0
   pub step : f.kind < 2 → f.step ≡ 0
   pub counts : (f.kind < 2) ⊎ (f.step ≡ 1) → (f.initial_run_count ≡ 0) × (f.not_run ≡ 0)
 
--- the outcome of a sub-run; that no tests were run, which changes no outcome, where a code names nothing
+-- the outcome of a sub-run, or that no tests were run, which changes no outcome, if a code names nothing
 abbrev pub outcome_in : FfiFinalStats → RunOutcome
 outcome_in f = unwrap_or (option_map outcome_of (final_in f)) outcome.NoTestsRun
 
@@ -182,11 +177,11 @@ outcome_in f = unwrap_or (option_map outcome_of (final_in f)) outcome.NoTestsRun
 abbrev pub combined_in : ℕ → ℕ → Option RunOutcome
 combined_in a b = option_and_then (λ outcome. option_map (combined outcome) (slice_get outcomes b)) (slice_get outcomes a)
 
--- what a repeated run amounts to, from how many of its sub-runs were counted as failed and the summary of the last one
+-- the summary of a repeated run, from how many of its sub-runs were counted as failed and the summary of the last one
 abbrev pub stress_summary_in : ℕ → FinalRunStats → StressFinalRunStats
 stress_summary_in failed last = if nat_lt 0 failed then stress.Failed else last_summary last
 
--- a step and its numbers, and nothing beside them
+-- a step and its numbers, with 0 in the other members
 pub record IsStepAlone (f : FfiFinalStats) : Type 0 where
   pub kind : f.kind ≡ 0
   pub reason : f.reason ≡ 0
@@ -196,11 +191,11 @@ pub record IsStepAlone (f : FfiFinalStats) : Type 0 where
 abbrev pub duration_in : FfiDuration → Option ℕ
 duration_in d = if nat_lt d.nanoseconds 1_000_000_000 then Some (d.seconds * 1_000_000_000 + d.nanoseconds) else None
 
--- what is left of a run that is to be repeated so many times, of which so many are done; none where the number is 0
+-- what is left of a run that is repeated a number of times, of which some are done; none if the number is 0
 abbrev pub left_of_count : FfiStressProgress → Option (Option Left)
 left_of_count p = if p.total_count == 0 then None else Some (above_zero sub_runs (p.total_count - p.completed))
 
--- what is left of a run that is to be repeated for a time, of which so much has elapsed
+-- what is left of a run that is repeated for a time, of which this much has elapsed
 abbrev pub left_of_time : ℕ → FfiStressProgress → Option (Option Left)
 left_of_time elapsed p = option_map (λ total. above_zero nanos (total - elapsed)) (duration_in p.total)
 
@@ -209,12 +204,12 @@ abbrev pub left_after : FfiStressProgress → Option (Option Left)
 left_after p = option_and_then (λ elapsed.
     named (left_of_count p ∷ Some (Some endless) ∷ left_of_time elapsed p ∷ []) p.kind) (duration_in p.elapsed)
 
--- what is left of a repeated run, as it is written
+-- what is left of a repeated run, read from what is written
 abbrev pub left_in : FfiStressRemaining → Option (Option Left)
 left_in r = named (Some (Some (sub_runs r.count)) ∷ Some (Some endless)
     ∷ option_map (λ time. Some (nanos time)) (duration_in r.time) ∷ Some None ∷ []) r.kind
 
--- whatever its kind does not have is 0
+-- a member that its kind does not have is 0
 pub record HasOnlyItsKind (r : FfiStressRemaining) : Type 0 where
   pub count : r.kind ≢ 0 → r.count ≡ 0
   pub time : r.kind ≢ 2 → (r.time.seconds ≡ 0) × (r.time.nanoseconds ≡ 0)

@@ -1,3 +1,3 @@
-pub mod Answers
 pub mod Codes
 pub mod Layout
+pub mod Status

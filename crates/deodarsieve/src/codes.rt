@@ -1,4 +1,4 @@
-//! Codes, and what they stand for.
+//! The codes of enumerations: from a code to its value, and back.
 
 ghost use Rattle.std.specs.Prelude.{◌≡◌, Some, false, slice_get};
 ghost use Rattle.deodarsieve.specs.Codes.{displays, final_levels, flaky_results, levels, outcomes, reasons, results, stores, stress_finals};
@@ -74,49 +74,50 @@ const OUTCOMES: [RunOutcome; 6] = [
     },
 ];
 
-/// How a flaky test counts, by its code.
+/// Returns how a flaky test counts, or `None` if the code names nothing.
 pub(crate) fn flaky_result(code: u32) -> Option<FlakyResult>
     ensures { result ≡ slice_get flaky_results code }
 {
     FLAKY_RESULTS.get(code as usize).copied()
 }
 
-/// Why a run is cancelled, if it is, by its code.
+/// Returns why a run is cancelled, if it is, or `None` if the code names nothing.
 pub(crate) fn reason(code: u32) -> Option<Option<CancelReason>>
     ensures { result ≡ slice_get reasons code }
 {
     REASONS.get(code as usize).copied()
 }
 
-/// The status level of a code.
+/// Returns the status level of a code, or `None` if the code names nothing.
 pub(crate) fn level(code: u32) -> Option<StatusLevel>
     ensures { result ≡ slice_get levels code }
 {
     LEVELS.get(code as usize).copied()
 }
 
-/// The final level of a code.
+/// Returns the final level of a code, or `None` if the code names nothing.
 pub(crate) fn final_level(code: u32) -> Option<FinalStatusLevel>
     ensures { result ≡ slice_get final_levels code }
 {
     FINAL_LEVELS.get(code as usize).copied()
 }
 
-/// When output is displayed, by its code.
+/// Returns when output is displayed, or `None` if the code names nothing.
 pub(crate) fn display(code: u32) -> Option<TestOutputDisplay>
     ensures { result ≡ slice_get displays code }
 {
     DISPLAYS.get(code as usize).copied()
 }
 
-/// The outcome of a code.
+/// Returns the outcome of a code, or `None` if the code names nothing.
 pub(crate) fn outcome(code: u32) -> Option<RunOutcome>
     ensures { result ≡ slice_get outcomes code }
 {
     OUTCOMES.get(code as usize).copied()
 }
 
-/// How an attempt ended, by its code and its number.
+/// Returns the result of an attempt from its code and its number, or `None` if the code names
+/// nothing.
 pub(crate) fn described(ended: FfiResult) -> Option<ExecutionResultDescription>
     ensures { result ≡ slice_get (results ended.number) ended.kind }
 {
@@ -155,7 +156,7 @@ pub(crate) fn described(ended: FfiResult) -> Option<ExecutionResultDescription>
     }
 }
 
-/// A failure without a leak.
+/// Returns a failure without a leak.
 fn failed(failure: FailureDescription) -> ExecutionResultDescription
     ensures { result ≡ ExecutionResultDescription.Fail failure false }
 {
@@ -165,7 +166,7 @@ fn failed(failure: FailureDescription) -> ExecutionResultDescription
     }
 }
 
-/// The code of why a run is cancelled, if it is.
+/// Returns the code of why a run is cancelled, if it is.
 pub(crate) fn reason_code(reason: Option<CancelReason>) -> u32
     ensures { slice_get reasons result ≡ Some reason }
 {
@@ -183,7 +184,7 @@ pub(crate) fn reason_code(reason: Option<CancelReason>) -> u32
     }
 }
 
-/// The code of a status level.
+/// Returns the code of a status level.
 pub(crate) fn level_code(level: StatusLevel) -> u32
     ensures { slice_get levels result ≡ Some level }
 {
@@ -199,7 +200,7 @@ pub(crate) fn level_code(level: StatusLevel) -> u32
     }
 }
 
-/// The code of a final level.
+/// Returns the code of a final level.
 pub(crate) fn final_level_code(level: FinalStatusLevel) -> u32
     ensures { slice_get final_levels result ≡ Some level }
 {
@@ -215,7 +216,7 @@ pub(crate) fn final_level_code(level: FinalStatusLevel) -> u32
     }
 }
 
-/// The code of what is stored for the end of a run.
+/// Returns the code of what is stored for the end of a run.
 pub(crate) fn store_code(stored: OutputStoreFinal) -> u32
     ensures { slice_get stores result ≡ Some stored }
 {
@@ -230,7 +231,7 @@ pub(crate) fn store_code(stored: OutputStoreFinal) -> u32
     }
 }
 
-/// The code of an outcome.
+/// Returns the code of an outcome.
 pub(crate) fn outcome_code(outcome: RunOutcome) -> u32
     ensures { slice_get outcomes result ≡ Some outcome }
 {
@@ -252,7 +253,7 @@ pub(crate) fn outcome_code(outcome: RunOutcome) -> u32
     }
 }
 
-/// The code of what a repeated run amounts to.
+/// Returns the code of the summary of a repeated run.
 pub(crate) fn stress_final_code(stats: StressFinalRunStats) -> u32
     ensures { slice_get stress_finals result ≡ Some stats }
 {

@@ -1,82 +1,99 @@
 //! The counters of a run.
 
-ghost use Rattle.std.specs.Prelude.{◌≡◌, ◌↔◌, ◌||◌, Bool, IsFalse, IsSomeAnd, IsTrue, Some, option_map};
-ghost use Rattle.deodarsieve.specs.Answers.{Answers};
-ghost use Rattle.deodarsieve.specs.Layout.{counts_out, failed_counts_in, script_counted, stats_in, test_counted};
+ghost use Rattle.std.specs.Prelude.{◌≡◌, ◌≢◌, ◌↔◌, ◌||◌, IsNone, IsSomeAnd, Some, option_map};
+ghost use Rattle.deodarsieve.specs.Layout.{failures_of, script_counted, stats_in, test_counted};
+ghost use Rattle.deodarsieve.specs.Status.{status_of};
 ghost use Rattle.run_events_stats.specs.Counters.{ScriptCountersFit, TestCountersFit};
-ghost use Rattle.run_events_stats.specs.Summary.{any_script_failed, any_test_failed};
+ghost use Rattle.run_events_stats.specs.Summary.{FailuresFit, any_script_failed, any_test_failed};
 
 use crate::layout::{FfiFailedCounts, FfiResult, FfiRunStats, FfiTestView};
+use crate::status::{BAD_CODE, COUNTER_FULL, OK};
 use crate::{codes, values};
 
-/// Counts one more finished test. False, and nothing changed, where one of its counters has no room
-/// and where a code names nothing.
+/// Counts a finished test: raises `finished_count` and each other counter whose rule holds of it.
 #[unsafe(no_mangle)]
-pub extern "C" fn deodarsieve_count_test(stats: &mut FfiRunStats, test: &FfiTestView) -> bool
-    ensures room { IsTrue result ↔ IsSomeAnd (test_counted stats.old test.now) TestCountersFit }
-    ensures counted { IsTrue result → stats_in stats.new ≡ test_counted stats.old test.now }
-    ensures untouched { IsFalse result → stats.new ≡ stats.old }
+pub extern "C" fn deodarsieve_run_stats_count_test(
+    stats: &mut FfiRunStats,
+    test: &FfiTestView,
+) -> u32
+    ensures ok { result ≡ OK ↔ IsSomeAnd (test_counted stats.old test.now) TestCountersFit }
+    ensures bad_code { result ≡ BAD_CODE ↔ IsNone (test_counted stats.old test.now) }
+    ensures counter_full { result ≡ COUNTER_FULL ↔ IsSomeAnd (test_counted stats.old test.now)
+        (λ counted. ¬ TestCountersFit counted) }
+    ensures value { result ≡ OK → stats_in stats.new ≡ test_counted stats.old test.now }
+    ensures untouched { result ≢ OK → stats.new ≡ stats.old }
 {
     let (Some(mut counters), Some(finished)) = (
         values::run_stats(stats),
         values::finished_test(test),
     ) else {
-        return false;
+        return BAD_CODE;
     };
-    let view = finished.view();
-    if !counters.can_count_view(&view) {
-        return false;
+    if counters.try_on_test_view(&finished.view()).is_err() {
+        return COUNTER_FULL;
     }
-    counters.on_test_view(&view);
     *stats = values::written_stats(counters);
-    true
+    OK
 }
 
-/// Counts one more finished setup script, by its result. False, and nothing changed, where one of
-/// its counters has no room and where a code names nothing.
+/// Counts a finished setup script by its result: raises `setup_scripts_finished_count` and each other
+/// counter whose rule holds of it.
 #[unsafe(no_mangle)]
-pub extern "C" fn deodarsieve_count_script(stats: &mut FfiRunStats, script: &FfiResult) -> bool
-    ensures room { IsTrue result ↔ IsSomeAnd (script_counted stats.old script.now)
-        ScriptCountersFit }
-    ensures counted { IsTrue result → stats_in stats.new ≡ script_counted stats.old script.now }
-    ensures untouched { IsFalse result → stats.new ≡ stats.old }
+pub extern "C" fn deodarsieve_run_stats_count_script(
+    stats: &mut FfiRunStats,
+    script: &FfiResult,
+) -> u32
+    ensures ok { result ≡ OK ↔ IsSomeAnd (script_counted stats.old script.now) ScriptCountersFit }
+    ensures bad_code { result ≡ BAD_CODE ↔ IsNone (script_counted stats.old script.now) }
+    ensures counter_full { result ≡ COUNTER_FULL ↔ IsSomeAnd (script_counted stats.old script.now)
+        (λ counted. ¬ ScriptCountersFit counted) }
+    ensures value { result ≡ OK → stats_in stats.new ≡ script_counted stats.old script.now }
+    ensures untouched { result ≢ OK → stats.new ≡ stats.old }
 {
     let (Some(mut counters), Some(ended)) = (values::run_stats(stats), codes::described(*script))
     else {
-        return false;
+        return BAD_CODE;
     };
-    if !counters.can_count_script_result(&ended) {
-        return false;
+    if counters.try_on_script_result(&ended).is_err() {
+        return COUNTER_FULL;
     }
-    counters.on_script_result(&ended);
     *stats = values::written_stats(counters);
-    true
+    OK
 }
 
-/// How many tests, and how many setup scripts, did not pass. False, and nothing written, where one
-/// of the two sums does not fit `usize`, and where a code names nothing.
+/// Writes the number of tests that did not pass, and that of setup scripts.
 #[unsafe(no_mangle)]
-pub extern "C" fn deodarsieve_failed_counts_of(
+pub extern "C" fn deodarsieve_run_stats_failed_counts(
     stats: &FfiRunStats,
     answer: &mut FfiFailedCounts,
-) -> bool
-    ensures { Answers counts_out result answer.old answer.new (failed_counts_in stats.now) }
+) -> u32
+    ensures ok { result ≡ OK ↔ IsSomeAnd (stats_in stats.now) FailuresFit }
+    ensures bad_code { result ≡ BAD_CODE ↔ IsNone (stats_in stats.now) }
+    ensures counter_full { result ≡ COUNTER_FULL ↔ IsSomeAnd (stats_in stats.now)
+        (λ counters. ¬ FailuresFit counters) }
+    ensures value { result ≡ OK → Some answer.new ≡ option_map failures_of (stats_in stats.now) }
+    ensures untouched { result ≢ OK → answer.new ≡ answer.old }
 {
-    let counts = match values::run_stats(stats) {
-        Some(counters) if counters.failed_counts_fit() => Some(FfiFailedCounts {
-            tests: counters.failed_count(),
-            setup_scripts: counters.failed_setup_script_count(),
-        }),
-        _ => None,
+    let Some(counters) = values::run_stats(stats) else {
+        return BAD_CODE;
     };
-    values::give(answer, counts)
+    if !counters.failed_counts_fit() {
+        return COUNTER_FULL;
+    }
+    *answer = FfiFailedCounts {
+        tests: counters.failed_count(),
+        setup_scripts: counters.failed_setup_script_count(),
+    };
+    OK
 }
 
-/// Whether a test or a setup script did not pass, for any values of the counters.
+/// Writes whether any test or setup script did not pass, for any values of the counters.
 #[unsafe(no_mangle)]
-pub extern "C" fn deodarsieve_has_failures(stats: &FfiRunStats, answer: &mut bool) -> bool
-    ensures { Answers (λ (given : Bool). Some given) result answer.old answer.new
-        (option_map (λ s. any_script_failed s || any_test_failed s) (stats_in stats.now)) }
+pub extern "C" fn deodarsieve_run_stats_has_failures(stats: &FfiRunStats, answer: &mut bool) -> u32
+    ensures status { result ≡ status_of (stats_in stats.now) }
+    ensures value { result ≡ OK → Some answer.new
+        ≡ option_map (λ s. any_script_failed s || any_test_failed s) (stats_in stats.now) }
+    ensures untouched { result ≢ OK → answer.new ≡ answer.old }
 {
     let failures = values::run_stats(stats).map(|counters| counters.has_failures());
     values::give(answer, failures)

@@ -1,33 +1,33 @@
-//! What crosses, in the layout of C.
+//! The structs that cross, in the layout of C.
 
 /// A part of captured output.
 #[repr(C)]
 #[derive(Clone, Copy)]
 pub struct FfiSlice {
-    /// The code of what it is; 0 where there is none.
+    /// The code of the part's kind, or 0 if nothing was found.
     pub kind: u32,
 
-    /// Where the part begins in its stream, in bytes from 0.
+    /// The offset in bytes of the part in its stream.
     pub start: usize,
 
-    /// How many bytes it has.
+    /// The number of bytes of the part.
     pub length: usize,
 }
 
-/// The front of a panic message, and what the search for it took.
+/// The head of a panic message, and how many reads the search for it took.
 #[repr(C)]
 #[derive(Clone, Copy)]
 pub struct FfiHead {
-    /// Whether there is one. Where there is none, start and stop are 0.
+    /// Whether there is a head. If not, start and stop are 0.
     pub is_found: bool,
 
-    /// Where `thread '` stands, in bytes from 0.
+    /// The offset in bytes of `thread '`.
     pub start: usize,
 
-    /// The place behind the last space of ` panicked at `, in bytes from 0.
+    /// The offset in bytes of what follows ` panicked at `.
     pub stop: usize,
 
-    /// How many reads of a byte there were; `u64::MAX` stands for more as well.
+    /// The number of reads of a byte that the search made, or `u64::MAX` if there were more.
     pub reads: u64,
 }
 
@@ -38,24 +38,24 @@ pub struct FfiResult {
     /// The code of the result.
     pub kind: u32,
 
-    /// The exit code, or the number of the signal or of the status, where the result has one.
+    /// The exit code, or the number of the signal or of the status, if the result has one.
     pub number: i32,
 }
 
-/// What of a finished test decides its counters and its levels.
+/// The part of a finished test that decides its counters and its levels.
 #[repr(C)]
 #[derive(Clone, Copy)]
 pub struct FfiTestView {
     /// The result of the last attempt.
     pub result: FfiResult,
 
-    /// How many attempts there were. None counts as one.
+    /// The number of attempts. 0 counts as 1.
     pub attempts: usize,
 
     /// Whether the last attempt took longer than the slow timeout.
     pub is_slow: bool,
 
-    /// The code of how the test counts where it is flaky.
+    /// The code of how the test counts if it is flaky.
     pub flaky_result: u32,
 }
 
@@ -90,7 +90,7 @@ pub struct FfiRunStats {
     /// The tests that passed.
     pub passed: usize,
 
-    /// The slow tests among `passed`, but for those whose time ran out.
+    /// The slow tests among `passed`, except those whose time ran out.
     pub passed_slow: usize,
 
     /// The tests among `passed` whose time ran out.
@@ -99,7 +99,7 @@ pub struct FfiRunStats {
     /// The tests among `passed` that succeeded only after a first attempt.
     pub flaky: usize,
 
-    /// The tests that failed, leaked where that fails, or are flaky and set to fail.
+    /// The tests that failed, leaked if a leak fails, or are flaky and set to fail.
     pub failed: usize,
 
     /// The slow tests among `failed`.
@@ -108,10 +108,10 @@ pub struct FfiRunStats {
     /// The tests that failed because their time ran out. They are not among `failed`.
     pub failed_timed_out: usize,
 
-    /// The tests that leaked where that passes, also where they are flaky and set to fail.
+    /// The tests that leaked if a leak passes, including those that are flaky and set to fail.
     pub leaky: usize,
 
-    /// The tests among `failed` that leaked where that fails.
+    /// The tests among `failed` that leaked if a leak fails.
     pub leaky_failed: usize,
 
     /// The tests that could not be executed. They are not among `failed`.
@@ -120,11 +120,11 @@ pub struct FfiRunStats {
     /// The tests that were skipped.
     pub skipped: usize,
 
-    /// The code of why the run was cancelled; 0 where it was not.
+    /// The code of why the run was cancelled, or 0 if it was not.
     pub cancel_reason: u32,
 }
 
-/// How many tests, and how many setup scripts, did not pass.
+/// The numbers of tests and of setup scripts that did not pass.
 #[repr(C)]
 #[derive(Clone, Copy)]
 pub struct FfiFailedCounts {
@@ -135,28 +135,28 @@ pub struct FfiFailedCounts {
     pub setup_scripts: usize,
 }
 
-/// What the counters of a finished run amount to. Fields that its kind and its step do not have are
-/// 0 where it is written, and not looked at where it is read.
+/// The summary of a finished run. Fields that its kind and its step do not have are 0 if a call
+/// wrote them, and are not looked at if a call reads them.
 #[repr(C)]
 #[derive(Clone, Copy)]
 pub struct FfiFinalStats {
-    /// The code of what they amount to.
+    /// The code of the summary's kind.
     pub kind: u32,
 
-    /// The code of the reason of a cancelled run; 0 where there was none.
+    /// The code of the reason of a cancelled run, or 0 if it has none.
     pub reason: u32,
 
     /// The code of the step at which the run failed or was cancelled.
     pub step: u32,
 
-    /// At the step of the tests: how many tests were to run.
+    /// At the step of the tests, the number of tests that were to run.
     pub initial_run_count: usize,
 
-    /// At the step of the tests: how many of them did not finish.
+    /// At the step of the tests, the number of tests that did not finish.
     pub not_run: usize,
 }
 
-/// What decides what is shown of a test that has just finished.
+/// A test that has just finished, and the reporter's settings that decide how it is displayed.
 #[repr(C)]
 #[derive(Clone, Copy)]
 pub struct FfiFinishedTest {
@@ -169,7 +169,7 @@ pub struct FfiFinishedTest {
     /// The code of when the test's output is displayed.
     pub display: u32,
 
-    /// The code of why the run is cancelled; 0 where it is not.
+    /// The code of why the run is cancelled, or 0 if it is not.
     pub cancel_reason: u32,
 
     /// The code of the test's status level.
@@ -178,7 +178,7 @@ pub struct FfiFinishedTest {
     /// The code of the test's final level.
     pub test_final_status_level: u32,
 
-    /// How the last attempt ended.
+    /// The result of the last attempt.
     pub result: FfiResult,
 }
 
@@ -211,16 +211,16 @@ pub struct FfiDuration {
 #[repr(C)]
 #[derive(Clone, Copy)]
 pub struct FfiStressProgress {
-    /// The code of for how long the run is repeated.
+    /// The code of how long the run is repeated.
     pub kind: u32,
 
-    /// How many times, where it is repeated a number of times.
+    /// The number of sub-runs, if the run is repeated a number of times.
     pub total_count: u32,
 
-    /// How many sub-runs are done.
+    /// The number of sub-runs that are done.
     pub completed: u32,
 
-    /// For how long, where it is repeated for a time.
+    /// The time, if the run is repeated for a time.
     pub total: FfiDuration,
 
     /// The time that all sub-runs took so far.
@@ -231,12 +231,12 @@ pub struct FfiStressProgress {
 #[repr(C)]
 #[derive(Clone, Copy)]
 pub struct FfiStressRemaining {
-    /// The code of what is left.
+    /// The code of the kind of what is left.
     pub kind: u32,
 
-    /// How many sub-runs.
+    /// The number of sub-runs that are left.
     pub count: u32,
 
-    /// How much time.
+    /// The time that is left.
     pub time: FfiDuration,
 }

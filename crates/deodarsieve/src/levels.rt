@@ -1,48 +1,58 @@
 //! Levels, and what is shown of a finished test.
 
-ghost use Rattle.std.specs.Prelude.{◌≡◌, Bool, Some, option_and_then, option_map, slice_get};
-ghost use Rattle.deodarsieve.specs.Answers.{Answers};
+ghost use Rattle.std.specs.Prelude.{◌≡◌, ◌≢◌, Some, option_and_then, option_map, slice_get};
 ghost use Rattle.deodarsieve.specs.Codes.{final_levels, levels};
 ghost use Rattle.deodarsieve.specs.Layout.{output_in, result_in, view_in, visibility_in};
+ghost use Rattle.deodarsieve.specs.Status.{status_of};
 ghost use Rattle.run_events_levels.specs.Level.{final_level_of, level_of};
 ghost use Rattle.run_events_results.specs.Results.{is_termination_failure, succeeds};
 
 use crate::layout::{FfiFinishedTest, FfiOutput, FfiResult, FfiTestView};
+use crate::status::OK;
 use crate::{codes, values};
 use run_events_levels::levels::{OutputOnTestFinished, StatusLevels};
 
-/// The code of how much a test asks for attention as it finishes.
+/// Writes the code of a finished test's status level.
 #[unsafe(no_mangle)]
-pub extern "C" fn deodarsieve_status_level(test: &FfiTestView, answer: &mut u32) -> bool
-    ensures { Answers (slice_get levels) result answer.old answer.new
-        (option_and_then level_of (view_in test.now)) }
+pub extern "C" fn deodarsieve_test_view_status_level(test: &FfiTestView, answer: &mut u32) -> u32
+    ensures status { result ≡ status_of (view_in test.now) }
+    ensures value { result ≡ OK
+        → slice_get levels answer.new ≡ option_and_then level_of (view_in test.now) }
+    ensures untouched { result ≢ OK → answer.new ≡ answer.old }
 {
     let level = values::finished_test(test).map(|finished| finished.view().status_level());
     values::give(answer, level.map(codes::level_code))
 }
 
-/// The code of how much a test asks for attention at the end of the run.
+/// Writes the code of a finished test's final status level.
 #[unsafe(no_mangle)]
-pub extern "C" fn deodarsieve_final_status_level(test: &FfiTestView, answer: &mut u32) -> bool
-    ensures { Answers (slice_get final_levels) result answer.old answer.new
-        (option_and_then final_level_of (view_in test.now)) }
+pub extern "C" fn deodarsieve_test_view_final_status_level(
+    test: &FfiTestView,
+    answer: &mut u32,
+) -> u32
+    ensures status { result ≡ status_of (view_in test.now) }
+    ensures value { result ≡ OK
+        → slice_get final_levels answer.new ≡ option_and_then final_level_of (view_in test.now) }
+    ensures untouched { result ≢ OK → answer.new ≡ answer.old }
 {
     let level = values::finished_test(test).map(|finished| finished.view().final_status_level());
     values::give(answer, level.map(codes::final_level_code))
 }
 
-/// What is shown of a test that has just finished, and what is stored of it.
+/// Writes what a reporter displays of a test that has just finished, and what it stores.
 #[unsafe(no_mangle)]
-pub extern "C" fn deodarsieve_compute_output_on_test_finished(
+pub extern "C" fn deodarsieve_finished_test_compute_output(
     test: &FfiFinishedTest,
     answer: &mut FfiOutput,
-) -> bool
-    ensures { Answers output_in result answer.old answer.new (visibility_in test.now) }
+) -> u32
+    ensures status { result ≡ status_of (visibility_in test.now) }
+    ensures value { result ≡ OK → output_in answer.new ≡ visibility_in test.now }
+    ensures untouched { result ≢ OK → answer.new ≡ answer.old }
 {
     values::give(answer, output_of(test).map(written_output))
 }
 
-/// What is shown and stored, where all codes name something.
+/// Returns what is displayed and stored, or `None` if a code names nothing.
 fn output_of(test: &FfiFinishedTest) -> Option<OutputOnTestFinished>
     ensures { result ≡ visibility_in test.now }
 {
@@ -58,7 +68,7 @@ fn output_of(test: &FfiFinishedTest) -> Option<OutputOnTestFinished>
     Some(own.compute_output_on_test_finished(display, reason, level, final_level, &ended))
 }
 
-/// What is shown and stored, as it is written.
+/// Returns the struct of C with what is displayed and stored.
 fn written_output(output: OutputOnTestFinished) -> FfiOutput
     ensures { output_in result ≡ Some output }
 {
@@ -69,21 +79,27 @@ fn written_output(output: OutputOnTestFinished) -> FfiOutput
     }
 }
 
-/// Whether an attempt succeeded.
+/// Writes whether an attempt succeeded.
 #[unsafe(no_mangle)]
-pub extern "C" fn deodarsieve_is_success(ended: &FfiResult, answer: &mut bool) -> bool
-    ensures { Answers (λ (given : Bool). Some given) result answer.old answer.new
-        (option_map succeeds (result_in ended.now)) }
+pub extern "C" fn deodarsieve_result_is_success(ended: &FfiResult, answer: &mut bool) -> u32
+    ensures status { result ≡ status_of (result_in ended.now) }
+    ensures value { result ≡ OK → Some answer.new ≡ option_map succeeds (result_in ended.now) }
+    ensures untouched { result ≢ OK → answer.new ≡ answer.old }
 {
     let is_success = codes::described(*ended).map(|described| described.is_success());
     values::give(answer, is_success)
 }
 
-/// Whether an attempt failed by `SIGTERM` or with its job object.
+/// Writes whether an attempt failed by `SIGTERM` or with its job object.
 #[unsafe(no_mangle)]
-pub extern "C" fn deodarsieve_is_termination_failure(ended: &FfiResult, answer: &mut bool) -> bool
-    ensures { Answers (λ (given : Bool). Some given) result answer.old answer.new
-        (option_map is_termination_failure (result_in ended.now)) }
+pub extern "C" fn deodarsieve_result_is_termination_failure(
+    ended: &FfiResult,
+    answer: &mut bool,
+) -> u32
+    ensures status { result ≡ status_of (result_in ended.now) }
+    ensures value { result ≡ OK
+        → Some answer.new ≡ option_map is_termination_failure (result_in ended.now) }
+    ensures untouched { result ≢ OK → answer.new ≡ answer.old }
 {
     let is_termination = codes::described(*ended).map(
         |described| described.is_termination_failure(),

@@ -1,9 +1,11 @@
-//! The layer's calls for C, and for whatever calls as C does: a static library.
+//! The layer's calls for C, and for any language that calls as C does.
 //!
-//! `include/deodarsieve.h` declares every export and says what its caller owes. An export is thin
-//! over the public call of the layer, and promises what that promises. An enumeration crosses as a
-//! code, which is a place in its list of `specs/Codes.antt`, and a code that names nothing is
-//! refused: the answer is false, and nothing is written. Nothing here takes memory or keeps state.
+//! The header `deodarsieve.h` declares every export and says what its caller owes. An export makes one
+//! call of the layer, if the arguments meet the call's conditions, and writes the result through a
+//! pointer. It returns a status of [`status`]. An enumeration crosses as a code.
+//!
+//! [`counters::deodarsieve_run_stats_failed_counts`] makes two calls, and the exports of [`version`]
+//! make none and return no status.
 #![tactic(auto)]
 
 mod codes;
@@ -12,5 +14,7 @@ pub mod layout;
 pub mod levels;
 pub mod outcomes;
 pub mod slices;
+pub mod status;
 pub mod stress;
 mod values;
+pub mod version;

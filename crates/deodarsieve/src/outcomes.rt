@@ -1,47 +1,50 @@
-//! What the counters of a run amount to, and the outcome of runs.
+//! Summaries of runs, and their outcomes.
 
-ghost use Rattle.std.specs.Prelude.{◌≡◌, ◌↔◌, All, IfSome, IsFalse, IsSome, IsSomeAnd, IsTrue, map, option_map, slice_get};
-ghost use Rattle.deodarsieve.specs.Answers.{Answers};
+ghost use Rattle.std.specs.Prelude.{◌≡◌, ◌≢◌, ◌↔◌, All, IfSome, IsSome, IsSomeAnd, map, option_map, slice_get};
 ghost use Rattle.deodarsieve.specs.Codes.{outcomes, stress_finals};
 ghost use Rattle.deodarsieve.specs.Layout.{HasNoMore, combined_in, final_in, outcome_in, stats_in, stress_summary_in};
+ghost use Rattle.deodarsieve.specs.Status.{status_of};
 ghost use Rattle.run_events_stats.specs.Outcome.{IsHighest};
 ghost use Rattle.run_events_stats.specs.Summary.{summary_of};
 
 use crate::layout::{FfiFinalStats, FfiRunStats};
+use crate::status::{BAD_CODE, OK};
 use crate::{codes, values};
 use run_events_settings::stress::StressIndex;
 use run_events_stats::outcome::{RunOutcome, StressRunStats};
 
-/// What the counters of a finished run amount to, for any values of them.
+/// Writes the summary of a finished run's counters, for any values of them.
 #[unsafe(no_mangle)]
-pub extern "C" fn deodarsieve_summarize_final(
+pub extern "C" fn deodarsieve_run_stats_summarize(
     stats: &FfiRunStats,
     answer: &mut FfiFinalStats,
-) -> bool
-    ensures value { Answers final_in result answer.old answer.new
-        (option_map summary_of (stats_in stats.now)) }
-    ensures no_more { IsTrue result → HasNoMore answer.new }
+) -> u32
+    ensures status { result ≡ status_of (stats_in stats.now) }
+    ensures value { result ≡ OK → final_in answer.new ≡ option_map summary_of (stats_in stats.now) }
+    ensures no_more { result ≡ OK → HasNoMore answer.new }
+    ensures untouched { result ≢ OK → answer.new ≡ answer.old }
 {
     let summary = values::run_stats(stats).map(|counters| counters.summarize_final());
     values::give(answer, summary.map(values::written_final))
 }
 
-/// The code of the outcome of a run, from the summaries of all its sub-runs: the highest of their
-/// outcomes, and that no tests were run where there is no sub-run.
+/// Writes the code of a run's outcome, from the summaries of all its sub-runs: the highest of their
+/// outcomes, or that no tests were run if there is no sub-run.
 #[unsafe(no_mangle)]
 pub extern "C" fn deodarsieve_outcome_of_sub_runs(
     sub_runs: &[FfiFinalStats],
     answer: &mut u32,
-) -> bool
-    ensures named { IsTrue result ↔ All (λ s. IsSome (final_in s)) sub_runs.now }
-    ensures highest { IsTrue result → IsSomeAnd (slice_get outcomes answer.new)
+) -> u32
+    ensures ok { result ≡ OK ↔ All (λ s. IsSome (final_in s)) sub_runs.now }
+    ensures bad_code { result ≢ OK → result ≡ BAD_CODE }
+    ensures highest { result ≡ OK → IsSomeAnd (slice_get outcomes answer.new)
         (IsHighest (map outcome_in sub_runs.now)) }
-    ensures untouched { IsFalse result → answer.new ≡ answer.old }
+    ensures untouched { result ≢ OK → answer.new ≡ answer.old }
 {
     values::give(answer, outcome_of(sub_runs).map(codes::outcome_code))
 }
 
-/// The highest outcome of all sub-runs, and none where a code names nothing.
+/// Returns the highest outcome of all sub-runs, or `None` if a code names nothing.
 fn outcome_of(sub_runs: &[FfiFinalStats]) -> Option<RunOutcome>
     ensures named { IsSome result ↔ All (λ s. IsSome (final_in s)) sub_runs.now }
     ensures highest { IfSome result (IsHighest (map outcome_in sub_runs.now)) }
@@ -54,11 +57,12 @@ fn outcome_of(sub_runs: &[FfiFinalStats]) -> Option<RunOutcome>
     Some(highest)
 }
 
-/// The code of the higher of two outcomes.
+/// Writes the code of the higher of two outcomes.
 #[unsafe(no_mangle)]
-pub extern "C" fn deodarsieve_combine(outcome: u32, other: u32, answer: &mut u32) -> bool
-    ensures { Answers (slice_get outcomes) result answer.old answer.new
-        (combined_in outcome other) }
+pub extern "C" fn deodarsieve_outcome_combine(outcome: u32, other: u32, answer: &mut u32) -> u32
+    ensures status { result ≡ status_of (combined_in outcome other) }
+    ensures value { result ≡ OK → slice_get outcomes answer.new ≡ combined_in outcome other }
+    ensures untouched { result ≢ OK → answer.new ≡ answer.old }
 {
     let higher = match (codes::outcome(outcome), codes::outcome(other)) {
         (Some(outcome), Some(other)) => Some(codes::outcome_code(outcome.combine(other))),
@@ -67,16 +71,18 @@ pub extern "C" fn deodarsieve_combine(outcome: u32, other: u32, answer: &mut u32
     values::give(answer, higher)
 }
 
-/// The code of what a repeated run amounts to, from how many of its sub-runs were counted as failed
-/// and the summary of the last one.
+/// Writes the code of a repeated run's summary, from how many of its sub-runs failed and the summary
+/// of the last one.
 #[unsafe(no_mangle)]
-pub extern "C" fn deodarsieve_summarize_stress(
-    failed_count: u32,
+pub extern "C" fn deodarsieve_final_stats_summarize_stress(
     last: &FfiFinalStats,
+    failed_count: u32,
     answer: &mut u32,
-) -> bool
-    ensures { Answers (slice_get stress_finals) result answer.old answer.new
-        (option_map (stress_summary_in failed_count) (final_in last.now)) }
+) -> u32
+    ensures status { result ≡ status_of (final_in last.now) }
+    ensures value { result ≡ OK → slice_get stress_finals answer.new
+        ≡ option_map (stress_summary_in failed_count) (final_in last.now) }
+    ensures untouched { result ≢ OK → answer.new ≡ answer.old }
 {
     let amounts = values::final_stats(last).map(|last_final_stats| {
         let stats = StressRunStats {

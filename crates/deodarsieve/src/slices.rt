@@ -1,8 +1,8 @@
-//! The part of a test's output that says why it failed, and the last head of a panic message.
+//! The part of a test's output that explains its failure, and the last head of a panic message.
 
-ghost use Rattle.std.specs.Prelude.{◌≡◌, ◌≤◌, ◌<◌, ◌+◌, ◌*◌, ◌↔◌, ℕ, List, length, Option, option_map, IsFalse, IsTrue};
+ghost use Rattle.std.specs.Prelude.{◌≡◌, ◌≢◌, ◌≤◌, ◌<◌, ◌+◌, ◌*◌, ◌^◌, ◌↔◌, ℕ, List, length, Option, option_map, IsFalse, IsTrue};
 ghost use Rattle.std.specs.Option.{option_copied};
-ghost use Rattle.deodarsieve.specs.Layout.{LiesWithin, captured, head_in, slice_out};
+ghost use Rattle.deodarsieve.specs.Layout.{LiesWithin, captured, head_in, reads_out, slice_out};
 ghost use Rattle.output_slice.specs.Extraction.{Extract, IsCappedExtract, IsExtract};
 ghost use Rattle.output_slice.specs.Shown.{extract_of};
 ghost use Rattle.output_slice.specs.Head.{IsHead};
@@ -10,55 +10,62 @@ ghost use Rattle.output_slice.specs.Taken.{IsLastTaken, IsTaken, last_of};
 ghost use Rattle.output_slice.specs.declared.panic_head.HeadSpan.{HeadSpan};
 
 use crate::layout::{FfiHead, FfiSlice};
+use crate::status::{BAD_CODE, OK};
 use output_slice::{ByteSource, CountedBytes, TestOutputErrorSlice, last_panic_head};
 use std::num::NonZero;
 
-/// The part of a test's output that says why it failed: the panic message of standard error, else
-/// its error, else the note line of standard output. The bytes of a stream that was not captured
-/// are not looked at.
+/// Writes the part of a test's output that explains its failure: the last panic message in standard
+/// error, or else its first error message, or else the line of standard output which notes that a
+/// test did not panic. The bytes of a stream that was not captured are not read.
 #[unsafe(no_mangle)]
-pub extern "C" fn deodarsieve_extract(
+pub extern "C" fn deodarsieve_slice_extract(
     is_out_captured: bool,
     out: &[u8],
     is_err_captured: bool,
     err: &[u8],
-) -> FfiSlice
+    answer: &mut FfiSlice,
+) -> u32
+    ensures status { result ≡ OK }
     ensures value { (found : Option Extract) × IsExtract (captured is_out_captured out.now)
-        (captured is_err_captured err.now) found × (result ≡ slice_out found) }
+        (captured is_err_captured err.now) found × (answer.new ≡ slice_out found) }
     ensures only { (found : Option Extract) → IsExtract (captured is_out_captured out.now)
-        (captured is_err_captured err.now) found → result ≡ slice_out found }
+        (captured is_err_captured err.now) found → answer.new ≡ slice_out found }
     ensures part { LiesWithin (captured is_out_captured out.now) (captured is_err_captured err.now)
-        result }
+        answer.new }
 {
     let found = TestOutputErrorSlice::heuristic_extract(
         stream(is_out_captured, out),
         stream(is_err_captured, err),
     );
-    written_slice(found)
+    *answer = written_slice(found);
+    OK
 }
 
-/// The same with the first bytes of the part, at most `limit`. A limit of 0 is refused.
+/// Writes the first bytes of that part, at most `limit`. A limit of 0 names nothing.
 #[unsafe(no_mangle)]
-pub extern "C" fn deodarsieve_extract_capped(
+pub extern "C" fn deodarsieve_slice_extract_capped(
     is_out_captured: bool,
     out: &[u8],
     is_err_captured: bool,
     err: &[u8],
     limit: usize,
     answer: &mut FfiSlice,
-) -> bool
-    ensures refused { limit ≡ 0 → IsFalse result × (answer.new ≡ answer.old) }
-    ensures value { 0 < limit → IsTrue result × ((found : Option Extract) × IsCappedExtract limit
+) -> u32
+    ensures ok { result ≡ OK ↔ (0 < limit) }
+    ensures bad_code { result ≡ BAD_CODE ↔ (limit ≡ 0) }
+    ensures value { result ≡ OK → (found : Option Extract) × IsCappedExtract limit
         (captured is_out_captured out.now) (captured is_err_captured err.now) found
-        × (answer.new ≡ slice_out found)) }
-    ensures only { 0 < limit → (found : Option Extract) → IsCappedExtract limit
+        × (answer.new ≡ slice_out found) }
+    ensures only { result ≡ OK → (found : Option Extract) → IsCappedExtract limit
         (captured is_out_captured out.now) (captured is_err_captured err.now) found
         → answer.new ≡ slice_out found }
-    ensures part { 0 < limit → LiesWithin (captured is_out_captured out.now)
-        (captured is_err_captured err.now) answer.new × (answer.new.length ≤ limit) }
+    ensures part { result ≡ OK → LiesWithin (captured is_out_captured out.now)
+        (captured is_err_captured err.now) answer.new }
+    ensures capped { result ≡ OK → answer.new.length ≤ limit }
+    ensures untouched { result ≢ OK → answer.new ≡ answer.old }
 {
     let Some(limit) = NonZero::<usize>::new(limit) else {
-        return false;
+        return BAD_CODE;
     };
     let capped = TestOutputErrorSlice::heuristic_extract_capped(
         stream(is_out_captured, out),
@@ -66,17 +73,17 @@ pub extern "C" fn deodarsieve_extract_capped(
         limit,
     );
     *answer = written_slice(capped);
-    true
+    OK
 }
 
-/// A stream, where it was captured.
+/// Returns a stream, or `None` if it was not captured.
 fn stream(is_captured: bool, bytes: &[u8]) -> Option<&[u8]>
     ensures { option_copied result ≡ captured is_captured bytes.now }
 {
     is_captured.then_some(bytes)
 }
 
-/// What was found, as it is written.
+/// Returns the struct of C with what was found.
 fn written_slice(found: Option<TestOutputErrorSlice<'_>>) -> FfiSlice
     ensures { result ≡ slice_out (option_map extract_of found.entry) }
 {
@@ -99,17 +106,35 @@ fn written_slice(found: Option<TestOutputErrorSlice<'_>>) -> FfiSlice
     }
 }
 
-/// The last head of a panic message, and how many reads of a byte the search made.
+/// Writes the last head of a panic message, and the number of reads of a byte that the search made.
 #[unsafe(no_mangle)]
-pub extern "C" fn deodarsieve_last_panic_head(bytes: &[u8]) -> FfiHead
-    ensures last { IsLastTaken bytes.now (head_in result) }
-    ensures only { (taken : List HeadSpan) → IsTaken bytes.now taken → head_in result ≡ last_of taken }
-    ensures found { IsTrue result.is_found ↔ ((s : ℕ) × (e : ℕ) × IsHead bytes.now s e) }
-    ensures nothing { IsFalse result.is_found → (result.start ≡ 0) × (result.stop ≡ 0) }
-    ensures few { result.reads ≤ 3 * length bytes.now + 8 }
+pub extern "C" fn deodarsieve_head_find_last(bytes: &[u8], answer: &mut FfiHead) -> u32
+    ensures status { result ≡ OK }
+    ensures last { IsLastTaken bytes.now (head_in answer.new) }
+    ensures only { (taken : List HeadSpan) → IsTaken bytes.now taken
+        → head_in answer.new ≡ last_of taken }
+    ensures found { IsTrue answer.new.is_found ↔ ((s : ℕ) × (e : ℕ) × IsHead bytes.now s e) }
+    ensures nothing { IsFalse answer.new.is_found
+        → (answer.new.start ≡ 0) × (answer.new.stop ≡ 0) }
+    ensures few { answer.new.reads ≤ 3 * length bytes.now + 8 }
 {
-    let mut source = CountedBytes::new(bytes);
-    let head = last_panic_head(&mut source);
+    *answer = counted_head(&mut CountedBytes::new(bytes));
+    OK
+}
+
+/// Searches a source for the last head, and returns it with the number of reads that the source has
+/// counted then.
+fn counted_head(source: &mut CountedBytes<'_>) -> FfiHead
+    requires { source.old.1 + 8 * length source.old.0 + 8 < 2 ^ 128 }
+    ensures last { IsLastTaken source.old.0 (head_in result) }
+    ensures only { (taken : List HeadSpan) → IsTaken source.old.0 taken
+        → head_in result ≡ last_of taken }
+    ensures found { IsTrue result.is_found ↔ ((s : ℕ) × (e : ℕ) × IsHead source.old.0 s e) }
+    ensures nothing { IsFalse result.is_found → (result.start ≡ 0) × (result.stop ≡ 0) }
+    ensures reads { result.reads ≡ reads_out source.new.1 }
+    ensures few { source.new.1 ≤ source.old.1 + (3 * length source.old.0 + 8) }
+{
+    let head = last_panic_head(source);
     FfiHead {
         is_found: head.is_some(),
         start: head.map_or(0, |head| head.start),

@@ -1,32 +1,35 @@
 //! What is left of a repeated run.
 
-ghost use Rattle.std.specs.Prelude.{◌≡◌, ◌<◌, IsTrue, Option, Some, option_map};
+ghost use Rattle.std.specs.Prelude.{◌≡◌, ◌≢◌, ◌<◌, Option, Some, option_map};
 ghost use Rattle.std.specs.Duration.{as_nanos};
-ghost use Rattle.deodarsieve.specs.Answers.{Answers};
 ghost use Rattle.deodarsieve.specs.Layout.{HasOnlyItsKind, duration_in, left_after, left_in};
+ghost use Rattle.deodarsieve.specs.Status.{status_of};
 ghost use Rattle.run_events_settings.specs.Stress.{left_of, remaining_of};
 
 use crate::layout::{FfiDuration, FfiStressProgress, FfiStressRemaining};
+use crate::status::OK;
 use crate::values;
 use run_events_settings::stress::{NonZeroDuration, StressCount, StressProgress, StressRemaining};
 use std::num::NonZero;
 use std::time::Duration;
 
-/// What is left of a repeated run. False, and nothing written, also at a count of 0 and at a
-/// duration whose nanoseconds are a second or more.
+/// Writes what is left of a repeated run. A count of 0 and a duration with 1,000,000,000 nanoseconds
+/// or more name nothing.
 #[unsafe(no_mangle)]
-pub extern "C" fn deodarsieve_stress_remaining_of(
+pub extern "C" fn deodarsieve_stress_progress_remaining(
     progress: &FfiStressProgress,
     answer: &mut FfiStressRemaining,
-) -> bool
-    ensures value { Answers left_in result answer.old answer.new (left_after progress.now) }
-    ensures no_more { IsTrue result → HasOnlyItsKind answer.new }
+) -> u32
+    ensures status { result ≡ status_of (left_after progress.now) }
+    ensures value { result ≡ OK → left_in answer.new ≡ left_after progress.now }
+    ensures no_more { result ≡ OK → HasOnlyItsKind answer.new }
+    ensures untouched { result ≢ OK → answer.new ≡ answer.old }
 {
     let left = progress_of(progress).map(|progress| written_left(progress.remaining()));
     values::give(answer, left)
 }
 
-/// How far the run is.
+/// Returns how far the run is, or `None` if a code or a number names nothing.
 fn progress_of(progress: &FfiStressProgress) -> Option<StressProgress>
     ensures { option_map remaining_of result ≡ left_after progress.now }
 {
@@ -55,14 +58,14 @@ fn progress_of(progress: &FfiStressProgress) -> Option<StressProgress>
     }
 }
 
-/// A duration, where its nanoseconds are below a second.
+/// Returns a duration, or `None` if its nanoseconds are a second or more.
 fn duration(given: FfiDuration) -> Option<Duration>
     ensures { option_map as_nanos result ≡ duration_in given }
 {
     (given.nanoseconds < 1_000_000_000).then(|| Duration::new(given.seconds, given.nanoseconds))
 }
 
-/// What is left, as it is written.
+/// Returns the struct of C with what is left.
 fn written_left(left: Option<StressRemaining>) -> FfiStressRemaining
     ensures value { left_in result ≡ Some (option_map left_of left) }
     ensures no_more { HasOnlyItsKind result }
@@ -73,7 +76,7 @@ fn written_left(left: Option<StressRemaining>) -> FfiStressRemaining
     }
 }
 
-/// What is left, where that is something.
+/// Returns the struct of C with what is left, which is more than nothing.
 fn written_some(left: StressRemaining) -> FfiStressRemaining
     ensures value { left_in result ≡ Some (Some (left_of left)) }
     ensures no_more { HasOnlyItsKind result }
@@ -85,7 +88,7 @@ fn written_some(left: StressRemaining) -> FfiStressRemaining
     }
 }
 
-/// What is left, where that is no time.
+/// Returns the struct of C with what is left, which is no time.
 fn left_without_time(kind: u32, count: u32) -> FfiStressRemaining
     ensures { result ≡ record {
       kind = kind;
@@ -103,7 +106,7 @@ fn left_without_time(kind: u32, count: u32) -> FfiStressRemaining
     }
 }
 
-/// Time that is left.
+/// Returns the struct of C with the time that is left.
 fn written_time(time: NonZeroDuration) -> FfiStressRemaining
     ensures value { left_in result ≡ Some (Some (left_of (StressRemaining.Time time))) }
     ensures no_more { HasOnlyItsKind result }

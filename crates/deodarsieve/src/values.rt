@@ -1,49 +1,50 @@
-//! What the structs of C stand for, and how the layer's values are written into them.
+//! From structs of C to values of the layer, and back.
 
-ghost use Rattle.std.specs.Prelude.{◌≡◌, MatchOption, IsFalse, IsTrue, Some, option_map};
+ghost use Rattle.std.specs.Prelude.{◌≡◌, MatchOption, Some, option_map};
 ghost use Rattle.deodarsieve.specs.Layout.{HasNoMore, IsStepAlone, final_in, kind_in, owned_view, stats_in, view_in};
 ghost use Rattle.run_events_levels.specs.TestView.{said_of};
 
 use crate::codes;
 use crate::layout::{FfiFinalStats, FfiRunStats, FfiTestView};
+use crate::status::{BAD_CODE, OK};
 use run_events_levels::view::TestView;
 use run_events_results::results::ExecutionResultDescription;
 use run_events_settings::config::FlakyResult;
 use run_events_stats::outcome::{FinalRunStats, RunStatsFailureKind};
 use run_events_stats::stats::RunStats;
 
-/// Writes a value where there is one, and says whether there is.
-pub(crate) fn give<T: Copy>(answer: &mut T, value: Option<T>) -> bool
-    ensures { MatchOption value (IsFalse result × (answer.new ≡ answer.old))
-        (λ given. IsTrue result × (answer.new ≡ given)) }
+/// Writes a value if there is one, and returns the status of that.
+pub(crate) fn give<T: Copy>(answer: &mut T, value: Option<T>) -> u32
+    ensures { MatchOption value ((result ≡ BAD_CODE) × (answer.new ≡ answer.old))
+        (λ given. (result ≡ OK) × (answer.new ≡ given)) }
 {
     match value {
         Some(given) => {
             *answer = given;
-            true
+            OK
         }
-        None => false,
+        None => BAD_CODE,
     }
 }
 
-/// What of a finished test decides its counters and its levels.
+/// The part of a finished test that decides its counters and its levels.
 #[derive(Drop)]
 pub(crate) struct FinishedTest {
     /// The result of the last attempt.
     pub result: ExecutionResultDescription,
 
-    /// How many attempts there were.
+    /// The number of attempts.
     pub attempts: usize,
 
     /// Whether the last attempt was slow.
     pub is_slow: bool,
 
-    /// How the test counts where it is flaky.
+    /// How the test counts if it is flaky.
     pub flaky_result: FlakyResult,
 }
 
 impl FinishedTest {
-    /// The same, lent.
+    /// Returns a view of the test.
     pub(crate) fn view(&self) -> TestView<'_>
         ensures { said_of result ≡ owned_view self.now }
     {
@@ -56,7 +57,7 @@ impl FinishedTest {
     }
 }
 
-/// What of a finished test decides its counters and its levels, by its codes.
+/// Returns the finished test, or `None` if a code names nothing.
 pub(crate) fn finished_test(test: &FfiTestView) -> Option<FinishedTest>
     ensures { option_map owned_view result ≡ view_in test.now }
 {
@@ -68,7 +69,7 @@ pub(crate) fn finished_test(test: &FfiTestView) -> Option<FinishedTest>
     })
 }
 
-/// The counters of a run.
+/// Returns the counters of a run, or `None` if the code of the reason names nothing.
 pub(crate) fn run_stats(stats: &FfiRunStats) -> Option<RunStats>
     ensures { result ≡ stats_in stats.now }
 {
@@ -96,7 +97,7 @@ pub(crate) fn run_stats(stats: &FfiRunStats) -> Option<RunStats>
     })
 }
 
-/// The counters of a run as they are written.
+/// Returns the struct of C with the counters of a run.
 pub(crate) fn written_stats(stats: RunStats) -> FfiRunStats
     ensures { stats_in result ≡ Some stats }
 {
@@ -124,7 +125,8 @@ pub(crate) fn written_stats(stats: RunStats) -> FfiRunStats
     }
 }
 
-/// The step of a failure or a cancellation, with its numbers.
+/// Returns the step of a failure or a cancellation with its numbers, or `None` if the code names
+/// nothing.
 fn failure_kind(stats: &FfiFinalStats) -> Option<RunStatsFailureKind>
     ensures { result ≡ kind_in stats.now }
 {
@@ -138,7 +140,7 @@ fn failure_kind(stats: &FfiFinalStats) -> Option<RunStatsFailureKind>
     }
 }
 
-/// What the counters of a finished run amount to.
+/// Returns the summary of a finished run, or `None` if a code names nothing.
 pub(crate) fn final_stats(stats: &FfiFinalStats) -> Option<FinalRunStats>
     ensures { result ≡ final_in stats.now }
 {
@@ -156,7 +158,7 @@ pub(crate) fn final_stats(stats: &FfiFinalStats) -> Option<FinalRunStats>
     }
 }
 
-/// What the counters of a finished run amount to, as it is written.
+/// Returns the struct of C with the summary of a finished run.
 pub(crate) fn written_final(stats: FinalRunStats) -> FfiFinalStats
     ensures value { final_in result ≡ Some stats }
     ensures no_more { HasNoMore result }
@@ -183,7 +185,7 @@ pub(crate) fn written_final(stats: FinalRunStats) -> FfiFinalStats
     }
 }
 
-/// A step with its numbers, as it is written.
+/// Returns the struct of C with a step and its numbers, and with 0 in the other fields.
 fn written_kind(kind: RunStatsFailureKind) -> FfiFinalStats
     ensures value { kind_in result ≡ Some kind }
     ensures no_more { IsStepAlone result }

@@ -1,11 +1,11 @@
-use Rattle.std.proofs.Common.{rules, ◌≡◌, ◌∙◌, MatchOption, ap, subst, sym}
+use Rattle.std.proofs.Common.{◌≡◌, ◌∙◌, MatchOption, ap, subst, sym}
 use Rattle.std.specs.Option.{option_copied}
 use Rattle.std.specs.Int.NonZero.{non_zero_usize_get}
 use Rattle.deodarsieve.specs.Layout.{captured, slice_out}
 use Rattle.output_slice.specs.Extraction.{IsCappedExtract}
-use Rattle.deodarsieve.proofs.slices.deodarsieve_extract_capped.Goals as goal
+use Rattle.deodarsieve.proofs.slices.deodarsieve_slice_extract_capped.Goals as goal
 
--- what is the capped extraction of these streams is that of what the call was handed
+-- what is the capped extraction of these streams is that of the streams that the call got
 pub returns-clause-only : goal.returns-clause-only
 returns-clause-only c positive found is =
     let limit : non_zero_usize_get c.in-Some.limit ≡ c.args.limit =
@@ -16,9 +16,3 @@ returns-clause-only c positive found is =
     let of_out = subst (λ o. IsCappedExtract (non_zero_usize_get c.in-Some.limit) o err found) (sym c.stream.ensures) limited in
     let of_both = subst (λ e. IsCappedExtract (non_zero_usize_get c.in-Some.limit) (option_copied c.stream.result) e found) (sym c.stream-2.ensures) of_out in
     c.written_slice.ensures ∙ ap slice_out (sym (c.heuristic_extract_capped-capped.ensures.only found of_both))
-
-pub returns-clause-value : goal.returns-clause-value
-returns-clause-value c = search rules
-
-pub returns-clause-part : goal.returns-clause-part
-returns-clause-part c = search rules

@@ -1,5 +1,0 @@
-use Rattle.std.proofs.Common.{rules}
-use Rattle.deodarsieve.proofs.levels.deodarsieve_is_success.Goals as goal
-
-pub returns : goal.returns
-returns c = search rules
