@@ -1,0 +1,1 @@
+"""Turns the Rattle sources in crates/ into plain Rust in rust/."""

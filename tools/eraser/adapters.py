@@ -1,0 +1,76 @@
+"""Adapts the other packages to types of the layer that may get more cases or fields."""
+from .functions import functions_of
+from .scanner import Source
+from .table import LAYER, PACKAGE_OF
+from .type_table import BUILDERS, OTHER_ARMS, RENAMED_CALLS_OF, RENAMED_METHODS
+
+
+def adapted(text, name):
+    """Returns the text of the file `name` with literals and matches that compile in its package."""
+    source = Source(text, name)
+    _rename_methods(source, name)
+    if PACKAGE_OF[name.split("/")[0]] != LAYER:
+        _build_literals(source)
+        _add_arms(source, name)
+    return source.result()
+
+
+def _rename_methods(source, name):
+    """Renames methods that have another name in Rust, at their declarations and their calls."""
+    for function in functions_of(source):
+        if function.path in RENAMED_METHODS:
+            source.new[source.after(function.fn_token)] = RENAMED_METHODS[function.path]
+    calls = RENAMED_CALLS_OF.get(name, {})
+    for i in source.code:
+        if source.at(source.before(i)) == "." and source.reads(source.after(i), "(", ")"):
+            source.new[i] = calls.get(source.text[i], source.text[i])
+
+
+def _build_literals(source):
+    """Takes the literal of a type of the table to calls of its methods."""
+    for i in source.code:
+        name, brace = source.text[i], source.after(i)
+        is_declared = source.at(source.before(i)) in ("struct", "for", "->")
+        if name not in BUILDERS or source.at(brace) != "{" or is_declared:
+            continue
+        close = source.partner[brace]
+        values = _field_values(source, brace)
+        calls = []
+        for field, method in BUILDERS[name]:
+            if field not in values:
+                source.refuse(i, f"a literal of `{name}` without `{field}`")
+            calls.append(f"{method}({values.pop(field)})")
+        if values:
+            source.refuse(i, f"a literal of `{name}` with `{next(iter(values))}`")
+        source.replace(i, close, f"{name}::" + ".".join(calls))
+
+
+def _field_values(source, brace):
+    """Returns the texts of the fields in a literal, by their names."""
+    values, at, close = {}, source.after(brace), source.partner[brace]
+    while at != close:
+        end = at
+        while end != close and source.text[end] != ",":
+            end = source.skip(end)
+        field, colon = source.text[at], source.after(at)
+        if source.at(colon) == ":":
+            values[field] = "".join(source.text[colon + 1:end]).strip()
+        else:
+            values[field] = field
+        at = source.after(end) if end != close else close
+    return values
+
+
+def _add_arms(source, name):
+    """Adds a last arm to the matches of the functions in the table."""
+    rows = dict(OTHER_ARMS.get(name, ()))
+    for function in functions_of(source):
+        if function.name not in rows:
+            continue
+        found = [i for i in source.between(*function.body) if source.text[i] == "match"]
+        if len(found) != 1:
+            source.refuse(function.fn_token, f"`{function.name}` of the table has not one `match`")
+        close = source.partner[source.find(source.after(found[0]), "{")]
+        source.new[close] = f"_ => {rows.pop(function.name)},\n}}"
+    if rows:
+        source.refuse(source.code[0], f"the table names a function that is not there: {next(iter(rows))}")

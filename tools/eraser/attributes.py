@@ -1,0 +1,129 @@
+"""Gives types and functions the attributes that they have in Rust: derives, `non_exhaustive`, `must_use`."""
+from . import type_table as types
+from .functions import functions_of
+from .scanner import Source
+from .table import LAYER, PACKAGE_OF
+
+ORDER = ("Clone", "Copy", "Debug", "Default", "PartialEq", "Eq", "PartialOrd", "Ord", "Hash")
+
+
+def with_attributes(text, name):
+    """Returns the text of the file `name` with the attributes of its types and functions."""
+    source = Source(text, name)
+    is_layer = PACKAGE_OF[name.split("/")[0]] == LAYER
+    for i in source.code:
+        if source.text[i] in ("struct", "enum") and source.is_name(source.after(i)):
+            _on_type(source, i, is_layer)
+    if is_layer:
+        for function in functions_of(source):
+            _on_function(source, function)
+    return source.result()
+
+
+def _on_type(source, i, is_layer):
+    """Gives the type that is declared at `i` its derives."""
+    name = source.at(source.after(i))
+    first = _first_word(source, i)
+    derive, words = _derive(source, first)
+    has_drop = "Drop" in words
+    words = [word for word in words if word != "Drop" and word not in types.REMOVED_DERIVES.get(name, ())]
+    words += [word for word in types.ADDED_DERIVES.get(name, ()) if word not in words]
+    is_generic = _is_generic(source, i)
+    if has_drop and not is_generic and name not in types.NO_CLONE and "Clone" not in words:
+        words.append("Clone")
+    is_public = source.at(first) == "pub" and source.at(source.after(first)) != "("
+    needs_debug = is_layer and is_public and not is_generic and not _implements(source, "Debug", name)
+    if needs_debug and "Debug" not in words:
+        words.append("Debug")
+    if name in types.NO_DEBUG:
+        words.remove("Debug")
+    _set_derive(source, first, derive, words, name)
+    if name in types.CRATE_FIELDS:
+        _open_fields(source, i)
+
+
+def _first_word(source, i):
+    """Returns the first token of the declaration at `i`: its visibility, or `i`."""
+    before = source.before(i)
+    if source.at(before) == "pub":
+        return before
+    if source.at(before) == ")" and source.at(source.before(source.partner[before])) == "pub":
+        return source.before(source.partner[before])
+    return i
+
+
+def _derive(source, first):
+    """Returns the bracket of the `derive` above a declaration, or None, and its words."""
+    at = source.before(first)
+    while source.at(at) == "]":
+        opening = source.partner[at]
+        if source.at(source.after(opening)) == "derive":
+            group = source.after(opening, 2)
+            return opening, [word for word in source.words(group, source.partner[group])[1:] if word != ","]
+        at = source.before(opening, 2)
+    return None, []
+
+
+def _is_generic(source, i):
+    """Returns true if the type that is declared at `i` has a type parameter."""
+    angle = source.after(i, 2)
+    if source.at(angle) != "<":
+        return False
+    inner = source.between(source.after(angle), source.closing_angle(angle))
+    return any(source.kind[k] == "name" for k in inner)
+
+
+def _implements(source, trait, name):
+    """Returns true if the file implements the trait for the type by hand."""
+    for i in source.code:
+        if source.text[i] == trait and source.reads(source.after(i), "for", name):
+            return True
+    return False
+
+
+def _set_derive(source, first, derive, words, name):
+    """Writes the derives and the other attributes of a type."""
+    ordered = sorted(words, key=ORDER.index)
+    line = f"#[derive({', '.join(ordered)})]" if ordered else ""
+    if name in types.NON_EXHAUSTIVE:
+        line += "\n#[non_exhaustive]"
+    if name in types.MUST_USE:
+        line += "\n#[must_use]"
+    if name in types.ALLOWED.get(source.name, ()):
+        lint, reason = types.ALLOWED[source.name][name]
+        line += f'\n#[allow({lint}, reason = "{reason}")]'
+    if derive is not None:
+        hash_token, end = source.before(derive), source.partner[derive]
+        if line:
+            source.replace(hash_token, end, line)
+        else:
+            source.drop_line(hash_token, end)
+    elif line:
+        source.new[first] = line.strip() + "\n" + source.new[first]
+
+
+def _open_fields(source, i):
+    """Makes the private fields of a struct visible to the files that are written by hand."""
+    brace = source.find(i, "{")
+    at = source.after(brace)
+    while at != source.partner[brace]:
+        if source.is_name(at) and source.at(source.after(at)) == ":":
+            source.new[at] = "pub(crate) " + source.new[at]
+        end = source.find_in(at, source.partner[brace], ",")
+        at = source.after(end) if source.at(end) == "," else end
+
+
+def _on_function(source, function):
+    """Gives `must_use` to a public function that only returns a value."""
+    words = function.type_words()
+    if not function.is_public or function.is_of_trait or not words:
+        return
+    returned = function.owner if words[0] == "Self" else words[0]
+    is_used = returned in types.MUST_USE_BY_THEMSELVES + types.MUST_USE
+    if is_used or "mut" in function.parameter_words():
+        return
+    if source.at(source.before(function.first)) == "]":
+        opening = source.partner[source.before(function.first)]
+        if source.at(source.after(opening)) == "must_use":
+            return
+    source.new[function.first] = "#[must_use]\n" + source.new[function.first]

@@ -1,0 +1,203 @@
+"""What Rust checks in place of a `requires`: a table with a row for each public function that has one."""
+import textwrap
+
+from .functions import functions_of
+from .scanner import Refused, Source
+
+
+class Assertion:
+    """The condition is asserted at the head of the function."""
+
+    def __init__(self, condition, message, panics):
+        """`panics` goes on after "Panics if"."""
+        self.condition, self.message, self.panics = condition, message, panics
+
+    def apply(self, source, function):
+        """Writes the assertion."""
+        source.new[function.body[0]] += f'\nassert!({self.condition}, "{self.message}");'
+
+
+class Arm:
+    """An arm that is there already says why it is never reached."""
+
+    def __init__(self, message, panics, function=None):
+        """`function` is the private function of the same file that has the arm, if it is another one."""
+        self.message, self.panics, self.function = message, panics, function
+
+    def apply(self, source, function):
+        """Writes the sentence of the arm."""
+        if self.function:
+            function = next((f for f in functions_of(source) if f.path == self.function), function)
+        found = [i for i in source.between(*function.body) if source.reads(i, "unreachable", "!", "(", ")")]
+        if len(found) != 1:
+            source.refuse(function.fn_token, f"`{function.name}` has not one arm that is never reached")
+        source.new[source.after(found[0], 2)] = f'("{self.message}"'
+
+
+class Checked:
+    """An operation of the function is one that is checked."""
+
+    def __init__(self, old, new, panics):
+        """`old` is there once in the body, and `new` takes its place. `panics` is None if nothing panics."""
+        self.old, self.new, self.panics = old, new, panics
+
+    def apply(self, source, function):
+        """Writes the operation."""
+        words = [word for word in Source(self.old, source.name).text if word.strip()]
+        found = [i for i in source.between(*function.body) if source.reads(i, *words)]
+        if len(found) != 1:
+            source.refuse(function.fn_token, f"`{function.name}` has not one place `{self.old}`")
+        source.replace(found[0], source.after(found[0], len(words) - 1), self.new)
+
+
+class Elsewhere:
+    """Another function checks the condition, or nothing goes wrong without it."""
+
+    def __init__(self, reason):
+        """`reason` says which."""
+        self.reason, self.panics = reason, None
+
+    def apply(self, source, function):
+        """Changes nothing."""
+
+
+FAILURES_FIT = "the failures do not fit `usize`: `failed_counts_fit` tests it"
+NOT_LOADED = "output was not loaded"
+FAILED_DEVICE = "a device that has failed fails again, and that is the fault"
+
+CONDITIONS = {
+    "output_slice/src/byte_source.rt": {
+        "ByteSource::byte": Elsewhere("an implementation indexes its bytes"),
+        "CountedBytes::byte": Checked("self.count += 1", "self.count = self.count.saturating_add(1)", None),
+    },
+    "output_slice/src/panic_head.rt": {
+        "last_panic_head": Elsewhere("the count of the reads saturates"),
+    },
+    "run_events_child/src/child/output.rt": {
+        "ChildOutputDescription::stdout_stderr_len": Arm(
+            f"{NOT_LOADED}: `is_loaded` tests it",
+            "the output was not loaded.",
+        ),
+    },
+    "run_events_attempts/src/attempts/description.rt": {
+        "ExecutionDescription::of_attempts": Arm("there is at least one attempt", None),
+        "ExecutionDescription::status_level": Arm(
+            "the status of a success has not succeeded: `is_consistent` tests it",
+            "the status of a success has not succeeded.",
+        ),
+        "ExecutionDescription::final_status_level": Arm(
+            "the status of a success has not succeeded: `is_consistent` tests it",
+            "the status of a success has not succeeded and is not slow.",
+        ),
+    },
+    "run_events_attempts/src/attempts/statuses.rt": {
+        "ExecutionStatuses::new": Assertion(
+            "!statuses.is_empty()",
+            "a finished test has at least one attempt: `try_from_parts` tests it",
+            "`statuses` is empty.",
+        ),
+    },
+    "run_events_stats/src/stats/summary.rt": {
+        "RunStats::failed_count": Checked(
+            "self.failed + self.exec_failed + self.failed_timed_out",
+            "self.failed.checked_add(self.exec_failed)"
+            ".and_then(|failed| failed.checked_add(self.failed_timed_out))"
+            f'.expect("{FAILURES_FIT}")',
+            "the sum does not fit `usize`.",
+        ),
+        "RunStats::failed_setup_script_count": Checked(
+            "self.setup_scripts_failed + self.setup_scripts_exec_failed + self.setup_scripts_timed_out",
+            "self.setup_scripts_failed.checked_add(self.setup_scripts_exec_failed)"
+            ".and_then(|failed| failed.checked_add(self.setup_scripts_timed_out))"
+            f'.expect("{FAILURES_FIT}")',
+            "the sum does not fit `usize`.",
+        ),
+    },
+    "run_events_stats/src/stats/update.rt": {
+        "RunStats::on_test_view": Assertion(
+            "self.can_count_view(test)",
+            "a counter is full: `can_count_view` tests it",
+            "a counter that the test raises is full.",
+        ),
+        "RunStats::on_test_finished": Checked(
+            "self.on_test_view(&test.view());",
+            "let test = test.view();"
+            'assert!(self.can_count_view(&test), "a counter is full: `can_count_test` tests it");'
+            "self.raise_for_test(&test);",
+            "a counter that the test raises is full.",
+        ),
+        "RunStats::on_script_result": Assertion(
+            "self.can_count_script_result(script)",
+            "a counter is full: `can_count_script_result` tests it",
+            "a counter that the script raises is full.",
+        ),
+        "RunStats::on_setup_script_finished": Checked(
+            "self.on_script_result(&script.result);",
+            "let script = &script.result;"
+            'assert!(self.can_count_script_result(script), "a counter is full: `can_count_script` tests it");'
+            "self.raise_for_script(script);",
+            "a counter that the script raises is full.",
+        ),
+    },
+    "run_events/src/unit_error.rt": {
+        "UnitErrorDescription::new": Arm(
+            f"{NOT_LOADED}: `can_describe` tests it",
+            "the output is searched and was not loaded.",
+            function="extracted",
+        ),
+    },
+    "run_digest_devices/src/device.rt": {
+        "Source::read": Elsewhere("the programs never pass an empty buffer"),
+        "Sink::write": Elsewhere("the programs never pass an empty buffer"),
+    },
+    "run_digest_devices/src/transfer.rt": {
+        "read_all": Elsewhere(FAILED_DEVICE),
+        "write_all": Elsewhere(FAILED_DEVICE),
+    },
+    "run_digest_engine/src/count.rt": {"count": Elsewhere(FAILED_DEVICE)},
+    "run_digest_engine/src/extract.rt": {"extract": Elsewhere(FAILED_DEVICE)},
+    "test_report_text/src/summary.rt": {
+        "push_suite": Elsewhere("`failed_count` checks its sum"),
+        "push_totals": Elsewhere("`failed_count` checks its sum"),
+    },
+    "test_report_engine/src/report.rt": {"report": Elsewhere(FAILED_DEVICE)},
+}
+
+
+def refuse_missing_rows(texts):
+    """Refuses a public function with a `requires` that has no row. `texts` are the sources with contracts."""
+    for name, text in texts.items():
+        source, rows = Source(text, name), CONDITIONS.get(name, {})
+        for function in functions_of(source):
+            is_public = function.is_public or function.is_of_public_trait
+            if is_public and function.has_condition and function.path not in rows:
+                what = f"`{function.path}` has a `requires` and no row in the table of conditions"
+                source.refuse(function.fn_token, what)
+
+
+def with_conditions(text, name, table=CONDITIONS):
+    """Returns the text of the file `name` with the checks of the table, whose functions must be there."""
+    if name not in table:
+        return text
+    source, left = Source(text, name), dict(table[name])
+    for function in functions_of(source):
+        row = left.pop(function.path, None)
+        if row is None:
+            continue
+        row.apply(source, function)
+        if row.panics:
+            _document(source, function, row.panics)
+    if left:
+        raise Refused(f"{name}: the table of conditions has a function that is not there: {next(iter(left))}")
+    return source.result()
+
+
+def _document(source, function, panics):
+    """Writes the section `Panics` into the documentation of a function."""
+    start = source.item_start(function.first)
+    lines = [i for i in range(start, function.first) if source.text[i].startswith("///")]
+    if not lines:
+        source.refuse(function.fn_token, f"`{function.path}` has no documentation")
+    section = ["///", "/// # Panics", "///"]
+    section += [f"/// {line}" for line in textwrap.wrap(f"Panics if {panics}", 92)]
+    source.new[lines[-1]] += "\n" + "\n".join(section)

@@ -1,0 +1,275 @@
+"""The places that no rule decides: items that go, and texts that are others in Rust, each with its reason."""
+
+# Items that Rust has no need of: the file, and the words with which the item begins.
+DROPPED_ITEMS = (
+    # Nothing is refused, so nothing is handed back, and `ErrorList::map` is written by hand.
+    ("run_events_child/src/child/execution.rt", "pub struct Refused"),
+    ("run_events_child/src/child/execution.rt", "fn described_list"),
+    ("run_events_child/src/child/error_list.rt", "impl ErrorList<ChildError>"),
+    # The iterator is that of a slice.
+    (
+        "run_events_attempts/src/attempts/statuses.rt",
+        "impl<'a, S: OutputSpec> Iterator for ExecutionStatusesIter",
+    ),
+    (
+        "run_events_attempts/src/attempts/statuses.rt",
+        "impl<'a, S: OutputSpec> DoubleEndedIterator for ExecutionStatusesIter",
+    ),
+    # The module is written by hand in the crate's root.
+    ("run_events_attempts/src/lib.rt", "pub mod moment;"),
+)
+
+# Places with a text of their own: the file, its text without contracts, which must be there once, and the new
+# text.
+PLACES = (
+    # The iterator is that of a slice.
+    (
+        "run_events_attempts/src/attempts/statuses.rt",
+        """#[derive(Drop)]
+pub struct ExecutionStatusesIter<'a, S: OutputSpec> {
+    rest: &'a [ExecuteStatus<S>],
+}
+""",
+        "pub type ExecutionStatusesIter<'a, S> = std::slice::Iter<'a, ExecuteStatus<S>>;\n",
+    ),
+    (
+        "run_events_attempts/src/attempts/statuses.rt",
+        """ExecutionStatusesIter {
+            rest: self.statuses.as_slice(),
+        }
+""",
+        "self.statuses.iter()\n",
+    ),
+    # The crates are modules.
+    (
+        "run_events/src/lib.rt",
+        """//! The layers below are in crates of their own, `run_events_..`. This crate re-exports them, so a
+//! user needs only this crate.
+//!
+""",
+        "",
+    ),
+    # JSON is behind a feature.
+    ("run_events_child/src/chain.rt", "mod json;", '#[cfg(feature = "serde_json")]\nmod json;'),
+    (
+        "run_events_child/src/chain.rt",
+        "pub use crate::chain::json::FromValueError;",
+        '#[cfg(feature = "serde_json")]\npub use crate::chain::json::FromValueError;',
+    ),
+    # `Debug` is written by hand.
+    (
+        "run_events_child/src/chain.rt",
+        "needs\n/// no stack; the derived `Debug` is recursive.",
+        "needs\n/// no stack.",
+    ),
+    # A `drop` takes a `&mut self` in Rust, and takes the causes apart one by one.
+    (
+        "run_events_child/src/chain.rt",
+        """    fn drop(mut self) {
+        loop {
+            let SerializableError { message: _, source } = self;
+            match source {
+                None => return,
+                Some(cause) => self = Box::into_inner(cause),
+            }
+        }
+    }""",
+        """    fn drop(&mut self) {
+        let mut source = self.source.take();
+        while let Some(mut cause) = source {
+            source = cause.source.take();
+        }
+    }""",
+    ),
+    # Faults of memory are gone.
+    ("run_digest_engine_tests/src/words.rt", '        (Fault::OutOfMemory, 3, "out of memory"),\n', ""),
+    # The crate's own moments are made otherwise.
+    (
+        "fixtures/src/lib.rt",
+        """    Moment {
+        timestamp: Timestamp::UNIX_EPOCH,
+        offset: Offset::UTC,
+    }
+""",
+        "Moment::UNIX_EPOCH",
+    ),
+    (
+        "run_events_tests/src/events.rt",
+        """/// The first moment there is, as the clock shows it that is farthest ahead of UTC.
+const FIRST: Moment = Moment {
+    timestamp: Timestamp::MIN,
+    offset: Offset::MAX,
+};
+
+/// The last moment there is, as the clock shows it that is farthest behind UTC.
+const LAST: Moment = Moment {
+    timestamp: Timestamp::MAX,
+    offset: Offset::MIN,
+};
+
+/// Whether the two moments and their offsets are the same.
+fn is_moment(found: &Moment, wanted: Moment) -> bool {
+    found.timestamp == wanted.timestamp && found.offset == wanted.offset
+}
+""",
+        """/// The first moment there is.
+const FIRST: Moment = Moment::MIN;
+
+/// The last moment there is.
+const LAST: Moment = Moment::MAX;
+
+/// Returns true if the two moments and their offsets are the same.
+fn is_moment(found: &Moment, wanted: Moment) -> bool {
+    *found == wanted
+}
+""",
+    ),
+    (
+        "run_events_tests/src/events/scripts.rt",
+        """status.start_time.timestamp == Timestamp::UNIX_EPOCH
+        && status.start_time.offset == Offset::UTC
+""",
+        "status.start_time == Moment::UNIX_EPOCH",
+    ),
+    # A unit may be ended in other ways.
+    (
+        "run_events_tests/src/events/states.rt",
+        "let UnitTerminateMethod::Signal(signal) = state.method;",
+        "let UnitTerminateMethod::Signal(signal) = state.method else { return false; };",
+    ),
+    # No `&&str` is taken for a `&str` by `String::from`.
+    (
+        "run_digest_engine_tests/src/words.rt",
+        "String::from_str(rt.alloc(), word)?",
+        "String::from_str(rt.alloc(), *word)?",
+    ),
+    ("run_events_tests/src/events.rt", "String::from_str(alloc, text)?", "String::from_str(alloc, *text)?"),
+    # The layer has the decimal digits alone.
+    (
+        "output_slice/src/panic_head/characters.rt",
+        "GeneralCategory::for_char(c) == GeneralCategory::DecimalNumber",
+        "is_decimal_digit(c)",
+    ),
+    (
+        "output_slice_tests/src/slow.rt",
+        "GeneralCategory::for_char(c) == GeneralCategory::DecimalNumber",
+        "is_decimal_digit(c)",
+    ),
+    # bstr's `trim_end` is behind a feature that needs `std`. Both trim Unicode's White_Space.
+    (
+        "output_slice/src/heuristics.rt",
+        "stderr[start..end].trim_end()",
+        "stderr[start..end].trim_end_with(char::is_whitespace)",
+    ),
+    # An object of serde_json is a map.
+    (
+        "run_events_child/src/chain/json.rt",
+        """    put(&mut members, alloc, "message", message)?;
+    put(&mut members, alloc, "causes", Value::Array(causes))?;
+""",
+        """    members.insert(String::from_str(alloc, "message")?, message)?;
+    members.insert(String::from_str(alloc, "causes")?, Value::Array(causes))?;
+""",
+    ),
+    # An error of serde_json is never a refusal of memory.
+    ("test_report_events/src/line.rt", "        Err(error) if error.is_memory() => Err(AllocError),\n", ""),
+    # More attempts than a `u32` counts are never made.
+    ("fixtures/src/lib.rt", "return Err(AllocError);", 'panic!("a test has too many attempts");'),
+    # Nothing is refused, so nothing is handed back.
+    ("run_events_child/src/child.rt", "{ChildExecutionOutput, Refused}", "ChildExecutionOutput"),
+    (
+        "run_events_child/src/child/execution.rt",
+        "name: Option<String>,\n    ) -> Result<Self, Refused>",
+        "name: Option<String>,\n    ) -> Self",
+    ),
+    (
+        "run_events_child/src/child/execution.rt",
+        "Ok(ChildExecutionOutputDescription::StartError(error))",
+        "ChildExecutionOutputDescription::StartError(error)",
+    ),
+    (
+        "run_events_child/src/child/execution.rt",
+        """                result,
+                output,
+                errors,
+            } => match described_list(alloc, errors) {
+                Ok(errors) => Ok(ChildExecutionOutputDescription::Output {
+                    result: result.map(|status| ExecutionResultDescription::from_status(
+                        status, name,
+                    )),
+                    output: ChildOutputDescription::from(output),
+                    errors,
+                }),
+                Err(errors) => Err(Refused {
+                    output: ChildExecutionOutput::Output {
+                        result,
+                        output,
+                        errors: Some(errors),
+                    },
+                    name,
+                }),
+            },
+""",
+        """                result,
+                output,
+                errors,
+            } => ChildExecutionOutputDescription::Output {
+                result: result.map(|status| ExecutionResultDescription::from_status(status, name)),
+                output: ChildOutputDescription::from(output),
+                errors: errors.map(|errors| errors.map(ChildErrorDescription::from)),
+            },
+""",
+    ),
+    (
+        "upstream_replay/src/rows/errors.rt",
+        """    match ChildExecutionOutputDescription::from_output(alloc, left, name) {
+        Ok(described) => Ok(described),
+        Err(Refused { .. }) => Err(AllocError),
+    }
+""",
+        """    Ok(ChildExecutionOutputDescription::from_output(alloc, left, name))
+""",
+    ),
+    # A shorter form.
+    (
+        "run_events_attempts/src/attempts/description.rt",
+        "last_status: &statuses[statuses.len() - 1],",
+        "last_status: retries.last().unwrap_or(first_status),",
+    ),
+    # Forms that the prover takes, and clippy does not.
+    (
+        "output_slice/src/panic_head/quotes.rt",
+        """    for at in from..end {
+        if source.byte(at) == b'\\'' {
+            return Some(at);
+        }
+    }
+    None
+""",
+        "    (from..end).find(|at| source.byte(*at) == b'\\'')\n",
+    ),
+    (
+        "test_report_events/src/members.rt",
+        """    if let Some((name, digits)) = written.rsplit_once('#') {
+        if let Some(attempts) = attempts_of(digits) {
+            return (name, attempts);
+        }
+    }
+""",
+        """    if let Some((name, digits)) = written.rsplit_once('#')
+        && let Some(attempts) = attempts_of(digits)
+    {
+        return (name, attempts);
+    }
+""",
+    ),
+    (
+        "run_digest_engine/src/lines.rt",
+        "let mut number = 2; while let Some(line) = lines.next() {",
+        "for (number, line) in (2..).zip(lines) {",
+    ),
+    ("run_digest_engine/src/lines.rt", "number += 1;", ""),
+    ("run_digest_engine/src/lines.rt", "mut lines: Lines<'_>", "lines: Lines<'_>"),
+    ("run_events_tests/src/events/scripts.rt", "program: &String", "program: &str"),
+    ("run_events_tests/src/events/scripts.rt", 'program.as_str() == "sh"', 'program == "sh"'),
+)

@@ -1,0 +1,114 @@
+"""The packages in rust/, and the names that are others there."""
+
+LAYER = "deodarsieve"
+
+# The packages in rust/: the crates that become modules of each, and the path of the modules.
+PACKAGES = {
+    LAYER: (
+        "output_slice", "run_events_settings", "run_events_results", "run_events_levels", "run_events_child",
+        "run_events_attempts", "run_events_stats", "run_events",
+    ),
+    "deodarsieve-cli": (
+        "run_digest_devices", "run_digest_engine", "test_report_events", "test_report_suite",
+        "test_report_text", "test_report_engine",
+    ),
+    "deodarsieve-c": ("deodarsieve",),
+    "deodarsieve-tests": (
+        "fixtures", "run_events_tests", "run_digest_engine_tests", "test_report_engine_tests",
+        "output_slice_tests", "upstream_replay",
+    ),
+}
+FOLDERS = {LAYER: "deodarsieve", "deodarsieve-cli": "cli", "deodarsieve-c": "c", "deodarsieve-tests": "tests"}
+PACKAGE_OF = {crate: package for package, crates in PACKAGES.items() for crate in crates}
+MODULE_OF = {crate: "exports" if crate == "deodarsieve" else crate for crate in PACKAGE_OF}
+
+# The packages that are published.
+PUBLISHED = (LAYER, "deodarsieve-cli", "deodarsieve-c")
+
+# Files that are written by hand in the package.
+BY_HAND = ("run_events_attempts/src/moment.rt",)
+
+ATTRIBUTES = ("inline", "default", "derive", "test", "cfg", "repr", "unsafe")
+MACROS = (
+    "write", "writeln", "format", "vec", "matches", "unreachable", "assert", "assert_eq", "println",
+)
+HANDLES = ("AllocGlobal", "Input", "Print", "Abort")
+
+# Calls of std and of other crates that return a Result in Rattle, and a plain value in Rust.
+PLAIN_CALLS = (
+    "push", "push_str", "insert", "extend_from_slice", "to_vec", "to_string", "collect", "replace",
+    "String::from_str", "String::from_utf8_lossy", "Vec::with_capacity", "Vec::from_slice",
+    "Vec::unescape_bytes", "Box::new", "Bytes::copy_from_slice", "BufReader::new", "hex::encode",
+    "Value::try_from_str",
+)
+
+# Calls that have another name in Rust. `(..)` is the place of the arguments.
+RENAMED_CALLS = {
+    "String::from_str": "String::from",
+    "String::from_utf8_lossy": "String::from_utf8_lossy(..).into_owned()",
+    "Vec::from_slice": "Vec::from",
+    "Value::try_from_str": "Value::from",
+    "Value::from_slice": "serde_json::from_slice::<Value>",
+    "Value::from_str": "serde_json::from_str::<Value>",
+    "Vec::unescape_bytes": "crate::escapes::unescaped",
+}
+
+# Statements that only say that a value holds nothing.
+EMPTY_STATEMENTS = ("destroy_empty",)
+
+# What an import of Rattle is in Rust: another path, or nothing.
+IMPORTS = {
+    "std::alloc::Global": None,
+    "std::process::Abort": None,
+    "run_events::child::Refused": None,
+    "unicode::properties::GeneralCategory": ("output_slice", "is_decimal_digit"),
+    "jiff::Timestamp": ("run_events", "config", "Moment"),
+}
+
+# Paths that are others in the packages.
+RENAMED_PATHS = {
+    "crate::output_slice::is_decimal_digit": "crate::decimal_digits::is_decimal_digit",
+    "crate::run_events_attempts::moment::Moment": "crate::moment::Moment",
+    "crate::upstream_replay::escapes::unescaped": "crate::escapes::unescaped",
+}
+
+# Names of the layer that are written by hand.
+NAMES_BY_HAND = ("Moment", "is_decimal_digit")
+
+# Names of imports that are another text in Rust.
+NAMES_OF_IMPORTS = {"std::test::Fail": "Box<dyn std::error::Error>"}
+
+# Traits, whose methods are called without their names. An import stays if one of them is called. Where two
+# traits have the method, the name of the value is before a dot.
+TRAITS = {
+    "BufRead": ("lines",),
+    "ByteSlice": (
+        "as_bstr", "contains_str", "find", "find_byte", "lines", "rfind", "rfind_byte", "rfind_not_byteset",
+        "starts_with_str", "trim_end_with",
+    ),
+    "ByteSource": ("byte", "reads"),
+    "Sink": ("write", "flush", "sink.has_failed"),
+    "Source": ("read", "source.has_failed"),
+}
+
+# Modules of std that are in alloc, and names of its prelude that are in alloc.
+ALLOC_MODULES = ("collections", "vec")
+ALLOC_NAMES = {
+    "Box": "alloc::boxed::Box",
+    "String": "alloc::string::String",
+    "Vec": "alloc::vec::Vec",
+    "format!": "alloc::format",
+}
+
+# Names of the layer that are in its hidden module `counted`.
+COUNTED = ("ByteSource", "CountedBytes", "HeadSpan", "is_decimal_digit", "last_head", "last_panic_head")
+
+# Words of contracts, proofs and refusals of memory. A doc comment of a published package with one is refused,
+# and any other comment with one is dropped.
+WORDS_OF_PROOFS = (
+    r"\b([Cc]ontracts?|[Cc]lauses?|[Pp]rove[ds]?|[Pp]rover|[Pp]roofs?|[Ll]emmas?|[Ll]aws?|[Aa]llocat\w+)\b"
+    r"|[Mm]emory (is|was|for)\b|[Tt]akes? (no )?memory|enough memory|memory of\b"
+)
+
+# How paragraphs of doc comments begin that say when errors come.
+ERRORS = ("The error is [`", "If several errors of [`")
