@@ -1,0 +1,273 @@
+//! The structs and the functions of `rust/c/include/deodarsieve.h`.
+//!
+//! All unsafe code of the comparison is here. A struct has the members of its struct of C, in their
+//! order. A function that takes references only is safe to call. A function that takes a pointer and
+//! a length has a safe one next to it that takes a slice.
+
+/// The call succeeded.
+pub const OK: u32 = 0;
+
+/// A counter or a sum does not fit `usize`.
+pub const COUNTER_FULL: u32 = 2;
+
+/// A part of captured output.
+#[repr(C)]
+#[derive(Clone, Copy, Debug, Default, PartialEq, Eq)]
+pub struct Slice {
+    pub kind: u32,
+    pub start: usize,
+    pub length: usize,
+}
+
+/// The front of a panic message, and the number of bytes that the search for it read.
+#[repr(C)]
+#[derive(Clone, Copy, Debug, Default, PartialEq, Eq)]
+pub struct Head {
+    pub is_found: bool,
+    pub start: usize,
+    pub stop: usize,
+    pub reads: u64,
+}
+
+/// The result of an attempt or of a setup script.
+#[repr(C)]
+#[derive(Clone, Copy, Debug, Default, PartialEq, Eq)]
+pub struct UnitResult {
+    pub kind: u32,
+    pub number: i32,
+}
+
+/// A finished test.
+#[repr(C)]
+#[derive(Clone, Copy, Debug, Default, PartialEq, Eq)]
+pub struct TestView {
+    pub result: UnitResult,
+    pub attempts: usize,
+    pub is_slow: bool,
+    pub flaky_result: u32,
+}
+
+/// The counters of a run.
+#[repr(C)]
+#[derive(Clone, Copy, Debug, Default, PartialEq, Eq)]
+pub struct RunStats {
+    pub initial_run_count: usize,
+    pub finished_count: usize,
+    pub setup_scripts_initial_count: usize,
+    pub setup_scripts_finished_count: usize,
+    pub setup_scripts_passed: usize,
+    pub setup_scripts_failed: usize,
+    pub setup_scripts_exec_failed: usize,
+    pub setup_scripts_timed_out: usize,
+    pub passed: usize,
+    pub passed_slow: usize,
+    pub passed_timed_out: usize,
+    pub flaky: usize,
+    pub failed: usize,
+    pub failed_slow: usize,
+    pub failed_timed_out: usize,
+    pub leaky: usize,
+    pub leaky_failed: usize,
+    pub exec_failed: usize,
+    pub skipped: usize,
+    pub cancel_reason: u32,
+}
+
+/// The numbers of tests and of setup scripts that failed.
+#[repr(C)]
+#[derive(Clone, Copy, Debug, Default, PartialEq, Eq)]
+pub struct FailedCounts {
+    pub tests: usize,
+    pub setup_scripts: usize,
+}
+
+/// The summary of a finished run.
+#[repr(C)]
+#[derive(Clone, Copy, Debug, Default, PartialEq, Eq)]
+pub struct FinalStats {
+    pub kind: u32,
+    pub reason: u32,
+    pub step: u32,
+    pub initial_run_count: usize,
+    pub not_run: usize,
+}
+
+/// A finished test with the settings of a reporter.
+#[repr(C)]
+#[derive(Clone, Copy, Debug, Default, PartialEq, Eq)]
+pub struct FinishedTest {
+    pub status_level: u32,
+    pub final_status_level: u32,
+    pub display: u32,
+    pub cancel_reason: u32,
+    pub test_status_level: u32,
+    pub test_final_status_level: u32,
+    pub result: UnitResult,
+}
+
+/// What a reporter does with a finished test.
+#[repr(C)]
+#[derive(Clone, Copy, Debug, Default, PartialEq, Eq)]
+pub struct Output {
+    pub write_status_line: bool,
+    pub show_immediate: bool,
+    pub store_final: u32,
+}
+
+/// A duration.
+#[repr(C)]
+#[derive(Clone, Copy, Debug, Default, PartialEq, Eq)]
+pub struct Duration {
+    pub seconds: u64,
+    pub nanoseconds: u32,
+}
+
+/// The progress of a repeated run.
+#[repr(C)]
+#[derive(Clone, Copy, Debug, Default, PartialEq, Eq)]
+pub struct StressProgress {
+    pub kind: u32,
+    pub total_count: u32,
+    pub completed: u32,
+    pub total: Duration,
+    pub elapsed: Duration,
+}
+
+/// The rest of a repeated run.
+#[repr(C)]
+#[derive(Clone, Copy, Debug, Default, PartialEq, Eq)]
+pub struct StressRemaining {
+    pub kind: u32,
+    pub count: u32,
+    pub time: Duration,
+}
+
+// SAFETY: the header declares these functions with these parameters, and asks of its caller that
+// a pointer to a struct is one to a whole struct, which nobody else writes: references are such.
+unsafe extern "C" {
+    safe fn deodarsieve_layouts_1();
+    fn deodarsieve_slice_extract(
+        is_out_captured: bool,
+        out: *const u8,
+        out_length: usize,
+        is_err_captured: bool,
+        err: *const u8,
+        err_length: usize,
+        answer: &mut Slice,
+    ) -> u32;
+    fn deodarsieve_slice_extract_capped(
+        is_out_captured: bool,
+        out: *const u8,
+        out_length: usize,
+        is_err_captured: bool,
+        err: *const u8,
+        err_length: usize,
+        limit: usize,
+        answer: &mut Slice,
+    ) -> u32;
+    fn deodarsieve_head_find_last(bytes: *const u8, length: usize, answer: &mut Head) -> u32;
+    fn deodarsieve_outcome_of_sub_runs(
+        sub_runs: *const FinalStats,
+        length: usize,
+        answer: &mut u32,
+    ) -> u32;
+    pub safe fn deodarsieve_run_stats_count_test(stats: &mut RunStats, test: &TestView) -> u32;
+    pub safe fn deodarsieve_run_stats_count_script(
+        stats: &mut RunStats,
+        script: &UnitResult,
+    ) -> u32;
+    pub safe fn deodarsieve_run_stats_failed_counts(
+        stats: &RunStats,
+        answer: &mut FailedCounts,
+    ) -> u32;
+    pub safe fn deodarsieve_run_stats_has_failures(stats: &RunStats, answer: &mut bool) -> u32;
+    pub safe fn deodarsieve_run_stats_summarize(stats: &RunStats, answer: &mut FinalStats) -> u32;
+    pub safe fn deodarsieve_outcome_combine(outcome: u32, other: u32, answer: &mut u32) -> u32;
+    pub safe fn deodarsieve_final_stats_summarize_stress(
+        last: &FinalStats,
+        failed_count: u32,
+        answer: &mut u32,
+    ) -> u32;
+    pub safe fn deodarsieve_test_view_status_level(test: &TestView, answer: &mut u32) -> u32;
+    pub safe fn deodarsieve_test_view_final_status_level(test: &TestView, answer: &mut u32) -> u32;
+    pub safe fn deodarsieve_finished_test_compute_output(
+        test: &FinishedTest,
+        answer: &mut Output,
+    ) -> u32;
+    pub safe fn deodarsieve_result_is_success(result: &UnitResult, answer: &mut bool) -> u32;
+    pub safe fn deodarsieve_result_is_termination_failure(
+        result: &UnitResult,
+        answer: &mut bool,
+    ) -> u32;
+    pub safe fn deodarsieve_stress_progress_remaining(
+        progress: &StressProgress,
+        answer: &mut StressRemaining,
+    ) -> u32;
+}
+
+/// A library with other structs or calls does not have this name, so a program with these ones does
+/// not link with it.
+#[used]
+static LAYOUTS: extern "C" fn() = deodarsieve_layouts_1;
+
+/// Calls an export that writes its result through a pointer, and returns that result, or the status
+/// if it is not [`OK`].
+pub fn written<T: Default>(call: impl FnOnce(&mut T) -> u32) -> Result<T, u32> {
+    let mut answer = T::default();
+    match call(&mut answer) {
+        OK => Ok(answer),
+        status => Err(status),
+    }
+}
+
+/// Calls `deodarsieve_slice_extract`. A stream that was not captured is `None`.
+pub fn extract(out: Option<&[u8]>, err: Option<&[u8]>, answer: &mut Slice) -> u32 {
+    let (out_bytes, err_bytes) = (out.unwrap_or_default(), err.unwrap_or_default());
+    // SAFETY: each pointer and its length are those of one slice.
+    unsafe {
+        deodarsieve_slice_extract(
+            out.is_some(),
+            out_bytes.as_ptr(),
+            out_bytes.len(),
+            err.is_some(),
+            err_bytes.as_ptr(),
+            err_bytes.len(),
+            answer,
+        )
+    }
+}
+
+/// Calls `deodarsieve_slice_extract_capped`. A stream that was not captured is `None`.
+pub fn extract_capped(
+    out: Option<&[u8]>,
+    err: Option<&[u8]>,
+    limit: usize,
+    answer: &mut Slice,
+) -> u32 {
+    let (out_bytes, err_bytes) = (out.unwrap_or_default(), err.unwrap_or_default());
+    // SAFETY: each pointer and its length are those of one slice.
+    unsafe {
+        deodarsieve_slice_extract_capped(
+            out.is_some(),
+            out_bytes.as_ptr(),
+            out_bytes.len(),
+            err.is_some(),
+            err_bytes.as_ptr(),
+            err_bytes.len(),
+            limit,
+            answer,
+        )
+    }
+}
+
+/// Calls `deodarsieve_head_find_last`.
+pub fn last_head(bytes: &[u8], answer: &mut Head) -> u32 {
+    // SAFETY: the pointer and the length are those of one slice.
+    unsafe { deodarsieve_head_find_last(bytes.as_ptr(), bytes.len(), answer) }
+}
+
+/// Calls `deodarsieve_outcome_of_sub_runs`.
+pub fn outcome_of_sub_runs(sub_runs: &[FinalStats], answer: &mut u32) -> u32 {
+    // SAFETY: the pointer and the length are those of one slice.
+    unsafe { deodarsieve_outcome_of_sub_runs(sub_runs.as_ptr(), sub_runs.len(), answer) }
+}

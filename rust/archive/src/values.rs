@@ -1,0 +1,244 @@
+//! The values of the crate as structs of C.
+
+use crate::codes::{FLAKY_RESULTS, REASONS, STEPS, STORES, code_of};
+use crate::sys;
+use deodarsieve::counted::HeadSpan;
+use deodarsieve::{
+    AbortDescription, ExecutionResultDescription, FailureDescription, FinalRunStats,
+    LeakTimeoutResult, OutputOnTestFinished, RunStats, RunStatsFailureKind, SlowTimeoutResult,
+    StressCount, StressProgress, StressRemaining, TestOutputErrorSlice, TestView,
+};
+use std::time::Duration;
+
+// The kinds of a summary and of a repeated run: members that a kind does not have are 0.
+const FINAL_NO_TESTS_RUN: u32 = 0;
+const FINAL_SUCCESS: u32 = 1;
+const FINAL_CANCELLED: u32 = 2;
+const FINAL_FAILED: u32 = 3;
+const STRESS_COUNT: u32 = 0;
+const STRESS_INFINITE: u32 = 1;
+const STRESS_TIME: u32 = 2;
+const STRESS_NOTHING: u32 = 3;
+
+impl From<Option<TestOutputErrorSlice<'_>>> for sys::Slice {
+    fn from(found: Option<TestOutputErrorSlice<'_>>) -> Self {
+        let (kind, part) = match found {
+            None => return Self::default(),
+            Some(TestOutputErrorSlice::PanicMessage { stderr_subslice }) => (1, stderr_subslice),
+            Some(TestOutputErrorSlice::ErrorStr { stderr_subslice }) => (2, stderr_subslice),
+            Some(TestOutputErrorSlice::ShouldPanic { stdout_subslice }) => (3, stdout_subslice),
+        };
+        Self {
+            kind,
+            start: part.start,
+            length: part.slice.len(),
+        }
+    }
+}
+
+impl sys::Head {
+    /// Returns the struct of a head, if there is one, and of the number of reads.
+    pub fn new(head: Option<HeadSpan>, reads: u128) -> Self {
+        Self {
+            is_found: head.is_some(),
+            start: head.map_or(0, |head| head.start),
+            stop: head.map_or(0, |head| head.stop),
+            reads: u64::try_from(reads).unwrap_or(u64::MAX),
+        }
+    }
+}
+
+impl From<&ExecutionResultDescription> for sys::UnitResult {
+    fn from(result: &ExecutionResultDescription) -> Self {
+        let (kind, number) = match result {
+            ExecutionResultDescription::Pass => (0, 0),
+            ExecutionResultDescription::Leak { result } => match result {
+                LeakTimeoutResult::Pass => (1, 0),
+                LeakTimeoutResult::Fail => (2, 0),
+            },
+            ExecutionResultDescription::Fail { failure, .. } => failure_codes(failure),
+            ExecutionResultDescription::ExecFail => (7, 0),
+            ExecutionResultDescription::Timeout { result } => match result {
+                SlowTimeoutResult::Pass => (8, 0),
+                SlowTimeoutResult::Fail => (9, 0),
+            },
+            other => unreachable!("the library has no code of {other:?}"),
+        };
+        Self { kind, number }
+    }
+}
+
+/// Returns the kind and the number of a failure.
+fn failure_codes(failure: &FailureDescription) -> (u32, i32) {
+    match failure {
+        FailureDescription::ExitCode { code } => (3, *code),
+        FailureDescription::Abort { abort } => match abort {
+            AbortDescription::UnixSignal { signal, .. } => (4, *signal),
+            AbortDescription::WindowsNtStatus { code, .. } => (5, *code),
+            AbortDescription::WindowsJobObject => (6, 0),
+            other => unreachable!("the library has no code of {other:?}"),
+        },
+        other => unreachable!("the library has no code of {other:?}"),
+    }
+}
+
+impl From<&TestView<'_>> for sys::TestView {
+    fn from(view: &TestView<'_>) -> Self {
+        Self {
+            result: view.result.into(),
+            attempts: view.attempts,
+            is_slow: view.is_slow,
+            flaky_result: code_of(&FLAKY_RESULTS, view.flaky_result),
+        }
+    }
+}
+
+impl From<&RunStats> for sys::RunStats {
+    fn from(stats: &RunStats) -> Self {
+        Self {
+            initial_run_count: stats.initial_run_count,
+            finished_count: stats.finished_count,
+            setup_scripts_initial_count: stats.setup_scripts_initial_count,
+            setup_scripts_finished_count: stats.setup_scripts_finished_count,
+            setup_scripts_passed: stats.setup_scripts_passed,
+            setup_scripts_failed: stats.setup_scripts_failed,
+            setup_scripts_exec_failed: stats.setup_scripts_exec_failed,
+            setup_scripts_timed_out: stats.setup_scripts_timed_out,
+            passed: stats.passed,
+            passed_slow: stats.passed_slow,
+            passed_timed_out: stats.passed_timed_out,
+            flaky: stats.flaky,
+            failed: stats.failed,
+            failed_slow: stats.failed_slow,
+            failed_timed_out: stats.failed_timed_out,
+            leaky: stats.leaky,
+            leaky_failed: stats.leaky_failed,
+            exec_failed: stats.exec_failed,
+            skipped: stats.skipped,
+            cancel_reason: code_of(&REASONS, stats.cancel_reason),
+        }
+    }
+}
+
+impl From<FinalRunStats> for sys::FinalStats {
+    fn from(stats: FinalRunStats) -> Self {
+        match stats {
+            FinalRunStats::NoTestsRun => Self {
+                kind: FINAL_NO_TESTS_RUN,
+                ..Self::default()
+            },
+            FinalRunStats::Success => Self {
+                kind: FINAL_SUCCESS,
+                ..Self::default()
+            },
+            FinalRunStats::Cancelled { reason, kind } => Self {
+                kind: FINAL_CANCELLED,
+                reason: code_of(&REASONS, reason),
+                ..of_failure_kind(kind)
+            },
+            FinalRunStats::Failed { kind } => Self {
+                kind: FINAL_FAILED,
+                ..of_failure_kind(kind)
+            },
+        }
+    }
+}
+
+/// Returns the step and the numbers of a failed or a cancelled run.
+fn of_failure_kind(kind: RunStatsFailureKind) -> sys::FinalStats {
+    let step = code_of(&STEPS, kind.step());
+    match kind {
+        RunStatsFailureKind::SetupScript => sys::FinalStats {
+            step,
+            ..Default::default()
+        },
+        RunStatsFailureKind::Test {
+            initial_run_count,
+            not_run,
+        } => sys::FinalStats {
+            step,
+            initial_run_count,
+            not_run,
+            ..Default::default()
+        },
+    }
+}
+
+impl From<OutputOnTestFinished> for sys::Output {
+    fn from(output: OutputOnTestFinished) -> Self {
+        Self {
+            write_status_line: output.write_status_line,
+            show_immediate: output.show_immediate,
+            store_final: code_of(&STORES, output.store_final),
+        }
+    }
+}
+
+impl From<Duration> for sys::Duration {
+    fn from(duration: Duration) -> Self {
+        Self {
+            seconds: duration.as_secs(),
+            nanoseconds: duration.subsec_nanos(),
+        }
+    }
+}
+
+impl From<StressProgress> for sys::StressProgress {
+    fn from(progress: StressProgress) -> Self {
+        match progress {
+            StressProgress::Count {
+                total,
+                elapsed,
+                completed,
+            } => {
+                let (kind, total_count) = match total {
+                    StressCount::Count { count } => (STRESS_COUNT, count.get()),
+                    StressCount::Infinite => (STRESS_INFINITE, 0),
+                };
+                Self {
+                    kind,
+                    total_count,
+                    completed,
+                    total: sys::Duration::default(),
+                    elapsed: elapsed.into(),
+                }
+            }
+            StressProgress::Time {
+                total,
+                elapsed,
+                completed,
+            } => Self {
+                kind: STRESS_TIME,
+                total_count: 0,
+                completed,
+                total: total.into(),
+                elapsed: elapsed.into(),
+            },
+        }
+    }
+}
+
+impl From<Option<StressRemaining>> for sys::StressRemaining {
+    fn from(remaining: Option<StressRemaining>) -> Self {
+        match remaining {
+            None => Self {
+                kind: STRESS_NOTHING,
+                ..Self::default()
+            },
+            Some(StressRemaining::Count(count)) => Self {
+                kind: STRESS_COUNT,
+                count: count.get(),
+                ..Self::default()
+            },
+            Some(StressRemaining::Infinite) => Self {
+                kind: STRESS_INFINITE,
+                ..Self::default()
+            },
+            Some(StressRemaining::Time(time)) => Self {
+                kind: STRESS_TIME,
+                time: time.get().into(),
+                ..Self::default()
+            },
+        }
+    }
+}

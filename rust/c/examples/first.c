@@ -1,0 +1,17 @@
+#include <deodarsieve.h>
+#include <stdio.h>
+#include <string.h>
+
+int main(void)
+{
+    const char *err = "log\nthread 'main' panicked at src/lib.rs:4:5:\nboom\n";
+    deodarsieve_test_view test = {.result = {DEODARSIEVE_RESULT_EXIT_CODE, 101}, .attempts = 1};
+    deodarsieve_run_stats stats = DEODARSIEVE_RUN_STATS_INIT;
+    deodarsieve_slice why;
+
+    if (deodarsieve_run_stats_count_test(&stats, &test) != DEODARSIEVE_OK)
+        return 1;
+    deodarsieve_slice_extract(false, NULL, 0, true, (const uint8_t *)err, strlen(err), &why);
+    printf("failed %zu: %.*s\n", stats.failed, (int)why.length, err + why.start);
+    return 0;
+}

@@ -1,0 +1,73 @@
+// Made by tools/erase from crates/deodarsieve/src/levels.rt. Do not edit.
+//! Levels, and what is shown of a finished test.
+
+use crate::exports::layout::{FfiFinishedTest, FfiOutput, FfiResult, FfiTestView};
+use crate::exports::{codes, values};
+use deodarsieve::{OutputOnTestFinished, StatusLevels};
+
+/// Writes the code of a finished test's status level.
+#[unsafe(no_mangle)]
+pub extern "C" fn deodarsieve_test_view_status_level(test: &FfiTestView, answer: &mut u32) -> u32 {
+    let level = values::finished_test(test).map(|finished| finished.view().status_level());
+    values::give(answer, level.map(codes::level_code))
+}
+
+/// Writes the code of a finished test's final status level.
+#[unsafe(no_mangle)]
+pub extern "C" fn deodarsieve_test_view_final_status_level(
+    test: &FfiTestView,
+    answer: &mut u32,
+) -> u32 {
+    let level = values::finished_test(test).map(|finished| finished.view().final_status_level());
+    values::give(answer, level.map(codes::final_level_code))
+}
+
+/// Writes what a reporter displays of a test that has just finished, and what it stores.
+#[unsafe(no_mangle)]
+pub extern "C" fn deodarsieve_finished_test_compute_output(
+    test: &FfiFinishedTest,
+    answer: &mut FfiOutput,
+) -> u32 {
+    values::give(answer, output_of(test).map(written_output))
+}
+
+/// Returns what is displayed and stored, or `None` if a code names nothing.
+fn output_of(test: &FfiFinishedTest) -> Option<OutputOnTestFinished> {
+    let own = StatusLevels {
+        status_level: codes::level(test.status_level)?,
+        final_status_level: codes::final_level(test.final_status_level)?,
+    };
+    let display = codes::display(test.display)?;
+    let level = codes::level(test.test_status_level)?;
+    let final_level = codes::final_level(test.test_final_status_level)?;
+    let ended = codes::described(test.result)?;
+    let reason = codes::reason(test.cancel_reason)?;
+    Some(own.compute_output_on_test_finished(display, reason, level, final_level, &ended))
+}
+
+/// Returns the struct of C with what is displayed and stored.
+fn written_output(output: OutputOnTestFinished) -> FfiOutput {
+    FfiOutput {
+        write_status_line: output.write_status_line,
+        show_immediate: output.show_immediate,
+        store_final: codes::store_code(output.store_final),
+    }
+}
+
+/// Writes whether an attempt succeeded.
+#[unsafe(no_mangle)]
+pub extern "C" fn deodarsieve_result_is_success(ended: &FfiResult, answer: &mut bool) -> u32 {
+    let is_success = codes::described(*ended).map(|described| described.is_success());
+    values::give(answer, is_success)
+}
+
+/// Writes whether an attempt failed by `SIGTERM` or with its job object.
+#[unsafe(no_mangle)]
+pub extern "C" fn deodarsieve_result_is_termination_failure(
+    ended: &FfiResult,
+    answer: &mut bool,
+) -> u32 {
+    let is_termination =
+        codes::described(*ended).map(|described| described.is_termination_failure());
+    values::give(answer, is_termination)
+}

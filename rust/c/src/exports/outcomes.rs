@@ -1,0 +1,77 @@
+// Made by tools/erase from crates/deodarsieve/src/outcomes.rt. Do not edit.
+//! Summaries of runs, and their outcomes.
+
+use crate::exports::layout::{FfiFinalStats, FfiRunStats};
+use crate::exports::{codes, values};
+use deodarsieve::{RunOutcome, StressIndex, StressRunStats};
+
+/// Writes the summary of a finished run's counters, for any values of them.
+#[unsafe(no_mangle)]
+pub extern "C" fn deodarsieve_run_stats_summarize(
+    stats: &FfiRunStats,
+    answer: &mut FfiFinalStats,
+) -> u32 {
+    let summary = values::run_stats(stats).map(|counters| counters.summarize_final());
+    values::give(answer, summary.map(values::written_final))
+}
+
+/// Writes the code of a run's outcome, from the summaries of all its sub-runs: the highest of their
+/// outcomes, or that no tests were run if there is no sub-run.
+///
+/// # Safety
+///
+/// - `sub_runs` points to `sub_runs_length` elements that nobody writes during the call, or
+///   `sub_runs_length` is 0.
+/// - `answer` points to a value, and is aligned and not null.
+#[unsafe(no_mangle)]
+pub unsafe extern "C" fn deodarsieve_outcome_of_sub_runs(
+    sub_runs: *const FfiFinalStats,
+    sub_runs_length: usize,
+    answer: &mut u32,
+) -> u32 {
+    let sub_runs = unsafe { crate::slice_of(sub_runs, sub_runs_length) };
+    values::give(answer, outcome_of(sub_runs).map(codes::outcome_code))
+}
+
+/// Returns the highest outcome of all sub-runs, or `None` if a code names nothing.
+fn outcome_of(sub_runs: &[FfiFinalStats]) -> Option<RunOutcome> {
+    let mut highest = RunOutcome::NoTestsRun;
+    for sub_run in sub_runs {
+        let summary = values::final_stats(sub_run)?;
+        highest = highest.combine(RunOutcome::from_final_stats(summary));
+    }
+    Some(highest)
+}
+
+/// Writes the code of the higher of two outcomes.
+#[unsafe(no_mangle)]
+pub extern "C" fn deodarsieve_outcome_combine(outcome: u32, other: u32, answer: &mut u32) -> u32 {
+    let higher = match (codes::outcome(outcome), codes::outcome(other)) {
+        (Some(outcome), Some(other)) => Some(codes::outcome_code(outcome.combine(other))),
+        _ => None,
+    };
+    values::give(answer, higher)
+}
+
+/// Writes the code of a repeated run's summary, from how many of its sub-runs failed and the summary
+/// of the last one.
+#[unsafe(no_mangle)]
+pub extern "C" fn deodarsieve_final_stats_summarize_stress(
+    last: &FfiFinalStats,
+    failed_count: u32,
+    answer: &mut u32,
+) -> u32 {
+    let amounts = values::final_stats(last).map(|last_final_stats| {
+        let stats = StressRunStats {
+            completed: StressIndex {
+                current: 0,
+                total: None,
+            },
+            success_count: 0,
+            failed_count,
+            last_final_stats,
+        };
+        codes::stress_final_code(stats.summarize_final())
+    });
+    values::give(answer, amounts)
+}

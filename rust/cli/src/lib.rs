@@ -1,0 +1,21 @@
+//! The code of the programs `test-report` and `run-digest`.
+//!
+//! This library has no stable API: its modules are public only so that the two programs and the
+//! tests of this repository can use them. To count runs and to find why tests failed in a program of
+//! your own, depend on the crate `deodarsieve`.
+#![forbid(unsafe_code)]
+
+#[doc(hidden)]
+pub mod program;
+#[doc(hidden)]
+pub mod run_digest_devices;
+#[doc(hidden)]
+pub mod run_digest_engine;
+#[doc(hidden)]
+pub mod test_report_engine;
+#[doc(hidden)]
+pub mod test_report_events;
+#[doc(hidden)]
+pub mod test_report_suite;
+#[doc(hidden)]
+pub mod test_report_text;

@@ -1,0 +1,149 @@
+//! What both programs share: reading, writing, and how they end.
+
+use crate::run_digest_devices::fault::Fault;
+use crate::run_digest_devices::std_device::{StdSink, StdSource};
+use std::fmt;
+use std::io::{self, ErrorKind, Read, Write};
+use std::process::ExitCode;
+
+/// A reader or writer that repeats interrupted calls and keeps the error of the last call that
+/// failed, so that the message of the program can say it.
+pub struct KeepError<T> {
+    device: T,
+    error: Option<io::Error>,
+}
+
+impl<T> KeepError<T> {
+    /// Wraps a reader or writer of which no call has failed.
+    pub fn new(device: T) -> KeepError<T> {
+        KeepError {
+            device,
+            error: None,
+        }
+    }
+
+    /// Returns the error of the last call that failed, if any did.
+    pub fn into_error(self) -> Option<io::Error> {
+        self.error
+    }
+
+    /// Makes a call, and makes it again for as long as it is interrupted.
+    fn call<R>(&mut self, mut call: impl FnMut(&mut T) -> io::Result<R>) -> io::Result<R> {
+        loop {
+            match call(&mut self.device) {
+                Err(error) if error.kind() == ErrorKind::Interrupted => {}
+                Err(error) => {
+                    let kind = error.kind();
+                    self.error = Some(error);
+                    return Err(kind.into());
+                }
+                Ok(value) => return Ok(value),
+            }
+        }
+    }
+}
+
+impl<T: Read> Read for KeepError<T> {
+    fn read(&mut self, buffer: &mut [u8]) -> io::Result<usize> {
+        self.call(|device| device.read(buffer))
+    }
+}
+
+impl<T: Write> Write for KeepError<T> {
+    fn write(&mut self, buffer: &[u8]) -> io::Result<usize> {
+        self.call(|device| device.write(buffer))
+    }
+
+    fn flush(&mut self) -> io::Result<()> {
+        self.call(Write::flush)
+    }
+}
+
+/// Why a program ends without a report: a message and an exit status.
+///
+/// The message is the fault's own, or one of the program's, followed by the text of the system's
+/// error if there was one.
+#[derive(Debug)]
+pub struct Failure {
+    fault: Fault,
+    message: Option<String>,
+    error: Option<io::Error>,
+}
+
+impl Failure {
+    /// Returns a failure with the status of `fault` and a message of the program's.
+    pub fn with_message(fault: Fault, message: impl Into<String>) -> Failure {
+        Failure {
+            message: Some(message.into()),
+            ..Failure::from(fault)
+        }
+    }
+
+    /// Adds the text of the system's error to the message.
+    pub fn caused_by(self, error: Option<io::Error>) -> Failure {
+        Failure { error, ..self }
+    }
+
+    /// Writes the message to standard error, after `prefix`, and returns the exit status.
+    pub fn exit(&self, prefix: &str) -> ExitCode {
+        // If standard error cannot be written, the exit status still says what happened.
+        let _ = writeln!(io::stderr(), "{prefix}{self}");
+        ExitCode::from(self.fault.status())
+    }
+}
+
+impl From<Fault> for Failure {
+    fn from(fault: Fault) -> Failure {
+        Failure {
+            fault,
+            message: None,
+            error: None,
+        }
+    }
+}
+
+impl fmt::Display for Failure {
+    fn fmt(&self, f: &mut fmt::Formatter<'_>) -> fmt::Result {
+        match &self.message {
+            Some(message) => f.write_str(message)?,
+            None => write!(f, "{}", self.fault)?,
+        }
+        match &self.error {
+            Some(error) => write!(f, ": {error}"),
+            None => Ok(()),
+        }
+    }
+}
+
+/// Runs an engine from a reader to a writer, and returns status 0 if it returns true, or else 1.
+///
+/// The failure of a read or a write has the text of the system's error.
+pub fn run_engine<R: Read, W: Write>(
+    reader: R,
+    writer: W,
+    engine: impl FnOnce(
+        &mut StdSource<&mut KeepError<R>>,
+        &mut StdSink<&mut KeepError<W>>,
+    ) -> Result<bool, Fault>,
+) -> Result<ExitCode, Failure> {
+    let mut reader = KeepError::new(reader);
+    let mut writer = KeepError::new(writer);
+    let mut source = StdSource::new(&mut reader);
+    let mut sink = StdSink::new(&mut writer);
+    match engine(&mut source, &mut sink) {
+        Ok(success) => Ok(ExitCode::from(u8::from(!success))),
+        Err(fault) => {
+            let error = reader.into_error().or(writer.into_error());
+            Err(Failure::from(fault).caused_by(error))
+        }
+    }
+}
+
+/// Prints the help or the version that was asked for, or what is wrong with the arguments, and
+/// returns the exit status.
+pub fn print_clap(message: &clap::Error) -> Result<ExitCode, Failure> {
+    match message.print() {
+        Ok(()) => Ok(ExitCode::from(if message.use_stderr() { 2 } else { 0 })),
+        Err(error) => Err(Failure::from(Fault::Write).caused_by(Some(error))),
+    }
+}

@@ -1,0 +1,116 @@
+// Made by tools/erase from crates/run_digest_engine/src/report.rt. Do not edit.
+//! The text of reports of runs.
+
+use deodarsieve::{
+    CancelReason, FinalRunStats, RunFailureStep, RunOutcome, RunStats, RunStatsFailureKind,
+};
+use std::fmt;
+
+/// Returns the word for a reason, as in line 1.
+fn reason_text(reason: Option<CancelReason>) -> &'static str {
+    match reason {
+        None => "-",
+        Some(CancelReason::SetupScriptFailure) => "setup-script-failure",
+        Some(CancelReason::TestFailure) => "test-failure",
+        Some(CancelReason::ReportError) => "report-error",
+        Some(CancelReason::OutputLimit) => "output-limit",
+        Some(CancelReason::TestFailureImmediate) => "test-failure-immediate",
+        Some(CancelReason::GlobalTimeout) => "global-timeout",
+        Some(CancelReason::Signal) => "signal",
+        Some(CancelReason::Interrupt) => "interrupt",
+        Some(CancelReason::SecondSignal) => "second-signal",
+        _ => unreachable!("there is no other reason"),
+    }
+}
+
+/// The step of a run, displayed in words.
+#[derive(Clone, Copy)]
+struct StepText(RunStatsFailureKind);
+
+impl fmt::Display for StepText {
+    fn fmt(&self, f: &mut fmt::Formatter<'_>) -> fmt::Result {
+        match self.0 {
+            RunStatsFailureKind::SetupScript => f.write_str("setup-script"),
+            RunStatsFailureKind::Test {
+                initial_run_count,
+                not_run,
+            } => write!(f, "test {initial_run_count} {not_run}"),
+        }
+    }
+}
+
+/// A summary, displayed in words.
+#[derive(Clone, Copy)]
+struct SummaryText(FinalRunStats);
+
+impl fmt::Display for SummaryText {
+    fn fmt(&self, f: &mut fmt::Formatter<'_>) -> fmt::Result {
+        match self.0 {
+            FinalRunStats::Success => f.write_str("success"),
+            FinalRunStats::NoTestsRun => f.write_str("no-tests-run"),
+            FinalRunStats::Cancelled { reason, kind } => {
+                let word = reason_text(reason);
+                let step = StepText(kind);
+                write!(f, "cancelled {word} {step}")
+            }
+            FinalRunStats::Failed { kind } => {
+                let step = StepText(kind);
+                write!(f, "failed {step}")
+            }
+        }
+    }
+}
+
+/// Returns the words for an outcome.
+fn outcome_text(outcome: RunOutcome) -> &'static str {
+    match outcome {
+        RunOutcome::Success => "success",
+        RunOutcome::NoTestsRun => "no-tests-run",
+        RunOutcome::Cancelled {
+            step: RunFailureStep::SetupScript,
+        } => "cancelled setup-script",
+        RunOutcome::Cancelled {
+            step: RunFailureStep::Test,
+        } => "cancelled test",
+        RunOutcome::Failed {
+            step: RunFailureStep::SetupScript,
+        } => "failed setup-script",
+        RunOutcome::Failed {
+            step: RunFailureStep::Test,
+        } => "failed test",
+    }
+}
+
+/// Appends the three lines of a report. Both sums of failures must fit `usize`.
+fn push_report(text: &mut String, stats: &RunStats) {
+    let (finished, passed, flaky) = (stats.finished_count, stats.passed, stats.flaky);
+    let failed = stats.failed_count();
+    text.push_str(&format!(
+        "tests {finished} passed {passed} failed {failed} flaky {flaky}\n"
+    ));
+    let finished = stats.setup_scripts_finished_count;
+    let failed = stats.failed_setup_script_count();
+    text.push_str(&format!("scripts {finished} failed {failed}\n"));
+    let summary = SummaryText(stats.summarize_final());
+    text.push_str(&format!("summary {summary}\n"));
+}
+
+/// Returns the reports of runs.
+fn report_texts(runs: &[RunStats]) -> String {
+    let mut text = String::new();
+    for stats in runs {
+        push_report(&mut text, stats);
+    }
+    text
+}
+
+/// Returns the reports of runs, and the line of their outcome unless there is exactly one run. Both
+/// sums of failures of each run must fit `usize`.
+pub(crate) fn reports(runs: &[RunStats], outcome: RunOutcome) -> String {
+    let mut text = report_texts(runs);
+    if runs.len() != 1 {
+        let words = outcome_text(outcome);
+        text.push_str(&format!("outcome {words}\n"));
+    }
+    text
+}

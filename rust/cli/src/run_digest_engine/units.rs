@@ -1,0 +1,62 @@
+// Made by tools/erase from crates/run_digest_engine/src/units.rt. Do not edit.
+//! The lines of finished units.
+
+use crate::run_digest_engine::parts::Parts;
+use crate::run_digest_engine::words::{parse_flags, parse_result};
+use deodarsieve::{ExecutionResult, FlakyResult};
+
+/// The greatest number of results of a test.
+const MAX_RESULTS: usize = 100;
+
+/// The parts of a finished test that decide its counters.
+#[derive(Clone, Copy)]
+pub(crate) struct FinishedTest {
+    /// The result of the last attempt.
+    pub(crate) result: ExecutionResult,
+
+    /// The number of attempts.
+    pub(crate) attempts: usize,
+
+    /// True if the last attempt was slow.
+    pub(crate) is_slow: bool,
+
+    /// How the test counts if it is flaky.
+    pub(crate) flaky_result: FlakyResult,
+}
+
+/// Parses the words after `script`.
+pub(crate) fn parse_script(mut words: Parts<'_>) -> Option<ExecutionResult> {
+    let (Some(word), None) = (words.next(), words.next()) else {
+        return None;
+    };
+    parse_result(word)
+}
+
+/// Parses the results of a test, which are separated by commas and at most [`MAX_RESULTS`]. Returns the
+/// last one and their number.
+fn parse_results(list: &str) -> Option<(ExecutionResult, usize)> {
+    let mut words = Parts::new(list, ',');
+    let mut last = parse_result(words.next()?)?;
+    let mut count = 1;
+    for word in words {
+        if count == MAX_RESULTS {
+            return None;
+        }
+        last = parse_result(word)?;
+        count += 1;
+    }
+    Some((last, count))
+}
+
+/// Parses the words after `test`: the results of the attempts, and the flags.
+pub(crate) fn parse_test(mut words: Parts<'_>) -> Option<FinishedTest> {
+    let list = words.next()?;
+    let (is_slow, flaky_result) = parse_flags(words)?;
+    let (result, attempts) = parse_results(list)?;
+    Some(FinishedTest {
+        result,
+        attempts,
+        is_slow,
+        flaky_result,
+    })
+}

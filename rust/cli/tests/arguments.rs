@@ -1,0 +1,142 @@
+//! Arguments of both programs: those that are refused, `--help` and `--version`.
+
+mod common;
+
+use common::{assert_output, run};
+use std::process::Output;
+
+/// A run of one test that passes.
+const PASSED: &str = "\
+{ \"type\": \"suite\", \"event\": \"started\", \"test_count\": 1 }
+{ \"type\": \"test\", \"event\": \"started\", \"name\": \"adds\" }
+{ \"type\": \"test\", \"name\": \"adds\", \"event\": \"ok\" }
+{ \"type\": \"suite\", \"event\": \"ok\", \"passed\": 1, \"failed\": 0 }
+";
+
+/// The report of that run.
+const REPORT: &str = "tests 1 passed 1 failed 0 flaky 0 skipped 0\noutcome success\n";
+
+/// What `run-digest` writes to standard error if an argument is invalid.
+const USAGE: &str = "usage: run-digest extract|count\n";
+
+/// Returns standard output as text, and asserts that the program succeeded without a message.
+fn stdout_of(output: &Output) -> &str {
+    assert_eq!(output.status.code(), Some(0));
+    assert_eq!(output.stderr, b"");
+    str::from_utf8(&output.stdout).expect("the text is UTF-8")
+}
+
+/// Returns an argument that is not UTF-8.
+#[cfg(unix)]
+fn not_utf8() -> std::ffi::OsString {
+    use std::os::unix::ffi::OsStringExt;
+    std::ffi::OsString::from_vec(b"caf\xe9".to_vec())
+}
+
+#[test]
+fn test_report_refuses_arguments() {
+    let refused: [&[&str]; 8] = [
+        &["--nothing"],
+        &["-x"],
+        &["one.jsonl", "two.jsonl"],
+        &["--limit"],
+        &["--limit", "many"],
+        &["--limit", "-1"],
+        &["--limit", "18446744073709551616"],
+        &["--raw=yes"],
+    ];
+    for arguments in refused {
+        let output = run("test-report", arguments, PASSED.as_bytes());
+        assert_eq!(output.status.code(), Some(2), "{arguments:?}");
+        assert_eq!(output.stdout, b"", "{arguments:?}");
+        assert!(output.stderr.starts_with(b"error: "), "{arguments:?}");
+    }
+}
+
+#[test]
+fn test_report_takes_arguments() {
+    let taken: [&[&str]; 7] = [
+        &[],
+        &["-"],
+        &["--raw"],
+        &["--limit", "0"],
+        &["--limit=18446744073709551615", "-"],
+        &["--", "-"],
+        &["--raw", "--limit", "7", "-"],
+    ];
+    for arguments in taken {
+        let output = run("test-report", arguments, PASSED.as_bytes());
+        assert_output(
+            &output,
+            REPORT.as_bytes(),
+            b"",
+            0,
+            &format!("{arguments:?}"),
+        );
+    }
+}
+
+#[test]
+fn run_digest_refuses_arguments() {
+    let refused: [&[&str]; 6] = [
+        &["frob"],
+        &["count", "extract"],
+        &["extract", "-"],
+        &["--nothing"],
+        &["-"],
+        &[""],
+    ];
+    for arguments in refused {
+        let output = run("run-digest", arguments, b"run 0 0 -\n");
+        assert_output(&output, b"", USAGE.as_bytes(), 2, &format!("{arguments:?}"));
+    }
+}
+
+#[test]
+fn run_digest_counts_without_arguments() {
+    let counted = run("run-digest", &["count"], b"run 1 0 -\ntest pass\n");
+    let plain = run("run-digest", &[] as &[&str], b"run 1 0 -\ntest pass\n");
+    assert_eq!(stdout_of(&plain), stdout_of(&counted));
+}
+
+#[cfg(unix)]
+#[test]
+fn arguments_that_are_not_utf8_are_refused() {
+    let output = run("run-digest", &[not_utf8()], b"");
+    assert_output(&output, b"", USAGE.as_bytes(), 2, "run-digest");
+    let output = run("test-report", &[not_utf8()], b"");
+    let message = b"test-report: a word is not UTF-8\n";
+    assert_output(&output, b"", message, 2, "test-report");
+}
+
+#[test]
+fn help_names_all_arguments() {
+    for flag in ["--help", "-h"] {
+        let output = run("test-report", &[flag], b"");
+        let help = stdout_of(&output);
+        for part in [
+            "Usage: test-report [OPTIONS] [FILE]",
+            "--limit <BYTES>",
+            "4096",
+            "--raw",
+        ] {
+            assert!(help.contains(part), "{part} is not in {help}");
+        }
+        let output = run("run-digest", &[flag], b"");
+        let help = stdout_of(&output);
+        for part in ["Usage: run-digest [COMMAND]", "count", "extract"] {
+            assert!(help.contains(part), "{part} is not in {help}");
+        }
+    }
+}
+
+#[test]
+fn version_is_that_of_the_package() {
+    for program in ["run-digest", "test-report"] {
+        for flag in ["--version", "-V"] {
+            let output = run(program, &[flag], b"");
+            let version = format!("{program} {}\n", env!("CARGO_PKG_VERSION"));
+            assert_eq!(stdout_of(&output), version);
+        }
+    }
+}

@@ -1,0 +1,66 @@
+//! Running the two programs.
+#![allow(
+    dead_code,
+    reason = "each file of tests is a program of its own, and calls only some of these"
+)]
+
+use std::ffi::OsStr;
+use std::fs::File;
+use std::io::Write;
+use std::process::{Command, Output, Stdio};
+
+/// Returns the path of a program of this package.
+pub fn path_of(program: &str) -> &'static str {
+    match program {
+        "run-digest" => env!("CARGO_BIN_EXE_run-digest"),
+        "test-report" => env!("CARGO_BIN_EXE_test-report"),
+        _ => panic!("this package has no program {program}"),
+    }
+}
+
+/// Returns a program with arguments, and with pipes as its standard input, output and error.
+pub fn command<A: AsRef<OsStr>>(program: &str, arguments: &[A]) -> Command {
+    let mut command = Command::new(path_of(program));
+    command
+        .args(arguments)
+        .stdin(Stdio::piped())
+        .stdout(Stdio::piped())
+        .stderr(Stdio::piped());
+    command
+}
+
+/// Runs a program on a small input, which must fit into the buffer of a pipe.
+pub fn run<A: AsRef<OsStr>>(program: &str, arguments: &[A], input: &[u8]) -> Output {
+    let mut child = command(program, arguments)
+        .spawn()
+        .expect("the program starts");
+    let mut stdin = child.stdin.take().expect("standard input is a pipe");
+    // A program that refuses its arguments ends without reading.
+    let _ = stdin.write_all(input);
+    drop(stdin);
+    child.wait_with_output().expect("the program ends")
+}
+
+/// Runs a program with a file as its standard input.
+pub fn run_on_file<A: AsRef<OsStr>>(program: &str, arguments: &[A], input: File) -> Output {
+    command(program, arguments)
+        .stdin(input)
+        .output()
+        .expect("the program runs")
+}
+
+/// Asserts the bytes of standard output and standard error, and the exit status.
+pub fn assert_output(output: &Output, stdout: &[u8], stderr: &[u8], status: i32, what: &str) {
+    let text = |bytes: &[u8]| String::from_utf8_lossy(bytes).into_owned();
+    assert_eq!(
+        text(&output.stdout),
+        text(stdout),
+        "{what}: standard output"
+    );
+    assert_eq!(text(&output.stderr), text(stderr), "{what}: standard error");
+    assert!(
+        output.stdout == stdout && output.stderr == stderr,
+        "{what}: bytes that are not UTF-8 differ"
+    );
+    assert_eq!(output.status.code(), Some(status), "{what}: exit status");
+}

@@ -1,0 +1,225 @@
+//! What a test run means: its events, its counters, its outcome, and which lines of a failed test's
+//! output explain the failure.
+//!
+//! A test runner tells this crate how each test and setup script ended. In return it gets
+//!
+//! - counters of what passed, failed, was flaky, slow or leaky ([`RunStats`]);
+//! - the summary and the outcome of the run ([`FinalRunStats`], [`RunOutcome`]);
+//! - the part of a failed test's output that explains the failure ([`TestOutputErrorSlice`]);
+//! - which lines and which output a reporter shows ([`StatusLevels`]);
+//! - the types of all events that reporters receive ([`TestEventKind`]).
+//!
+//! The names and the behaviour are those of the reporter of [nextest](https://nexte.st). The modules
+//! are at nextest's paths, and every name is at the root of the crate too.
+//!
+//! # Example
+//!
+//! This counts a run of two tests, one of which failed, and prints why:
+//!
+//! ```
+//! use deodarsieve::{
+//!     ExecutionResult, ExecutionResultDescription, FailureStatus, RunStats, TestOutputErrorSlice,
+//!     TestView,
+//! };
+//!
+//! let stderr = b"thread 'adds' panicked at src/lib.rs:7:5:\nassertion failed: 1 + 1 == 3\n";
+//! let failed = ExecutionResult::Fail { failure_status: FailureStatus::ExitCode(101), leaked: false };
+//! let mut stats = RunStats { initial_run_count: 2, ..RunStats::default() };
+//! for result in [ExecutionResult::Pass, failed] {
+//!     stats.on_test_view(&TestView::new(&ExecutionResultDescription::from(result)));
+//! }
+//! println!("{} passed, {} failed", stats.passed, stats.failed_count());
+//! if let Some(slice) = TestOutputErrorSlice::heuristic_extract(None, Some(stderr)) {
+//!     println!("{slice}");
+//! }
+//! # assert_eq!((stats.passed, stats.failed_count()), (1, 1));
+//! # let slice = TestOutputErrorSlice::heuristic_extract(None, Some(stderr)).unwrap();
+//! # assert!(slice.to_string().ends_with("assertion failed: 1 + 1 == 3"));
+//! ```
+//!
+//! # Features
+//!
+//! - `std` (default): conversions from `std::process::ExitStatus` and `std::time::SystemTime`.
+//!   Without it the crate is `no_std` and needs `alloc`.
+//! - `serde_json`: [`SerializableError`] to and from JSON values.
+//! - `chrono`: [`Moment`] to and from `chrono::DateTime<chrono::FixedOffset>`.
+//!
+//! A feature only adds items. No type changes with a feature.
+//!
+//! # Panics
+//!
+//! A function that needs more than its types say panics if it does not get it, in release builds too.
+//! Its documentation has a section `Panics`, and the message names the function that tests the
+//! condition. Counters never wrap: [`RunStats::try_on_test_view`] returns an error if a counter is
+//! full, and [`RunStats::on_test_view`] panics.
+
+#![no_std]
+#![cfg_attr(docsrs, feature(doc_cfg))]
+#![forbid(unsafe_code)]
+#![warn(missing_docs, missing_debug_implementations)]
+#![allow(
+    clippy::len_without_is_empty,
+    reason = "a list of errors or attempts is never empty"
+)]
+
+extern crate alloc;
+#[cfg(feature = "std")]
+extern crate std;
+
+mod decimal_digits;
+mod moment;
+mod output_slice;
+mod run_events;
+mod run_events_attempts;
+mod run_events_child;
+mod run_events_levels;
+mod run_events_results;
+mod run_events_settings;
+mod run_events_stats;
+mod std_impls;
+
+/// What a run is for.
+pub mod run_mode {
+    pub use crate::run_events_settings::run_mode::NextestRunMode;
+}
+
+/// What reporters receive, and how they decide what to show.
+pub mod reporter {
+    pub use crate::output_slice::{
+        ByteSubslice, TestOutputErrorSlice, heuristic_error_str, heuristic_panic_message,
+        heuristic_should_panic,
+    };
+    pub use crate::run_events::config::TestOutputDisplay;
+    pub use crate::run_events::unit_error::{
+        UnitAbortDescription, UnitError, UnitErrorDescription,
+    };
+    pub use crate::run_events_levels::levels::{FinalStatusLevel, StatusLevel};
+
+    /// The events of a run, and what they hold: results, attempts, counters and outcomes.
+    pub mod events {
+        pub use crate::run_events::events::{
+            InfoResponse, ReporterEvent, SetupScriptInfoResponse, TestEvent, TestEventKind,
+            TestInfoResponse, TestSlotAssignment, TestsNotSeen, UnitState, UnitTerminateMethod,
+            UnitTerminateReason, UnitTerminateSignal, UnitTerminatingState,
+        };
+        pub use crate::run_events_attempts::attempts::{
+            EmptyStatuses, ErrorSummary, ExecuteStatus, ExecutionDescription, ExecutionStatuses,
+            ExecutionStatusesIter, OutputErrorSlice, RetryData, SetupScriptEnvMap,
+            SetupScriptExecuteStatus,
+        };
+        pub use crate::run_events_child::chain::{SerializableError, SerializableErrorSources};
+        pub use crate::run_events_child::child::{
+            ChildErrorDescription, ChildExecutionOutputDescription, ChildOutputDescription,
+            ChildStartErrorDescription,
+        };
+        pub use crate::run_events_levels::view::TestView;
+        pub use crate::run_events_results::results::{
+            AbortDescription, AbortStatus, CancelReason, ExecutionResult,
+            ExecutionResultDescription, FailureDescription, FailureStatus, SIGTERM, UnitKind,
+        };
+        pub use crate::run_events_settings::stress::{
+            NonZeroDuration, StressIndex, StressProgress, StressRemaining,
+        };
+        pub use crate::run_events_stats::outcome::{
+            FinalRunStats, RunFailureStep, RunFinishedStats, RunOutcome, RunStatsFailureKind,
+            StressFinalRunStats, StressRunStats,
+        };
+        pub use crate::run_events_stats::stats::{FinishedRun, FinishedUnit, RunStart, RunStats};
+    }
+
+    /// What a reporter writes on a terminal.
+    pub mod displayer {
+        /// Which lines and which output a reporter shows of a finished test.
+        pub mod status_level {
+            pub use crate::run_events_levels::levels::{
+                OutputOnTestFinished, OutputStoreFinal, StatusLevels,
+            };
+        }
+    }
+}
+
+/// Settings of a run.
+pub mod config {
+    /// Settings that decide how a result counts, and settings that events only carry.
+    pub mod elements {
+        pub use crate::run_events::config::{
+            FlakyResult, JunitFlakyFailStatus, LeakTimeoutResult, ReportSkipPolicy,
+            SlowTimeoutResult, TestGroup,
+        };
+    }
+
+    /// Settings of scripts.
+    pub mod scripts {
+        pub use crate::run_events::config::ScriptId;
+    }
+}
+
+/// The tests that a runner knows.
+pub mod list {
+    pub use crate::run_events::config::{
+        MismatchReason, OwnedTestInstanceId, TestInstanceId, TestList,
+    };
+}
+
+/// Errors of child processes, lists of errors, and the errors of this crate's functions.
+pub mod errors {
+    #[cfg(feature = "serde_json")]
+    pub use crate::run_events_child::chain::FromValueError;
+    pub use crate::run_events_child::child::{
+        ChildError, ChildFdError, ChildStartError, ErrorList,
+    };
+    pub use crate::run_events_stats::stats::CounterFull;
+}
+
+/// In what form events hold the output of a child process.
+pub mod output_spec {
+    pub use crate::run_events_child::child::{LiveSpec, OutputSpec};
+}
+
+/// Settings of a runner.
+pub mod runner {
+    pub use crate::run_events::config::StressCondition;
+    pub use crate::run_events_settings::stress::StressCount;
+}
+
+/// The captured output of a child process, as a runner has it.
+pub mod test_output {
+    pub use crate::run_events_child::child::{
+        ChildExecutionOutput, ChildOutput, ChildSingleOutput, ChildSplitOutput,
+    };
+}
+
+/// Instants of the clock.
+pub mod time {
+    pub use crate::moment::Moment;
+    #[cfg(feature = "chrono")]
+    pub use crate::moment::MomentOutOfRange;
+}
+
+/// The search for panic messages with a count of the bytes that it reads. It has no stable API.
+#[doc(hidden)]
+pub mod counted {
+    pub use crate::decimal_digits::is_decimal_digit;
+    pub use crate::output_slice::{
+        ByteSource, CountedBytes, HeadSpan, last_head::last_head, last_panic_head,
+    };
+}
+
+/// Has the example of the first page run as a test.
+#[cfg(doctest)]
+#[doc = include_str!("../README.md")]
+struct FirstPage;
+
+#[doc(no_inline)]
+pub use crate::{
+    config::elements::*, config::scripts::*, errors::*, list::*, output_spec::*,
+    reporter::displayer::status_level::*, reporter::events::*, run_mode::*, runner::*,
+    test_output::*, time::*,
+};
+
+#[doc(no_inline)]
+pub use crate::reporter::{
+    ByteSubslice, FinalStatusLevel, StatusLevel, TestOutputDisplay, TestOutputErrorSlice,
+    UnitAbortDescription, UnitError, UnitErrorDescription, heuristic_error_str,
+    heuristic_panic_message, heuristic_should_panic,
+};

@@ -1,0 +1,159 @@
+//! Instants of the clock.
+
+/// The number of nanoseconds in a second.
+const NANOSECONDS_PER_SECOND: u32 = 1_000_000_000;
+
+/// The number of seconds in a day.
+const SECONDS_PER_DAY: i32 = 86_400;
+
+/// An instant of the wall clock, with the offset from UTC at which it was read.
+///
+/// The instant is a number of seconds and nanoseconds since 1970-01-01 00:00:00 UTC. Leap seconds
+/// are not counted, as in Unix time. The offset does not change the instant; it says how a reporter
+/// shows it.
+///
+/// Two moments are equal if their instants and their offsets are equal. They are ordered by instant,
+/// then by offset.
+///
+/// # Conversions
+///
+/// - From [`SystemTime`], at offset 0, with the feature `std`.
+/// - From `chrono::DateTime<chrono::FixedOffset>` and back, with the feature `chrono`.
+/// - From the types of any other library by their numbers. For a `Zoned` of `jiff`:
+///
+///   ```text
+///   let nanoseconds = zoned.timestamp().as_nanosecond();
+///   Moment::from_unix_nanoseconds(nanoseconds, zoned.offset().seconds())
+///   ```
+///
+/// ```
+/// use deodarsieve::Moment;
+///
+/// // 2026-01-01 00:00:00.5 in UTC, read in a place one hour to the east.
+/// let moment = Moment::new(1_767_225_600, 500_000_000, 3_600).expect("a valid moment");
+/// assert!(moment > Moment::UNIX_EPOCH);
+/// assert_eq!(moment.offset_seconds(), 3_600);
+/// ```
+///
+/// [`SystemTime`]: https://doc.rust-lang.org/std/time/struct.SystemTime.html
+#[derive(Clone, Copy, Debug, PartialEq, Eq, PartialOrd, Ord, Hash)]
+pub struct Moment {
+    unix_seconds: i64,
+    subsecond_nanoseconds: u32,
+    offset_seconds: i32,
+}
+
+impl Moment {
+    /// 1970-01-01 00:00:00 UTC, at offset 0.
+    pub const UNIX_EPOCH: Moment = Moment {
+        unix_seconds: 0,
+        subsecond_nanoseconds: 0,
+        offset_seconds: 0,
+    };
+
+    /// The least moment: the earliest instant, at the least offset.
+    pub const MIN: Moment = Moment {
+        unix_seconds: i64::MIN,
+        subsecond_nanoseconds: 0,
+        offset_seconds: 1 - SECONDS_PER_DAY,
+    };
+
+    /// The greatest moment: the latest instant, at the greatest offset.
+    pub const MAX: Moment = Moment {
+        unix_seconds: i64::MAX,
+        subsecond_nanoseconds: NANOSECONDS_PER_SECOND - 1,
+        offset_seconds: SECONDS_PER_DAY - 1,
+    };
+
+    /// Returns the instant `unix_seconds` seconds and `subsecond_nanoseconds` nanoseconds after the
+    /// Unix epoch, at `offset_seconds` seconds east of UTC.
+    ///
+    /// Before the epoch `unix_seconds` is negative, and the nanoseconds still count forwards: half a
+    /// second before the epoch is `(-1, 500_000_000)`.
+    ///
+    /// Returns `None` if there are 1,000,000,000 nanoseconds or more, or if the offset is a day or
+    /// more in either direction.
+    #[must_use]
+    pub const fn new(
+        unix_seconds: i64,
+        subsecond_nanoseconds: u32,
+        offset_seconds: i32,
+    ) -> Option<Moment> {
+        if subsecond_nanoseconds >= NANOSECONDS_PER_SECOND
+            || offset_seconds <= -SECONDS_PER_DAY
+            || offset_seconds >= SECONDS_PER_DAY
+        {
+            return None;
+        }
+        Some(Moment {
+            unix_seconds,
+            subsecond_nanoseconds,
+            offset_seconds,
+        })
+    }
+
+    /// Returns the instant `unix_nanoseconds` nanoseconds after the Unix epoch, at `offset_seconds`
+    /// seconds east of UTC. A negative number is an instant before the epoch.
+    ///
+    /// Returns `None` if the instant is earlier than [`Moment::MIN`] or later than [`Moment::MAX`],
+    /// or if the offset is a day or more in either direction.
+    #[must_use]
+    pub fn from_unix_nanoseconds(unix_nanoseconds: i128, offset_seconds: i32) -> Option<Moment> {
+        let per_second = i128::from(NANOSECONDS_PER_SECOND);
+        let seconds = i64::try_from(unix_nanoseconds.div_euclid(per_second)).ok()?;
+        let nanoseconds = u32::try_from(unix_nanoseconds.rem_euclid(per_second)).ok()?;
+        Moment::new(seconds, nanoseconds, offset_seconds)
+    }
+
+    /// Returns the whole seconds from the Unix epoch to the instant, rounded down: negative before
+    /// the epoch.
+    #[must_use]
+    pub const fn unix_seconds(self) -> i64 {
+        self.unix_seconds
+    }
+
+    /// Returns the nanoseconds of the instant after its whole second, below 1,000,000,000.
+    #[must_use]
+    pub const fn subsecond_nanoseconds(self) -> u32 {
+        self.subsecond_nanoseconds
+    }
+
+    /// Returns the nanoseconds from the Unix epoch to the instant: negative before the epoch.
+    #[must_use]
+    pub const fn unix_nanoseconds(self) -> i128 {
+        self.unix_seconds as i128 * NANOSECONDS_PER_SECOND as i128
+            + self.subsecond_nanoseconds as i128
+    }
+
+    /// Returns the offset in seconds east of UTC: less than a day in either direction.
+    #[must_use]
+    pub const fn offset_seconds(self) -> i32 {
+        self.offset_seconds
+    }
+
+    /// Returns the same instant at another offset, or `None` if the offset is a day or more in
+    /// either direction.
+    #[must_use]
+    pub const fn with_offset_seconds(self, offset_seconds: i32) -> Option<Moment> {
+        Moment::new(
+            self.unix_seconds,
+            self.subsecond_nanoseconds,
+            offset_seconds,
+        )
+    }
+}
+
+/// A date or an offset of a [`Moment`] is outside the range of the type that it is converted to.
+#[cfg(feature = "chrono")]
+#[derive(Clone, Copy, Debug, PartialEq, Eq)]
+pub struct MomentOutOfRange;
+
+#[cfg(feature = "chrono")]
+impl core::fmt::Display for MomentOutOfRange {
+    fn fmt(&self, f: &mut core::fmt::Formatter<'_>) -> core::fmt::Result {
+        f.write_str("the moment is outside the range of the type that it is converted to")
+    }
+}
+
+#[cfg(feature = "chrono")]
+impl core::error::Error for MomentOutOfRange {}

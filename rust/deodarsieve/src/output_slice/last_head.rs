@@ -1,0 +1,103 @@
+// Made by tools/erase from crates/output_slice/src/last_head.rt. Do not edit.
+//! The search for the last panic head, from the end of the output.
+
+use crate::output_slice::byte_source::CountedBytes;
+use crate::output_slice::lines::{is_line_start, last_byte, line_end, line_start, next_byte};
+use crate::output_slice::panic_head::quotes::{OPENING_SIZE, WORD_SIZE};
+use crate::output_slice::panic_head::{HeadSpan, last_panic_head};
+use crate::output_slice::signs::heads_end;
+use bstr::ByteSlice;
+
+/// A line feed and the prefix of a head.
+const OPENING: &[u8] = b"\nthread '";
+
+/// Returns the offset of the last line that begins with `thread '`.
+///
+/// The last line is tested first: if every line begins with the prefix, no search is needed.
+fn last_opening(bytes: &[u8]) -> Option<usize> {
+    let last = line_start(bytes, bytes.len().saturating_sub(1));
+    if is_opening(bytes, last) {
+        return Some(last);
+    }
+    if let Some(feed) = bytes.rfind(OPENING) {
+        return Some(feed + 1);
+    }
+    if bytes.starts_with_str(&OPENING[1..]) {
+        return Some(0);
+    }
+    None
+}
+
+/// Returns an offset that no head extends past, given that the last `thread '` prefix is at `at`.
+fn window_end(bytes: &[u8], at: usize) -> usize {
+    let name = at + OPENING_SIZE;
+    line_end(bytes, next_byte(bytes, b'\'', name).unwrap_or(name))
+}
+
+/// Returns the start of a possible head that contains the line start `at`, or `None` if no head can.
+fn crossing(bytes: &[u8], at: usize) -> Option<usize> {
+    let quote = last_byte(bytes, b'\'', at)?;
+    if quote < WORD_SIZE {
+        return None;
+    }
+    let start = quote - WORD_SIZE;
+    if is_opening(bytes, start) {
+        Some(start)
+    } else {
+        None
+    }
+}
+
+/// Returns true if `at` is a line start and `thread '` begins there.
+fn is_opening(bytes: &[u8], at: usize) -> bool {
+    is_line_start(bytes, at) && bytes[at..].starts_with_str(&OPENING[1..])
+}
+
+/// Returns the last line start at or before `at` that no head can contain.
+fn cut_before(bytes: &[u8], at: usize) -> usize {
+    let mut cut = at;
+    while let Some(start) = crossing(bytes, cut) {
+        cut = start;
+    }
+    cut
+}
+
+/// Returns the last head that begins at or after `cut`, if there is one.
+fn last_from(bytes: &[u8], cut: usize) -> Option<HeadSpan> {
+    let mut source = CountedBytes::new(&bytes[cut..]);
+    let head = last_panic_head(&mut source)?;
+    Some(head_behind(cut, head))
+}
+
+/// Converts a head of the bytes after `place` to a head of all bytes.
+fn head_behind(place: usize, head: HeadSpan) -> HeadSpan {
+    HeadSpan {
+        start: place + head.start,
+        stop: place + head.stop,
+    }
+}
+
+/// Returns the last panic head in `bytes`, or `None`: the same head as [`last_panic_head`].
+///
+/// The search goes from the end to the start, so a panic near the end of long output is found
+/// without reading the bytes before it. It goes window by window: a window begins at a line start
+/// that no head contains, and ends at the start of the window after it. So the first window from
+/// the end that has a head has the last one.
+#[must_use]
+pub fn last_head(bytes: &[u8]) -> Option<HeadSpan> {
+    last_head_before(bytes, heads_end(bytes))
+}
+
+/// Returns the last panic head, given that no head extends past `end`.
+fn last_head_before(bytes: &[u8], end: usize) -> Option<HeadSpan> {
+    let mut rest = &bytes[..end];
+    while let Some(at) = last_opening(rest) {
+        let front = &rest[..window_end(rest, at)];
+        let cut = cut_before(front, at);
+        if let Some(head) = last_from(front, cut) {
+            return Some(head);
+        }
+        rest = &front[..cut];
+    }
+    None
+}

@@ -1,0 +1,30 @@
+// Made by tools/erase from crates/output_slice/src/lib.rt. Do not edit.
+//! Finds the part of a test's output that explains why the test failed.
+//!
+//! [`TestOutputErrorSlice::heuristic_extract`] looks for the message of the last panic, or else for a
+//! line that begins with `Error: `, or else for the note that a test did not panic. Output is any
+//! bytes; it need not be UTF-8.
+//!
+//! For output whose two streams were captured as one:
+//!
+//! ```
+//! use deodarsieve::TestOutputErrorSlice;
+//!
+//! let output = b"1 of 2\nthread 'adds' panicked at src/lib.rs:7:5:\nassertion failed\n";
+//! let slice = TestOutputErrorSlice::heuristic_extract(Some(output), Some(output));
+//! let text = slice.map(|slice| slice.to_string());
+//! assert_eq!(text.as_deref(), Some("thread 'adds' panicked at src/lib.rs:7:5:\nassertion failed"));
+//! ```
+
+pub mod byte_source;
+pub mod heuristics;
+pub mod last_head;
+mod lines;
+pub mod panic_head;
+mod signs;
+pub mod subslice;
+
+pub use byte_source::{ByteSource, CountedBytes};
+pub use heuristics::{heuristic_error_str, heuristic_panic_message, heuristic_should_panic};
+pub use panic_head::{HeadSpan, last_panic_head};
+pub use subslice::{ByteSubslice, TestOutputErrorSlice};

@@ -1,0 +1,15 @@
+// Made by tools/erase from crates/run_events_attempts/src/lib.rt. Do not edit.
+//! The attempts of a finished test, and their description.
+//!
+//! A function that returns the result of a test in one word:
+//!
+//! ```
+//! use deodarsieve::{ExecutionStatuses, LiveSpec};
+//!
+//! fn word_of(test: &ExecutionStatuses<LiveSpec>) -> &'static str {
+//!     let last = test.last_status();
+//!     if test.len() > 1 && last.result.is_success() { "flaky" } else { last.result.as_static_str() }
+//! }
+//! ```
+
+pub mod attempts;

@@ -1,0 +1,75 @@
+// Made by tools/erase from crates/run_events_levels/src/view.rt. Do not edit.
+//! The view of a finished test that decides its counters and its levels.
+
+use crate::run_events_levels::levels::{FinalStatusLevel, StatusLevel};
+use crate::run_events_results::results::ExecutionResultDescription;
+use crate::run_events_settings::config::{FlakyResult, LeakTimeoutResult, SlowTimeoutResult};
+
+/// The parts of a finished test that decide its counters and its levels, borrowed from its attempts.
+/// A caller that does not keep attempts can make it from what it knows.
+#[derive(Clone, Copy, Debug, PartialEq, Eq)]
+#[non_exhaustive]
+pub struct TestView<'a> {
+    /// The result of the last attempt.
+    pub result: &'a ExecutionResultDescription,
+
+    /// The number of attempts. 0 counts as 1.
+    pub attempts: usize,
+
+    /// True if the last attempt took longer than the slow timeout.
+    pub is_slow: bool,
+
+    /// How the test counts if it is flaky, that is if its last attempt succeeded and is not its
+    /// first.
+    pub flaky_result: FlakyResult,
+}
+
+impl TestView<'_> {
+    /// Returns the level of the test when it finishes: `Retry` or `Fail` for a flaky test, `Fail` for
+    /// a failed one, and for a success at the first attempt the level of its result.
+    #[must_use]
+    pub fn status_level(&self) -> StatusLevel {
+        if self.result.is_success() && self.attempts > 1 {
+            return match self.flaky_result {
+                FlakyResult::Pass => StatusLevel::Retry,
+                FlakyResult::Fail => StatusLevel::Fail,
+            };
+        }
+        match self.result {
+            ExecutionResultDescription::Pass => StatusLevel::Pass,
+            ExecutionResultDescription::Leak {
+                result: LeakTimeoutResult::Pass,
+            } => StatusLevel::Leak,
+            ExecutionResultDescription::Timeout {
+                result: SlowTimeoutResult::Pass,
+            } => StatusLevel::Slow,
+            _ => StatusLevel::Fail,
+        }
+    }
+
+    /// Returns the level of the test at the end of the run. It is like the status level, except that
+    /// a flaky test which counts as passed is `Flaky`, and that a slow success at the first attempt
+    /// is `Slow` whatever its result.
+    #[must_use]
+    pub fn final_status_level(&self) -> FinalStatusLevel {
+        if self.result.is_success() && self.attempts > 1 {
+            return match self.flaky_result {
+                FlakyResult::Pass => FinalStatusLevel::Flaky,
+                FlakyResult::Fail => FinalStatusLevel::Fail,
+            };
+        }
+        if self.result.is_success() && self.is_slow {
+            return FinalStatusLevel::Slow;
+        }
+        match self.result {
+            ExecutionResultDescription::Pass => FinalStatusLevel::Pass,
+            ExecutionResultDescription::Leak {
+                result: LeakTimeoutResult::Pass,
+            } => FinalStatusLevel::Leak,
+            ExecutionResultDescription::Timeout {
+                result: SlowTimeoutResult::Pass,
+            } => FinalStatusLevel::Slow,
+            _ => FinalStatusLevel::Fail,
+        }
+    }
+}

@@ -1,0 +1,116 @@
+//! Moments: what is refused, how they compare, and conversions.
+
+use deodarsieve::Moment;
+
+/// One hour, in seconds.
+const HOUR: i32 = 3_600;
+
+#[test]
+fn numbers_out_of_range_are_refused() {
+    assert!(Moment::new(0, 999_999_999, 86_399).is_some());
+    assert!(Moment::new(i64::MIN, 0, -86_399).is_some());
+    assert_eq!(Moment::new(0, 1_000_000_000, 0), None);
+    assert_eq!(Moment::new(0, 0, 86_400), None);
+    assert_eq!(Moment::new(0, 0, -86_400), None);
+    assert_eq!(Moment::UNIX_EPOCH.with_offset_seconds(86_400), None);
+    let beyond = Moment::MAX.unix_nanoseconds() + 1;
+    assert_eq!(Moment::from_unix_nanoseconds(beyond, 0), None);
+    assert_eq!(
+        Moment::from_unix_nanoseconds(Moment::MIN.unix_nanoseconds() - 1, 0),
+        None
+    );
+}
+
+#[test]
+fn nanoseconds_count_forwards_before_the_epoch() {
+    let half_before = Moment::from_unix_nanoseconds(-500_000_000, HOUR).expect("it is in range");
+    assert_eq!(Moment::new(-1, 500_000_000, HOUR), Some(half_before));
+    assert_eq!(half_before.unix_seconds(), -1);
+    assert_eq!(half_before.subsecond_nanoseconds(), 500_000_000);
+    assert_eq!(half_before.offset_seconds(), HOUR);
+    assert_eq!(half_before.unix_nanoseconds(), -500_000_000);
+}
+
+#[test]
+fn every_moment_comes_back_from_its_nanoseconds() {
+    for moment in [Moment::MIN, Moment::UNIX_EPOCH, Moment::MAX] {
+        let offset = moment.offset_seconds();
+        assert_eq!(
+            Moment::from_unix_nanoseconds(moment.unix_nanoseconds(), offset),
+            Some(moment)
+        );
+    }
+}
+
+#[test]
+fn moments_are_ordered_by_instant_then_by_offset() {
+    let mut moments = [
+        Moment::MAX,
+        Moment::new(1, 0, -HOUR).expect("it is in range"),
+        Moment::new(0, 1, 0).expect("it is in range"),
+        Moment::new(0, 0, HOUR).expect("it is in range"),
+        Moment::UNIX_EPOCH,
+        Moment::MIN,
+    ];
+    moments.sort();
+    let numbers = moments.map(|moment| (moment.unix_nanoseconds(), moment.offset_seconds()));
+    assert!(numbers.is_sorted());
+    assert_ne!(moments[1], moments[2]);
+}
+
+#[cfg(feature = "std")]
+#[test]
+fn a_system_time_is_a_moment_at_utc() {
+    use std::time::{Duration, SystemTime};
+
+    let span = Duration::new(5, 250_000_000);
+    let after = Moment::from(SystemTime::UNIX_EPOCH + span);
+    let before = Moment::from(SystemTime::UNIX_EPOCH - span);
+    assert_eq!(Some(after), Moment::new(5, 250_000_000, 0));
+    assert_eq!(Some(before), Moment::new(-6, 750_000_000, 0));
+    assert!(Moment::from(SystemTime::now()) > after);
+}
+
+#[cfg(feature = "chrono")]
+mod with_chrono {
+    use chrono::{DateTime, FixedOffset, NaiveDate, TimeZone};
+    use deodarsieve::{Moment, MomentOutOfRange};
+
+    #[test]
+    fn a_date_comes_back() {
+        let offset = FixedOffset::east_opt(-12_600).expect("it is in range");
+        for text in [
+            "2026-11-25T09:30:00.123456789+05:45",
+            "1969-12-31T20:00:00.5-03:30",
+        ] {
+            let time = DateTime::parse_from_rfc3339(text).expect("it is a date");
+            let moment = Moment::from(time);
+            let back = DateTime::<FixedOffset>::try_from(moment).expect("chrono had it");
+            assert_eq!((back, back.offset()), (time, time.offset()));
+            assert_eq!(moment.offset_seconds(), time.offset().local_minus_utc());
+            assert!(back.with_timezone(&offset) == time);
+        }
+    }
+
+    #[test]
+    fn a_leap_second_becomes_the_second_after_it() {
+        let leap = NaiveDate::from_ymd_opt(2016, 12, 31)
+            .and_then(|date| date.and_hms_milli_opt(23, 59, 59, 1_250))
+            .expect("it is a leap second");
+        let utc = FixedOffset::east_opt(0).expect("it is in range");
+        let moment = Moment::from(utc.from_utc_datetime(&leap));
+        assert_eq!(Some(moment), Moment::new(1_483_228_800, 250_000_000, 0));
+    }
+
+    #[test]
+    fn a_year_that_chrono_cannot_hold_is_refused() {
+        for moment in [Moment::MIN, Moment::MAX] {
+            assert_eq!(
+                DateTime::<FixedOffset>::try_from(moment),
+                Err(MomentOutOfRange)
+            );
+        }
+        let text = "the moment is outside the range of the type that it is converted to";
+        assert_eq!(MomentOutOfRange.to_string(), text);
+    }
+}

@@ -1,0 +1,153 @@
+//! Outputs of tests, made of pieces.
+
+use bstr::ByteSlice;
+
+/// The panic at the front or at the end of an output.
+pub const PANIC: &[u8] =
+    b"thread 'pool::tests::grows' panicked at src/pool.rs:41:9:\nno room left\n";
+
+/// A block of a log, of 640 bytes.
+pub const LOG: &[u8] = b"\
+[00:00:01.204 INFO  server::pool] accepted connection 17 from 10.0.0.4:55312 after\n\
+[00:00:01.207 DEBUG server::session] the peer said 'hello', version 3, in 1.4 ms\n\
+[00:00:01.209 TRACE wire::frame] read 4096 bytes: kind Data, stream 5, end false\n\
+[00:00:01.215 WARN  cache::evict] can't keep entry 'users/17': 64 of 64 in use\n\
+[00:00:01.218 INFO  worker] thread 'pool-3' is now waiting for work\n\
+Compiling parser v0.4.2 (crates/parser, of this workspace) anew\n\
+test session::tests::closes_after_timeout ... ok\n\
+[00:00:01.231 ERROR wire::frame] error: stream 5 was reset by its peer\n\
+[00:00:01.232 DEBUG server::pool] 3 idle, 1 busy, 0 are waiting\n";
+
+/// A line of a log, of 64 bytes, without a quote.
+const QUOTELESS_LOG: &[u8] = b"[00:00:01.209 TRACE wire::frame] read 4096 bytes, stream 5, End\n";
+
+/// A line that ends as the head of a panic message does, and is no head. Without it no head is looked
+/// for.
+const NO_HEAD: &[u8] = b"the worker panicked at start\n";
+
+/// Where the panic in an output begins. It ends before the white space at the end of the output.
+#[derive(Clone, Copy)]
+pub enum Place {
+    Nowhere,
+    Front,
+    LastPiece,
+    End,
+}
+
+/// An output: a front, a piece a number of times, and an end.
+#[derive(Clone, Copy)]
+pub struct Output {
+    front: &'static [u8],
+    piece: &'static [u8],
+
+    /// The number of pieces in an output of 64 megabytes.
+    count: usize,
+
+    end: &'static [u8],
+    panic_at: Place,
+}
+
+/// Returns an output of nothing but a piece that is no panic.
+const fn pieces(piece: &'static [u8], count: usize) -> Output {
+    Output {
+        front: b"",
+        piece,
+        count,
+        end: b"",
+        panic_at: Place::Nowhere,
+    }
+}
+
+/// Returns the same output before a line for which heads are looked for.
+const fn before_no_head(output: Output) -> Output {
+    Output {
+        end: NO_HEAD,
+        ..output
+    }
+}
+
+pub const NOTHING_FOUND: Output = pieces(LOG, 100_000);
+
+pub const PANIC_NEAR_END: Output = Output {
+    end: PANIC,
+    panic_at: Place::End,
+    ..NOTHING_FOUND
+};
+
+pub const PANIC_AT_FRONT: Output = Output {
+    front: PANIC,
+    panic_at: Place::Front,
+    ..NOTHING_FOUND
+};
+
+pub const FALSE_OPENING: Output = Output {
+    front: b"thread 'a\n",
+    ..before_no_head(pieces(QUOTELESS_LOG, 1_000_000))
+};
+
+pub const HEADS: Output = Output {
+    panic_at: Place::LastPiece,
+    ..pieces(b"thread 'main' panicked at src/lib.rs:1:1:\n", 1_000_000)
+};
+
+pub const OPENINGS: Output = before_no_head(pieces(b"thread 'a\n", 1_000_000));
+
+pub const OPENINGS_STARTED: Output = before_no_head(pieces(b"thread 'x' started\n", 1_000_000));
+
+pub const OPENINGS_SPACED: Output = before_no_head(pieces(
+    b"thread 'a\none line\ntwo lines\nthree lines\n",
+    300_000,
+));
+
+pub const QUOTES: Output = pieces(b"'", 16_000_000);
+
+pub const NEWLINES: Output = pieces(b"\n", 16_000_000);
+
+pub const NEAR_NOTES: Output = pieces(b"note: test did not panic as expecte_\n", 1_000_000);
+
+pub const WHITE_SPACE: Output = Output {
+    front: b"thread 'a' panicked at b",
+    panic_at: Place::Front,
+    ..pieces(b"   \t    \n   \t   ", 4_000_000)
+};
+
+/// A panic of 71 bytes after 128 bytes of a log.
+pub const SHORT_PANIC: Output = Output {
+    front: b"[00:00:01.204 INFO  server::pool] accepted connection 17 from 10.0.0.4:55312 after\n\
+        [00:00:01.207 DEBUG server::session] the peer\n",
+    count: 0,
+    ..PANIC_NEAR_END
+};
+
+impl Output {
+    /// Returns the output of a size in bytes.
+    pub fn bytes(&self, size: usize) -> Vec<u8> {
+        [
+            self.front,
+            &self.piece.repeat(share(size, self.count)),
+            self.end,
+        ]
+        .concat()
+    }
+
+    /// Returns the start and the end of the panic in `bytes`, which is this output of some size.
+    pub fn panic_in(&self, bytes: &[u8]) -> Option<(usize, usize)> {
+        let start = match self.panic_at {
+            Place::Nowhere => return None,
+            Place::Front => 0,
+            Place::LastPiece => bytes.len() - self.end.len() - self.piece.len(),
+            Place::End => bytes.len() - self.end.len(),
+        };
+        Some((start, bytes.trim_ascii_end().len()))
+    }
+}
+
+/// Returns how many things an input of `size` bytes has if one of 64 megabytes has `count`.
+pub fn share(size: usize, count: usize) -> usize {
+    size * count / 64_000_000
+}
+
+/// Passes once over an input, none of whose bytes is 0.
+pub fn pass_over(bytes: &[u8]) {
+    assert_eq!(bytes.find_byte(0), None);
+}

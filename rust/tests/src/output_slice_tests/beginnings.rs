@@ -1,0 +1,27 @@
+// Made by tools/erase from crates/output_slice_tests/src/beginnings.rt. Do not edit.
+//! Every beginning of outputs.
+
+use crate::output_slice_tests::met::Met;
+use crate::output_slice_tests::trial::Trial;
+use std::io;
+
+/// Outputs with heads that cross, and with a number past ASCII that is one, or is none.
+const CUT: [&[u8]; 4] = [
+    b"thread 'a\nthread ' panicked at x' panicked at y\n",
+    b"thread 'a\nthread ' panicked at x\nthread ' panicked at y' panicked at z",
+    b"thread 'a' (\xf0\x9d\x9f\x8e) panicked at x",
+    b"thread 'a' (\xc2\xb2) panicked at x",
+];
+
+/// Tries every beginning of the outputs, from none of their bytes to all.
+pub(crate) fn beginnings() -> io::Result<Met> {
+    let mut trial = Trial::new();
+    let mut met = Met::NONE;
+    for output in CUT {
+        for size in 0..output.len() + 1 {
+            trial.take(&output[..size]);
+            met.count(&mut trial)?;
+        }
+    }
+    Ok(met)
+}

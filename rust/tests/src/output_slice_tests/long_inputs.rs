@@ -1,0 +1,137 @@
+// Made by tools/erase from crates/output_slice_tests/src/long_inputs.rt. Do not edit.
+//! Long inputs: the reads, and a time that grows no faster than the input.
+
+use deodarsieve::TestOutputErrorSlice;
+use deodarsieve::counted::last_panic_head;
+use deodarsieve::counted::{ByteSource, CountedBytes};
+use std::io;
+
+/// What an input shows, and its bytes: a front, a piece so many times, and an end.
+struct Long {
+    shows: &'static str,
+    front: &'static [u8],
+    piece: &'static [u8],
+    times: usize,
+    end: &'static [u8],
+}
+
+impl Long {
+    fn bytes(&self) -> Vec<u8> {
+        let mut bytes = Vec::from(self.front);
+        for _ in 0..self.times {
+            bytes.extend_from_slice(self.piece);
+        }
+        bytes.extend_from_slice(self.end);
+        bytes
+    }
+}
+
+/// Inputs without a head, in which a search reads on and on.
+const READ: [Long; 3] = [
+    Long {
+        shows: "openings",
+        front: b"",
+        piece: b"thread '\n",
+        times: 100_000,
+        end: b"",
+    },
+    Long {
+        shows: "quotes",
+        front: b"",
+        piece: b"'",
+        times: 1_000_000,
+        end: b"",
+    },
+    Long {
+        shows: "a number without an end",
+        front: b"thread 'a' (",
+        piece: b"1",
+        times: 1_000_000,
+        end: b"",
+    },
+];
+
+/// A line that holds what ends a head, and is none: without it no head is looked for.
+const NO_HEAD: &[u8] = b"the worker panicked at start\n";
+
+/// Inputs on which a search that looks through the rest of the input at every opening or at every
+/// window, or that compares all heads with each other, would not end in time.
+const SEARCHED: [Long; 6] = [
+    Long {
+        shows: "openings, of which each may go on to the next: one window",
+        front: b"",
+        piece: b"thread '\n",
+        times: 1_000_000,
+        end: NO_HEAD,
+    },
+    Long {
+        shows: "the same, set apart by text",
+        front: b"",
+        piece: b"thread 'a\none line\ntwo lines\nthree lines\n",
+        times: 1_000_000,
+        end: NO_HEAD,
+    },
+    Long {
+        shows: "heads",
+        front: b"",
+        piece: b"thread 'a' panicked at \n",
+        times: 1_000_000,
+        end: b"",
+    },
+    Long {
+        shows: "lines that open no head: a million windows",
+        front: b"",
+        piece: b"thread 'x' started\n",
+        times: 1_000_000,
+        end: NO_HEAD,
+    },
+    Long {
+        shows: "the same, set apart by text",
+        front: b"",
+        piece: b"thread 'x' started\n\none line\n",
+        times: 1_000_000,
+        end: NO_HEAD,
+    },
+    Long {
+        shows: "a head before all of these windows",
+        front: b"thread 'a' panicked at b\n",
+        piece: b"thread 'x' started\n",
+        times: 1_000_000,
+        end: NO_HEAD,
+    },
+];
+
+/// Prints of each input to be read whether a head is found, and whether its reads are few: at most
+/// three a byte and eight more.
+pub(crate) fn few_reads() -> io::Result<()> {
+    println!("reads of long inputs");
+    for long in &READ {
+        let bytes = long.bytes();
+        let mut source = CountedBytes::new(bytes.as_slice());
+        let has_head = last_panic_head(&mut source).is_some();
+        let are_few = source.reads() <= 3 * bytes.len() as u128 + 8;
+        println!("  {}: a head: {has_head}, few reads: {are_few}", long.shows);
+    }
+    Ok(())
+}
+
+/// Prints of each input to be searched where the slice begins that is found, and how long it is.
+pub(crate) fn linear_time() -> io::Result<()> {
+    println!("searches of long inputs");
+    for long in &SEARCHED {
+        let bytes = long.bytes();
+        let found = TestOutputErrorSlice::heuristic_extract(None, Some(bytes.as_slice()));
+        match found.and_then(|found| found.stderr_subslice()) {
+            Some(part) => {
+                println!(
+                    "  {}: {}, {} bytes",
+                    long.shows,
+                    part.start,
+                    part.slice.len()
+                );
+            }
+            None => println!("  {}: nothing", long.shows),
+        }
+    }
+    Ok(())
+}

@@ -1,0 +1,97 @@
+// Made by tools/erase from crates/output_slice_tests/src/met.rt. Do not edit.
+//! What was met in a set of inputs.
+
+use crate::output_slice_tests::trial::{Reads, Trial};
+use std::io;
+
+/// How many inputs of each kind were met, and the reads that exceed those of all others.
+#[derive(Clone, Copy)]
+pub(crate) struct Met {
+    inputs: u64,
+    no_head: u64,
+    one_taken: u64,
+    more_taken: u64,
+    overlapping: u64,
+    crossing_line: u64,
+    widened: u64,
+    disagreeing: u64,
+    most_reads: Reads,
+}
+
+impl Met {
+    /// No input was met.
+    pub(crate) const NONE: Met = Met {
+        inputs: 0,
+        no_head: 0,
+        one_taken: 0,
+        more_taken: 0,
+        overlapping: 0,
+        crossing_line: 0,
+        widened: 0,
+        disagreeing: 0,
+        most_reads: Reads::NONE,
+    };
+
+    /// Tries the bytes of the trial and counts them. Prints them, in hex, where the searches do not
+    /// agree.
+    pub(crate) fn count(&mut self, trial: &mut Trial) -> io::Result<()> {
+        trial.list();
+        let taken = trial.taken.len();
+        count_if(&mut self.inputs, true);
+        count_if(&mut self.no_head, taken == 0);
+        count_if(&mut self.one_taken, taken == 1);
+        count_if(&mut self.more_taken, taken > 1);
+        count_if(&mut self.overlapping, trial.overlaps());
+        count_if(&mut self.crossing_line, trial.crosses_line());
+        count_if(&mut self.widened, trial.is_widened());
+        match trial.reads() {
+            Some(reads) => {
+                if reads.exceed(self.most_reads) {
+                    self.most_reads = reads;
+                }
+            }
+            None => {
+                count_if(&mut self.disagreeing, true);
+                let bytes = hex::encode(trial.bytes.as_slice());
+                println!("the searches do not agree on {bytes}");
+            }
+        }
+        Ok(())
+    }
+
+    /// Counts an input that cannot be tried among those on which the searches do not agree.
+    pub(crate) fn count_untried(&mut self) {
+        count_if(&mut self.disagreeing, true);
+    }
+
+    /// Prints what was met in the set of this name. Answers whether the searches agree on all.
+    pub(crate) fn print(&self, name: &str) -> io::Result<bool> {
+        let Met {
+            inputs,
+            no_head,
+            one_taken,
+            more_taken,
+            overlapping,
+            crossing_line,
+            widened,
+            disagreeing,
+            most_reads,
+        } = *self;
+        println!("{name}: {inputs} inputs");
+        println!("  no head: {no_head}, one taken: {one_taken}, more taken: {more_taken}");
+        println!(
+            "  overlapping: {overlapping}, crossing a line: {crossing_line}, widened: {widened}"
+        );
+        println!(
+            "  most reads: {} of {} bytes",
+            most_reads.count, most_reads.bytes
+        );
+        println!("  the searches do not agree: {disagreeing}");
+        Ok(disagreeing == 0)
+    }
+}
+
+/// Counts one more where this holds.
+fn count_if(counter: &mut u64, holds: bool) {
+    *counter = counter.wrapping_add(u64::from(holds));
+}

@@ -1,0 +1,67 @@
+// Made by tools/erase from crates/run_digest_engine_tests/src/engine.rt. Do not edit.
+//! The two engines, over memory.
+
+use deodarsieve_cli::run_digest_devices::device::Sink;
+use deodarsieve_cli::run_digest_devices::fault::Fault;
+use deodarsieve_cli::run_digest_devices::memory_device::{MemorySink, MemorySource};
+use deodarsieve_cli::run_digest_engine::count::count;
+use deodarsieve_cli::run_digest_engine::extract::extract;
+
+/// A run of two tests, of which one is flaky and one fails.
+pub(crate) const RUN: &[u8] = b"run 2 0 -\ntest fail,pass\ntest fail slow\n";
+
+/// The report of [`RUN`].
+pub(crate) const REPORT: &[u8] =
+    b"tests 2 passed 1 failed 1 flaky 1\nscripts 0 failed 0\nsummary failed test 2 0\n";
+
+/// The output of a test that panicked.
+pub(crate) const OUTPUT: &[u8] = b"foobar\nthread 'main' panicked at 'foo', src/lib.rs:1\n\n";
+
+/// What is extracted from [`OUTPUT`].
+pub(crate) const EXTRACT: &[u8] =
+    b"panic-message 7 45\nthread 'main' panicked at 'foo', src/lib.rs:1\n";
+
+/// How much room the sink has, and which calls of the source and of the sink fail.
+#[derive(Clone, Copy)]
+pub(crate) struct Devices {
+    pub(crate) room: usize,
+    pub(crate) read_fails: Option<usize>,
+    pub(crate) write_fails: Option<usize>,
+}
+
+/// Devices that do not fail, with room for every text.
+pub(crate) const SOUND: Devices = Devices {
+    room: 5_000,
+    read_fails: None,
+    write_fails: None,
+};
+
+/// What is done with the input.
+#[derive(Clone, Copy)]
+pub(crate) enum Engine {
+    Count,
+    Extract,
+}
+
+impl Engine {
+    /// Whether the engine answers this over such devices, with this text written, and the sink has
+    /// failed exactly where the answer says so.
+    pub(crate) fn gives(
+        self,
+        input: &[u8],
+        devices: Devices,
+        wanted: Result<bool, Fault>,
+        text: &[u8],
+    ) -> bool {
+        let mut buffer = [0; 5_000];
+        let mut source = MemorySource::new(input, devices.read_fails);
+        let mut sink = MemorySink::new(&mut buffer[..devices.room.min(5_000)], devices.write_fails);
+        let answer = match self {
+            Engine::Count => count(&mut source, &mut sink),
+            Engine::Extract => extract(&mut source, &mut sink),
+        };
+        answer == wanted
+            && sink.written() == text
+            && sink.has_failed() == (wanted == Err(Fault::Write))
+    }
+}

@@ -1,0 +1,103 @@
+// Made by tools/erase from crates/run_digest_engine_tests/src/long_runs.rt. Do not edit.
+//! Runs of many lines.
+
+use crate::run_digest_engine_tests::engine::{Engine, SOUND};
+use deodarsieve_cli::run_digest_devices::fault::Fault;
+
+/// A run of so many tests: the line of a test, so many times before other lines, and so many times
+/// after them.
+pub(crate) fn run_of(
+    tests: u32,
+    test: &str,
+    counts: (u32, &str, u32),
+) -> Result<String, Box<dyn std::error::Error>> {
+    let (before, lines, after) = counts;
+    let mut input = format!("run {tests} 0 -\n");
+    for _ in 0..before {
+        input.push_str(test);
+    }
+    input.push_str(lines);
+    for _ in 0..after {
+        input.push_str(test);
+    }
+    Ok(input)
+}
+
+#[test]
+fn a_run_has_at_most_ten_thousand_lines() -> Result<(), Box<dyn std::error::Error>> {
+    let bad = "tests pass\n";
+    let too_many = Err(Fault::BadLine { number: 10_001 });
+    for (tests, counts, wanted, text) in [
+        (
+            9_999,
+            (9_999, "", 0),
+            Ok(true),
+            "tests 9999 passed 9999 failed 0 flaky 0\nscripts 0 failed 0\nsummary success\n",
+        ),
+        (
+            9_999,
+            (9_998, "", 0),
+            Ok(false),
+            "tests 9998 passed 9998 failed 0 flaky 0\nscripts 0 failed 0\nsummary cancelled - test 9999 1\n",
+        ),
+        (9_999, (10_000, "", 0), too_many, ""),
+        (9_999, (11_999, "", 0), too_many, ""),
+        (9_999, (9_999, bad, 0), too_many, ""),
+        (
+            9_999,
+            (9_998, bad, 1),
+            Err(Fault::BadLine { number: 10_000 }),
+            "",
+        ),
+        (
+            9_999,
+            (3, bad, 11_995),
+            Err(Fault::BadLine { number: 5 }),
+            "",
+        ),
+        (9_999, (10_998, bad, 1_000), too_many, ""),
+        (0, (10_000, "", 0), too_many, ""),
+        (
+            9_998,
+            (9_998, "", 0),
+            Ok(true),
+            "tests 9998 passed 9998 failed 0 flaky 0\nscripts 0 failed 0\nsummary success\n",
+        ),
+        // Lines that begin sub-runs are counted too.
+        (
+            9_998,
+            (9_998, "sub-run 0 0 -\n", 0),
+            Ok(true),
+            "tests 9998 passed 9998 failed 0 flaky 0\nscripts 0 failed 0\nsummary success\n\
+             tests 0 passed 0 failed 0 flaky 0\nscripts 0 failed 0\nsummary no-tests-run\n\
+             outcome success\n",
+        ),
+        (
+            9_998,
+            (9_998, "sub-run 0 0 -\nsub-run 0 0 -\n", 0),
+            too_many,
+            "",
+        ),
+    ] {
+        let input = run_of(tests, "test pass\n", counts)?;
+        assert!(
+            Engine::Count.gives(input.as_bytes(), SOUND, wanted, text.as_bytes()),
+            "{tests} tests, {counts:?}"
+        );
+    }
+    Ok(())
+}
+
+#[test]
+fn a_megabyte_of_lines_is_counted() -> Result<(), Box<dyn std::error::Error>> {
+    let mut test = String::from("test ");
+    for _ in 1..100 {
+        test.push_str("fail,");
+    }
+    test.push_str("pass\n");
+    let input = run_of(2_000, test.as_str(), (2_000, "", 0))?;
+    assert!(input.len() > 1_000_000);
+    let text = "tests 2000 passed 2000 failed 0 flaky 2000\nscripts 0 failed 0\nsummary success\n";
+    assert!(Engine::Count.gives(input.as_bytes(), SOUND, Ok(true), text.as_bytes()));
+    Ok(())
+}

@@ -1,0 +1,43 @@
+//! The test programs give the output that is stored next to their input, in `crates`.
+
+use std::fs::{self, File};
+use std::path::Path;
+use std::process::Command;
+
+/// Runs a program on the stored input of a crate, and compares its output and its exit status.
+fn gives_stored_output(program: &str, name: &str) {
+    let folder = Path::new(env!("CARGO_MANIFEST_DIR"))
+        .join("../../crates")
+        .join(name);
+    let input = File::open(folder.join("stdin")).expect("the stored input can be opened");
+    let expected = fs::read_to_string(folder.join("stdout")).expect("the stored output is text");
+    let output = Command::new(program)
+        .stdin(input)
+        .output()
+        .expect("the program runs");
+    let written = String::from_utf8_lossy(&output.stdout);
+    let differing = written
+        .lines()
+        .zip(expected.lines())
+        .find(|(written, expected)| written != expected);
+    assert_eq!(
+        differing, None,
+        "a line that is written, and the stored one"
+    );
+    assert_eq!(written.len(), expected.len(), "bytes of output");
+    assert_eq!(String::from_utf8_lossy(&output.stderr), "");
+    assert!(output.status.success(), "{}", output.status);
+}
+
+#[test]
+fn output_slice_tests() {
+    gives_stored_output(
+        env!("CARGO_BIN_EXE_output_slice_tests"),
+        "output_slice_tests",
+    );
+}
+
+#[test]
+fn upstream_replay() {
+    gives_stored_output(env!("CARGO_BIN_EXE_upstream_replay"), "upstream_replay");
+}
