@@ -1,0 +1,114 @@
+"""A scanner of Rust: tokens without spaces and comments, and the items of a module."""
+
+import re
+from dataclasses import dataclass
+
+TOKEN = re.compile(
+    r"""(?P<skip>\s+|//[^\n]*|/\*.*?\*/)
+      | (?P<text>b?r(?P<marks>\#*)".*?"(?P=marks)|b?"(?:\\.|[^"\\])*"|b?'(?:\\u\{\w+\}|\\x\w\w|\\.|[^'\\])')
+      | (?P<lifetime>'\w+)
+      | (?P<word>\w+)
+      | (?P<mark>.)""",
+    re.DOTALL | re.VERBOSE,
+)
+CLOSING = {"(": ")", "[": "]", "{": "}"}
+ENDS_WITH_SEMICOLON = {"const", "static", "type", "use"}
+
+
+class NotUnderstood(Exception):
+    """The text is not what the scanner expects."""
+
+
+@dataclass
+class Token:
+    """A token: what it is, its text, and the offsets of its start and its end."""
+
+    kind: str
+    text: str
+    start: int
+    end: int
+
+
+@dataclass
+class Item:
+    """An item of a module: attributes, the keyword and the name that it begins with, and tokens."""
+
+    attributes: list
+    keyword: str
+    name: str
+    tokens: list
+
+
+def tokens_of(text):
+    """Returns the tokens of a text."""
+    found = []
+    for match in TOKEN.finditer(text):
+        if match.lastgroup == "marks" or match["text"]:
+            found.append(Token("text", match[0], match.start(), match.end()))
+        elif not match["skip"]:
+            found.append(Token(match.lastgroup, match[0], match.start(), match.end()))
+    return found
+
+
+def group_end(tokens, first):
+    """Returns the index of the bracket that closes the one at an index."""
+    open_brackets = []
+    for index in range(first, len(tokens)):
+        mark = tokens[index].text if tokens[index].kind == "mark" else ""
+        if mark in CLOSING:
+            open_brackets.append(CLOSING[mark])
+        elif open_brackets and mark == open_brackets[-1]:
+            open_brackets.pop()
+            if not open_brackets:
+                return index
+    raise NotUnderstood(f"a bracket at offset {tokens[first].start} is not closed")
+
+
+def end_of_item(tokens, first):
+    """Returns the index of the last token of the item that begins, without attributes, at an index."""
+    index, needs_semicolon = first, tokens[first].text in ENDS_WITH_SEMICOLON
+    while index < len(tokens):
+        text = tokens[index].text
+        if text == ";":
+            return index
+        if text in CLOSING:
+            index = group_end(tokens, index)
+            if text == "{" and not needs_semicolon:
+                return index
+        index += 1
+    raise NotUnderstood(f"an item at offset {tokens[first].start} does not end")
+
+
+def name_in(tokens, first):
+    """Returns the keyword and the name of the item that begins, without attributes, at an index."""
+    keyword = tokens[first].text
+    if keyword in ("fn", "struct", "enum", "const", "static", "type", "mod"):
+        return keyword, tokens[first + 1].text
+    if keyword in ("use", "impl"):
+        return keyword, ""
+    raise NotUnderstood(f"the item at offset {tokens[first].start} begins with {keyword}")
+
+
+def items_of(tokens):
+    """Returns the items of a module's body."""
+    items, index = [], 0
+    while index < len(tokens):
+        attributes = []
+        while tokens[index].text == "#":
+            end = group_end(tokens, index + 1)
+            attributes.append(tokens[index + 2:end])
+            index = end + 1
+        end = end_of_item(tokens, index)
+        items.append(Item(attributes, *name_in(tokens, index), tokens[index:end + 1]))
+        index = end + 1
+    return items
+
+
+def test_modules(text):
+    """Yields the bodies of the modules with the attribute `cfg(test)`, as tokens."""
+    tokens = tokens_of(text)
+    attribute = ["#", "[", "cfg", "(", "test", ")", "]", "mod"]
+    for index in range(len(tokens) - len(attribute) - 1):
+        if [token.text for token in tokens[index:index + len(attribute)]] == attribute:
+            first = index + len(attribute) + 1
+            yield tokens[first + 1:group_end(tokens, first)]
