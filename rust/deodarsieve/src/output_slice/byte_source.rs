@@ -42,7 +42,7 @@ impl<'a> ByteSource for CountedBytes<'a> {
     }
 
     fn byte(&mut self, at: usize) -> u8 {
-        self.count = self.count.saturating_add(1);
+        self.count += 1;
         self.bytes[at]
     }
 }
