@@ -3,6 +3,8 @@ import subprocess
 import tempfile
 from pathlib import Path
 
+import crate_list
+
 from .adapters import adapted
 from .attributes import with_attributes
 from .cases import without_memory_cases
@@ -23,7 +25,7 @@ from .twins import without_twins
 
 def erase_all(top):
     """Returns the erased text of every file, by its path under rust/."""
-    erased = erased_texts(_sources(top), _reach(top))
+    erased = erased_texts(_sources(top), _reach())
     paths = {name: target_of(name) for name in erased}
     headed = {paths[name]: _headed(name, text) for name, text in erased.items()}
     return _formatted(headed)
@@ -62,13 +64,9 @@ def _sources(top):
     return texts
 
 
-def _reach(top):
+def _reach():
     """Returns for each crate the crates that it uses, itself among them, by crates.txt."""
-    reach = {}
-    for line in (top / "crates.txt").read_text(encoding="utf-8").splitlines():
-        head, _, uses = line.split("#")[0].partition(":")
-        if head.strip():
-            reach[head.split()[0]] = {head.split()[0], *uses.split()}
+    reach = {name: {name, *used} for name, used in crate_list.used().items()}
     for _ in reach:
         for seen in reach.values():
             for used in list(seen):
