@@ -1,7 +1,7 @@
 //! Counting the end of a test.
 
-ghost use Rattle.std.specs.Prelude.{◌≡◌, OnOk};
-ghost use Rattle.run_events_stats.specs.Counters.{with_test};
+ghost use Rattle.std.specs.Prelude.{◌≡◌, ◌↔◌, IsOk, OnErr, OnOk};
+ghost use Rattle.run_events_stats.specs.Counters.{TestCountersFit, with_test};
 ghost use Rattle.test_report_events.specs.Event.{end_view};
 ghost use Rattle.test_report_suite.specs.Counted.{described_end, view_of_end};
 
@@ -40,6 +40,9 @@ fn described(test: TestResult) -> ExecutionResultDescription
 pub fn count_end(stats: &mut RunStats, end: TestEnd<'_>) -> Result<(), CounterFull>
     ensures counts { OnOk result
         (stats.new ≡ with_test stats.old (view_of_end (end_view end.entry))) }
+    ensures room { IsOk result
+        ↔ TestCountersFit (with_test stats.old (view_of_end (end_view end.entry))) }
+    ensures kept { OnErr result (stats.new ≡ stats.old) }
 {
     let result = described(end.result);
     let view = TestView {
