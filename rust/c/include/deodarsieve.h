@@ -169,7 +169,7 @@ __attribute__((used)) static void (*const deodarsieve_layouts)(void) = deodarsie
 
 /* A part of a captured stream. */
 typedef struct deodarsieve_slice {
-    uint32_t kind; /* DEODARSIEVE_SLICE_..., which says of which stream this is a part */
+    uint32_t kind; /* DEODARSIEVE_SLICE_..., which also tells the stream */
     size_t start;  /* the offset of the part in its stream; 0 if nothing was found */
     size_t length; /* its length, more than 0; 0 if nothing was found */
 } deodarsieve_slice;

@@ -14,7 +14,7 @@ pub const NO_OUTPUT: FfiOutput = FfiOutput {
     store_final: 77,
 };
 
-/// A test of which each code is that of `case`, as digits of a number.
+/// A finished test whose codes are the digits of `case`.
 pub fn finished_test(mut case: u32, result: FfiResult) -> FfiFinishedTest {
     let mut digit = |base| {
         let digit = case % base;
