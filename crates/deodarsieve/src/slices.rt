@@ -117,6 +117,7 @@ pub extern "C" fn deodarsieve_head_find_last(bytes: &[u8], answer: &mut FfiHead)
     ensures nothing { IsFalse answer.new.is_found
         → (answer.new.start ≡ 0) × (answer.new.stop ≡ 0) }
     ensures few { answer.new.reads ≤ 3 * length bytes.now + 8 }
+    ensures all { length bytes.now ≤ answer.new.reads }
 {
     *answer = counted_head(&mut CountedBytes::new(bytes));
     OK
@@ -133,6 +134,7 @@ fn counted_head(source: &mut CountedBytes<'_>) -> FfiHead
     ensures nothing { IsFalse result.is_found → (result.start ≡ 0) × (result.stop ≡ 0) }
     ensures reads { result.reads ≡ reads_out source.new.1 }
     ensures few { source.new.1 ≤ source.old.1 + (3 * length source.old.0 + 8) }
+    ensures all { source.old.1 + length source.old.0 ≤ source.new.1 }
 {
     let head = last_panic_head(source);
     FfiHead {

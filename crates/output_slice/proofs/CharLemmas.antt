@@ -84,13 +84,13 @@ module _ (b buffer : List ℕ) (at stop i : ℕ) (four : length buffer ≡ 4) (s
 
   -- what is decoded from the bytes read so far is the character that stands there
   pub char-some : (c : ℕ) → ((x : ℕ) → ¬ IsCharAt b at (at + i) x) → (decoded (take (i + 1) buffer)).char ≡ Some c
-      → IsCharAt b at stop c × (length (encode_utf8 c) ≡ (decoded (take (i + 1) buffer)).size) × (i < length (encode_utf8 c))
+      → IsCharAt b at stop c × (length (encode_utf8 c) ≡ (decoded (take (i + 1) buffer)).size) × (i + 1 ≡ length (encode_utf8 c))
   char-some c before found =
       let char : (decoded (part at (at + (i + 1)) b)).char ≡ Some c = ap (λ (p : Decoded). p.char) (sym same) ∙ found in
       let spelled = SpellsChar-decoded (part at (at + (i + 1)) b) c char in
       let stands = part-front b _ at (at + (i + 1)) c spelled.scalar spelled.bytes (omega arith) in
       let ends = stands.ends in
-      let long : i < length (encode_utf8 c) = grind arith in (
+      let long : i + 1 ≡ length (encode_utf8 c) = grind arith in (
         record { scalar = spelled.scalar; stands = stands.stands; ends = omega arith },
         spelled.width ∙ ap (λ (p : Decoded). p.size) (sym same),
         long,

@@ -1,11 +1,10 @@
 -- Which line starts a head crosses, and the taken heads on either side of a cut.
-use Rattle.std.proofs.Common.{◌≡◌, ℕ, ◌+◌, ◌-◌, ◌<◌, ◌≤◌, inl, inr, List, length, get_or, arith, unwrap_or, Some, None, take, refl, codes, not, ◌==◌, [], ◌∷◌, ◌++◌, drop, length-append, length-drop, append-nil, add-zero, length-take, Option, map, get_or-append-add, min}
+use Rattle.std.proofs.Common.{◌≡◌, ℕ, ◌+◌, ◌-◌, ◌<◌, ◌≤◌, inl, inr, List, length, get_or, arith, unwrap_or, Some, None, take, refl, codes, not, ◌==◌, [], ◌∷◌, ◌++◌, drop, length-append, length-drop, append-nil, add-zero, length-take, Option, map, get_or-append-add}
 use Rattle.std.proofs.lemmas.Bool.{cases_lt}
 use Rattle.std.proofs.lemmas.Bool.Decides.{nat_tests}
 use Rattle.bstr.specs.Find.{IsLast, OccursAt}
 use Rattle.output_slice.specs.Head.{IsHead, IsLineStart}
 use Rattle.output_slice.specs.Steps.{IsLineEnd, IsNextQuote, NoQuoteBetween}
-use Rattle.output_slice.specs.Signs.{IsQuietFrom}
 use Rattle.output_slice.specs.Search.{AllHeadsEndBy, IsLastOpening, IsOpening, MayAllBeCrossed, MayCross}
 use Rattle.output_slice.specs.Cut.{IsCut, head_behind}
 use Rattle.output_slice.proofs.OccursLemmas.{occurs-back, text-passes, occurs-moved, part-same, reads}
@@ -77,14 +76,14 @@ module _ (b : List ℕ) (at : ℕ) (o : IsLastOpening b (Some at)) where
       let by : h.quote ≤ q = grind arith in
       grind arith
 
--- every head ends with the sign of a panic, so it ends by the last place where that may end
-pub heads-end : (b : List ℕ) (p : ℕ) → IsQuietFrom b (codes " panicked at ") p → AllHeadsEndBy b (min (p + 13) (length b))
-heads-end b p quiet s e h = elim (tail_cases b (h.quote + 1) e h.ends h.tail) [
-  | inl plain ↦ by_sign (h.quote + 1) plain.0 plain.1
-  | inr n ↦ by_sign (n.close + 1) (occurs-back b (codes ")") (codes " panicked at ") n.close n.closes) (omega (arith, n.ends))
-] where
-  by_sign : (at : ℕ) → OccursAt b (codes " panicked at ") at → e ≡ at + 13 → e ≤ min (p + 13) (length b)
-  by_sign at stands is = elim (cases_lt at p) [ inl low ↦ omega (arith, h.ends) | inr late ↦ absurd (quiet at late stands) ]
+-- every head ends with the sign of a panic, so it ends by where its last one ends
+pub heads-end : (b : List ℕ) (end : ℕ) → ((at : ℕ) → OccursAt b (codes " panicked at ") at → at + 13 ≤ end) → AllHeadsEndBy b end
+heads-end b end by s e h = elim (tail_cases b (h.quote + 1) e h.ends h.tail) [
+  | inl plain ↦ omega (arith, by (h.quote + 1) plain.0, plain.1)
+  | inr n ↦
+      let sign = occurs-back b (codes ")") (codes " panicked at ") n.close n.closes in
+      omega (arith, by (n.close + 1) sign, n.ends)
+]
 
 -- the bytes of a head are a head wherever they stand at a line start
 head-moved : (a b : List ℕ) (s e t f : ℕ) → IsHead a s e → f ≡ t + (e - s) → f ≤ length b → IsLineStart b t

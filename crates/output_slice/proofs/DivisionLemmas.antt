@@ -107,7 +107,11 @@ lines-round b s e low high line quiet last =
     let left = length-drop s b in
     let rest = drop (e - s) (drop s b) in
     let before : EndsLine (take s b) = grind (arith, get_or-take) in
-    let is_line : IsLine (part s e b) = record { some = omega arith; feed = λ k is. let past = get_or_past (part s e b) k 0 in let other = quiet (s + k) in grind (arith, get_or-part) } in
+    let is_line : IsLine (part s e b) = record {
+      some = omega arith;
+      feed = λ k is. let past = get_or_past (part s e b) k 0 in let other = quiet
+          (s + k) in grind (arith, get_or-part);
+    } in
     let behind = split (cases_lt e (length b)) ∙ ap (λ ls. ls ++ lines_of rest) (line-alone _ is_line) in
     lines-cut s b before ∙ ap (λ ls. lines_of (take s b) ++ ls) behind where
       lines-cut : (n : ℕ) (xs : List ℕ) → EndsLine (take n xs)

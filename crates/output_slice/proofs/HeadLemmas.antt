@@ -12,7 +12,7 @@ use Rattle.std.proofs.lemmas.List.{get_or_default, get_or_past}
 use Rattle.bstr.specs.Find.{OccursAt}
 use Rattle.bstr.specs.Text.{part}
 use Rattle.output_slice.specs.Head.{IsDigit, IsTail, IsLineStart, IsName, IsHead}
-use Rattle.output_slice.specs.Steps.{ArePlain, IsDigitRun, NoDigitAt, IsTailEnd, IsTextEnd, AgreesFor, ReadsUpTo, TextReads, IsNamedHeadEnd, IsOpened, IsOpenedHeadEnd, IsNextQuote, NoQuoteBetween}
+use Rattle.output_slice.specs.Steps.{ArePlain, IsDigitRun, NoDigitAt, IsTailEnd, IsTextEnd, AgreesFor, ReadsAll, ReadsUpTo, TextReads, IsNamedHeadEnd, IsOpened, IsOpenedHeadEnd, IsNextQuote, NoQuoteBetween}
 use Rattle.output_slice.proofs.CharLemmas.{IsDigitRun-same}
 use Rattle.output_slice.proofs.OccursLemmas.{get_or-part, length-part, occurs-front, occurs-back, occurs-both, occurs-part, part-occurs, agrees, agrees-passes, text-passes}
 
@@ -132,6 +132,12 @@ text-read : (b text : List ℕ) (at old new : ℕ) (found : Option ℕ) → Text
     → (k : ℕ) × AgreesFor b text at k × (new ≤ old + k + 1) × IfSome found (λ e. (e ≡ at + k) × (k ≡ length text) × (new ≤ old + k))
 text-read b text at old new None r f = (r.0, r.2, r.3, tt)
 text-read b text at old new (Some e) r f = (length text, agrees b text at f.0, omega (arith, r), (f.1, refl, r))
+
+-- after reads up to a place, those from there on
+pub reads-more : (from at old mid new : ℕ) (found : Option ℕ) → old ≤ mid → old + at ≤ mid + from → ReadsAll at mid new found
+    → ReadsAll from old new found
+reads-more from at old mid new None grows low all = (omega (arith, all.0), tt)
+reads-more from at old mid new (Some e) grows low all = (omega (arith, all.0), omega (arith, all.1))
 
 -- a plain tail in two parts: where it ends, and how far it is read
 pub plain-end : (b : List ℕ) (at k old one two new : ℕ) (found : Option ℕ) → OccursAt b (codes " ") at

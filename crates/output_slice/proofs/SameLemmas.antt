@@ -71,7 +71,21 @@ pub IsNoteLine-part : (b : List ℕ) (x : Slice) → IsNoteLine b (Some x) → I
 IsNoteLine-part b x p =
     let h = p.2 in
     let joined = ap concat (sym h.3) ∙ p.1.joined in
-    grind (arith, nat_tests, concat-append, get_or-append, get_or-append-add, get_or-take, length-append, length-concat, length-take-le, length-take, h.5, h.6, h.7)
+    grind (
+      arith,
+      nat_tests,
+      concat-append,
+      get_or-append,
+      get_or-append-add,
+      get_or-take,
+      length-append,
+      length-concat,
+      length-take-le,
+      length-take,
+      h.5,
+      h.6,
+      h.7,
+    )
 
 -- what holds of each slice holds of what is found
 pub found-part : (Is : List ℕ → Option Slice → Type 0) → ((b : List ℕ) (x : Slice) → Is b (Some x) → IsPart b x)

@@ -5,7 +5,7 @@ use Rattle.std.proofs.lemmas.Option.{slice_get-get_or}
 use Rattle.output_slice.specs.declared.panic_head.HeadSpan.{HeadSpan}
 use Rattle.output_slice.specs.Head.{IsLineStart, IsHead}
 use Rattle.output_slice.specs.Taken.{last_of, IsTaken}
-use Rattle.output_slice.specs.Steps.{IsOpenedHeadEnd, IsNextQuote, ArePlain, FewReads, HeadReads, QuoteReads, NoQuoteBetween}
+use Rattle.output_slice.specs.Steps.{IsOpenedHeadEnd, IsNextQuote, ArePlain, FewReads, HeadReads, QuoteReads, ReadsAll, NoQuoteBetween}
 use Rattle.output_slice.proofs.HeadLemmas.{IsOpenedHeadEnd-none, head-letters}
 use Rattle.output_slice.proofs.TakenLemmas.{IsTaken-from_leftmost, Leftmost, leftmost-before}
 
@@ -58,16 +58,18 @@ pub record WithReads (b : List ℕ) (old new place q : ℕ) : Type 0 where
   pub paid : new ≤ old + (3 * (q + 1) + tail)
   pub paid_one : place + 7 ≤ q → new + 1 ≤ old + (3 * (q + 1) + tail)
   pub paid_word : place + 7 ≤ q → IsLineStart b (q - 7) → new + 8 ≤ old + (3 * (q + 1) + tail)
+  -- each byte up to q was read
+  pub all : old + (q + 1) ≤ new
 
 -- the reads where there is a next quote, and where there is none
 abbrev NextReads : List ℕ → ℕ → ℕ → ℕ → Option ℕ → Type 0
-NextReads b old new place next = MatchOption next (new ≤ old + (3 * length b + 8)) (λ q. WithReads b old new place q)
+NextReads b old new place next = MatchOption next ((new ≤ old + (3 * length b + 8)) × (old + length b ≤ new)) (λ q. WithReads b old new place q)
 
--- after three reads for each byte up to the place, the next quote was looked for from there
-next-reads : (b : List ℕ) (old mid new place : ℕ) (next : Option ℕ) → place ≤ length b → mid ≤ old + 3 * place
+-- after one to three reads for each byte up to the place, the next quote was looked for from there
+next-reads : (b : List ℕ) (old mid new place : ℕ) (next : Option ℕ) → place ≤ length b → old + place ≤ mid → mid ≤ old + 3 * place
     → IsNextQuote b place next → QuoteReads b place mid new next → NextReads b old new place next
-next-reads b old mid new place None within paid is reads = omega arith
-next-reads b old mid new place (Some q) within paid is reads =
+next-reads b old mid new place None within all paid is reads = (omega arith, omega arith)
+next-reads b old mid new place (Some q) within all paid is reads =
     let low = is.0.low in
     let high = is.0.high in record {
       seen = q + 1;
@@ -80,6 +82,7 @@ next-reads b old mid new place (Some q) within paid is reads =
       paid = omega arith;
       paid_one = λ far. omega arith;
       paid_word = λ more line. omega arith;
+      all = omega arith;
     }
 
 -- the state of the search: the list so far, the last of it, the next quote and the reads
@@ -103,7 +106,7 @@ searched-first b old new next is fits reads = record {
   is_next = is;
   fits = fits;
   within = omega arith;
-  reads = next-reads b old old new 0 next (omega arith) (omega arith) is reads;
+  reads = next-reads b old old new 0 next (omega arith) (omega arith) (omega arith) is reads;
 }
 
 -- a step at a quote that opens no head
@@ -111,8 +114,8 @@ pub searched-none : (b : List ℕ) (old new scanned tested place q : ℕ) (close
     → Searched b old new place (Some q) last → IsNextQuote b (q + 1) close → IfSome close (λ c. c + 1 < 2 ^ 64)
     → QuoteReads b (q + 1) new scanned close → IsOpenedHeadEnd b place q None → (scanned < tested → place + 7 ≤ q)
     → (scanned + 1 < tested → IsLineStart b (q - 7)) → HeadReads b q scanned tested close None
-    → Searched b old tested (q + 1) close last
-searched-none b old new scanned tested place q close last h is fits reads none opened line more =
+    → IfSome close (λ c. ReadsAll (c + 1) scanned tested None) → Searched b old tested (q + 1) close last
+searched-none b old new scanned tested place q close last h is fits reads none opened line more all =
     let i = h.is_next in
     let high = i.0.high in record {
       taken = h.taken;
@@ -121,7 +124,7 @@ searched-none b old new scanned tested place q close last h is fits reads none o
       is_next = is;
       fits = fits;
       within = omega arith;
-      reads = by_close close is reads more;
+      reads = by_close close is reads more all;
     } where
       -- the reads before the quote are paid: none, one, or all eight
       word : new + min (tested - scanned) 8 ≤ old + (3 * (q + 1) + h.reads.tail)
@@ -135,10 +138,10 @@ searched-none b old new scanned tested place q close last h is fits reads none o
       behind name at last (inr f) low = (last + 5 - at, omega arith, omega arith, omega arith)
 
       by_close : (n : Option ℕ) → IsNextQuote b (q + 1) n → QuoteReads b (q + 1) new scanned n
-          → HeadReads b q scanned tested n None
+          → HeadReads b q scanned tested n None → IfSome n (λ c. ReadsAll (c + 1) scanned tested None)
           → NextReads b old tested (q + 1) n
-      by_close None i r m = omega (arith, h.reads.paid, h.reads.high, h.reads.far)
-      by_close (Some c) i r m =
+      by_close None i r m a = (omega (arith, h.reads.paid, h.reads.high, h.reads.far), omega (arith, h.reads.all))
+      by_close (Some c) i r m a =
           let before = word in
           let read = behind _ _ _ m.few (omega (arith, m.low)) in
           let passed = h.reads.plain c in
@@ -159,15 +162,17 @@ searched-none b old new scanned tested place q close last h is fits reads none o
                 let quote = h.is_next.1 in
                 let feed : h.reads.seen + 8 ≤ c = grind arith in
                 omega arith;
+            all = omega (arith, h.reads.all, a.0);
           }
 
 -- a step at a quote that opens a head
 pub searched-found : (b : List ℕ) (old new scanned tested ended place q e : ℕ) (close next : Option ℕ) (last : Option HeadSpan)
     → Searched b old new place (Some q) last → IsNextQuote b (q + 1) close → QuoteReads b (q + 1) new scanned close
-    → IsOpenedHeadEnd b place q (Some e) → HeadReads b q scanned tested close (Some e) → IsNextQuote b e next
+    → IsOpenedHeadEnd b place q (Some e) → HeadReads b q scanned tested close (Some e)
+    → IfSome close (λ c. ReadsAll (c + 1) scanned tested (Some e)) → IsNextQuote b e next
     → IfSome next (λ x. x + 1 < 2 ^ 64) → QuoteReads b e tested ended next
     → Searched b old ended e next (Some (record { start = q - 7; stop = e }))
-searched-found b old new scanned tested ended place q e close next last h is reads stop more is' fits reads' =
+searched-found b old new scanned tested ended place q e close next last h is reads stop more all is' fits reads' =
     let i = h.is_next in
     let far = stop.0 in
     let x : HeadSpan = record { start = q - 7; stop = e } in record {
@@ -177,18 +182,18 @@ searched-found b old new scanned tested ended place q e close next last h is rea
       is_next = is';
       fits = fits;
       within = stop.1.ends;
-      reads = next-reads b old tested ended e next stop.1.ends (paid close is reads more) is' reads';
+      reads = let p = paid close is reads more all in next-reads b old tested ended e next stop.1.ends p.0 p.1 is' reads';
     } where
       paid : (n : Option ℕ) → IsNextQuote b (q + 1) n → QuoteReads b (q + 1) new scanned n
-          → HeadReads b q scanned tested n (Some e)
-          → tested ≤ old + 3 * e
-      paid None i r m =
+          → HeadReads b q scanned tested n (Some e) → IfSome n (λ c. ReadsAll (c + 1) scanned tested (Some e))
+          → (old + e ≤ tested) × (tested ≤ old + 3 * e)
+      paid None i r m a =
           let far = stop.0 in absurd (IsOpenedHeadEnd-none b place q i (q - 7) e (omega arith) (omega arith) stop.1)
-      paid (Some c) i r m =
+      paid (Some c) i r m a =
           let w = h.reads in
           let paid = w.paid_word stop.0 stop.1.line_start in
           let passed = w.plain c in
           let seen : w.seen ≤ c = grind arith in
           let name = i.0.low in
           let whole = m.before in
-          elim m.few [ inl f ↦ omega arith | inr f ↦ omega arith ]
+          (omega (arith, w.all, a.1), elim m.few [ inl f ↦ omega arith | inr f ↦ omega arith ])

@@ -288,7 +288,15 @@ head-known b s e =
     let opening = occurs-known b (codes "thread '") s (omega arith) in
     let quote = λ (q : ℕ).
     both (name-known (part (s + 8) q b)) (both (cases_eq (get_or b q 0) 39) (tail-known (part (q + 1) e b))) in
-    mapped (λ h. record { line_start = h.0; opening = h.1.0; quote = h.1.1.1.0; name = h.1.1.1.1.0; closing = h.1.1.1.1.1.0; tail = h.1.1.1.1.1.1; ends = h.1.1.0 })
+    mapped (λ h. record {
+      line_start = h.0;
+      opening = h.1.0;
+      quote = h.1.1.1.0;
+      name = h.1.1.1.1.0;
+      closing = h.1.1.1.1.1.0;
+      tail = h.1.1.1.1.1.1;
+      ends = h.1.1.0;
+    })
     (λ h. (h.line_start, (h.opening, (h.ends, (h.quote, (h.name, (h.closing, h.tail)))))))
     (both line (both opening (both ends (some Quote quote (length b) (λ q h. grind (arith, get_or_past)))))) where
       Quote : ℕ → Type 0
@@ -297,15 +305,23 @@ head-known b s e =
 -- the taken heads from a place on, by the number of bytes left
 heads-from : (size : ℕ) (b : List ℕ) (from : ℕ) → length b < from + size → (xs : List HeadSpan) × Leftmost b from xs
 heads-from zero b from done = ([], λ s e low head. omega (arith, head.ends, head-order b s e head))
-heads-from (suc n) b from done = elim (first (λ s. (e : ℕ) × IsHead b s e) (λ s. some (IsHead b s) (head-known b s) (length b + 1) (λ e h. omega (arith, h.ends))) (length b) from) [
-  | inl f ↦
-      let x : HeadSpan = record { start = f.0; stop = f.2.0 } in
-      let rest = heads-from n b x.stop (omega (arith, f.1, head-order b f.0 f.2.0 f.2.1)) in (
-        x ∷ rest.0,
-        (record { head = f.2.1; low = f.1; least = λ s e low head. elim (cases_lt s f.0) [ inl less ↦ absurd (f.3 s low less (e, head)) | inr more ↦ more ] }, rest.1),
-      )
-  | inr none ↦ ([], λ s e low head. none s low (omega (arith, head.ends, head-order b s e head)) (e, head))
-]
+heads-from (suc n) b from done = elim
+    (first (λ s. (e : ℕ) × IsHead b s e) (λ s. some (IsHead b s) (head-known b s) (length b + 1) (λ e h. omega (arith, h.ends))) (length b) from) [
+      | inl f ↦
+          let x : HeadSpan = record { start = f.0; stop = f.2.0 } in
+          let rest = heads-from n b x.stop (omega (arith, f.1, head-order b f.0 f.2.0 f.2.1)) in (
+            x ∷ rest.0,
+            (
+              record {
+                head = f.2.1;
+                low = f.1;
+                least = λ s e low head. elim (cases_lt s f.0) [ inl less ↦ absurd (f.3 s low less (e, head)) | inr more ↦ more ];
+              },
+              rest.1,
+            ),
+          )
+      | inr none ↦ ([], λ s e low head. none s low (omega (arith, head.ends, head-order b s e head)) (e, head))
+    ]
 
 -- there is a list of taken heads
 pub IsTaken-exists : (b : List ℕ) → (taken : List HeadSpan) × IsTaken b taken

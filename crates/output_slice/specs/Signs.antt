@@ -17,4 +17,4 @@ pub record AreQuiet (out err : List ℕ) (out_end err_end : ℕ) : Type 0 where
   pub out_within : out_end ≤ length out
   pub err_within : err_end ≤ length err
   pub error : IsQuietFrom err (codes "\nError: ") err_end
-  pub note : IsQuietFrom out (codes "did not panic as expected") out_end
+  pub note : IsQuietFrom out (codes "panic as expected") out_end

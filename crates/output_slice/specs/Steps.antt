@@ -45,7 +45,11 @@ IsNextQuote b from found = IsFirst (λ k. slice_index b k ≡ 39) from (length b
 
 -- One read for each byte from `from` up to the quote that is found and for the quote, or up to the end.
 abbrev pub QuoteReads : List ℕ → ℕ → ℕ → ℕ → Option ℕ → Type 0
-QuoteReads b from old new found = MatchOption found (new + from ≤ old + length b) (λ q. new + from ≤ old + (q + 1))
+QuoteReads b from old new found = MatchOption found (new + from ≡ old + length b) (λ q. new + from ≡ old + (q + 1))
+
+-- The count did not fall, and what was found ends behind bytes that were each read, from `from` on.
+abbrev pub ReadsAll : ℕ → ℕ → ℕ → Option ℕ → Type 0
+ReadsAll from old new found = (old ≤ new) × IfSome found (λ e. old + e ≤ new + from)
 
 -- `thread ` stands before the quote at a line start that is not before `place`.
 abbrev pub IsOpened : List ℕ → ℕ → ℕ → Type 0
@@ -80,7 +84,7 @@ IsSizedChar b at stop found = MatchOption found ((c : ℕ) → ¬ IsCharAt b at 
 
 -- One read for each byte of the character that is found, or up to `stop`.
 abbrev pub CharReads : ℕ → ℕ → ℕ → ℕ → Option (ℕ × ℕ) → Type 0
-CharReads at stop old new found = MatchOption found (new + at ≤ old + stop) (λ r. new ≤ old + r.1)
+CharReads at stop old new found = MatchOption found ((old ≤ new) × (new + at ≤ old + stop)) (λ r. new ≡ old + r.1)
 
 -- Where an ASCII byte stands at `to`, it is read once, and each byte before it from `from` on.
 abbrev pub ReadsAsciiEnd : List ℕ → ℕ → ℕ → ℕ → ℕ → Type 0

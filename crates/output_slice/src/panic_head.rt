@@ -31,8 +31,8 @@ pub struct HeadSpan {
 /// and nextest-runner recognizes it by this form. Heads are matched from left to right and do not
 /// overlap.
 ///
-/// The search makes at most 3n + 8 reads of n bytes. The count of `source` plus 8n + 8 must be below
-/// 2^128.
+/// The search reads each of n bytes, and makes at most 3n + 8 reads. The count of `source` plus 8n + 8
+/// must be below 2^128.
 pub fn last_panic_head<S: ByteSource>(source: &mut S) -> Option<HeadSpan>
     requires room { S.count source.old + 8 * length (S.bytes source.old) + 8 < 2 ^ 128 }
     ensures last { IsLastTaken (S.bytes source.old) result }
@@ -40,10 +40,11 @@ pub fn last_panic_head<S: ByteSource>(source: &mut S) -> Option<HeadSpan>
         → result ≡ last_of taken }
     ensures found { IsSome result ↔ ((s : ℕ) × (e : ℕ) × IsHead (S.bytes source.old) s e) }
 
-    // The reads, for a source of n bytes: at most 8n + 8, and, said tighter, at most 3n + 8.
+    // The reads, for a source of n bytes: at most 8n + 8, and, said tighter, from n to 3n + 8.
     ensures reads { S.count source.new
         ≤ S.count source.old + (8 * length (S.bytes source.old) + 8) }
     ensures few { S.count source.new ≤ S.count source.old + (3 * length (S.bytes source.old) + 8) }
+    ensures all { S.count source.old + length (S.bytes source.old) ≤ S.count source.new }
     ensures same { S.bytes source.new ≡ S.bytes source.old }
 {
     let mut place = 0;

@@ -1,5 +1,5 @@
 //! What is tested of `output_slice`, through its public calls alone. Worked inputs with their answers
-//! are rows that `upstream_replay` replays; this program tests what no such row can say. What it
+//! are rows of the replay in `rust/tests`; this program tests what no such row can say. What it
 //! prints is compared with the file `stdout`.
 //!
 //! The program compares the searches for the last taken head with slow functions that follow the rules
@@ -25,7 +25,7 @@ use crate::beginnings::beginnings;
 use crate::damage::damaged_outputs;
 use crate::long_inputs::{few_reads, linear_time};
 use crate::parts::parts_of_each_stream;
-use crate::reads::counted_reads;
+use crate::reads::{counted_reads, reads_of_searches};
 use crate::small_inputs::{SETS, all_inputs};
 use crate::worked_heads::worked_heads;
 use std::io;
@@ -45,6 +45,7 @@ mod worked_heads;
 fn main(rt: HostRuntime) -> io::Result<ExitCode> {
     parts_of_each_stream(&rt)?;
     counted_reads(&rt)?;
+    reads_of_searches(&rt)?;
     few_reads(&rt)?;
     linear_time(&rt)?;
     let mut all_agree = worked_heads(&rt)?.print(&rt, "worked heads")?;

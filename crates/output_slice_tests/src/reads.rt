@@ -1,6 +1,7 @@
 //! The reads that a source of bytes counts.
 
 use output_slice::byte_source::{ByteSource, CountedBytes};
+use output_slice::panic_head::last_panic_head;
 use std::io;
 
 /// Reads one byte twice, and prints it and how many reads are counted.
@@ -13,4 +14,29 @@ pub(crate) fn counted_reads<R: Print>(rt: &R) -> io::Result<()> {
         source.len()
     )?;
     println!(rt; "  reads: {before}, {}", source.reads())
+}
+
+/// Outputs whose reads are counted by hand in `stdout`: without a byte, without a quote, with a quote
+/// that opens no head, with a head, and with one of a number.
+const OUTPUTS: [&str; 5] = [
+    "",
+    "no head",
+    "it's",
+    "thread 'a' panicked at b",
+    "thread 'a' (7) panicked at b",
+];
+
+/// Searches each of the outputs for the last head, and prints how many reads are counted.
+pub(crate) fn reads_of_searches<R: Print>(rt: &R) -> io::Result<()> {
+    println!(rt; "reads of searches")?;
+    for output in &OUTPUTS {
+        let mut source = CountedBytes::new(output.as_bytes());
+        let has_head = last_panic_head(&mut source).is_some();
+        println!(rt;
+            "  {} bytes, a head: {has_head}, reads: {}",
+            output.len(),
+            source.reads()
+        )?;
+    }
+    Ok(())
 }

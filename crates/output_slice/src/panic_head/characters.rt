@@ -44,6 +44,7 @@ pub(crate) fn is_utf8_between<S: ByteSource>(source: &mut S, from: usize, to: us
     requires room { S.count source.old + 2 * to < 2 ^ 128 + 2 * from }
     ensures value { IsTrue result ↔ IsUtf8 (part from to (S.bytes source.old)) }
     ensures reads { S.count source.new ≤ S.count source.old + (to - from) }
+    ensures grows { S.count source.old ≤ S.count source.new }
     ensures same { S.bytes source.new ≡ S.bytes source.old }
 {
     let mut at = from;
@@ -70,6 +71,7 @@ pub(crate) fn digits_end<S: ByteSource>(source: &mut S, from: usize) -> usize
     requires room { S.count source.old + 2 * length (S.bytes source.old) < 2 ^ 128 + 2 * from }
     ensures run { IsDigitRun (S.bytes source.old) from result }
     ensures reads { S.count source.new + from ≤ S.count source.old + result + 4 }
+    ensures all { S.count source.old + result ≤ S.count source.new + from }
     ensures ascii { ReadsAsciiEnd (S.bytes source.old) from result (S.count source.old)
         (S.count source.new) }
     ensures within { result ≤ length (S.bytes source.old) }

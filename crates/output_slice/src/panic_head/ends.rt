@@ -2,7 +2,7 @@
 
 ghost use Rattle.std.specs.Prelude.{◌≡◌, ◌≤◌, ◌+◌, ◌-◌, ◌*◌, ◌<◌, ◌^◌, length, slice_index, IfSome};
 ghost use Rattle.output_slice.specs.Head.{IsLineStart};
-ghost use Rattle.output_slice.specs.Steps.{IsNextQuote, IsTextEnd, TextReads, IsTailEnd, ReadsUpTo, NoQuoteBetween, IsNamedHeadEnd, IsOpenedHeadEnd, HeadReadsTo, HeadReads};
+ghost use Rattle.output_slice.specs.Steps.{IsNextQuote, IsTextEnd, TextReads, ReadsAll, IsTailEnd, ReadsUpTo, NoQuoteBetween, IsNamedHeadEnd, IsOpenedHeadEnd, HeadReadsTo, HeadReads};
 
 use crate::byte_source::ByteSource;
 use crate::panic_head::characters::{digits_end, is_utf8_between};
@@ -15,6 +15,7 @@ fn after_text<S: ByteSource>(source: &mut S, at: usize, text: &[u8]) -> Option<u
     ensures value { IsTextEnd (S.bytes source.old) text.now at result }
     ensures reads { TextReads (S.bytes source.old) text.now at (S.count source.old)
         (S.count source.new) result }
+    ensures all { ReadsAll at (S.count source.old) (S.count source.new) result }
     ensures same { S.bytes source.new ≡ S.bytes source.old }
 {
     let end = source.len();
@@ -36,6 +37,7 @@ fn tail_end<S: ByteSource>(source: &mut S, at: usize) -> Option<usize>
     ensures value { IsTailEnd (S.bytes source.old) at result }
     ensures reads { ReadsUpTo (S.bytes source.old) at (S.count source.old)
         (S.count source.new) result }
+    ensures all { ReadsAll at (S.count source.old) (S.count source.new) result }
     ensures same { S.bytes source.new ≡ S.bytes source.old }
 {
     let Some(space) = after_text(source, at, b" ") else {
@@ -61,6 +63,7 @@ fn named_head_end<S: ByteSource>(source: &mut S, quote: usize, close: usize) -> 
     ensures value { IsNamedHeadEnd (S.bytes source.old) quote close result }
     ensures reads { HeadReadsTo (S.bytes source.old) quote (S.count source.old)
         (S.count source.new) close result }
+    ensures all { ReadsAll (close + 1) (S.count source.old) (S.count source.new) result }
     ensures same { S.bytes source.new ≡ S.bytes source.old }
 {
     if quote + 1 == close {
@@ -94,6 +97,8 @@ pub(crate) fn opened_head_end<S: ByteSource>(
         → IsLineStart (S.bytes source.old) (quote - 7) }
     ensures reads { HeadReads (S.bytes source.old) quote (S.count source.old)
         (S.count source.new) close result }
+    ensures all { IfSome close (λ c. ReadsAll (c + 1) (S.count source.old) (S.count source.new)
+        result) }
     ensures same { S.bytes source.new ≡ S.bytes source.old }
 {
     let close = close?;

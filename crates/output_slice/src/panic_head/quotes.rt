@@ -32,11 +32,13 @@ pub(crate) fn next_quote<S: ByteSource>(source: &mut S, from: usize) -> Option<u
 }
 
 /// Returns true if `thread ` is before `quote`, at the start of a line and not before `place`.
+#[inline]
 pub(crate) fn opens<S: ByteSource>(source: &mut S, place: usize, quote: usize) -> bool
     requires within { quote < length (S.bytes source.old) }
     requires room { place + 7 ≤ quote → S.count source.old + 8 < 2 ^ 128 }
     ensures value { IsTrue result ↔ IsOpened (S.bytes source.old) place quote }
     ensures few { S.count source.new ≤ S.count source.old + 8 }
+    ensures grows { S.count source.old ≤ S.count source.new }
     ensures line { S.count source.old + 1 < S.count source.new
         → IsLineStart (S.bytes source.old) (quote - 7) }
     ensures none { quote < place + 7 → S.count source.new ≡ S.count source.old }

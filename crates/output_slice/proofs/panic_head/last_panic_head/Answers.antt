@@ -33,7 +33,8 @@ loop-next-preserved-in-Some-opened_head_end g c =
     let m = c.next_quote-next-in-Some-opened_head_end.ensures in (
       m.same ∙ three,
       searched-found _ _ _ _ _ _ c.loop-next.place c.in-Some.quote c.in-Some-opened_head_end.stop c.next_quote-close.result
-          c.next_quote-next-in-Some-opened_head_end.result c.loop-next.last h (rw one at n.found) (rw one at n.reads) v r (rw three at m.found) m.fits (rw three at m.reads),
+          c.next_quote-next-in-Some-opened_head_end.result c.loop-next.last h (rw one at n.found) (rw one at n.reads) v r
+          c.in-Some-opened_head_end.ensures.all (rw three at m.found) m.fits (rw three at m.reads),
     )
 
 pub loop-next-preserved : goal.loop-next-preserved
@@ -47,7 +48,8 @@ loop-next-preserved g c =
     let r = rw two at c.in-None.ensures.reads in (
       three,
       searched-none _ _ _ _ _ c.loop-next.place c.in-Some.quote c.next_quote-close.result c.loop-next.last
-          h (rw one at n.found) n.fits (rw one at n.reads) v c.opened_head_end.ensures.opened (rw two at c.opened_head_end.ensures.line) r,
+          h (rw one at n.found) n.fits (rw one at n.reads) v c.opened_head_end.ensures.opened (rw two at c.opened_head_end.ensures.line) r
+          c.in-None.ensures.all,
     )
 
 done : (b : List ℕ) (old new place : ℕ) (next : Option ℕ) (last : Option HeadSpan) → next ≡ None

@@ -7,7 +7,7 @@ invariant-loop-at g l =
     (g.S.ByteSource.bytes l.source ≡ g.S.ByteSource.bytes l.fn.source)
     × (l.end ≡ length (g.S.ByteSource.bytes l.fn.source))
     × (l.at ≤ l.end) × (l.from ≤ l.at)
-    × (g.S.ByteSource.count l.source + l.from ≤ g.S.ByteSource.count l.fn.source + l.at)
+    × (g.S.ByteSource.count l.source + l.from ≡ g.S.ByteSource.count l.fn.source + l.at)
     × AreDigits (g.S.ByteSource.bytes l.fn.source) l.from l.at
 
 abbrev pub decreases-loop-at : goal.decreases-loop-at

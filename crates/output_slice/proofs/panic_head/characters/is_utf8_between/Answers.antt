@@ -13,5 +13,8 @@ loop-at-preserved g c =
 pub returns-in-None-clause-value : goal.returns-in-None-clause-value
 returns-in-None-clause-value g c =
     let none = rw c.loop-at.invariant.0 at c.in-None.ensures.value in
-    let i = c.loop-at.invariant in
-    (λ t. cc, λ u. let first = char-utf8 (g.S.ByteSource.bytes c.args.source.now) c.loop-at.at c.args.to c.loop-at-test.true c.requires.high (i.4.0 u) in absurd (none first.0 first.1))
+    let i = c.loop-at.invariant in (
+      λ t. cc,
+      λ u. let first = char-utf8 (g.S.ByteSource.bytes c.args.source.now) c.loop-at.at c.args.to c.loop-at-test.true c.requires.high
+          (i.4.0 u) in absurd (none first.0 first.1),
+    )

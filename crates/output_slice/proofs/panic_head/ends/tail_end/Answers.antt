@@ -1,6 +1,6 @@
 use Rattle.std.proofs.Common.{◌≡◌, ◌+◌, sym, ◌∙◌, arith, codes}
 use Rattle.output_slice.proofs.OccursLemmas.{occurs-both}
-use Rattle.output_slice.proofs.HeadLemmas.{IsTailEnd-none, plain-end, numbered-end}
+use Rattle.output_slice.proofs.HeadLemmas.{IsTailEnd-none, plain-end, numbered-end, reads-more}
 use Rattle.output_slice.proofs.panic_head.ends.tail_end.Goals as goal
 
 pub returns-in_default-after_text : goal.returns-in_default-after_text
@@ -11,10 +11,15 @@ returns-in_default-after_text g c =
     let word = rw space.1 at rw same at c.after_text-in_default-after_text.ensures.value in
     let reads = rw space.1 at rw same at c.after_text-in_default-after_text.ensures.reads in
     let paren = c.in_default-after_text.ensures.reads in
+    let one = c.in-Some.ensures.all in
+    let two = c.in_default-after_text.ensures.all.0 in
+    let whole = reads-more _ _ _ _ _ c.after_text-in_default-after_text.result (omega (arith, one.0, two)) (omega (arith, one.1, two))
+    c.after_text-in_default-after_text.ensures.all in
     let end = plain-end _ c.args.at paren.0 _ _ _ _ c.after_text-in_default-after_text.result space.0 none
     c.in-Some.ensures.reads paren.1 paren.3 reads word in record {
       value = end.0;
       reads = end.1;
+      all = whole;
       same = c.after_text-in_default-after_text.ensures.same ∙ same;
     }
 
@@ -40,11 +45,16 @@ returns g c =
     let word = rw all at c.after_text-3.ensures.value in
     let few = c.in-Some-after_text.ensures.reads in
     let few' = c.in-Some.ensures.reads in
+    let one = c.in-Some.ensures.all in
+    let more = c.in-Some-after_text.ensures.all in
+    let digits = run.digits.ends in
+    let whole = reads-more _ _ _ _ _ c.after_text-3.result (omega (arith, one.0, more.0)) (omega (arith, one.1, more.1)) c.after_text-3.ensures.all in
     let some = λ (e : c.digits_end-close.result ≡ c.args.at + 2). c.if-close-number.false (e ∙ sym two) in
     let end = numbered-end _ c.args.at c.digits_end-close.result _ _ _ _ c.after_text-3.result opens run some (omega arith)
     (rw two at c.digits_end-close.ensures.reads) (rw two at rw same at c.digits_end-close.ensures.ascii)
     (rw all at c.after_text-3.ensures.reads) word in record {
       value = end.0;
       reads = end.1;
+      all = whole;
       same = c.after_text-3.ensures.same ∙ all;
     }

@@ -1,0 +1,9 @@
+use Rattle.std.proofs.Common.{◌≤◌, length}
+use Rattle.output_slice.specs.Signs.{IsQuietFrom}
+use Rattle.output_slice.proofs.signs.last_sign.Given as goal
+
+abbrev pub invariant-loop-end : goal.invariant-loop-end
+invariant-loop-end l = (l.end ≤ length l.bytes) × IsQuietFrom l.bytes l.sign l.end
+
+abbrev pub decreases-loop-end : goal.decreases-loop-end
+decreases-loop-end l = l.end
