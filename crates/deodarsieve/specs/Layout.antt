@@ -13,7 +13,6 @@ use Rattle.deodarsieve.specs.declared.layout.FfiSlice.{FfiSlice}
 use Rattle.deodarsieve.specs.declared.layout.FfiStressProgress.{FfiStressProgress}
 use Rattle.deodarsieve.specs.declared.layout.FfiStressRemaining.{FfiStressRemaining}
 use Rattle.deodarsieve.specs.declared.layout.FfiTestView.{FfiTestView}
-use Rattle.deodarsieve.specs.declared.values.FinishedTest.{FinishedTest}
 use Rattle.output_slice.specs.Extraction.{Extract, error_slice, note_line, panic_slice}
 use Rattle.output_slice.specs.declared.panic_head.HeadSpan.{HeadSpan}
 use Rattle.run_events_levels.specs.TestView.{TestView}
@@ -81,12 +80,8 @@ view_in v = option_and_then (λ ended. option_map (λ setting. record {
   result = ended;
   attempts = v.attempts;
   is_slow = v.is_slow;
-  setting = setting;
+  flaky_result = setting;
 }) (slice_get flaky_results v.flaky_result)) (result_in v.result)
-
--- the same part of a test whose codes were read
-abbrev pub owned_view : FinishedTest → TestView
-owned_view t = record { result = t.result; attempts = t.attempts; is_slow = t.is_slow; setting = t.flaky_result }
 
 -- the levels that a reporter is set to
 abbrev pub own_levels_in : FfiFinishedTest → Option StatusLevels

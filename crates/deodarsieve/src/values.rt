@@ -1,15 +1,13 @@
 //! From structs of C to values of the layer, and back.
 
 ghost use Rattle.std.specs.Prelude.{◌≡◌, MatchOption, Some, option_map};
-ghost use Rattle.deodarsieve.specs.Layout.{HasNoMore, IsStepAlone, final_in, kind_in, owned_view, stats_in, view_in};
-ghost use Rattle.run_events_levels.specs.TestView.{said_of};
+ghost use Rattle.deodarsieve.specs.Layout.{HasNoMore, IsStepAlone, final_in, kind_in, stats_in, view_in};
+ghost use Rattle.run_events_levels.specs.TestView.{finished_view};
 
 use crate::codes;
 use crate::layout::{FfiFinalStats, FfiRunStats, FfiTestView};
 use crate::status::{BAD_CODE, OK};
-use run_events_levels::view::TestView;
-use run_events_results::results::ExecutionResultDescription;
-use run_events_settings::config::FlakyResult;
+use run_events_levels::view::FinishedTest;
 use run_events_stats::outcome::{FinalRunStats, RunStatsFailureKind};
 use run_events_stats::stats::RunStats;
 
@@ -27,39 +25,9 @@ pub(crate) fn give<T: Copy>(answer: &mut T, value: Option<T>) -> u32
     }
 }
 
-/// The part of a finished test that decides its counters and its levels.
-#[derive(Drop)]
-pub(crate) struct FinishedTest {
-    /// The result of the last attempt.
-    pub result: ExecutionResultDescription,
-
-    /// The number of attempts.
-    pub attempts: usize,
-
-    /// Whether the last attempt was slow.
-    pub is_slow: bool,
-
-    /// How the test counts if it is flaky.
-    pub flaky_result: FlakyResult,
-}
-
-impl FinishedTest {
-    /// Returns a view of the test.
-    pub(crate) fn view(&self) -> TestView<'_>
-        ensures { said_of result ≡ owned_view self.now }
-    {
-        TestView {
-            result: &self.result,
-            attempts: self.attempts,
-            is_slow: self.is_slow,
-            flaky_result: self.flaky_result,
-        }
-    }
-}
-
 /// Returns the finished test, or `None` if a code names nothing.
 pub(crate) fn finished_test(test: &FfiTestView) -> Option<FinishedTest>
-    ensures { option_map owned_view result ≡ view_in test.now }
+    ensures { option_map finished_view result ≡ view_in test.now }
 {
     Some(FinishedTest {
         result: codes::described(test.result)?,

@@ -1,5 +1,5 @@
 -- The errors of a unit: what went wrong with a test or a setup script, in order.
-use Rattle.std.specs.Prelude.{◌≡◌, ℕ, Bool, true, false, List, [], ◌∷◌, ◌++◌, map, not, IsTrue, Option, None, Some, MatchOption, option_map, option_to_list}
+use Rattle.std.specs.Prelude.{◌≡◌, ◌≢◌, ℕ, Bool, true, false, List, [], ◌∷◌, ◌++◌, map, not, IsTrue, Option, None, Some, MatchOption, option_map, option_to_list}
 use Rattle.std.specs.Option.{option_map_or}
 use Rattle.output_slice.specs.Extraction.{Extract, IsExtract, LiesIn}
 use Rattle.output_slice.specs.Shown.{extract_of, shown_text}
@@ -129,9 +129,9 @@ error_seen (unit.Output e) = output_error e.now
 error_seen (unit.Abort a) = abort_error a.description.now a.leaked
 error_seen (unit.Slice s) = slice_error (extract_of s)
 
--- a list of these errors under this description, and none where there is no error
+-- a list of these errors, of which there is one at least, under this description; or none, and there is no error
 abbrev pub IsListOf : List ℕ → List ErrorOfUnit → Option (ListedErrors UnitError) → Type 0
-IsListOf description errors list = MatchOption list (errors ≡ []) (λ l. (l.description ≡ description) × (map error_seen l.items ≡ errors))
+IsListOf description errors list = MatchOption list (errors ≡ []) (λ l. (errors ≢ []) × (l.description ≡ description) × (map error_seen l.items ≡ errors))
 
 -- the text of an error: that of what it holds
 abbrev pub unit_error_text : UnitError → List ℕ

@@ -7,7 +7,7 @@ use Rattle.std.proofs.lemmas.Option.{slice_get_read}
 use Rattle.run_events_attempts.specs.Description.{ComesTo, HasFinalLevel, described_final_level, described_level, is_success_description}
 use Rattle.run_events_levels.specs.Level.{final_level_of, level_of}
 use Rattle.run_events_results.specs.Results.{succeeds}
-use Rattle.run_events_attempts.specs.Attempts.{attempts_of, last_of, setting_of, view_of}
+use Rattle.run_events_attempts.specs.Attempts.{attempts_of, last_of, flaky_result_of, view_of}
 use Rattle.run_events_attempts.specs.declared.attempts.ExecuteStatus.{ExecuteStatus}
 use Rattle.run_events_attempts.specs.declared.attempts.description.ExecutionDescription.{ExecutionDescription}
 use Rattle.run_events_attempts.specs.declared.attempts.description.ExecutionDescription.TheVariants.{Failure, Flaky, Success}
@@ -27,11 +27,12 @@ last-push xs x =
     let size = length_push xs x in
     last-at (xs ++ x ∷ []) x (omega arith) (sym (get_or_push xs x x _ (omega arith)))
 
-view-last : {S D : Type 0} (t : ExecutionStatuses S D) (last : ExecuteStatus S D) → last_of (attempts_of t) ≡ Some last → view_of t ≡ record { result = last.result; attempts = length (attempts_of t); is_slow = last.is_slow; setting = setting_of t }
+view-last : {S D : Type 0} (t : ExecutionStatuses S D) (last : ExecuteStatus S D) → last_of (attempts_of t) ≡ Some last
+    → view_of t ≡ record { result = last.result; attempts = length (attempts_of t); is_slow = last.is_slow; flaky_result = flaky_result_of t }
 view-last t last is = rw is refl
 
 -- the levels of a description are those of the view
-pub levels-described : {S D : Type 0} (t : ExecutionStatuses S D) (d : ExecutionDescription S D) → ComesTo (attempts_of t) (setting_of t) d
+pub levels-described : {S D : Type 0} (t : ExecutionStatuses S D) (d : ExecutionDescription S D) → ComesTo (attempts_of t) (flaky_result_of t) d
     → (described_level d ≡ level_of (view_of t)) × (described_final_level d ≡ final_level_of (view_of t))
 levels-described t (Success only) is =
     let view = view-last t only.now (ap last_of is.0) in
@@ -45,17 +46,20 @@ levels-described t (Failure first last retries) is =
     let view = view-last t last.now is.1 in
     (sym (ap level_of view ∙ rw is.2 refl), sym (ap final_level_of view ∙ rw is.2 refl))
 
-last-result : {S D : Type 0} (t : ExecutionStatuses S D) (last : ExecuteStatus S D) → last_of (attempts_of t) ≡ Some last → succeeds last.result ≡ succeeds (view_of t).result
+last-result : {S D : Type 0} (t : ExecutionStatuses S D) (last : ExecuteStatus S D) → last_of (attempts_of t) ≡ Some last
+    → succeeds last.result ≡ succeeds (view_of t).result
 last-result t last is = rw is refl
 
 -- a description is that of a success exactly where the last attempt succeeded
-pub success-described : {S D : Type 0} (t : ExecutionStatuses S D) (d : ExecutionDescription S D) → ComesTo (attempts_of t) (setting_of t) d → is_success_description d ≡ succeeds (view_of t).result
+pub success-described : {S D : Type 0} (t : ExecutionStatuses S D) (d : ExecutionDescription S D) → ComesTo (attempts_of t) (flaky_result_of t) d
+    → is_success_description d ≡ succeeds (view_of t).result
 success-described t (Success only) is = sym is.1 ∙ last-result t only.now (ap last_of is.0)
 success-described t (Flaky last prior result) is = sym is.2 ∙ last-result t last.now (ap last_of is.0 ∙ last-push prior.now last.now)
 success-described t (Failure first last retries) is = sym is.2 ∙ last-result t last.now is.1
 
 -- what attempts come to has a final level
-pub has-final-level : {S D : Type 0} (t : ExecutionStatuses S D) (d : ExecutionDescription S D) → ComesTo (attempts_of t) (setting_of t) d → HasFinalLevel d
+pub has-final-level : {S D : Type 0} (t : ExecutionStatuses S D) (d : ExecutionDescription S D) → ComesTo (attempts_of t) (flaky_result_of t) d
+    → HasFinalLevel d
 has-final-level t (Success only) is = or_right _ _ is.1
 has-final-level t (Flaky last prior result) is = tt
 has-final-level t (Failure first last retries) is = tt

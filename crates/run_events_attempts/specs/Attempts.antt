@@ -14,8 +14,8 @@ abbrev pub attempts_of : {S D : Type 0} → ExecutionStatuses S D → List (Exec
 attempts_of t = t.statuses.items
 
 -- how the test counts where it is flaky
-abbrev pub setting_of : {S D : Type 0} → ExecutionStatuses S D → FlakyResult
-setting_of t = t.flaky_result
+abbrev pub flaky_result_of : {S D : Type 0} → ExecutionStatuses S D → FlakyResult
+flaky_result_of t = t.flaky_result
 
 -- the last of a list, which is there where the list is not empty
 abbrev pub last_of : {A : Type 0} → List A → Option A
@@ -29,7 +29,7 @@ view_of t =
       result = option_map_or (λ s. s.result) last Pass;
       attempts = length (attempts_of t);
       is_slow = option_map_or (λ s. s.is_slow) last false;
-      setting = setting_of t;
+      flaky_result = flaky_result_of t;
     }
 
 -- the attempts that are left to visit, in order

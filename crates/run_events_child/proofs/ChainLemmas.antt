@@ -65,7 +65,8 @@ has_members _ key h = h
 read_chain-of_value : (d : Data) (c : ErrorChain) → IsChainValue d c → read_chain d ≡ Ok c
 read_chain-of_value d c h = rw (has_members d (codes "message") (ap is_some h.message), h.message, h.causes, read_causes-text_list c.causes) refl
 
-pub reads_back_from_reads : (d : Data) (c : ErrorChain) (answer : Result ErrorChain FromValueError) → IsChainValue d c → ReadsAs (read_chain d) answer → IsChainUnlessMemory c answer
+pub reads_back_from_reads : (d : Data) (c : ErrorChain) (answer : Result ErrorChain FromValueError) → IsChainValue d c → ReadsAs (read_chain d) answer
+    → IsChainUnlessMemory c answer
 reads_back_from_reads d c answer h reads = rw (read_chain-of_value d c h) at reads
 
 -- a key at which one member stands before others is the member's, or stands among the others
@@ -76,7 +77,8 @@ found_first key name d ms _ e h = inr h
 
 only_members : (c : ErrorChain) (key : List ℕ) → IsSome (get key (chain_object c)) → (key ≡ codes "message") ⊎ (key ≡ codes "causes")
 only_members c key h =
-    elim (found_first key (codes "causes") (text_list c.causes) (member (codes "message") (string c.message) no_members) (slice_cmp nat_cmp key (codes "causes")) refl h) [
+    elim (found_first key (codes "causes") (text_list c.causes) (member (codes "message") (string c.message) no_members)
+    (slice_cmp nat_cmp key (codes "causes")) refl h) [
       | inl same ↦ inr same
       | inr other ↦ elim (found_first key (codes "message") (string c.message) no_members (slice_cmp nat_cmp key (codes "message")) refl other) [
         | inl same ↦ inl same

@@ -29,7 +29,7 @@ flaky_level flaky.Fail = level.Fail
 abbrev pub level_of : TestView → Option StatusLevel
 level_of t =
     if succeeds t.result
-    then (if nat_lt 1 t.attempts then Some (flaky_level t.setting) else success_level t.result)
+    then (if nat_lt 1 t.attempts then Some (flaky_level t.flaky_result) else success_level t.result)
     else Some level.Fail
 
 -- whether a level is `Fail`
@@ -67,5 +67,5 @@ final_flaky_level flaky.Fail = final.Fail
 abbrev pub final_level_of : TestView → Option FinalStatusLevel
 final_level_of t =
     if succeeds t.result
-    then (if nat_lt 1 t.attempts then Some (final_flaky_level t.setting) else final_success_level t.result t.is_slow)
+    then (if nat_lt 1 t.attempts then Some (final_flaky_level t.flaky_result) else final_success_level t.result t.is_slow)
     else Some final.Fail

@@ -1,5 +1,6 @@
 //! The levels of tests, and what a reporter shows of a test at its levels.
 
+mod of_result;
 mod output;
 
 /// The level of a finished attempt or test, ordered from the one that needs most attention. A

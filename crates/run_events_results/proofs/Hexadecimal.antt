@@ -23,7 +23,8 @@ onto_more : (i n : ℕ) (acc : List ℕ) → 16 ≤ n → digits_onto (suc i) 16
 onto_more i n acc h = rw (ne_eqb (n / 16) 0 (λ e. omega (arith, h, e))) refl
 
 -- zeros before a single digit
-padded_single : (k n : ℕ) (acc : List ℕ) → n / 16 ≡ 0 → replicate (suc k + length acc - length (digit_glyph false (n % 16) ∷ acc)) 48 ++ digit_glyph false (n % 16) ∷ acc ≡ hexadecimal_digits (suc k) n ++ acc
+padded_single : (k n : ℕ) (acc : List ℕ) → n / 16 ≡ 0
+    → replicate (suc k + length acc - length (digit_glyph false (n % 16) ∷ acc)) 48 ++ digit_glyph false (n % 16) ∷ acc ≡ hexadecimal_digits (suc k) n ++ acc
 padded_single k n acc e =
     let zeros : suc k + length acc - length (digit_glyph false (n % 16) ∷ acc) ≡ k = omega arith in
     rw (zeros, e, hexadecimal_digits-zero k) (sym (append_assoc (replicate k 48) (digit_glyph false (n % 16) ∷ []) acc))
@@ -66,9 +67,11 @@ digits_is n = refl
 
 -- what `{:08x}` writes
 padded_to_eight : (n : ℕ) → n < 2 ^ 32 → padded_integral (format_spec 32 0 4 8 (2 ^ 64 - 1)) false [] (digits 16 false n) ≡ hexadecimal_digits 8 n
-padded_to_eight n small = padded_is (digits 16 false n) ∙ ap (λ ds. replicate (8 - length ds) 48 ++ ds) (digits_is n) ∙ padded_onto 7 63 n [] (omega arith) (omega arith) ∙ append-nil (hexadecimal_digits 8 n)
+padded_to_eight n small = padded_is (digits 16 false n) ∙ ap (λ ds. replicate (8 - length ds) 48 ++ ds) (digits_is n)
+    ∙ padded_onto 7 63 n [] (omega arith) (omega arith) ∙ append-nil (hexadecimal_digits 8 n)
 
 -- the same of the bits of a code
-pub code_text : (z : ℤ) (n : ℕ) → n ≡ cast_unsigned w32 z → n < 2 ^ 32 → padded_integral (format_spec 32 0 4 8 (2 ^ 64 - 1)) false [] (digits 16 false n) ≡ code_digits z
+pub code_text : (z : ℤ) (n : ℕ) → n ≡ cast_unsigned w32 z → n < 2 ^ 32
+    → padded_integral (format_spec 32 0 4 8 (2 ^ 64 - 1)) false [] (digits 16 false n) ≡ code_digits z
 unfolding code_digits
 code_text z n e small = padded_to_eight n small ∙ ap (hexadecimal_digits 8) e

@@ -39,7 +39,8 @@ ids_tell_apart a b m n ida idb small_m small_n = (
   λ e. let ids : hyphenated_text lower a ≡ hyphenated_text lower b =
       fronts_are_equal (hyphenated_text lower a) (hyphenated_text lower b) (codes ":@stress-" ++ decimal m) (codes ":@stress-" ++ decimal n)
       (text_length a ∙ sym (text_length b))
-      (sym (append_assoc (hyphenated_text lower a) (codes ":@stress-") (decimal m)) ∙ e ∙ append_assoc (hyphenated_text lower b) (codes ":@stress-") (decimal n)) in
+      (sym (append_assoc (hyphenated_text lower a) (codes ":@stress-") (decimal m)) ∙ e
+      ∙ append_assoc (hyphenated_text lower b) (codes ":@stress-") (decimal n)) in
       (same_run a b ida idb ids, same_count (hyphenated_text lower a) (hyphenated_text lower b) m n small_m small_n ids e),
   λ h. ap (λ x. hyphenated_text lower x ++ codes ":@stress-" ++ decimal m) h.0 ∙ ap (λ k. hyphenated_text lower b ++ codes ":@stress-" ++ decimal k) h.1,
 )
@@ -48,7 +49,8 @@ ids_tell_apart a b m n ida idb small_m small_n = (
 pub written_id : {E : Type 0} (r : Result (String Global) E) (run : List ℕ) (m n : ℕ) → m ≡ n
     → IfOk r (λ s. string_bytes s ≡ hyphenated_text lower run ++ (codes ":@stress-" ++ decimal m)) → IfOk r (λ s. string_bytes s ≡ sub_run_id run n)
 unfolding sub_run_id
-written_id (Ok s) run m n e h = h ∙ sym (append_assoc (hyphenated_text lower run) (codes ":@stress-") (decimal m)) ∙ ap (λ k. hyphenated_text lower run ++ codes ":@stress-" ++ decimal k) e
+written_id (Ok s) run m n e h = h ∙ sym (append_assoc (hyphenated_text lower run) (codes ":@stress-") (decimal m))
+    ∙ ap (λ k. hyphenated_text lower run ++ codes ":@stress-" ++ decimal k) e
 written_id (Err x) run m n e h = tt
 
 -- and it is the id of nothing else

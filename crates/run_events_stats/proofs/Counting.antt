@@ -15,13 +15,27 @@ use Rattle.run_events_stats.specs.declared.stats.RunStats.{RunStats}
 use Rattle.run_events_stats.proofs.Counts.{count_of-push, count_of-le, length-filter_map-le}
 
 -- one more test at the end
-pub counters_of-test : (tests : List TestView) (scripts : List ExecutionResultDescription) (start : RunStart) (t : TestView) → counters_of (tests ++ t ∷ []) scripts start ≡ with_test (counters_of tests scripts start) t
+pub counters_of-test : (tests : List TestView) (scripts : List ExecutionResultDescription) (start : RunStart) (t : TestView)
+    → counters_of (tests ++ t ∷ []) scripts start ≡ with_test (counters_of tests scripts start) t
 counters_of-test tests scripts start t =
     let more = λ (p : TestView → Bool). count_of-push p tests t in
-    simp (length-append, more is_passed, more is_passed_slow, more is_passed_timed_out, more is_flaky, more is_failed, more is_failed_slow, more is_failed_timed_out, more is_leaky, more is_leaky_failed, more is_exec_failed)
+    simp (
+      length-append,
+      more is_passed,
+      more is_passed_slow,
+      more is_passed_timed_out,
+      more is_flaky,
+      more is_failed,
+      more is_failed_slow,
+      more is_failed_timed_out,
+      more is_leaky,
+      more is_leaky_failed,
+      more is_exec_failed,
+    )
 
 -- one more script at the end
-pub counters_of-script : (tests : List TestView) (scripts : List ExecutionResultDescription) (start : RunStart) (r : ExecutionResultDescription) → counters_of tests (scripts ++ r ∷ []) start ≡ with_script (counters_of tests scripts start) r
+pub counters_of-script : (tests : List TestView) (scripts : List ExecutionResultDescription) (start : RunStart) (r : ExecutionResultDescription)
+    → counters_of tests (scripts ++ r ∷ []) start ≡ with_script (counters_of tests scripts start) r
 counters_of-script tests scripts start r =
     let more = λ (p : ExecutionResultDescription → Bool). count_of-push p scripts r in
     simp (length-append, more script_passed, more script_failed, more script_exec_failed, more script_timed_out)
@@ -34,14 +48,16 @@ stats_of-test us t start =
     ∙ counters_of-test (tests_of us) (scripts_of us) start t
 
 -- one more unit at the end, a script
-pub stats_of-script : (us : List UnitView) (r : ExecutionResultDescription) (start : RunStart) → stats_of (us ++ ScriptUnit r ∷ []) start ≡ with_script (stats_of us start) r
+pub stats_of-script : (us : List UnitView) (r : ExecutionResultDescription) (start : RunStart)
+    → stats_of (us ++ ScriptUnit r ∷ []) start ≡ with_script (stats_of us start) r
 stats_of-script us r start =
     ap (λ ts. counters_of ts (scripts_of (us ++ ScriptUnit r ∷ [])) start) (filter_map-append test_of us (ScriptUnit r ∷ []) ∙ append-nil (tests_of us))
     ∙ ap (λ ss. counters_of (tests_of us) ss start) (filter_map-append script_of us (ScriptUnit r ∷ []))
     ∙ counters_of-script (tests_of us) (scripts_of us) start r
 
 -- the views of the units so far, and of one more
-pub views-more : (us : List FinishedUnit) (i : ℕ) (u : FinishedUnit) (v : UnitView) → i < length us → u ≡ get_or us i u → unit_view u ≡ v → map unit_view (take (i + 1) us) ≡ map unit_view (take i us) ++ v ∷ []
+pub views-more : (us : List FinishedUnit) (i : ℕ) (u : FinishedUnit) (v : UnitView) → i < length us → u ≡ get_or us i u → unit_view u ≡ v
+    → map unit_view (take (i + 1) us) ≡ map unit_view (take i us) ++ v ∷ []
 views-more us i u v within is_at is_v =
     map_more unit_view us i u within ∙ ap (λ x. map unit_view (take i us) ++ x ∷ []) (ap unit_view (sym is_at) ∙ is_v)
 
@@ -82,19 +98,26 @@ views-short : (us : List FinishedUnit) (i : ℕ) → length us < 2 ^ 64 → leng
 views-short us i short = omega (arith, length-map (take i us) unit_view, length-take i us)
 
 -- the statistics so far, and of one more unit
-pub stats-more-test : (us : List FinishedUnit) (i : ℕ) (u : FinishedUnit) (start : RunStart) (t : TestView) → i < length us → u ≡ get_or us i u → unit_view u ≡ TestUnit t → stats_of (map unit_view (take (i + 1) us)) start ≡ with_test (stats_of (map unit_view (take i us)) start) t
+pub stats-more-test : (us : List FinishedUnit) (i : ℕ) (u : FinishedUnit) (start : RunStart) (t : TestView) → i < length us → u ≡ get_or us i u
+    → unit_view u ≡ TestUnit t → stats_of (map unit_view (take (i + 1) us)) start ≡ with_test (stats_of (map unit_view (take i us)) start) t
 stats-more-test us i u start t within is_at is_test =
     ap (λ vs. stats_of vs start) (views-more us i u (TestUnit t) within is_at is_test) ∙ stats_of-test (map unit_view (take i us)) t start
 
-pub stats-more-script : (us : List FinishedUnit) (i : ℕ) (u : FinishedUnit) (start : RunStart) (r : ExecutionResultDescription) → i < length us → u ≡ get_or us i u → unit_view u ≡ ScriptUnit r → stats_of (map unit_view (take (i + 1) us)) start ≡ with_script (stats_of (map unit_view (take i us)) start) r
+pub stats-more-script : (us : List FinishedUnit) (i : ℕ) (u : FinishedUnit) (start : RunStart) (r : ExecutionResultDescription) → i < length us
+    → u ≡ get_or us i u → unit_view u ≡ ScriptUnit r
+    → stats_of (map unit_view (take (i + 1) us)) start ≡ with_script (stats_of (map unit_view (take i us)) start) r
 stats-more-script us i u start r within is_at is_script =
     ap (λ vs. stats_of vs start) (views-more us i u (ScriptUnit r) within is_at is_script) ∙ stats_of-script (map unit_view (take i us)) r start
 
 -- the counters have room for one more unit of the list
-pub test-fits : (us : List FinishedUnit) (i : ℕ) (u : FinishedUnit) (start : RunStart) (t : TestView) → length us < 2 ^ 64 → i < length us → u ≡ get_or us i u → unit_view u ≡ TestUnit t → TestCountersFit (with_test (stats_of (map unit_view (take i us)) start) t)
+pub test-fits : (us : List FinishedUnit) (i : ℕ) (u : FinishedUnit) (start : RunStart) (t : TestView) → length us < 2 ^ 64 → i < length us → u ≡ get_or us i u
+    → unit_view u ≡ TestUnit t → TestCountersFit (with_test (stats_of (map unit_view (take i us)) start) t)
 test-fits us i u start t short within is_at is_test =
-    subst (λ (s : RunStats). TestCountersFit s) (stats-more-test us i u start t within is_at is_test) (tests-fit (map unit_view (take (i + 1) us)) start (views-short us (i + 1) short))
+    subst (λ (s : RunStats). TestCountersFit s) (stats-more-test us i u start t within is_at is_test)
+    (tests-fit (map unit_view (take (i + 1) us)) start (views-short us (i + 1) short))
 
-pub script-fits : (us : List FinishedUnit) (i : ℕ) (u : FinishedUnit) (start : RunStart) (r : ExecutionResultDescription) → length us < 2 ^ 64 → i < length us → u ≡ get_or us i u → unit_view u ≡ ScriptUnit r → ScriptCountersFit (with_script (stats_of (map unit_view (take i us)) start) r)
+pub script-fits : (us : List FinishedUnit) (i : ℕ) (u : FinishedUnit) (start : RunStart) (r : ExecutionResultDescription) → length us < 2 ^ 64 → i < length us
+    → u ≡ get_or us i u → unit_view u ≡ ScriptUnit r → ScriptCountersFit (with_script (stats_of (map unit_view (take i us)) start) r)
 script-fits us i u start r short within is_at is_script =
-    subst (λ (s : RunStats). ScriptCountersFit s) (stats-more-script us i u start r within is_at is_script) (scripts-fit (map unit_view (take (i + 1) us)) start (views-short us (i + 1) short))
+    subst (λ (s : RunStats). ScriptCountersFit s) (stats-more-script us i u start r within is_at is_script)
+    (scripts-fit (map unit_view (take (i + 1) us)) start (views-short us (i + 1) short))

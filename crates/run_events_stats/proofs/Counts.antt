@@ -25,9 +25,11 @@ pub count_of-le : {X : Type 0} (p : X → Bool) (xs : List X) → count_of p xs 
 count_of-le p xs = omega (arith, length-filter p xs, count_by-le-length p xs)
 
 -- rules that share out another rule share out its count
-pub count_of-three : {X : Type 0} (p q r whole : X → Bool) → ((x : X) → one (p x) + one (q x) + one (r x) ≡ one (whole x)) → (xs : List X) → count_of p xs + count_of q xs + count_of r xs ≡ count_of whole xs
+pub count_of-three : {X : Type 0} (p q r whole : X → Bool) → ((x : X) → one (p x) + one (q x) + one (r x) ≡ one (whole x)) → (xs : List X)
+    → count_of p xs + count_of q xs + count_of r xs ≡ count_of whole xs
 count_of-three p q r whole each [] = refl
-count_of-three p q r whole each (x ∷ xs) = omega (arith, each x, count_of-three p q r whole each xs, count_of-cons p x xs, count_of-cons q x xs, count_of-cons r x xs, count_of-cons whole x xs)
+count_of-three p q r whole each (x ∷ xs) = omega
+    (arith, each x, count_of-three p q r whole each xs, count_of-cons p x xs, count_of-cons q x xs, count_of-cons r x xs, count_of-cons whole x xs)
 
 -- rules that agree count the same
 pub count_of-same : {X : Type 0} (p q : X → Bool) → ((x : X) → p x ≡ q x) → (xs : List X) → count_of p xs ≡ count_of q xs
@@ -42,12 +44,16 @@ pub count_of-zero : {X : Type 0} (p : X → Bool) (xs : List X) → count_of p x
 count_of-zero p [] e = refl
 count_of-zero p (x ∷ xs) e =
     let step = count_of-cons p x xs in
-    elim (p x) as (λ b. one b + count_of p xs ≡ 0 → (not b && list_all (λ y. not (p y)) xs) ≡ true) [ true ↦ λ h. absurd (omega (arith, h)) | false ↦ λ h. count_of-zero p xs (omega (arith, h)) ] (sym step ∙ e)
+    elim (p x) as (λ b. one b + count_of p xs ≡ 0
+    → (not b && list_all (λ y. not (p y)) xs) ≡ true) [ true ↦ λ h. absurd (omega (arith, h)) | false ↦ λ h. count_of-zero p xs (omega (arith, h)) ]
+    (sym step ∙ e)
 
 pub zero-count_of : {X : Type 0} (p : X → Bool) (xs : List X) → list_all (λ x. not (p x)) xs ≡ true → count_of p xs ≡ 0
 zero-count_of p [] e = refl
 zero-count_of p (x ∷ xs) e =
-    count_of-cons p x xs ∙ elim (p x) as (λ b. (not b && list_all (λ y. not (p y)) xs) ≡ true → one b + count_of p xs ≡ 0) [ true ↦ λ h. absurd cc | false ↦ λ h. omega (arith, zero-count_of p xs h) ] e
+    count_of-cons p x xs ∙ elim (p x) as
+    (λ b. (not b && list_all (λ y. not (p y)) xs) ≡ true
+    → one b + count_of p xs ≡ 0) [ true ↦ λ h. absurd cc | false ↦ λ h. omega (arith, zero-count_of p xs h) ] e
 
 -- what is kept of a list is no longer than the list
 pub length-filter_map-le : {X Y : Type 0} (h : X → Option Y) (xs : List X) → length (filter_map h xs) ≤ length xs

@@ -2,5 +2,6 @@ pub mod Counting
 pub mod Counts
 pub mod Parts
 pub mod SubRuns
+pub mod Sums
 pub mod SuccessLaws
 pub mod Verdicts

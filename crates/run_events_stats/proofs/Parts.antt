@@ -13,10 +13,11 @@ use Rattle.run_events_stats.specs.declared.stats.RunStart.{RunStart}
 use Rattle.run_events_stats.proofs.Counts.{count_of-append}
 
 -- counts over a list in two parts
-sum_of_parts : {U X : Type 0} (h : U → Option X) (p : X → Bool) (a b : List U) → count_of p (filter_map h (a ++ b)) ≡ count_of p (filter_map h a) + count_of p (filter_map h b)
+pub sum_of_parts : {U X : Type 0} (h : U → Option X) (p : X → Bool) (a b : List U)
+    → count_of p (filter_map h (a ++ b)) ≡ count_of p (filter_map h a) + count_of p (filter_map h b)
 sum_of_parts h p a b = ap (count_of p) (filter_map-append h a b) ∙ count_of-append p (filter_map h a) (filter_map h b)
 
-length_of_parts : {U X : Type 0} (h : U → Option X) (a b : List U) → length (filter_map h (a ++ b)) ≡ length (filter_map h a) + length (filter_map h b)
+pub length_of_parts : {U X : Type 0} (h : U → Option X) (a b : List U) → length (filter_map h (a ++ b)) ≡ length (filter_map h a) + length (filter_map h b)
 length_of_parts h a b = ap length (filter_map-append h a b) ∙ length-append (filter_map h a) (filter_map h b)
 
 -- each counter of a whole is the sum of that counter in both parts
@@ -44,7 +45,8 @@ cut-law a b start =
     }
 
 -- a count over two neighbouring parts, exchanged
-exchanged : {U X : Type 0} (h : U → Option X) (p : X → Bool) (a l r b : List U) → count_of p (filter_map h (a ++ r ++ l ++ b)) ≡ count_of p (filter_map h (a ++ l ++ r ++ b))
+exchanged : {U X : Type 0} (h : U → Option X) (p : X → Bool) (a l r b : List U)
+    → count_of p (filter_map h (a ++ r ++ l ++ b)) ≡ count_of p (filter_map h (a ++ l ++ r ++ b))
 exchanged h p a l r b = omega (
   arith,
   sum_of_parts h p (a ++ r ++ l) b,
@@ -71,4 +73,21 @@ pub exchange-law : (a l r b : List UnitView) (start : RunStart) → stats_of (a 
 exchange-law a l r b start =
     let tests = λ (p : TestView → Bool). exchanged test_of p a l r b in
     let scripts = λ (p : ExecutionResultDescription → Bool). exchanged script_of p a l r b in
-    simp (length_exchanged test_of a l r b, length_exchanged script_of a l r b, tests is_passed, tests is_passed_slow, tests is_passed_timed_out, tests is_flaky, tests is_failed, tests is_failed_slow, tests is_failed_timed_out, tests is_leaky, tests is_leaky_failed, tests is_exec_failed, scripts script_passed, scripts script_failed, scripts script_exec_failed, scripts script_timed_out)
+    simp (
+      length_exchanged test_of a l r b,
+      length_exchanged script_of a l r b,
+      tests is_passed,
+      tests is_passed_slow,
+      tests is_passed_timed_out,
+      tests is_flaky,
+      tests is_failed,
+      tests is_failed_slow,
+      tests is_failed_timed_out,
+      tests is_leaky,
+      tests is_leaky_failed,
+      tests is_exec_failed,
+      scripts script_passed,
+      scripts script_failed,
+      scripts script_exec_failed,
+      scripts script_timed_out,
+    )

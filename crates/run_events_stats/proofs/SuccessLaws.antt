@@ -29,7 +29,8 @@ all_zero : (a b c : ℕ) → a + b + c ≡ 0 → (nat_lt 0 a || nat_lt 0 b || na
 all_zero a b c e = rw (le-ltb 0 a (omega (arith, e)), le-ltb 0 b (omega (arith, e)), le-ltb 0 c (omega (arith, e))) refl
 
 failure_fails : {P : Type 0} (why : Option CancelReason) (kind : RunStatsFailureKind) → failure why kind ≡ Success → P
-failure_fails {P = P} why kind = cond_both (reason_is_failure why) (Failed kind) (Cancelled why kind) (λ r. r ≡ Success → P) (λ is e. absurd cc) (λ is e. absurd cc)
+failure_fails {P = P} why kind = cond_both (reason_is_failure why) (Failed kind) (Cancelled why kind) (λ r. r ≡ Success → P) (λ is e. absurd cc)
+    (λ is e. absurd cc)
 
 -- the numbers of a run that succeeded
 record Good (s : RunStats) : Type 0 where
@@ -50,7 +51,8 @@ good_from : (s : RunStats) → summary_of s ≡ Success → Good s
 good_from s =
     let Tells : FinalRunStats → Type 0 = λ r. r ≡ Success → Good s in
     cond_both (any_script_failed s) (failure s.cancel_reason SetupScript) _ Tells (λ is. failure_fails s.cancel_reason SetupScript)
-    (λ scripts. cond_both (nat_lt s.setup_scripts_finished_count s.setup_scripts_initial_count) (Cancelled s.cancel_reason SetupScript) _ Tells (λ is e. absurd cc)
+    (λ scripts. cond_both (nat_lt s.setup_scripts_finished_count s.setup_scripts_initial_count) (Cancelled s.cancel_reason SetupScript) _ Tells
+    (λ is e. absurd cc)
     (λ scripts_ran. cond_both (any_test_failed s) (failure s.cancel_reason (tests_step s)) _ Tells (λ is. failure_fails s.cancel_reason (tests_step s))
     (λ tests. cond_both (nat_lt s.finished_count s.initial_run_count) (Cancelled s.cancel_reason (tests_step s)) _ Tells (λ is e. absurd cc)
     (λ tests_ran e.
@@ -74,13 +76,16 @@ good_to s g =
 
 double_not : {A : Type 0} (p : A → Bool) (xs : List A) → list_all (λ x. not (not (p x))) xs ≡ list_all p xs
 double_not p [] = refl
-double_not p (x ∷ xs) = elim (p x) as (λ b. (not (not b) && list_all (λ y. not (not (p y))) xs) ≡ (b && list_all p xs)) [ true ↦ double_not p xs | false ↦ refl ]
+double_not p (x ∷ xs) = elim (p x) as
+    (λ b. (not (not b) && list_all (λ y. not (not (p y))) xs) ≡ (b && list_all p xs)) [ true ↦ double_not p xs | false ↦ refl ]
 
 success_is : (us : List UnitView) (start : RunStart) → summary_of (stats_of us start) ≡ Success → RunSucceeds us start
 success_is us start e =
     let g = good_from (stats_of us start) e in
     record {
-      scripts_passed = AllPass-from_list_all script_passed (scripts_of us) (sym (double_not script_passed (scripts_of us)) ∙ count_of-zero (λ r. not (script_passed r)) (scripts_of us) (sym (failed-scripts (scripts_of us)) ∙ g.scripts));
+      scripts_passed = AllPass-from_list_all script_passed (scripts_of us)
+          (sym (double_not script_passed (scripts_of us))
+          ∙ count_of-zero (λ r. not (script_passed r)) (scripts_of us) (sym (failed-scripts (scripts_of us)) ∙ g.scripts));
       scripts_ran = g.scripts_ran;
       no_failure = AllPass-from_list_all has_no_failure (tests_of us) (count_of-zero has_level_fail (tests_of us) (sym (failed-level (tests_of us)) ∙ g.tests));
       tests_ran = g.tests_ran;
@@ -90,7 +95,9 @@ success_is us start e =
 good_of : (us : List UnitView) (start : RunStart) → RunSucceeds us start → Good (stats_of us start)
 good_of us start ok =
     record {
-      scripts = failed-scripts (scripts_of us) ∙ zero-count_of (λ r. not (script_passed r)) (scripts_of us) (double_not script_passed (scripts_of us) ∙ list_all-from_AllPass script_passed (scripts_of us) ok.scripts_passed);
+      scripts = failed-scripts (scripts_of us)
+          ∙ zero-count_of (λ r. not (script_passed r)) (scripts_of us)
+          (double_not script_passed (scripts_of us) ∙ list_all-from_AllPass script_passed (scripts_of us) ok.scripts_passed);
       scripts_ran = ok.scripts_ran;
       tests = failed-level (tests_of us) ∙ zero-count_of has_level_fail (tests_of us) (list_all-from_AllPass has_no_failure (tests_of us) ok.no_failure);
       tests_ran = ok.tests_ran;

@@ -26,7 +26,8 @@ level_by r retried setting = cond (succeeds r) (cond retried (Some (flaky_level 
 
 -- such a test is counted in one failure counter where its level is `Fail`, and else in `passed`; and in `flaky` where its level is `Retry`
 counted_by : (r : ExecutionResultDescription) (retried : Bool) (setting : FlakyResult)
-    → (one ((succeeds r && retried && flaky_fails setting) || is_leak_fail r || is_fail r) + one (is_exec_fail r) + one (is_timeout_fail r) ≡ one (is_level_fail (level_by r retried setting)))
+    → (one ((succeeds r && retried && flaky_fails setting) || is_leak_fail r || is_fail r) + one (is_exec_fail r) + one (is_timeout_fail r) ≡ one
+    (is_level_fail (level_by r retried setting)))
     × ((succeeds r && not (retried && flaky_fails setting)) ≡ not (is_level_fail (level_by r retried setting)))
     × ((succeeds r && retried && not (flaky_fails setting)) ≡ is_level_retry (level_by r retried setting))
 counted_by result.Pass true flaky.Pass = (refl, refl, refl)
@@ -36,35 +37,41 @@ counted_by _ _ _ = (refl, refl, refl)
 
 -- a test of level `Fail`, and no other, is counted in one of the three failure counters
 one_failure : (t : TestView) → one (is_failed t) + one (is_exec_failed t) + one (is_failed_timed_out t) ≡ one (has_level_fail t)
-one_failure t = (counted_by t.result (was_retried t) t.setting).0
+one_failure t = (counted_by t.result (was_retried t) t.flaky_result).0
 
 -- the failure counters of tests count the tests of level `Fail`
-pub failed-level : (tests : List TestView) → count_of is_failed tests + count_of is_exec_failed tests + count_of is_failed_timed_out tests ≡ count_of has_level_fail tests
+pub failed-level : (tests : List TestView)
+    → count_of is_failed tests + count_of is_exec_failed tests + count_of is_failed_timed_out tests ≡ count_of has_level_fail tests
 failed-level tests = count_of-three is_failed is_exec_failed is_failed_timed_out has_level_fail one_failure tests
 
 -- `passed` counts the tests whose level is not `Fail`
 pub passed-level : (tests : List TestView) → count_of is_passed tests ≡ count_of has_no_failure tests
-passed-level tests = count_of-same is_passed has_no_failure (λ t. (counted_by t.result (was_retried t) t.setting).1) tests
+passed-level tests = count_of-same is_passed has_no_failure (λ t. (counted_by t.result (was_retried t) t.flaky_result).1) tests
 
 -- `flaky` counts the tests of level `Retry`
 pub flaky-level : (tests : List TestView) → count_of is_flaky tests ≡ count_of has_level_retry tests
-flaky-level tests = count_of-same is_flaky has_level_retry (λ t. (counted_by t.result (was_retried t) t.setting).2) tests
+flaky-level tests = count_of-same is_flaky has_level_retry (λ t. (counted_by t.result (was_retried t) t.flaky_result).2) tests
 
 -- a finished test passed or failed
-pub tests-verdicts : (tests : List TestView) → count_of is_passed tests + (count_of is_failed tests + count_of is_exec_failed tests + count_of is_failed_timed_out tests) ≡ length tests
+pub tests-verdicts : (tests : List TestView)
+    → count_of is_passed tests + (count_of is_failed tests + count_of is_exec_failed tests + count_of is_failed_timed_out tests) ≡ length tests
 tests-verdicts tests = omega (arith, failed-level tests, passed-level tests, count_of-not has_level_fail tests)
 
-one_script_failure : (r : ExecutionResultDescription) → one (script_failed r) + one (script_exec_failed r) + one (script_timed_out r) ≡ one (not (script_passed r))
+one_script_failure : (r : ExecutionResultDescription)
+    → one (script_failed r) + one (script_exec_failed r) + one (script_timed_out r) ≡ one (not (script_passed r))
 one_script_failure (result.Leak leak.Pass) = refl
 one_script_failure (result.Timeout slow.Pass) = refl
 one_script_failure _ = refl
 
 -- the failure counters of scripts count the scripts that did not pass
-pub failed-scripts : (scripts : List ExecutionResultDescription) → count_of script_failed scripts + count_of script_exec_failed scripts + count_of script_timed_out scripts ≡ count_of (λ r. not (script_passed r)) scripts
+pub failed-scripts : (scripts : List ExecutionResultDescription)
+    → count_of script_failed scripts + count_of script_exec_failed scripts + count_of script_timed_out scripts ≡ count_of (λ r. not (script_passed r)) scripts
 failed-scripts scripts = count_of-three script_failed script_exec_failed script_timed_out (λ r. not (script_passed r)) one_script_failure scripts
 
 -- a finished script passed or failed
-pub scripts-verdicts : (scripts : List ExecutionResultDescription) → count_of script_passed scripts + (count_of script_failed scripts + count_of script_exec_failed scripts + count_of script_timed_out scripts) ≡ length scripts
+pub scripts-verdicts : (scripts : List ExecutionResultDescription)
+    → count_of script_passed scripts + (count_of script_failed scripts + count_of script_exec_failed scripts + count_of script_timed_out scripts)
+    ≡ length scripts
 scripts-verdicts scripts = omega (arith, failed-scripts scripts, count_of-not script_passed scripts)
 
 -- the sums of failures fit where the list does

@@ -9,11 +9,11 @@ was_retried t = nat_lt 1 t.attempts
 
 -- it succeeded at last, but not at once, and is set to fail then
 abbrev pub fails_as_flaky : TestView → Bool
-fails_as_flaky t = succeeds t.result && was_retried t && flaky_fails t.setting
+fails_as_flaky t = succeeds t.result && was_retried t && flaky_fails t.flaky_result
 
 -- `passed`: it succeeded, and was not both retried and set to fail then
 abbrev pub is_passed : TestView → Bool
-is_passed t = succeeds t.result && not (was_retried t && flaky_fails t.setting)
+is_passed t = succeeds t.result && not (was_retried t && flaky_fails t.flaky_result)
 
 -- `failed`: it is flaky and set to fail, or leaked where that fails, or failed
 abbrev pub is_failed : TestView → Bool
@@ -29,7 +29,7 @@ is_failed_timed_out t = is_timeout_fail t.result
 
 -- `flaky`: it succeeded at last, but not at once, and is set to pass then
 abbrev pub is_flaky : TestView → Bool
-is_flaky t = succeeds t.result && was_retried t && not (flaky_fails t.setting)
+is_flaky t = succeeds t.result && was_retried t && not (flaky_fails t.flaky_result)
 
 -- `leaky`: also where it is flaky and set to fail
 abbrev pub is_leaky : TestView → Bool

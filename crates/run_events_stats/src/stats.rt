@@ -5,8 +5,8 @@ use run_events_child::child::LiveSpec;
 use run_events_results::results::CancelReason;
 use std::fmt;
 
-mod raised;
 mod run;
+mod sum;
 mod summary;
 mod update;
 
@@ -82,7 +82,7 @@ pub struct RunStats {
     pub cancel_reason: Option<CancelReason>,
 }
 
-/// A unit was not counted, because a counter that it raises is `usize::MAX`.
+/// Nothing was counted, because a counter would not fit `usize`.
 #[derive(Clone, Copy, Debug, PartialEq, Eq)]
 pub struct CounterFull;
 

@@ -6,8 +6,7 @@ ghost use Rattle.run_events_attempts.specs.Description.{ComesTo, HasFinalLevel, 
 use crate::attempts::ExecuteStatus;
 use run_events_child::child::OutputSpec;
 use run_events_levels::levels::{FinalStatusLevel, StatusLevel};
-use run_events_results::results::ExecutionResultDescription;
-use run_events_settings::config::{FlakyResult, LeakTimeoutResult, SlowTimeoutResult};
+use run_events_settings::config::FlakyResult;
 use std::alloc::AllocError;
 
 /// The description of a finished test, for reporters. It depends only on the number of attempts and
@@ -111,20 +110,10 @@ impl<'a, S: OutputSpec> ExecutionDescription<'a, S> {
         ensures { described_level self.now ≡ Some result }
     {
         match self {
-            ExecutionDescription::Success { single_status } => match single_status.result {
-                ExecutionResultDescription::Pass => StatusLevel::Pass,
-                ExecutionResultDescription::Leak {
-                    result: LeakTimeoutResult::Pass,
-                } => StatusLevel::Leak,
-                ExecutionResultDescription::Timeout {
-                    result: SlowTimeoutResult::Pass,
-                } => StatusLevel::Slow,
-                _ => unreachable!(),
-            },
-            ExecutionDescription::Flaky { result, .. } => match result {
-                FlakyResult::Pass => StatusLevel::Retry,
-                FlakyResult::Fail => StatusLevel::Fail,
-            },
+            ExecutionDescription::Success { single_status } => {
+                StatusLevel::of_success(&single_status.result).unwrap()
+            }
+            ExecutionDescription::Flaky { result, .. } => StatusLevel::of_flaky(*result),
             ExecutionDescription::Failure { .. } => StatusLevel::Fail,
         }
     }
@@ -141,24 +130,9 @@ impl<'a, S: OutputSpec> ExecutionDescription<'a, S> {
     {
         match self {
             ExecutionDescription::Success { single_status } => {
-                if single_status.is_slow {
-                    return FinalStatusLevel::Slow;
-                }
-                match single_status.result {
-                    ExecutionResultDescription::Pass => FinalStatusLevel::Pass,
-                    ExecutionResultDescription::Leak {
-                        result: LeakTimeoutResult::Pass,
-                    } => FinalStatusLevel::Leak,
-                    ExecutionResultDescription::Timeout {
-                        result: SlowTimeoutResult::Pass,
-                    } => FinalStatusLevel::Slow,
-                    _ => unreachable!(),
-                }
+                FinalStatusLevel::of_success(&single_status.result, single_status.is_slow).unwrap()
             }
-            ExecutionDescription::Flaky { result, .. } => match result {
-                FlakyResult::Pass => FinalStatusLevel::Flaky,
-                FlakyResult::Fail => FinalStatusLevel::Fail,
-            },
+            ExecutionDescription::Flaky { result, .. } => FinalStatusLevel::of_flaky(*result),
             ExecutionDescription::Failure { .. } => FinalStatusLevel::Fail,
         }
     }

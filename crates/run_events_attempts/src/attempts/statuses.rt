@@ -23,7 +23,7 @@ pub struct EmptyStatuses;
 
 impl<S: OutputSpec> ExecutionStatuses<S> {
     ghost use Rattle.std.specs.Prelude.{◌≡◌, ◌↔◌, ◌<◌, [], IfOk, IsErr, Some, length, vec_len};
-    ghost use Rattle.run_events_attempts.specs.Attempts.{attempts_left, attempts_of, last_of, setting_of, view_of};
+    ghost use Rattle.run_events_attempts.specs.Attempts.{attempts_left, attempts_of, last_of, flaky_result_of, view_of};
     ghost use Rattle.run_events_attempts.specs.Description.{ComesTo, HasFinalLevel, IsConsistent, described_final_level, described_level, is_success_description};
     ghost use Rattle.run_events_levels.specs.Level.{final_level_of, level_of};
     ghost use Rattle.run_events_results.specs.Results.{succeeds};
@@ -35,7 +35,7 @@ impl<S: OutputSpec> ExecutionStatuses<S> {
     pub fn new(statuses: Vec<ExecuteStatus<S>>, flaky_result: FlakyResult) -> Self
         requires { 0 < vec_len statuses }
         ensures attempts { attempts_of result ≡ statuses.items }
-        ensures setting { setting_of result ≡ flaky_result }
+        ensures flaky_result { flaky_result_of result ≡ flaky_result }
     {
         ExecutionStatuses {
             statuses,
@@ -52,7 +52,7 @@ impl<S: OutputSpec> ExecutionStatuses<S> {
     ) -> Result<Self, EmptyStatuses>
         ensures empty { IsErr result ↔ (statuses.items ≡ []) }
         ensures attempts { IfOk result (λ t. attempts_of t ≡ statuses.items) }
-        ensures setting { IfOk result (λ t. setting_of t ≡ flaky_result) }
+        ensures flaky_result { IfOk result (λ t. flaky_result_of t ≡ flaky_result) }
     {
         if statuses.is_empty() {
             statuses.destroy_empty();
@@ -63,7 +63,7 @@ impl<S: OutputSpec> ExecutionStatuses<S> {
 
     /// Returns how the test counts if it is flaky.
     pub fn flaky_result(&self) -> FlakyResult
-        ensures { result ≡ setting_of self.now }
+        ensures { result ≡ flaky_result_of self.now }
     {
         self.flaky_result
     }
@@ -108,7 +108,7 @@ impl<S: OutputSpec> ExecutionStatuses<S> {
     /// Describes the test: a failure if the last attempt did not succeed, or else a success if there
     /// is one attempt, or else flaky.
     pub fn describe(&self) -> ExecutionDescription<'_, S>
-        ensures parts { ComesTo (attempts_of self.now) (setting_of self.now) result }
+        ensures parts { ComesTo (attempts_of self.now) (flaky_result_of self.now) result }
         ensures consistent { IsConsistent result }
         ensures has_final_level { HasFinalLevel result }
         ensures success { is_success_description result ≡ succeeds (view_of self.now).result }

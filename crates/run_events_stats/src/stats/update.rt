@@ -1,18 +1,17 @@
 //! The changes of the counters by a finished unit.
 
-ghost use Rattle.std.specs.Prelude.{◌≡◌, ◌↔◌, ◌<◌, ◌^◌, IsOk, IsTrue, OnErr, OnOk, false, true};
+ghost use Rattle.std.specs.Prelude.{◌≡◌, ◌↔◌, IsOk, IsTrue, OnErr, OnOk, false, true};
 ghost use Rattle.run_events_attempts.specs.Attempts.{view_of};
 ghost use Rattle.run_events_levels.specs.TestView.{said_of};
 ghost use Rattle.run_events_results.specs.Results.{succeeds};
-ghost use Rattle.run_events_stats.specs.Counters.{ScriptCountersFit, TestCountersFit, plus_if, with_failed, with_script, with_result, with_test};
+ghost use Rattle.run_events_stats.specs.Counters.{ScriptCountersFit, TestCountersFit, with_failed, with_script, with_result, with_test};
 
-use crate::stats::raised::{RaisedByScript, RaisedByTest};
 use crate::stats::{CounterFull, RunStats};
 use run_events_attempts::attempts::{ExecutionStatuses, SetupScriptExecuteStatus};
 use run_events_child::child::LiveSpec;
 use run_events_levels::view::TestView;
 use run_events_results::results::ExecutionResultDescription;
-use run_events_settings::config::FlakyResult;
+use run_events_settings::config::{FlakyResult, LeakTimeoutResult};
 
 impl RunStats {
     /// Counts a finished test, given the view of it.
@@ -49,8 +48,6 @@ impl RunStats {
         requires { TestCountersFit (with_test self.old (said_of test.now)) }
         ensures { self.new ≡ with_test self.old (said_of test.now) }
     {
-        // A match on the result writes only the counters that are raised, which are two to five of
-        // eleven. With `RaisedByTest` all of them would be written.
         self.finished_count += 1;
         if test.result.is_success() {
             self.count_success(test);
@@ -122,18 +119,9 @@ impl RunStats {
     pub fn can_count_view(&self, test: &TestView<'_>) -> bool
         ensures { IsTrue result ↔ TestCountersFit (with_test self.now (said_of test.now)) }
     {
-        let raised = RaisedByTest::of(test);
-        fits(self.finished_count, true)
-            && fits(self.passed, raised.passed)
-            && fits(self.passed_slow, raised.passed_slow)
-            && fits(self.passed_timed_out, raised.passed_timed_out)
-            && fits(self.flaky, raised.flaky)
-            && fits(self.failed, raised.failed)
-            && fits(self.failed_slow, raised.failed_slow)
-            && fits(self.failed_timed_out, raised.failed_timed_out)
-            && fits(self.leaky, raised.leaky)
-            && fits(self.leaky_failed, raised.leaky_failed)
-            && fits(self.exec_failed, raised.exec_failed)
+        let mut one = RunStats::default();
+        one.raise_for_test(test);
+        self.has_room_for_tests(&one)
     }
 
     /// Counts a finished test.
@@ -205,18 +193,19 @@ impl RunStats {
         requires { ScriptCountersFit (with_script self.old script.now) }
         ensures { self.new ≡ with_script self.old script.now }
     {
-        let raised = RaisedByScript::of(script);
         self.setup_scripts_finished_count += 1;
-        self.setup_scripts_passed = counter_after(self.setup_scripts_passed, raised.passed);
-        self.setup_scripts_failed = counter_after(self.setup_scripts_failed, raised.failed);
-        self.setup_scripts_exec_failed = counter_after(
-            self.setup_scripts_exec_failed,
-            raised.exec_failed,
-        );
-        self.setup_scripts_timed_out = counter_after(
-            self.setup_scripts_timed_out,
-            raised.timed_out,
-        );
+        match script {
+            ExecutionResultDescription::Pass
+            | ExecutionResultDescription::Leak {
+                result: LeakTimeoutResult::Pass,
+            } => self.setup_scripts_passed += 1,
+            ExecutionResultDescription::Fail { .. }
+            | ExecutionResultDescription::Leak {
+                result: LeakTimeoutResult::Fail,
+            } => self.setup_scripts_failed += 1,
+            ExecutionResultDescription::ExecFail => self.setup_scripts_exec_failed += 1,
+            ExecutionResultDescription::Timeout { .. } => self.setup_scripts_timed_out += 1,
+        }
     }
 
     /// Returns true if the setup script can be counted, because every counter that its result raises
@@ -224,12 +213,9 @@ impl RunStats {
     pub fn can_count_script_result(&self, script: &ExecutionResultDescription) -> bool
         ensures { IsTrue result ↔ ScriptCountersFit (with_script self.now script.now) }
     {
-        let raised = RaisedByScript::of(script);
-        fits(self.setup_scripts_finished_count, true)
-            && fits(self.setup_scripts_passed, raised.passed)
-            && fits(self.setup_scripts_failed, raised.failed)
-            && fits(self.setup_scripts_exec_failed, raised.exec_failed)
-            && fits(self.setup_scripts_timed_out, raised.timed_out)
+        let mut one = RunStats::default();
+        one.raise_for_script(script);
+        self.has_room_for_scripts(&one)
     }
 
     /// Counts a finished setup script.
@@ -265,19 +251,4 @@ impl RunStats {
     {
         self.can_count_script_result(&script.result)
     }
-}
-
-/// Returns a counter, raised by one if `is_raised`.
-fn counter_after(counter: usize, is_raised: bool) -> usize
-    requires { plus_if counter is_raised < 2 ^ 64 }
-    ensures { result ≡ plus_if counter is_raised }
-{
-    counter + usize::from(is_raised)
-}
-
-/// Returns true if a counter is not raised or is less than `usize::MAX`.
-fn fits(counter: usize, is_raised: bool) -> bool
-    ensures { IsTrue result ↔ (plus_if counter is_raised < 2 ^ 64) }
-{
-    !is_raised || counter < usize::MAX
 }

@@ -21,7 +21,10 @@ pub loop-unit-preserved : goal.loop-unit-preserved
 loop-unit-preserved c =
     elim c.match-unit.branch [
       | in-Script w ↦ w.stats-is ∙ w.raise_for_script.ensures ∙ ap (λ s. with_script s w.in-Script.script.now.result) c.loop-unit.invariant
-          ∙ sym (stats-more-script c.args.units.now c.loop-unit.unit-index c.unit-item.result c.args.start _ c.loop-unit-test.true c.unit-item.is (ap unit_view w.in-Script.is))
-      | in-Test w ↦ w.stats-is ∙ w.raise_for_test.ensures ∙ ap (with_test c.loop-unit.stats) w.view.ensures ∙ ap (λ s. with_test s (view_of w.in-Test.test.now)) c.loop-unit.invariant
-          ∙ sym (stats-more-test c.args.units.now c.loop-unit.unit-index c.unit-item.result c.args.start _ c.loop-unit-test.true c.unit-item.is (ap unit_view w.in-Test.is))
+          ∙ sym (stats-more-script c.args.units.now c.loop-unit.unit-index c.unit-item.result c.args.start _ c.loop-unit-test.true c.unit-item.is
+          (ap unit_view w.in-Script.is))
+      | in-Test w ↦ w.stats-is ∙ w.raise_for_test.ensures ∙ ap (with_test c.loop-unit.stats) w.view.ensures
+          ∙ ap (λ s. with_test s (view_of w.in-Test.test.now)) c.loop-unit.invariant
+          ∙ sym (stats-more-test c.args.units.now c.loop-unit.unit-index c.unit-item.result c.args.start _ c.loop-unit-test.true c.unit-item.is
+          (ap unit_view w.in-Test.is))
     ]

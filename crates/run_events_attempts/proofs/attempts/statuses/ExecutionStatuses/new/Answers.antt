@@ -1,5 +1,5 @@
 use Rattle.std.proofs.Common.{rules}
 use Rattle.run_events_attempts.proofs.attempts.statuses.ExecutionStatuses.new.Goals as goal
 
-pub returns-clause-setting : goal.returns-clause-setting
-returns-clause-setting g c = search rules
+pub returns-clause-flaky_result : goal.returns-clause-flaky_result
+returns-clause-flaky_result g c = search rules

@@ -1,5 +1,0 @@
-use Rattle.std.proofs.Common.{rules}
-use Rattle.run_events_stats.proofs.stats.RunStats.raise_for_script.Goals as goal
-
-pub returns : goal.returns
-returns c = search rules
