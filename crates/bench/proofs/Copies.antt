@@ -11,5 +11,6 @@ copies_next : (n : ℕ) (piece : List ℕ) → concat (replicate (n + 1) piece) 
 copies_next n piece = rw (replicate_next n piece, concat-append (replicate n piece) (piece ∷ []), append-nil piece) refl
 
 -- and so it does behind a front
-pub one_more : (front piece bytes more : List ℕ) (n : ℕ) → bytes ≡ front ++ concat (replicate n piece) → more ≡ bytes ++ piece → more ≡ front ++ concat (replicate (n + 1) piece)
+pub one_more : (front piece bytes more : List ℕ) (n : ℕ) → bytes ≡ front ++ concat (replicate n piece) → more ≡ bytes ++ piece
+    → more ≡ front ++ concat (replicate (n + 1) piece)
 one_more front piece bytes more n is_bytes is_more = rw (is_more, is_bytes, copies_next n piece) (append_assoc front (concat (replicate n piece)) piece)

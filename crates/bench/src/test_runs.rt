@@ -4,7 +4,7 @@ use crate::logs::LOG;
 use crate::size::Size;
 use crate::timing::{Step, Work};
 use bstr::ByteSlice;
-use run_digest_devices::memory_device::{MemorySink, MemorySource};
+use program_io::memory_device::{MemorySink, MemorySource};
 use serde_json::Value;
 use std::alloc::{AllocError, Global};
 use std::fmt::Write;

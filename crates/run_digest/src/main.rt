@@ -2,11 +2,11 @@
 //! test's output, the part that says why the test failed.
 #![tactic(auto)]
 
-use run_digest_devices::fault::Fault;
-use run_digest_devices::std_device::{StdSink, StdSource};
+use program_io::std_device::{StdSink, StdSource};
 use run_digest_engine::command::Command;
 use run_digest_engine::count::count;
 use run_digest_engine::extract::extract;
+use run_digest_engine::fault::Fault;
 use std::env;
 use std::io::{self, ErrorKind};
 use std::process::ExitCode;

@@ -3,19 +3,22 @@
 #![tactic(auto)]
 
 use clap::{Arg, ArgAction, ArgMatches, Command, value_parser};
-use run_digest_devices::fault::Fault;
-use run_digest_devices::std_device::{StdSink, StdSource};
+use program_io::std_device::{StdSink, StdSource};
 use std::alloc::{AllocError, Global};
 use std::env;
 use std::fs::File;
 use std::io::{self, ErrorKind, Read};
 use std::process::ExitCode;
 use std::rt::{Env, Files};
+use test_report_engine::fault::Fault;
 use test_report_engine::report::report;
 use test_report_text::options::Options;
 
 /// How many bytes of what says why a test failed are shown, where no word says another number.
 const LIMIT: &str = "4096";
+
+/// The exit status after a bad word.
+const BAD_WORD: u8 = 2;
 
 /// The words that the program takes.
 fn command<'a>(alloc: Global) -> Result<Command<'a>, AllocError> {
@@ -100,7 +103,7 @@ fn report_file<R: Files + AllocGlobal + Print + Eprint>(
 fn run<R: Env + Files + AllocGlobal + Input + Print + Eprint>(rt: &R) -> Result<u8, Fault> {
     let Some(words) = words_of(rt)? else {
         let _ = eprintln!(rt; "test-report: a word is not UTF-8");
-        return Ok(Fault::BadWord.status());
+        return Ok(BAD_WORD);
     };
     match command(rt.alloc())?.try_get_matches_from(words.as_slice()) {
         Ok(matches) => report_of(rt, &matches),

@@ -29,7 +29,8 @@ ended_is count lines None some = cc
 ended_is count lines (Some behind) some = refl
 
 -- no suite goes on: those but the last, and the last, are over
-pub keeps-over : (old : Kept) (before : List (Option EventView)) (over : List SuiteLines) (last : Option SuiteLines) → if_ended last ≡ option_to_list last → old.suite ≡ None
+pub keeps-over : (old : Kept) (before : List (Option EventView)) (over : List SuiteLines) (last : Option SuiteLines) → if_ended last ≡ option_to_list last
+    → old.suite ≡ None
     → Keeps old before over last → Keeps old before (over ++ option_to_list last) None
 keeps-over old before over last ended none k =
     let all : List SuiteLines = over ++ option_to_list last in
@@ -49,7 +50,8 @@ keeps-over old before over last ended none k =
     }
 
 -- the last suite is over: nothing goes on, or a line said that it ended
-pub keeps-none : (old : Kept) (before : List (Option EventView)) (over : List SuiteLines) (last : Option SuiteLines) → old.suite ≡ None → Keeps old before over last
+pub keeps-none : (old : Kept) (before : List (Option EventView)) (over : List SuiteLines) (last : Option SuiteLines) → old.suite ≡ None
+    → Keeps old before over last
     → Keeps old before (over ++ option_to_list last) None
 keeps-none old before over None none k = keeps-over old before over None refl none k
 keeps-none old before over (Some s) none k =
@@ -57,14 +59,17 @@ keeps-none old before over (Some s) none k =
     keeps-over old before over (Some s) (ended_is s.count s.lines s.behind (subst G none k.goes_on)) none k
 
 -- the number of the suite that is closed
-suite_number : (old : Kept) (before : List (Option EventView)) (over : List SuiteLines) (s : SuiteLines) → s.behind ≡ None → Keeps old before over (Some s) → length old.summaries.items + 1 ≡ 1 + length over
+suite_number : (old : Kept) (before : List (Option EventView)) (over : List SuiteLines) (s : SuiteLines) → s.behind ≡ None → Keeps old before over (Some s)
+    → length old.summaries.items + 1 ≡ 1 + length over
 suite_number old before over s none k =
     let same : length old.summaries.items ≡ length over =
-    ap length (k.summaries ∙ ap (λ ss. map suite_summary (over ++ ss)) (if_ended-none s none) ∙ ap (map suite_summary) (append-nil over)) ∙ length-map over suite_summary in
+    ap length (k.summaries ∙ ap (λ ss. map suite_summary (over ++ ss)) (if_ended-none s none) ∙ ap (map suite_summary) (append-nil over))
+    ∙ length-map over suite_summary in
     omega (arith, same)
 
 -- the suites that are over, and the one that is closed, with its end as a line says it or not
-suites-closed : (old new : Kept) (before : List (Option EventView)) (over : List SuiteLines) (s closed : SuiteLines) → s.behind ≡ None → Keeps old before over (Some s) → Closes old new closed
+suites-closed : (old new : Kept) (before : List (Option EventView)) (over : List SuiteLines) (s closed : SuiteLines) → s.behind ≡ None
+    → Keeps old before over (Some s) → Closes old new closed
     → AreSuites 1 (over ++ closed ∷ []) (string_bytes new.suites)
 suites-closed old new before over s closed none k closes =
     let S : List SuiteLines → Type 0 = λ ss. AreSuites 1 ss (string_bytes old.suites) in
@@ -75,11 +80,13 @@ suites-closed old new before over s closed none k closes =
     (subst S (ap (λ ss. over ++ ss) (if_ended-none s none) ∙ append-nil over) k.suites)
     (subst N (suite_number old before over s none k) closes.is_text))
 
-summaries-closed : (old new : Kept) (before : List (Option EventView)) (over : List SuiteLines) (s closed : SuiteLines) → s.behind ≡ None → Keeps old before over (Some s) → Closes old new closed
+summaries-closed : (old new : Kept) (before : List (Option EventView)) (over : List SuiteLines) (s closed : SuiteLines) → s.behind ≡ None
+    → Keeps old before over (Some s) → Closes old new closed
     → new.summaries.items ≡ map suite_summary (over ++ closed ∷ [])
 summaries-closed old new before over s closed none k closes =
     closes.summaries
-    ∙ ap (λ ss. ss ++ suite_summary closed ∷ []) (k.summaries ∙ ap (λ ss. map suite_summary (over ++ ss)) (if_ended-none s none) ∙ ap (map suite_summary) (append-nil over))
+    ∙ ap (λ ss. ss ++ suite_summary closed ∷ [])
+    (k.summaries ∙ ap (λ ss. map suite_summary (over ++ ss)) (if_ended-none s none) ∙ ap (map suite_summary) (append-nil over))
     ∙ sym (map-append suite_summary over (closed ∷ []))
 
 -- what is kept but for the texts and the summaries of suites
@@ -87,7 +94,8 @@ abbrev pub IsSame : Kept → Kept → Type 0
 IsSame old new = new ≡ record old { suites = new.suites; summaries = new.summaries; suite = None }
 
 -- the suite that goes on is closed, without a line that says so
-pub keeps-closed : (old new : Kept) (before : List (Option EventView)) (over : List SuiteLines) (s : SuiteLines) → s.behind ≡ None → Keeps old before over (Some s) → Closes old new s → IsSame old new
+pub keeps-closed : (old new : Kept) (before : List (Option EventView)) (over : List SuiteLines) (s : SuiteLines) → s.behind ≡ None
+    → Keeps old before over (Some s) → Closes old new s → IsSame old new
     → Keeps new before (over ++ s ∷ []) None
 keeps-closed old new before over s none k closes same =
     let all : List SuiteLines = over ++ s ∷ [] in
@@ -113,7 +121,8 @@ with_end s = record { count = s.count; lines = s.lines; behind = Some [] }
 passed_over-ended : (s : SuiteLines) → s.behind ≡ None → suite_passed_over (with_end s) ≡ suite_passed_over s
 passed_over-ended s none = ap (λ b. length (passed_over_in s.lines) + option_map_or length b 0) (sym none)
 
-pub keeps-with_end : (old new : Kept) (before : List (Option EventView)) (over : List SuiteLines) (s : SuiteLines) → s.behind ≡ None → Keeps old before over (Some s) → Closes old new (with_end s) → IsSame old new
+pub keeps-with_end : (old new : Kept) (before : List (Option EventView)) (over : List SuiteLines) (s : SuiteLines) → s.behind ≡ None
+    → Keeps old before over (Some s) → Closes old new (with_end s) → IsSame old new
     → Keeps new before over (Some (with_end s))
 keeps-with_end old new before over s none k closes same =
     let O : Kept → Type 0 = λ x. AreFailures x.options (failures_of (over ++ with_end s ∷ [])) (string_bytes x.failures) in
@@ -131,12 +140,15 @@ keeps-with_end old new before over s none k closes same =
       summaries = summaries-closed old new before over s (with_end s) none k closes;
       passed_over =
           ap (λ x. x.passed_over) same ∙ k.passed_over
-          ∙ ap (λ n. length before + n) (sum_by_push suite_passed_over over s ∙ ap (λ n. sum_by suite_passed_over over + n) (sym (passed_over-ended s none)) ∙ sym (sum_by_push suite_passed_over over (with_end s)));
+          ∙ ap (λ n. length before + n)
+          (sum_by_push suite_passed_over over s ∙ ap (λ n. sum_by suite_passed_over over + n) (sym (passed_over-ended s none))
+          ∙ sym (sum_by_push suite_passed_over over (with_end s)));
       goes_on = subst G (sym same) refl;
     }
 
 -- a suite begins
-pub keeps-begun : (old : Kept) (suite : Suite) (before : List (Option EventView)) (over : List SuiteLines) (count : ℕ) → Keeps old before over None → IsSuiteOf suite count []
+pub keeps-begun : (old : Kept) (suite : Suite) (before : List (Option EventView)) (over : List SuiteLines) (count : ℕ) → Keeps old before over None
+    → IsSuiteOf suite count []
     → Keeps (record old { suite = Some suite }) before over (Some (record { count = count; lines = []; behind = None }))
 unfolding ends_in
 keeps-begun old suite before over count k is =
@@ -147,7 +159,8 @@ keeps-begun old suite before over count k is =
     let ran : flat_map (λ x. ran_in x.lines) (over ++ []) ≡ flat_map (λ x. ran_in x.lines) (over ++ fresh ∷ []) =
     ap (flat_map (λ x. ran_in x.lines)) whole ∙ sym (flat_map-last (λ x. ran_in x.lines) over fresh ∙ append-nil (flat_map (λ x. ran_in x.lines) over)) in
     let ignored : flat_map (λ x. ignored_in x.lines) (over ++ []) ≡ flat_map (λ x. ignored_in x.lines) (over ++ fresh ∷ []) =
-    ap (flat_map (λ x. ignored_in x.lines)) whole ∙ sym (flat_map-last (λ x. ignored_in x.lines) over fresh ∙ append-nil (flat_map (λ x. ignored_in x.lines) over)) in
+    ap (flat_map (λ x. ignored_in x.lines)) whole
+    ∙ sym (flat_map-last (λ x. ignored_in x.lines) over fresh ∙ append-nil (flat_map (λ x. ignored_in x.lines) over)) in
     let F : List EndView → Type 0 = λ es. AreFailures old.options es (string_bytes old.failures) in
     record {
       failures = subst F failed k.failures;

@@ -18,12 +18,14 @@ use Rattle.test_report_engine.proofs.LastSuite.{failures_of-more, failures_of-sa
 use Rattle.test_report_engine.proofs.SuiteTexts.{AreFailures-push, AreSuites-last}
 
 -- the suites that are over, with one more line of the last
-suites-with : (over : List SuiteLines) (count : ℕ) (lines : List (Option EventView)) (behind : Option (List (Option EventView))) (line : Option EventView) (text : List ℕ)
+suites-with : (over : List SuiteLines) (count : ℕ) (lines : List (Option EventView)) (behind : Option (List (Option EventView))) (line : Option EventView)
+    (text : List ℕ)
     → AreSuites 1 (over ++ if_ended (Some (record { count = count; lines = lines; behind = behind }))) text
     → AreSuites 1 (over ++ if_ended (Some (with_line (record { count = count; lines = lines; behind = behind }) line))) text
 suites-with over count lines None line text are = are
 suites-with over count lines (Some behind) line text are =
-    AreSuites-last 1 over (record { count = count; lines = lines; behind = Some behind }) (record { count = count; lines = lines; behind = Some (behind ++ line ∷ []) }) text
+    AreSuites-last 1 over (record { count = count; lines = lines; behind = Some behind })
+    (record { count = count; lines = lines; behind = Some (behind ++ line ∷ []) }) text
     (λ n t is. record { running = is.running; are_running = is.are_running; is = is.is }) are
 
 summaries-with : (over : List SuiteLines) (count : ℕ) (lines : List (Option EventView)) (behind : Option (List (Option EventView))) (line : Option EventView)
@@ -35,7 +37,8 @@ summaries-with over count lines (Some behind) line =
     ∙ sym (map-append suite_summary over (record { count = count; lines = lines; behind = Some (behind ++ line ∷ []) } ∷ []))
 
 -- a line that is passed over
-pub keeps-passed_over : (old : Kept) (suite : Option Suite) (before : List (Option EventView)) (over : List SuiteLines) (last : Option SuiteLines) (line : Option EventView)
+pub keeps-passed_over : (old : Kept) (suite : Option Suite) (before : List (Option EventView)) (over : List SuiteLines) (last : Option SuiteLines)
+    (line : Option EventView)
     → Keeps old before over last → is_told_by last line ≡ false → GoesOn suite (last_after last line)
     → Keeps (record old { passed_over = old.passed_over + 1; suite = suite }) (before_after before last line) over (last_after last line)
 keeps-passed_over old suite before over None line k untold goes_on = record {
@@ -89,8 +92,10 @@ failures-after old new es e more are false none is =
     subst P (sym (is ∙ ap (λ t. string_bytes old.failures ++ t) none ∙ append-nil (string_bytes old.failures))) (subst Q (sym (append-nil es)) are)
 
 -- the end of a test of the suite that goes on
-pub keeps-ended : (old new : Kept) (suite : Option Suite) (before : List (Option EventView)) (over : List SuiteLines) (s : SuiteLines) (line : Option EventView) (e : EndView)
-    → Keeps old before over (Some s) → is_told_by (Some s) line ≡ true → told_in s line ≡ Some e → GoesOn suite (Some (with_line s line)) → AddsEnd (record old { suite = suite }) new e
+pub keeps-ended : (old new : Kept) (suite : Option Suite) (before : List (Option EventView)) (over : List SuiteLines) (s : SuiteLines)
+    (line : Option EventView) (e : EndView)
+    → Keeps old before over (Some s) → is_told_by (Some s) line ≡ true → told_in s line ≡ Some e → GoesOn suite (Some (with_line s line))
+    → AddsEnd (record old { suite = suite }) new e
     → Keeps new before over (Some (with_line s line))
 keeps-ended old new suite before over s line e k told ended goes_on adds =
     let F : List EndView → Type 0 = λ es. AreFailures new.options es (string_bytes new.failures) in

@@ -29,14 +29,16 @@ flat_map-more f over s next more is =
 
 -- one more line of a suite, inside or behind it
 suite_lines-more : (count : ℕ) (lines : List (Option EventView)) (behind : Option (List (Option EventView))) (line : Option EventView)
-    → suite_lines (with_line (record { count = count; lines = lines; behind = behind }) line) ≡ suite_lines (record { count = count; lines = lines; behind = behind }) ++ line ∷ []
+    → suite_lines (with_line (record { count = count; lines = lines; behind = behind }) line) ≡ suite_lines
+    (record { count = count; lines = lines; behind = behind }) ++ line ∷ []
 suite_lines-more count lines None line =
     ap (λ ls. Some (SuiteStarts count) ∷ ls) (append-nil (lines ++ line ∷ []) ∙ ap (λ ls. ls ++ line ∷ []) (sym (append-nil lines)))
 suite_lines-more count lines (Some behind) line = ap (λ ls. Some (SuiteStarts count) ∷ ls) (sym (append_assoc lines (Some SuiteEnds ∷ behind) (line ∷ [])))
 
 -- it is a suite still
 is_suite-more : (count : ℕ) (lines : List (Option EventView)) (behind : Option (List (Option EventView))) (line : Option EventView) → begins_suite line ≡ false
-    → (behind ≡ None → is_boundary line ≡ false) → IsSuite (record { count = count; lines = lines; behind = behind }) → IsSuite (with_line (record { count = count; lines = lines; behind = behind }) line)
+    → (behind ≡ None → is_boundary line ≡ false) → IsSuite (record { count = count; lines = lines; behind = behind })
+    → IsSuite (with_line (record { count = count; lines = lines; behind = behind }) line)
 is_suite-more count lines None line begins inside is = record {
   inside = list_all-push (λ l. not (is_boundary l)) lines line is.inside (ap not (inside refl));
   outside = tt;
@@ -47,7 +49,8 @@ is_suite-more count lines (Some behind) line begins inside is = record {
 }
 
 -- the last suite, with one more line
-run-last : (before : List (Option EventView)) (over : List SuiteLines) (s next : SuiteLines) (line : Option EventView) (lines : List (Option EventView)) → IsSuite next
+run-last : (before : List (Option EventView)) (over : List SuiteLines) (s next : SuiteLines) (line : Option EventView) (lines : List (Option EventView))
+    → IsSuite next
     → suite_lines next ≡ suite_lines s ++ line ∷ [] → IsRun (run_of before over (Some s)) lines → IsRun (run_of before over (Some next)) (lines ++ line ∷ [])
 run-last before over s next line lines is_suite more is = record {
   before = is.before;
@@ -57,7 +60,8 @@ run-last before over s next line lines is_suite more is = record {
 }
 
 -- a line that begins no suite, and ends none that goes on
-pub run-more : (before : List (Option EventView)) (over : List SuiteLines) (last : Option SuiteLines) (line : Option EventView) (lines : List (Option EventView)) → IfNone last (over ≡ [])
+pub run-more : (before : List (Option EventView)) (over : List SuiteLines) (last : Option SuiteLines) (line : Option EventView)
+    (lines : List (Option EventView)) → IfNone last (over ≡ [])
     → begins_suite line ≡ false → IfSome last (λ s. s.behind ≡ None → is_boundary line ≡ false) → IsRun (run_of before over last) lines
     → IsRun (run_of (before_after before last line) over (last_after last line)) (lines ++ line ∷ [])
 run-more before over None line lines first begins inside is = record {
@@ -65,7 +69,8 @@ run-more before over None line lines first begins inside is = record {
   suites = is.suites;
   is =
       let none : flat_map suite_lines (over ++ []) ≡ [] = ap (λ ss. flat_map suite_lines (ss ++ [])) first in
-      ap (λ ls. ls ++ line ∷ []) (is.is ∙ ap (λ ls. before ++ ls) none ∙ append-nil before) ∙ sym (ap (λ ls. (before ++ line ∷ []) ++ ls) none ∙ append-nil (before ++ line ∷ []));
+      ap (λ ls. ls ++ line ∷ []) (is.is ∙ ap (λ ls. before ++ ls) none ∙ append-nil before)
+      ∙ sym (ap (λ ls. (before ++ line ∷ []) ++ ls) none ∙ append-nil (before ++ line ∷ []));
 }
 run-more before over (Some s) line lines first begins inside is =
     run-last before over s (with_line s line) line lines
@@ -73,11 +78,13 @@ run-more before over (Some s) line lines first begins inside is =
     (suite_lines-more s.count s.lines s.behind line) is
 
 -- a line that begins a suite
-pub run-begun : (before : List (Option EventView)) (over : List SuiteLines) (last : Option SuiteLines) (count : ℕ) (lines : List (Option EventView)) → IsRun (run_of before over last) lines
+pub run-begun : (before : List (Option EventView)) (over : List SuiteLines) (last : Option SuiteLines) (count : ℕ) (lines : List (Option EventView))
+    → IsRun (run_of before over last) lines
     → IsRun (run_of before (over ++ option_to_list last) (Some (record { count = count; lines = []; behind = None }))) (lines ++ Some (SuiteStarts count) ∷ [])
 run-begun before over last count lines is = record {
   before = is.before;
-  suites = All-push IsSuite (over ++ option_to_list last) (record { count = count; lines = []; behind = None }) is.suites (record { inside = refl; outside = tt });
+  suites = All-push IsSuite (over ++ option_to_list last) (record { count = count; lines = []; behind = None }) is.suites
+      (record { inside = refl; outside = tt });
   is = ap (λ ls. ls ++ Some (SuiteStarts count) ∷ []) is.is
       ∙ append_assoc before (flat_map suite_lines (over ++ option_to_list last)) (Some (SuiteStarts count) ∷ [])
       ∙ ap (λ ls. before ++ ls) (sym (flat_map-last suite_lines (over ++ option_to_list last) (record { count = count; lines = []; behind = None })));
@@ -85,13 +92,15 @@ run-begun before over last count lines is = record {
 
 -- a suite that goes on, with the line that ends it
 ended_lines : (count : ℕ) (lines : List (Option EventView)) (behind : Option (List (Option EventView))) → behind ≡ None
-    → suite_lines (record { count = count; lines = lines; behind = Some [] }) ≡ suite_lines (record { count = count; lines = lines; behind = behind }) ++ Some SuiteEnds ∷ []
+    → suite_lines (record { count = count; lines = lines; behind = Some [] }) ≡ suite_lines
+    (record { count = count; lines = lines; behind = behind }) ++ Some SuiteEnds ∷ []
 ended_lines count lines behind none =
     ap (λ ls. Some (SuiteStarts count) ∷ (ls ++ Some SuiteEnds ∷ [])) (sym (append-nil lines))
     ∙ ap (λ b. suite_lines (record { count = count; lines = lines; behind = b }) ++ Some SuiteEnds ∷ []) (sym none)
 
 -- the line that ends the suite that goes on
-pub run-ended : (before : List (Option EventView)) (over : List SuiteLines) (s : SuiteLines) (lines : List (Option EventView)) → s.behind ≡ None → IsRun (run_of before over (Some s)) lines
+pub run-ended : (before : List (Option EventView)) (over : List SuiteLines) (s : SuiteLines) (lines : List (Option EventView)) → s.behind ≡ None
+    → IsRun (run_of before over (Some s)) lines
     → IsRun (run_of before over (Some (record { count = s.count; lines = s.lines; behind = Some [] }))) (lines ++ Some SuiteEnds ∷ [])
 run-ended before over s lines none is =
     run-last before over s (record { count = s.count; lines = s.lines; behind = Some [] }) (Some SuiteEnds) lines

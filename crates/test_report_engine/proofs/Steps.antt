@@ -37,7 +37,8 @@ on_ok (Ok v) P Q p f = f p
 on_ok (Err e) P Q p f = tt
 
 -- a suite is closed by its text and its summary
-pub closes-made : (old new : Kept) (s : SuiteLines) (stats : RunStats) (ended : Bool) (number : ℕ) (running : List (List ℕ)) → number ≡ length old.summaries.items + 1 → stats ≡ stats_of_suite s
+pub closes-made : (old new : Kept) (s : SuiteLines) (stats : RunStats) (ended : Bool) (number : ℕ) (running : List (List ℕ))
+    → number ≡ length old.summaries.items + 1 → stats ≡ stats_of_suite s
     → AreRunning s.lines running → ended ≡ has_end s → string_bytes new.suites ≡ string_bytes old.suites ++ suite_text number stats ended running
     → new.summaries.items ≡ old.summaries.items ++ summary_of stats ∷ [] → Closes old new s
 closes-made old new s stats ended number running number_is stats_is are ended_is text summaries = record {
@@ -62,7 +63,8 @@ closes-same : (old new : Kept) (s : SuiteLines) → Closes (record old { suite =
 closes-same old new s closes = record { text = closes.text; is_text = closes.is_text; suites = closes.suites; summaries = closes.summaries }
 
 -- the suite that goes on is closed, and no line says that it ended
-pub keeps-close_last : (old new : Kept) (suite : Suite) (before : List (Option EventView)) (over : List SuiteLines) (last : Option SuiteLines) → old.suite ≡ Some suite
+pub keeps-close_last : (old new : Kept) (suite : Suite) (before : List (Option EventView)) (over : List SuiteLines) (last : Option SuiteLines)
+    → old.suite ≡ Some suite
     → ((s : SuiteLines) → IsSuiteOf suite s.count s.lines → false ≡ is_some s.behind → Closes (record old { suite = None }) new s) → IsSame old new
     → Keeps old before over last → Keeps new before (over ++ option_to_list last) None
 keeps-close_last old new suite before over None is closes same k =
@@ -73,7 +75,8 @@ keeps-close_last old new suite before over (Some s) is closes same k =
 
 -- a suite begins behind those that are over
 pub lines-begun : (old mid new : Kept) (suite : Suite) (count : ℕ) (lines : List (Option EventView))
-    → ((before : List (Option EventView)) (over : List SuiteLines) (last : Option SuiteLines) → Keeps old before over last → Keeps mid before (over ++ option_to_list last) None)
+    → ((before : List (Option EventView)) (over : List SuiteLines) (last : Option SuiteLines) → Keeps old before over last
+    → Keeps mid before (over ++ option_to_list last) None)
     → IsSuiteOf suite count [] → new ≡ record mid { suite = Some suite } → KeepsLines old lines → KeepsLines new (lines ++ Some (SuiteStarts count) ∷ [])
 lines-begun old mid new suite count lines closes is same k =
     let fresh : Option SuiteLines = Some (record { count = count; lines = []; behind = None }) in
@@ -88,8 +91,10 @@ lines-begun old mid new suite count lines closes is same k =
     }
 
 -- a suite ends, and a line says so
-ended-by : (old new : Kept) (suite : Suite) (before : List (Option EventView)) (over : List SuiteLines) (last : Option SuiteLines) (lines : List (Option EventView)) → old.suite ≡ Some suite
-    → ((s : SuiteLines) → IsSuiteOf suite s.count s.lines → true ≡ is_some s.behind → Closes (record old { suite = None }) new s) → IsSame old new → IsRun (run_of before over last) lines
+ended-by : (old new : Kept) (suite : Suite) (before : List (Option EventView)) (over : List SuiteLines) (last : Option SuiteLines)
+    (lines : List (Option EventView)) → old.suite ≡ Some suite
+    → ((s : SuiteLines) → IsSuiteOf suite s.count s.lines → true ≡ is_some s.behind → Closes (record old { suite = None }) new s) → IsSame old new
+    → IsRun (run_of before over last) lines
     → Keeps old before over last → KeepsLines new (lines ++ Some SuiteEnds ∷ [])
 ended-by old new suite before over None lines is closes same is_run k =
     let G : Option Suite → Type 0 = λ x. GoesOn x None in absurd (subst G is k.goes_on)
@@ -118,17 +123,20 @@ behind_more count lines None some = cc
 behind_more count lines (Some behind) some = (refl, refl, λ none. cc)
 
 -- no suite was begun still
-still_first : (over : List SuiteLines) (last : Option SuiteLines) (line : Option EventView) → IfNone last (over ≡ []) → IfNone (last_after last line) (over ≡ [])
+still_first : (over : List SuiteLines) (last : Option SuiteLines) (line : Option EventView) → IfNone last (over ≡ [])
+    → IfNone (last_after last line) (over ≡ [])
 still_first over None line first = first
 still_first over (Some s) line first = tt
 
 -- no suite goes on that the line could end
-ends_none : (before : List (Option EventView)) (last : Option SuiteLines) → GoesOn None last → (is_told_by last (Some SuiteEnds) ≡ false) × GoesOn None (last_after last (Some SuiteEnds)) × IfSome last (λ s. s.behind ≡ None → is_boundary (Some SuiteEnds) ≡ false)
+ends_none : (before : List (Option EventView)) (last : Option SuiteLines) → GoesOn None last → (is_told_by last (Some SuiteEnds) ≡ false)
+    × GoesOn None (last_after last (Some SuiteEnds)) × IfSome last (λ s. s.behind ≡ None → is_boundary (Some SuiteEnds) ≡ false)
 ends_none before None goes_on = (refl, tt, tt)
 ends_none before (Some s) goes_on = behind_more s.count s.lines s.behind goes_on
 
 -- a line that ends a suite, where none goes on, is passed over
-pub lines-ended_none : (old new : Kept) (lines : List (Option EventView)) → old.suite ≡ None → new ≡ record old { passed_over = old.passed_over + 1; suite = None } → KeepsLines old lines
+pub lines-ended_none : (old new : Kept) (lines : List (Option EventView)) → old.suite ≡ None
+    → new ≡ record old { passed_over = old.passed_over + 1; suite = None } → KeepsLines old lines
     → KeepsLines new (lines ++ Some SuiteEnds ∷ [])
 lines-ended_none old new lines none same k =
     let K : Kept → Type 0 = λ x. KeepsLines x (lines ++ Some SuiteEnds ∷ []) in
@@ -177,7 +185,8 @@ module _ (old : Kept) (suite : Option Suite) (line : Option EventView) (told : B
   }
 
   -- it is passed over
-  pub lines-passed_over : (new : Kept) → told ≡ false → new ≡ record old { passed_over = old.passed_over + 1; suite = suite } → KeepsLines new (lines ++ line ∷ [])
+  pub lines-passed_over : (new : Kept) → told ≡ false → new ≡ record old { passed_over = old.passed_over + 1; suite = suite }
+      → KeepsLines new (lines ++ line ∷ [])
   lines-passed_over new untold same =
       let K : Kept → Type 0 = λ x. KeepsLines x (lines ++ line ∷ []) in
       subst K (sym same) (more (record old { passed_over = old.passed_over + 1; suite = suite })
@@ -187,21 +196,27 @@ module _ (old : Kept) (suite : Option Suite) (line : Option EventView) (told : B
   pub lines-told : told ≡ true → end_of line ≡ None → KeepsLines (record old { suite = suite }) (lines ++ line ∷ [])
   lines-told is none = more (record old { suite = suite }) (told-by k.last (sym takes.told_is ∙ is) k.keeps takes.goes_on)
     where
-      told-by : (last : Option SuiteLines) → is_told_by last line ≡ true → Keeps old k.before k.over last → GoesOn suite (last_after last line) → Keeps (record old { suite = suite }) (before_after k.before last line) k.over (last_after last line)
+      told-by : (last : Option SuiteLines) → is_told_by last line ≡ true → Keeps old k.before k.over last → GoesOn suite (last_after last line)
+          → Keeps (record old { suite = suite }) (before_after k.before last line) k.over (last_after last line)
       told-by None is_told keeps goes_on = cc
       told-by (Some s) is_told keeps goes_on = keeps-told old suite k.before k.over s line keeps is_told (ends-none s.count s.lines s.behind line none) goes_on
 
   -- it ends a test
-  pub lines-test_ended : (new : Kept) (e : EndView) → told ≡ true → end_of line ≡ Some e → AddsEnd (record old { suite = suite }) new e → KeepsLines new (lines ++ line ∷ [])
+  pub lines-test_ended : (new : Kept) (e : EndView) → told ≡ true → end_of line ≡ Some e → AddsEnd (record old { suite = suite }) new e
+      → KeepsLines new (lines ++ line ∷ [])
   lines-test_ended new e is ended adds = more new (ended-in k.last (sym takes.told_is ∙ is) k.keeps takes.goes_on)
     where
-      ended-in : (last : Option SuiteLines) → is_told_by last line ≡ true → Keeps old k.before k.over last → GoesOn suite (last_after last line) → Keeps new (before_after k.before last line) k.over (last_after last line)
+      ended-in : (last : Option SuiteLines) → is_told_by last line ≡ true → Keeps old k.before k.over last → GoesOn suite (last_after last line)
+          → Keeps new (before_after k.before last line) k.over (last_after last line)
       ended-in None is_told keeps goes_on = cc
-      ended-in (Some s) is_told keeps goes_on = keeps-ended old new suite k.before k.over s line e keeps is_told (ends-test s.count s.lines s.behind line e is_told ended) goes_on adds
+      ended-in (Some s) is_told keeps goes_on = keeps-ended old new suite k.before k.over s line e keeps is_told
+          (ends-test s.count s.lines s.behind line e is_told ended) goes_on adds
 
 -- the suite that goes on takes a line
-takes-inside : (old new : Suite) (kept : Option Suite) (line : Option EventView) (told : Bool) (count : ℕ) (lines : List (Option EventView)) (behind : Option (List (Option EventView))) → behind ≡ None
-    → told ≡ is_told lines line → IsSuiteOf new count (lines ++ line ∷ []) → Takes kept (Some new) line told (Some (record { count = count; lines = lines; behind = behind }))
+takes-inside : (old new : Suite) (kept : Option Suite) (line : Option EventView) (told : Bool) (count : ℕ) (lines : List (Option EventView))
+    (behind : Option (List (Option EventView))) → behind ≡ None
+    → told ≡ is_told lines line → IsSuiteOf new count (lines ++ line ∷ [])
+    → Takes kept (Some new) line told (Some (record { count = count; lines = lines; behind = behind }))
 takes-inside old new kept line told count lines None none told_is is = record { told_is = told_is; goes_on = (refl, is) }
 takes-inside old new kept line told count lines (Some behind) none told_is is = cc
 
@@ -256,7 +271,8 @@ adds-ignored old e skipped is more =
     }
 
 -- a test that passed
-pub adds-passed : (old : Kept) (e : EndView) (totals : RunStats) → e.result ≡ Passed → totals ≡ with_test old.totals (view_of_end e) → AddsEnd old (record old { totals = totals }) e
+pub adds-passed : (old : Kept) (e : EndView) (totals : RunStats) → e.result ≡ Passed → totals ≡ with_test old.totals (view_of_end e)
+    → AddsEnd old (record old { totals = totals }) e
 adds-passed old e totals is more =
     let none : List ℕ = [] in
     let nothing : none ≡ none = refl in
@@ -291,13 +307,15 @@ adds-failed old e totals failures text failed more tells is =
     }
 
 -- the results that count as failures
-pub failed-is : (e : EndView) (r : TestResult) → e.result ≡ r → (is_failure (record e { result = r }) ≡ true) × (is_ignored (record e { result = r }) ≡ false) → (is_failure e ≡ true) × (is_ignored e ≡ false)
+pub failed-is : (e : EndView) (r : TestResult) → e.result ≡ r → (is_failure (record e { result = r }) ≡ true) × (is_ignored (record e { result = r }) ≡ false)
+    → (is_failure e ≡ true) × (is_ignored e ≡ false)
 failed-is e r is failed =
     let P : TestResult → Type 0 = λ x. (is_failure (record e { result = x }) ≡ true) × (is_ignored (record e { result = x }) ≡ false) in subst P (sym is) failed
 
 -- what is kept where no suite goes on is the report
 pub report-made : (old mid : Kept) (lines : List (Option EventView)) (o : RunOutcome) (text : List ℕ)
-    → ((before : List (Option EventView)) (over : List SuiteLines) (last : Option SuiteLines) → Keeps old before over last → Keeps mid before (over ++ option_to_list last) None)
+    → ((before : List (Option EventView)) (over : List SuiteLines) (last : Option SuiteLines) → Keeps old before over last
+    → Keeps mid before (over ++ option_to_list last) None)
     → mid.options ≡ old.options → IsHighest (map outcome_of mid.summaries.items) o
     → text ≡ string_bytes mid.failures ++ string_bytes mid.suites ++ totals_text mid.totals mid.skipped o mid.passed_over → KeepsLines old lines
     → (run : Run) × IsRun run lines × IsReport old.options run o text
@@ -320,7 +338,9 @@ report-made old mid lines o text closes options highest is k =
         is =
             is
             ∙ ap (λ t. string_bytes mid.failures ++ string_bytes mid.suites ++ totals_text t mid.skipped o mid.passed_over) (m.totals ∙ ap totals_of whole)
-            ∙ ap (λ n. string_bytes mid.failures ++ string_bytes mid.suites ++ totals_text (totals_of all) n o mid.passed_over) (m.skipped ∙ ap skipped_of whole)
-            ∙ ap (λ n. string_bytes mid.failures ++ string_bytes mid.suites ++ totals_text (totals_of all) (skipped_of all) o n) (m.passed_over ∙ ap (λ ss. length k.before + sum_by suite_passed_over ss) whole);
+            ∙ ap (λ n. string_bytes mid.failures ++ string_bytes mid.suites ++ totals_text (totals_of all) n o mid.passed_over)
+            (m.skipped ∙ ap skipped_of whole)
+            ∙ ap (λ n. string_bytes mid.failures ++ string_bytes mid.suites ++ totals_text (totals_of all) (skipped_of all) o n)
+            (m.passed_over ∙ ap (λ ss. length k.before + sum_by suite_passed_over ss) whole);
       },
     )

@@ -15,7 +15,8 @@ AreFailures-push options (first ∷ es) e text more (a, b, is_a, are_b, whole) i
     (a, b ++ more, is_a, AreFailures-push options es e b more are_b is, ap (λ t. t ++ more) whole ∙ append_assoc a b more)
 
 -- one more suite
-pub AreSuites-push : (number : ℕ) (ss : List SuiteLines) (s : SuiteLines) (text more : List ℕ) → AreSuites number ss text → IsSuiteText (number + length ss) s more
+pub AreSuites-push : (number : ℕ) (ss : List SuiteLines) (s : SuiteLines) (text more : List ℕ) → AreSuites number ss text
+    → IsSuiteText (number + length ss) s more
     → AreSuites number (ss ++ s ∷ []) (text ++ more)
 AreSuites-push number [] s text more none is =
     let P : ℕ → Type 0 = λ n. IsSuiteText n s more in
@@ -27,7 +28,8 @@ AreSuites-push number (first ∷ ss) s text more (a, b, is_a, are_b, whole) is =
     (a, b ++ more, is_a, AreSuites-push (number + 1) ss s b more are_b (subst P same is), ap (λ t. t ++ more) whole ∙ append_assoc a b more)
 
 -- the last suite in the place of another with the same text
-pub AreSuites-last : (number : ℕ) (ss : List SuiteLines) (s next : SuiteLines) (text : List ℕ) → ((n : ℕ) (t : List ℕ) → IsSuiteText n s t → IsSuiteText n next t)
+pub AreSuites-last : (number : ℕ) (ss : List SuiteLines) (s next : SuiteLines) (text : List ℕ)
+    → ((n : ℕ) (t : List ℕ) → IsSuiteText n s t → IsSuiteText n next t)
     → AreSuites number (ss ++ s ∷ []) text → AreSuites number (ss ++ next ∷ []) text
 AreSuites-last number [] s next text same (a, b, is_a, are_b, whole) = (a, b, same number a is_a, are_b, whole)
 AreSuites-last number (first ∷ ss) s next text same (a, b, is_a, are_b, whole) = (a, b, is_a, AreSuites-last (number + 1) ss s next b same are_b, whole)

@@ -38,7 +38,8 @@ module _ {D : Type 0} (IsText : List ℕ → D → Type 0) (one : (bytes : List 
 
   -- what was read of a line says all that its value says
   says-all : (Reads Finds : Option D → Type 0) (P : D → Type 0) (line : List ℕ) → (Reads None → (d : D) → ¬ HoldsText line d)
-      → ((d : D) → Reads (Some d) → HoldsText line d) → ((d : D) → P d → Finds (Some d)) → (found : Option D) → Reads found → (d : D) → HoldsText line d → P d → Finds found
+      → ((d : D) → Reads (Some d) → HoldsText line d) → ((d : D) → P d → Finds (Some d)) → (found : Option D) → Reads found → (d : D) → HoldsText line d → P d
+      → Finds found
   says-all Reads Finds P line none some says None read d h p = absurd (none read d h)
   says-all Reads Finds P line none some says (Some e) read d h p = says e (subst P (holds-one line d e h (some e read)) p)
 
@@ -62,7 +63,8 @@ tells-of-line bytes line (Some e) read says only =
 pub keeps-told : {T E : Type 0} (result : Result T E) (old new : Kept) (bytes : List ℕ) (line : Line) (r : Option Event) → IsRead bytes (value_of line)
     → IfSome r (λ e. ValueSays (value_of line) (event_view e)) → ((said : EventView) → ValueSays (value_of line) said → option_map event_view r ≡ Some said)
     → OnOk result ((events : List (Option EventView)) → KeepsLines old events → KeepsLines new (events ++ option_map event_view r ∷ []))
-    → OnOk result ((events : List (Option EventView)) → KeepsLines old events → (event : Option EventView) × Tells bytes event × KeepsLines new (events ++ event ∷ []))
+    → OnOk result ((events : List (Option EventView)) → KeepsLines old events → (event : Option EventView) × Tells bytes event
+    × KeepsLines new (events ++ event ∷ []))
 keeps-told (Err e) old new bytes line r read says only keeps = tt
 keeps-told (Ok x) old new bytes line r read says only keeps =
     λ events kept. (option_map event_view r, tells-of-line bytes line r read says only, keeps events kept)

@@ -1,3 +1,4 @@
+pub mod Fault
 pub mod Kept
 pub mod Lines
 pub mod Report

@@ -1,11 +1,6 @@
 -- The report of a run.
-use Rattle.std.specs.Prelude.{◌≡◌, ◌+◌, ℕ, Bool, true, false, List, [], ◌∷◌, ◌++◌, map, Option, Ok, Err}
-use Rattle.std.specs.Io.KnownBytes.{Appends, IsAtEnd, Keeps}
+use Rattle.std.specs.Prelude.{◌≡◌, ◌+◌, ℕ, Bool, true, false, List, [], ◌∷◌, ◌++◌, map, Option}
 use Rattle.std.specs.List.{AllZip}
-use Rattle.std.specs.declared.result.Result.{Result}
-use Rattle.run_digest_devices.specs.Transfer.{AppendsStart}
-use Rattle.run_digest_devices.specs.declared.fault.Fault.{Fault}
-use Rattle.run_digest_devices.specs.declared.fault.Fault.TheVariants as faults
 use Rattle.run_events_stats.specs.Outcome.{IsHighest}
 use Rattle.run_events_stats.specs.declared.outcome.run_outcome.RunOutcome.{RunOutcome}
 use Rattle.run_events_stats.specs.declared.outcome.run_outcome.RunOutcome.TheVariants as outcome
@@ -43,16 +38,6 @@ pub record IsReport (options : Options) (run : Run) (o : RunOutcome) (text : Lis
   pub highest : IsHighest (map suite_outcome run.suites) o
   pub is : text ≡ failures ++ suites ++ totals_text (totals_of run.suites) (skipped_of run.suites) o (passed_over_of run)
 
--- this is the report of the run that the lines of an input say
-pub record IsReportOf (options : Options) (input : List ℕ) (o : RunOutcome) (text : List ℕ) : Type 0 where
-  pub lines : List (List ℕ)
-  pub are_lines : AreLines input lines
-  pub events : List (Option EventView)
-  pub tell : AllZip Tells lines events
-  pub run : Run
-  pub is_run : IsRun run events
-  pub report : IsReport options run o text
-
 -- the outcome is a success
 abbrev pub is_success : RunOutcome → Bool
 is_success outcome.Success = true
@@ -60,35 +45,14 @@ is_success outcome.NoTestsRun = false
 is_success (outcome.Cancelled step) = false
 is_success (outcome.Failed step) = false
 
--- What is answered to this input. With Ok the whole report was written, and the answer is whether the outcome is a success;
--- after a failed write a beginning of it was written.
-abbrev pub Answers : Options → Result Bool Fault → Option (List ℕ) → Option (List ℕ) → List ℕ → Type 0
-Answers options (Ok success) old new input =
-    (o : RunOutcome) × (text : List ℕ) × IsReportOf options input o text × Appends old new text × (success ≡ is_success o)
-Answers options (Err faults.Write) old new input =
-    (o : RunOutcome) × (text : List ℕ) × IsReportOf options input o text × AppendsStart old new text
-Answers options (Err faults.Read) old new input = Unit {0}
-Answers options (Err faults.OutOfMemory) old new input = Unit {0}
-Answers options (Err faults.CounterFull) old new input = Unit {0}
-Answers options (Err faults.BadWord) old new input = ⊥
-Answers options (Err (faults.BadLine number)) old new input = ⊥
-
--- nothing was written, but with Ok or after a failed write
-abbrev pub KeepsSink : Result Bool Fault → Option (List ℕ) → Option (List ℕ) → Type 0
-KeepsSink (Ok success) old new = Unit {0}
-KeepsSink (Err faults.Write) old new = Unit {0}
-KeepsSink (Err faults.Read) old new = Keeps old new
-KeepsSink (Err faults.OutOfMemory) old new = Keeps old new
-KeepsSink (Err faults.CounterFull) old new = Keeps old new
-KeepsSink (Err faults.BadWord) old new = ⊥
-KeepsSink (Err (faults.BadLine number)) old new = ⊥
-
--- nothing is left unread, but after a failed read, a full counter or want of memory
-abbrev pub ReadsToEnd : Result Bool Fault → Option (List ℕ) → Type 0
-ReadsToEnd (Ok success) left = IsAtEnd left
-ReadsToEnd (Err faults.Write) left = IsAtEnd left
-ReadsToEnd (Err faults.Read) left = Unit {0}
-ReadsToEnd (Err faults.OutOfMemory) left = Unit {0}
-ReadsToEnd (Err faults.CounterFull) left = Unit {0}
-ReadsToEnd (Err faults.BadWord) left = ⊥
-ReadsToEnd (Err (faults.BadLine number)) left = ⊥
+-- this is the report of the run that the lines of an input say, and the answer is whether its outcome is a success
+pub record IsReportOf (options : Options) (input text : List ℕ) (success : Bool) : Type 0 where
+  pub lines : List (List ℕ)
+  pub are_lines : AreLines input lines
+  pub events : List (Option EventView)
+  pub tell : AllZip Tells lines events
+  pub run : Run
+  pub is_run : IsRun run events
+  pub outcome : RunOutcome
+  pub report : IsReport options run outcome text
+  pub success_is : success ≡ is_success outcome

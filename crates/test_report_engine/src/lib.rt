@@ -12,6 +12,7 @@
 //! ```
 #![tactic(auto)]
 
+pub mod fault;
 mod kept;
 mod reading;
 pub mod report;

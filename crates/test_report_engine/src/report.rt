@@ -2,15 +2,17 @@
 
 ghost use Rattle.std.specs.Prelude.{◌≡◌, ◌↔◌, ◌⊎◌, true, false, IfErr, IfOk, IfSome, OnOk, IsErrOf};
 ghost use Rattle.std.specs.Io.KnownBytes.{IsAtEnd};
-ghost use Rattle.run_digest_devices.specs.declared.fault.Fault.TheVariants as faults;
+ghost use Rattle.program_io.specs.Engine.{Answers, KeepsSink, ReadsToEnd};
+ghost use Rattle.test_report_engine.specs.Fault.{stage_of};
 ghost use Rattle.test_report_engine.specs.Kept.{HasRead, HasReadAll};
-ghost use Rattle.test_report_engine.specs.Report.{Answers, KeepsSink, ReadsToEnd};
+ghost use Rattle.test_report_engine.specs.Report.{IsReportOf};
+ghost use Rattle.test_report_engine.specs.declared.fault.Fault.TheVariants as faults;
 
+use crate::fault::Fault;
 use crate::kept::Kept;
 use crate::reading::Reading;
-use run_digest_devices::device::{Sink, Source};
-use run_digest_devices::fault::Fault;
-use run_digest_devices::transfer::write_all;
+use program_io::device::{Sink, Source};
+use program_io::transfer::write_all;
 use run_events_stats::outcome::RunOutcome;
 use std::alloc::Global;
 use test_report_text::options::Options;
@@ -91,16 +93,14 @@ pub fn report<R: Source, W: Sink>(
 ) -> Result<bool, Fault>
     requires source_works { R.failed source.old ≡ false }
     requires sink_works { W.failed sink.old ≡ false }
-    ensures faults { IfErr result
-        (λ e. (e ≡ faults.Read) ⊎ (e ≡ faults.Write) ⊎ (e ≡ faults.CounterFull)
-        ⊎ (e ≡ faults.OutOfMemory)) }
     ensures read { IsErrOf result faults.Read ↔ (R.failed source.new ≡ true) }
     ensures write { IsErrOf result faults.Write ↔ (W.failed sink.new ≡ true) }
-    ensures end { ReadsToEnd result (R.left source.new) }
-    ensures kept { KeepsSink result (W.written sink.old) (W.written sink.new) }
+    ensures end { ReadsToEnd stage_of result (R.left source.new) }
+    ensures kept { KeepsSink stage_of result (W.written sink.old) (W.written sink.new) }
     ensures flushed { OnOk result (W.flushed sink.new ≡ true) }
     ensures answer { IfSome (R.left source.old)
-        (Answers options result (W.written sink.old) (W.written sink.new)) }
+        (λ input. Answers stage_of (IsReportOf options input) result
+        (W.written sink.old) (W.written sink.new)) }
 {
     let mut kept = read_run(alloc, source, options)?;
     let outcome = kept.finish()?;

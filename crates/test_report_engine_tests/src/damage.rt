@@ -1,7 +1,7 @@
 //! A run that is cut short, or of which a byte is damaged.
 
 use crate::devices::{OPTIONS, REPORT, RUN, reports};
-use run_digest_devices::memory_device::{MemorySink, MemorySource};
+use program_io::memory_device::{MemorySink, MemorySource};
 use std::alloc::Global;
 use std::test::Fail;
 use test_report_engine::report::report;

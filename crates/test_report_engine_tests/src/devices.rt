@@ -1,9 +1,9 @@
 //! The report, over memory.
 
-use run_digest_devices::device::{Sink, Source};
-use run_digest_devices::fault::Fault;
-use run_digest_devices::memory_device::{MemorySink, MemorySource};
+use program_io::device::{Sink, Source};
+use program_io::memory_device::{MemorySink, MemorySource};
 use std::alloc::Global;
+use test_report_engine::fault::Fault;
 use test_report_engine::report::report;
 use test_report_text::options::Options;
 

@@ -1,8 +1,8 @@
 //! The report over devices that fail.
 
 use crate::devices::{Devices, OPTIONS, REPORT, RUN, SOUND, gives};
-use run_digest_devices::fault::Fault;
 use std::test::Fail;
+use test_report_engine::fault::Fault;
 
 #[test]
 fn each_read_that_fails_is_answered(rt: HostRuntime) -> Result<(), Fail> {

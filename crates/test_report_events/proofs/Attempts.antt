@@ -20,8 +20,13 @@ pub attempts-parsed : {E : Type 0} (digits : List ℕ) (r : Result ℕ E) → fa
     → ParsesUnsigned 64 10 digits r → IsAttempts digits (result_ok r)
 attempts-parsed {E} digits (Ok n) sign front parsed =
     let p = parse_plain (numerals_by_value (AllDigits 10) tells_digits) {E = E} 64 digits (Ok n) parsed (eqb-false _ 43 (sym sign)) in
-    let is : decimal n ≡ digits = ap decimal p.1 ∙ decimal-digits_value (numerals_by_value (AllDigits 10) tells_digits) digits p.0.0 p.0.1 (λ z. absurd (eqb-false _ 48 (sym front) z)) p.0.2 in
-    (not-zero n (λ none. eqb-false _ 48 (sym front) (ap (λ ds. get_or ds 0 0) (sym is ∙ ap decimal none ∙ decimal_digit 0 (omega arith)))), omega (arith, p.0.2, p.1), sym is)
+    let is : decimal n ≡ digits = ap decimal p.1
+    ∙ decimal-digits_value (numerals_by_value (AllDigits 10) tells_digits) digits p.0.0 p.0.1 (λ z. absurd (eqb-false _ 48 (sym front) z)) p.0.2 in (
+      not-zero n (λ none. eqb-false _ 48 (sym front) (ap (λ ds. get_or ds 0 0) (sym is ∙ ap decimal none ∙ decimal_digit 0 (omega arith)))),
+      omega
+          (arith, p.0.2, p.1),
+      sym is,
+    )
 attempts-parsed digits (Err e) sign front parsed = λ n some fits is. not-both (parse-decimal 64 n digits (Err e) fits fits is parsed)
 
 -- a number begins with one of the digits 1 to 9

@@ -45,7 +45,8 @@ module _ (d : Data) where
   says-of (Some e) o is h = subst (λ x. IfSome x (Says d)) (sym is) h
 
   -- the object of a suite
-  started-says : HasType d (codes "suite") → HasEvent d (codes "started") → (o : Option ℕ) → number_of (codes "test_count") d ≡ o → IfSome (option_map SuiteStarts o) (Says d)
+  started-says : HasType d (codes "suite") → HasEvent d (codes "started") → (o : Option ℕ) → number_of (codes "test_count") d ≡ o
+      → IfSome (option_map SuiteStarts o) (Says d)
   started-says of is None h = tt
   started-says of is (Some count) h = (of, is, h)
 
@@ -99,7 +100,8 @@ module _ (d : Data) where
         let same = test-one d name e.name n e.attempts named h.1 in
         λ i. record { name = same.0 i; attempts = same.1 i; result = e.result; output = sym h.2 i; message = sym h.3 i }
 
-    ends-only : (w : List ℕ) → HasType d (codes "test") → HasEvent d w → (r : TestResult) → EndsAs d r → test_said w d name n ≡ Some (TestEnds (end_said d name n r))
+    ends-only : (w : List ℕ) → HasType d (codes "test") → HasEvent d w → (r : TestResult) → EndsAs d r
+        → test_said w d name n ≡ Some (TestEnds (end_said d name n r))
     unfolding test_said failure_said
     ends-only w of is Passed (inl h) = let e : w ≡ codes "ok" = some-one is h.1 in rw e refl
     ends-only w of is Passed (inr h) = absurd (apart of h refl)
@@ -112,8 +114,10 @@ module _ (d : Data) where
     unfolding test_said
     test-only w of is (SuiteStarts count) h = absurd (apart of h.0 refl)
     test-only w of is SuiteEnds h = absurd (apart of h.0 refl)
-    test-only w of is (TestStarts other) h = let e : w ≡ codes "started" = some-one is h.1 in rw e (ap (λ x. Some (TestStarts x)) (test-one d name other n h.2.0 named h.2.1).0)
-    test-only w of is (TestIsSlow other) h = let e : w ≡ codes "timeout" = some-one is h.1 in rw e (ap (λ x. Some (TestIsSlow x)) (test-one d name other n h.2.0 named h.2.1).0)
+    test-only w of is (TestStarts other) h = let e : w ≡ codes "started" = some-one is h.1 in rw e
+        (ap (λ x. Some (TestStarts x)) (test-one d name other n h.2.0 named h.2.1).0)
+    test-only w of is (TestIsSlow other) h = let e : w ≡ codes "timeout" = some-one is h.1 in rw e
+        (ap (λ x. Some (TestIsSlow x)) (test-one d name other n h.2.0 named h.2.1).0)
     test-only w of is (TestEnds e) h = ends-only w of is e.result h.0 ∙ ap (λ x. Some (TestEnds x)) (end-only e h)
 
     pub bench-only : HasType d (codes "bench") → (e : EventView) → Says d e → TestEnds (end_said d name n Passed) ≡ e

@@ -49,10 +49,12 @@ numbered-back written front back other n cut h = cut-same 35 front other back (d
 
 -- no number is behind a name
 pub names-cut : (written front back : List ℕ) → SplitsAroundMatch (RFindsChar 35) written front back → IsAttempts back None → Names written written 1
-names-cut written front back cut none = inr (refl, refl, λ other n h. none n h.some h.fits (numbered-back written front back other n (cut-around written front back cut) h).1)
+names-cut written front back cut none = inr
+    (refl, refl, λ other n h. none n h.some h.fits (numbered-back written front back other n (cut-around written front back cut) h).1)
 
 pub names-whole : (written : List ℕ) → RFindsChar 35 written None → Names written written 1
-names-whole written none = inr (refl, refl, λ other n h. lacks-later 35 other (decimal n) (subst (Lacks 35) h.is (λ i inside. NoCharPasses-char 35 written i none (omega arith) inside)))
+names-whole written none = inr
+    (refl, refl, λ other n h. lacks-later 35 other (decimal n) (subst (Lacks 35) h.is (λ i inside. NoCharPasses-char 35 written i none (omega arith) inside)))
 
 -- a name is that of one test
 numbered-one : (written a b : List ℕ) (m n : ℕ) → IsNumbered written a m → IsNumbered written b n → (a ≡ b) × (m ≡ n)

@@ -23,7 +23,7 @@ described_end Ignored = described.Pass
 
 -- what of the end of a test decides its counters: no line says that a test was slow, or how a flaky one is to count
 abbrev pub view_of_end : EndView → TestView
-view_of_end e = record { result = described_end e.result; attempts = e.attempts; is_slow = false; setting = setting.Pass }
+view_of_end e = record { result = described_end e.result; attempts = e.attempts; is_slow = false; flaky_result = setting.Pass }
 
 -- what is known of a suite of so many tests: those that it ignored were not to run
 abbrev pub suite_start : ℕ → List (Option EventView) → RunStart

@@ -5,7 +5,7 @@ ghost use Rattle.run_events_stats.specs.Counters.{TestCountersFit, with_test};
 ghost use Rattle.test_report_events.specs.Event.{end_view};
 ghost use Rattle.test_report_suite.specs.Counted.{described_end, view_of_end};
 
-use run_events_levels::view::TestView;
+use run_events_levels::view::FinishedTest;
 use run_events_results::results::{ExecutionResultDescription, FailureDescription};
 use run_events_settings::config::{FlakyResult, SlowTimeoutResult};
 use run_events_stats::stats::{CounterFull, RunStats};
@@ -44,12 +44,11 @@ pub fn count_end(stats: &mut RunStats, end: TestEnd<'_>) -> Result<(), CounterFu
         ↔ TestCountersFit (with_test stats.old (view_of_end (end_view end.entry))) }
     ensures kept { OnErr result (stats.new ≡ stats.old) }
 {
-    let result = described(end.result);
-    let view = TestView {
-        result: &result,
+    let test = FinishedTest {
+        result: described(end.result),
         attempts: end.attempts,
         is_slow: false,
         flaky_result: FlakyResult::Pass,
     };
-    stats.try_on_test_view(&view)
+    stats.try_on_test_view(&test.view())
 }

@@ -7,7 +7,6 @@ ghost use Rattle.test_report_suite.specs.Lines.{is_running, is_told};
 ghost use Rattle.test_report_suite.specs.Suite.{AreRunning, IsSuiteOf};
 
 use crate::counted::count_end;
-use run_digest_devices::fault::Fault;
 use run_events_stats::stats::{CounterFull, RunStats};
 use std::alloc::{AllocError, AllocFailed, Global};
 use std::collections::BTreeSet;
@@ -53,22 +52,6 @@ impl<T: Drop> From<AllocFailed<T>> for SuiteError {
 
     fn from(_: AllocFailed<T>) -> SuiteError {
         SuiteError::OutOfMemory
-    }
-}
-
-impl From<SuiteError> for Fault {
-    ghost use Rattle.std.specs.Prelude.{◌≡◌, ◌⊎◌};
-    ghost use Rattle.run_digest_devices.specs.declared.fault.Fault.TheVariants as faults;
-    ghost use Rattle.test_report_suite.specs.declared.suite.SuiteError.TheVariants as errors;
-
-    ghost from_gives = { λ error fault. ((error ≡ errors.CounterFull) × (fault ≡ faults.CounterFull))
-        ⊎ ((error ≡ errors.OutOfMemory) × (fault ≡ faults.OutOfMemory)) };
-
-    fn from(error: SuiteError) -> Fault {
-        match error {
-            SuiteError::CounterFull => Fault::CounterFull,
-            SuiteError::OutOfMemory => Fault::OutOfMemory,
-        }
     }
 }
 

@@ -18,6 +18,7 @@ pub behind : (old part rest one : List ℕ) → one ≡ old ++ part → one ++ r
 behind old part rest one e = ap (λ t. t ++ rest) e ∙ append_assoc old part rest
 
 -- the lines that show a text up to a place
-pub shown_lines : {A E : Type 0} (r : Result A E) (new old : List ℕ) (raw : Bool) (limit : ℕ) (text : List ℕ) (place : ℕ) → IsCut text limit place → OnOk r (new ≡ old ++ text_lines raw text place) → OnOk r ((lines : List ℕ) × IsShown raw limit text lines × (new ≡ old ++ lines))
+pub shown_lines : {A E : Type 0} (r : Result A E) (new old : List ℕ) (raw : Bool) (limit : ℕ) (text : List ℕ) (place : ℕ) → IsCut text limit place
+    → OnOk r (new ≡ old ++ text_lines raw text place) → OnOk r ((lines : List ℕ) × IsShown raw limit text lines × (new ≡ old ++ lines))
 shown_lines (Ok x) new old raw limit text place cut e = (text_lines raw text place, (place, cut, refl), e)
 shown_lines (Err x) new old raw limit text place cut e = tt

@@ -28,7 +28,8 @@ stored_below_signal w (Some reason.Interrupt) spared below = absurd (omega (arit
 stored_below_signal w (Some reason.SecondSignal) spared below = absurd (omega (arith, below))
 stored_below_signal w _ spared below = refl
 
-once : (at_once at_end stored : Bool) → (if stored then Yes (if at_once then false else at_end) else No) ≡ without_output at_once (if stored then Yes at_end else No)
+once : (at_once at_end stored : Bool)
+    → (if stored then Yes (if at_once then false else at_end) else No) ≡ without_output at_once (if stored then Yes at_end else No)
 once true at_end true = refl
 once true at_end false = refl
 once false at_end true = refl

@@ -23,7 +23,7 @@ use Rattle.uses.specs.declared.of_run_events.EndedAttempt.{EndedAttempt}
 -- the view of a test of so many attempts, of which the last ended so
 abbrev pub view_of_attempts : ℕ → ExecutionResult → Bool → FlakyResult → TestView
 view_of_attempts attempts outcome slow setting =
-    record { result = described_result outcome None; attempts = attempts; is_slow = slow; setting = setting }
+    record { result = described_result outcome None; attempts = attempts; is_slow = slow; flaky_result = setting }
 
 -- the attempt of a number, from 1, of so many
 abbrev pub numbered_of : ℕ → ℕ → RetryData

@@ -10,7 +10,7 @@ mod exit_status;
 mod first_pages;
 mod junit;
 mod of_output_slice;
-mod of_run_digest_devices;
+mod of_program_io;
 mod of_run_digest_engine;
 mod of_run_events;
 mod of_test_report_engine;

@@ -1,13 +1,13 @@
 //! A caller of `run_digest_engine`, as its page of calls has it.
 
 ghost use Rattle.std.specs.Prelude.{◌≡◌, ◌↔◌, ◌⊎◌, true, false, IfErr, IfOk, IfSome, IsErrOf, MatchOption};
-ghost use Rattle.run_digest_devices.specs.declared.fault.Fault.TheVariants as faults;
 ghost use Rattle.run_digest_engine.specs.Answer.{NoBadLine};
 ghost use Rattle.run_digest_engine.specs.Reading.{IsFirstBadLine, texts_of};
+ghost use Rattle.run_digest_engine.specs.declared.fault.Fault.TheVariants as faults;
 
-use run_digest_devices::device::{Sink, Source};
-use run_digest_devices::fault::Fault;
+use program_io::device::{Sink, Source};
 use run_digest_engine::count::count;
+use run_digest_engine::fault::Fault;
 use std::alloc::Global;
 
 /// Counts the runs that a source says, with their reports to the sink, and answers the number of the

@@ -3,18 +3,18 @@
 use crate::demo::{PANICKED, PASSED, START};
 use crate::first_pages::{is_displayed, word_of_end};
 use crate::of_output_slice::{failure_in, has_panicked};
-use crate::of_run_digest_devices::copy;
+use crate::of_program_io::copy;
 use crate::of_run_digest_engine::first_bad_line;
 use crate::of_run_events::{ends_well, finished_at_first, stats_of_test};
 use crate::of_test_report_engine::succeeds;
 use crate::of_test_report_events::test_count_of;
 use crate::of_test_report_suite::suite_behind;
 use crate::of_test_report_text::failure_text;
-use run_digest_devices::fault::Fault;
-use run_digest_devices::memory_device::{MemorySink, MemorySource};
+use program_io::memory_device::{MemorySink, MemorySource};
 use run_events::config::TestOutputDisplay;
 use run_events::stats::FinishedUnit;
 use std::io;
+use test_report_engine::fault::Fault;
 use test_report_events::event::{TestEnd, TestResult};
 
 /// A run whose line 3 names no result.

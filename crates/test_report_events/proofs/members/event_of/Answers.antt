@@ -17,14 +17,17 @@ returns-in_ok-text_of-in-suite-clause-only c = λ event said.
 pub returns-in_ok-text_of-in-test-2-clause-says : goal.returns-in_ok-text_of-in-test-2-clause-says
 returns-in_ok-text_of-in-test-2-clause-says c =
     says-of (view c.args.value.now) _ _ c.test_event_of.ensures
-    (test-says (view c.args.value.now) _ _ (_, sym c.in_ok-text_of-in-test.ensures, c.name_of-attempts.ensures) _ (read-as c.in_ok-text_of.ensures c.in-test.is) (sym c.in_ok-text_of-in-test-2.ensures))
+    (test-says (view c.args.value.now) _ _ (_, sym c.in_ok-text_of-in-test.ensures, c.name_of-attempts.ensures) _
+    (read-as c.in_ok-text_of.ensures c.in-test.is) (sym c.in_ok-text_of-in-test-2.ensures))
 
 pub returns-in_ok-text_of-in-test-2-clause-only : goal.returns-in_ok-text_of-in-test-2-clause-only
 returns-in_ok-text_of-in-test-2-clause-only c = λ event said.
     c.test_event_of.ensures
-    ∙ test-only (view c.args.value.now) _ _ (_, sym c.in_ok-text_of-in-test.ensures, c.name_of-attempts.ensures) _ (read-as c.in_ok-text_of.ensures c.in-test.is) (sym c.in_ok-text_of-in-test-2.ensures) event said
+    ∙ test-only (view c.args.value.now) _ _ (_, sym c.in_ok-text_of-in-test.ensures, c.name_of-attempts.ensures) _
+    (read-as c.in_ok-text_of.ensures c.in-test.is) (sym c.in_ok-text_of-in-test-2.ensures) event said
 
 pub returns-in_ok-text_of-in-bench-clause-only : goal.returns-in_ok-text_of-in-bench-clause-only
 returns-in_ok-text_of-in-bench-clause-only c = λ event said.
     ap (λ e. Some (TestEnds e)) c.end_of.ensures
-    ∙ ap (λ e. Some e) (bench-only (view c.args.value.now) _ _ (_, sym c.in_ok-text_of-in-bench.ensures, c.name_of-attempts-in-bench.ensures) (read-as c.in_ok-text_of.ensures c.in-bench.is) event said)
+    ∙ ap (λ e. Some e) (bench-only (view c.args.value.now) _ _ (_, sym c.in_ok-text_of-in-bench.ensures, c.name_of-attempts-in-bench.ensures)
+    (read-as c.in_ok-text_of.ensures c.in-bench.is) event said)

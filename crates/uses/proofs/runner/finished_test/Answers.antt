@@ -32,7 +32,8 @@ loop-attempt-preserved c = record {
       grind (arith, common_steps, c.saturating_add.ensures, number, few, c.loop-attempt-test.true, c.loop-attempt.auto.attempt-index-end) in
       cc (more, total);
   numbers = λ few. rw c.in_ok-push.ensures.items
-      (numbered_more c.loop-attempt.statuses.items c.in_ok-status_of.field-0 (numbered_of (length c.args.earlier.now + 1)) c.loop-attempt.attempt-index (c.loop-attempt.attempt-index + 1)
+      (numbered_more c.loop-attempt.statuses.items c.in_ok-status_of.field-0 (numbered_of (length c.args.earlier.now + 1)) c.loop-attempt.attempt-index
+      (c.loop-attempt.attempt-index + 1)
       (c.loop-attempt.invariant.numbers few) (c.in_ok-status_of.ensures.retry ∙ c.loop-attempt.invariant.next few) refl);
 }
 
@@ -42,4 +43,5 @@ returns-clause-numbers c = λ few.
     let so_far = rw all at c.loop-attempt.invariant.numbers few in
     let next = rw all at c.loop-attempt.invariant.next few in
     rw (c.new.ensures.attempts, c.in_ok-push-2.ensures.items)
-    (numbered_more c.loop-attempt.statuses.items c.in_ok-status_of-2.field-0 (numbered_of (length c.args.earlier.now + 1)) _ _ so_far (c.in_ok-status_of-2.ensures.retry ∙ next) refl)
+    (numbered_more c.loop-attempt.statuses.items c.in_ok-status_of-2.field-0 (numbered_of (length c.args.earlier.now + 1)) _ _ so_far
+    (c.in_ok-status_of-2.ensures.retry ∙ next) refl)

@@ -12,5 +12,6 @@ invariant-loop-attempt l = record {
   results : map (λ s. s.result) l.statuses.items ≡ map (λ a. described_result a.outcome None) (take l.attempt-index l.earlier);
   slow : map (λ s. s.is_slow) l.statuses.items ≡ map (λ a. a.is_slow) (take l.attempt-index l.earlier);
   next : length l.earlier + 1 < 2 ^ 32 → l.retry_data ≡ numbered_of (length l.earlier + 1) (l.attempt-index + 1);
-  numbers : length l.earlier + 1 < 2 ^ 32 → map (λ s. s.retry_data) l.statuses.items ≡ map (numbered_of (length l.earlier + 1)) (range_with_len 1 l.attempt-index);
+  numbers : length l.earlier + 1 < 2 ^ 32
+      → map (λ s. s.retry_data) l.statuses.items ≡ map (numbered_of (length l.earlier + 1)) (range_with_len 1 l.attempt-index);
 }

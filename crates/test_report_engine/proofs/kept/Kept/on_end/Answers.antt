@@ -14,6 +14,10 @@ returns-in_ok-count_end-in-Passed-clause-adds c = adds-passed _ _ _ c.in-Passed.
 pub returns-in_ok-push_failure-in-Failed-clause-adds : goal.returns-in_ok-push_failure-in-Failed-clause-adds
 returns-in_ok-push_failure-in-Failed-clause-adds c =
     let failed : (is_failure (end_view c.args.end) ≡ true) × (is_ignored (end_view c.args.end) ≡ false) =
-    elim c.in-Failed.is [ inl is ↦ failed-is (end_view c.args.end) Failed is (refl, refl) | inr is ↦ failed-is (end_view c.args.end) TimedOut is (refl, refl) ] in
+    elim c.in-Failed.is [
+      | inl is ↦ failed-is (end_view c.args.end) Failed is (refl, refl)
+      | inr is ↦ failed-is (end_view c.args.end) TimedOut is
+          (refl, refl)
+    ] in
     let (text, tells, is) = c.in_ok-push_failure-in-Failed.ensures in
     adds-failed _ _ _ _ text failed c.in_ok-count_end-in-Failed.ensures.counts tells is

@@ -15,5 +15,6 @@ loop-at-preserved c =
 
 pub returns-clause-reads : goal.returns-clause-reads
 returns-clause-reads c =
-    all-bytes c.args.self.now c.loop-at.self (record { kept = c.loop-at.self.kept; begun = c.extend_from_slice.new.self }) c.args.bytes.now c.loop-at.rest.now c.loop-at.invariant refl
+    all-bytes c.args.self.now c.loop-at.self
+    (record { kept = c.loop-at.self.kept; begun = c.extend_from_slice.new.self }) c.args.bytes.now c.loop-at.rest.now c.loop-at.invariant refl
     c.in_ok-extend_from_slice.ensures.items (feedless c.loop-at.rest.now (λ k below. c.in_default.ensures k (omega arith) below))

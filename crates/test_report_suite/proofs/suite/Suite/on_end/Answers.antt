@@ -11,10 +11,12 @@ use Rattle.test_report_suite.proofs.suite.Suite.on_end.Goals as goal
 
 -- the code's test of the result
 is_ignored-same : (e : EndView) → is_ignored e ≡ sameb the_type e.result Ignored
-is_ignored-same e = elim e.result as (λ r. is_ignored (record e { result = r }) ≡ sameb the_type r Ignored) [ Passed ↦ refl | Failed ↦ refl | TimedOut ↦ refl | Ignored ↦ refl ]
+is_ignored-same e = elim e.result as
+    (λ r. is_ignored (record e { result = r }) ≡ sameb the_type r Ignored) [ Passed ↦ refl | Failed ↦ refl | TimedOut ↦ refl | Ignored ↦ refl ]
 
 pub returns-then-not-remove-clause-told : goal.returns-then-not-remove-clause-told
-returns-then-not-remove-clause-told c = λ count lines kept. sym c.if-not-remove.true ∙ c.remove.ensures.test ∙ contains-running c.args.self.now count lines c.args.end.name.now kept
+returns-then-not-remove-clause-told c = λ count lines kept. sym c.if-not-remove.true ∙ c.remove.ensures.test
+    ∙ contains-running c.args.self.now count lines c.args.end.name.now kept
 
 pub returns-then-not-remove-clause-follows : goal.returns-then-not-remove-clause-follows
 returns-then-not-remove-clause-follows c = λ count lines kept.
@@ -24,7 +26,8 @@ returns-then-not-remove-clause-follows c = λ count lines kept.
     (told_end-passed_over lines (end_view c.args.end) (sym stopped))
 
 pub returns-in_ok-self-clause-told : goal.returns-in_ok-self-clause-told
-returns-in_ok-self-clause-told c = λ count lines kept. sym c.if-not-remove.false ∙ c.remove.ensures.test ∙ contains-running c.args.self.now count lines c.args.end.name.now kept
+returns-in_ok-self-clause-told c = λ count lines kept. sym c.if-not-remove.false ∙ c.remove.ensures.test
+    ∙ contains-running c.args.self.now count lines c.args.end.name.now kept
 
 pub returns-in_ok-self-clause-follows : goal.returns-in_ok-self-clause-follows
 returns-in_ok-self-clause-follows c = λ count lines kept.
@@ -37,7 +40,8 @@ returns-in_ok-self-clause-follows c = λ count lines kept.
     (search rules)
 
 pub returns-in_ok-count_end-clause-told : goal.returns-in_ok-count_end-clause-told
-returns-in_ok-count_end-clause-told c = λ count lines kept. sym c.if-not-remove.false ∙ c.remove.ensures.test ∙ contains-running c.args.self.now count lines c.args.end.name.now kept
+returns-in_ok-count_end-clause-told c = λ count lines kept. sym c.if-not-remove.false ∙ c.remove.ensures.test
+    ∙ contains-running c.args.self.now count lines c.args.end.name.now kept
 
 pub returns-in_ok-count_end-clause-follows : goal.returns-in_ok-count_end-clause-follows
 returns-in_ok-count_end-clause-follows c = λ count lines kept.

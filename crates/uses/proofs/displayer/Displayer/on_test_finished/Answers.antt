@@ -33,8 +33,10 @@ returns-clause-listed c spared below =
     let ended = ap (λ (t : TestView). is_termination_failure t.result) c.view-view.ensures in
     let kind = c.is_success.ensures ∙ ap (λ (t : TestView). succeeds t.result) c.view-view.ensures in
     let display = c.display_for-display.ensures ∙ ap (display_of c.args.self.now) kind in
-    let level : final_level_of (view_of c.args.test.now) ≡ Some c.final_status_level-final_level.result = ap final_level_of (sym c.view-view.ensures) ∙ c.final_status_level-final_level.ensures in
-    let Listed : TestOutputDisplay → OutputStoreFinal = λ d. if is_stored c.args.self.now.levels d c.final_status_level-final_level.result then Yes (is_final_display d) else No in
+    let level : final_level_of (view_of c.args.test.now) ≡ Some c.final_status_level-final_level.result = ap final_level_of (sym c.view-view.ensures)
+    ∙ c.final_status_level-final_level.ensures in
+    let Listed : TestOutputDisplay
+    → OutputStoreFinal = λ d. if is_stored c.args.self.now.levels d c.final_status_level-final_level.result then Yes (is_final_display d) else No in
     rw level (ap (λ (o : OutputOnTestFinished). o.store_final) c.compute_output_on_test_finished.ensures.exact
     ∙ stored_below_signal _ _ (λ stops. ended ∙ spared stops) below
     ∙ ap Listed display)
@@ -43,9 +45,11 @@ pub returns-clause-under_signal : goal.returns-clause-under_signal
 returns-clause-under_signal c signal =
     let kind = c.is_success.ensures ∙ ap (λ (t : TestView). succeeds t.result) c.view-view.ensures in
     let display = c.display_for-display.ensures ∙ ap (display_of c.args.self.now) kind in
-    let level : final_level_of (view_of c.args.test.now) ≡ Some c.final_status_level-final_level.result = ap final_level_of (sym c.view-view.ensures) ∙ c.final_status_level-final_level.ensures in
+    let level : final_level_of (view_of c.args.test.now) ≡ Some c.final_status_level-final_level.result = ap final_level_of (sym c.view-view.ensures)
+    ∙ c.final_status_level-final_level.ensures in
     let shown = ap (λ (o : OutputOnTestFinished). o.show_immediate) c.compute_output_on_test_finished.ensures.exact in
-    let Listed : TestOutputDisplay → OutputStoreFinal = λ d. if is_stored c.args.self.now.levels d c.final_status_level-final_level.result then Yes (is_final_display d) else No in
+    let Listed : TestOutputDisplay
+    → OutputStoreFinal = λ d. if is_stored c.args.self.now.levels d c.final_status_level-final_level.result then Yes (is_final_display d) else No in
     rw level (ap (λ (o : OutputOnTestFinished). o.store_final) c.compute_output_on_test_finished.ensures.exact
     ∙ stored_under_signal _ _ signal
     ∙ ap (λ (b : Bool). without_output b (Listed c.display_for-display.result)) (sym shown)

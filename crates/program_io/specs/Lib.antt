@@ -1,0 +1,6 @@
+pub mod Engine
+pub mod Fault
+pub mod MemoryCalls
+pub mod MemoryDevice
+pub mod StdDevice
+pub mod Transfer

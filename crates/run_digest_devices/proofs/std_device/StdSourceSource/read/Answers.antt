@@ -1,8 +1,0 @@
-use Rattle.std.proofs.Common.{rules}
-use Rattle.run_digest_devices.proofs.std_device.StdSourceSource.read.Goals as goal
-
-pub returns-in-Ok-clause-bytes : goal.returns-in-Ok-clause-bytes
-returns-in-Ok-clause-bytes g c = search rules
-
-pub returns-in-Ok-clause-end : goal.returns-in-Ok-clause-end
-returns-in-Ok-clause-end g c = search rules

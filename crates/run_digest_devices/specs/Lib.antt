@@ -1,5 +1,0 @@
-pub mod Fault
-pub mod MemoryCalls
-pub mod MemoryDevice
-pub mod StdDevice
-pub mod Transfer
