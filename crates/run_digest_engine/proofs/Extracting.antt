@@ -1,35 +1,30 @@
--- What `extract` answers, from what it found.
+-- What `extract` answers, from the text for what it read.
 use Rattle.std.proofs.Common.{◌≡◌, ℕ, List, Bool, sym, ◌∙◌, subst}
-use Rattle.std.specs.Prelude.{is_some, Option, None, Some, Ok, Err, IfSome, IsErrAnd}
+use Rattle.std.specs.Prelude.{is_some, Option, Ok, Err, IfSome, IsErrAnd}
 use Rattle.std.specs.Io.KnownBytes.{Appends}
 use Rattle.std.specs.declared.result.Result.{Result}
-use Rattle.run_events.specs.Extraction.{Extract}
-use Rattle.run_digest_devices.specs.Transfer.{AppendsStart}
-use Rattle.run_digest_devices.specs.declared.fault.Fault.{Fault}
-use Rattle.run_digest_devices.specs.declared.fault.Fault.TheVariants as faults
-use Rattle.run_digest_engine.specs.ExtractAnswer.{AnswersExtract, IsExtracted, TellsEachExtract, extract_text}
+use Rattle.std.proofs.lemmas.Option.{IfSome_then}
+use Rattle.output_slice.specs.Extraction.{Extract}
+use Rattle.program_io.specs.Engine.{Answers}
+use Rattle.program_io.specs.Transfer.{AppendsStart}
+use Rattle.run_digest_engine.specs.ExtractAnswer.{IsExtractAnswer, IsExtracted, TellsEachExtract, extract_text}
+use Rattle.run_digest_engine.specs.Fault.{stage_of}
+use Rattle.run_digest_engine.specs.declared.fault.Fault.{Fault}
 
--- what is extracted of what was read is what is of the input, where the source tells its bytes
-extraction_of : (input bytes : List ℕ) (found : Option Extract) → bytes ≡ input → IsExtracted bytes found → IsExtracted input found
-extraction_of input bytes found is extract = let P : List ℕ → Type 0 = λ b. IsExtracted b found in subst P is extract
+-- what is said of each extraction of what was read is said of each of the input
+pub written_alone : (left old new : Option (List ℕ)) (read bytes text : List ℕ) (success : Bool) → IfSome left (λ all. read ≡ all) → bytes ≡ read
+    → ((found : Option Extract) → IsExtracted bytes found → (text ≡ extract_text found) × (success ≡ is_some found)) → Appends old new text
+    → IfSome left (λ input. TellsEachExtract success old new input)
+written_alone left old new read bytes text success is same only appended = IfSome_then left is (λ input whole. λ found extracted.
+    let Extracts : List ℕ → Type 0 = λ b. IsExtracted b found in
+    let told = only found (subst Extracts (sym (same ∙ whole)) extracted) in
+    (subst (Appends old new) told.0 appended, told.1))
 
-pub written : (left old new : Option (List ℕ)) (bytes : List ℕ) (found : Option Extract) (success : Bool) → IfSome left (λ all. bytes ≡ all) → IsExtracted bytes found → Appends old new (extract_text found) → success ≡ is_some found → IfSome left (λ input. AnswersExtract (Ok success) old new input)
-written None old new bytes found success is extract appended tells = tt
-written (Some input) old new bytes found success is extract appended tells = (found, extraction_of input bytes found is extract, appended, tells)
-
--- and anything else that is extracted would be the same
-pub written_alone : (left old new : Option (List ℕ)) (bytes : List ℕ) (found : Option Extract) (success : Bool) → IfSome left (λ all. bytes ≡ all) → ((other : Option Extract) → IsExtracted bytes other → other ≡ found) → Appends old new (extract_text found) → success ≡ is_some found → IfSome left (λ input. TellsEachExtract success old new input)
-written_alone None old new bytes found success is only appended tells = tt
-written_alone (Some input) old new bytes found success is only appended tells = λ other extract.
-    let same : found ≡ other = sym (only other (extraction_of bytes input other (sym is) extract)) in
-    let P : Option Extract → Type 0 = λ o. Appends old new (extract_text o) × (success ≡ is_some o) in
-    subst P same (appended, tells)
-
--- the same where the write failed, and the answer is that fault
-pub broken_off : (r : Result Bool Fault) (fault : Fault) (left old new : Option (List ℕ)) (bytes : List ℕ) (found : Option Extract) → IsErrAnd r (λ e. e ≡ fault) → fault ≡ faults.Write → IfSome left (λ all. bytes ≡ all) → IsExtracted bytes found → AppendsStart old new (extract_text found) → IfSome left (λ input. AnswersExtract r old new input)
-broken_off (Ok success) fault left old new bytes found failed write is extract begun = absurd failed
-broken_off (Err e) fault None old new bytes found failed write is extract begun = tt
-broken_off (Err e) fault (Some input) old new bytes found failed write is extract begun =
-    let P : Fault → Type 0 = λ f. AnswersExtract (Err f) old new input in
-    let same : faults.Write ≡ e = sym (failed ∙ write) in
-    subst P same (found, extraction_of input bytes found is extract, begun)
+-- the write failed
+pub broken_off : (r : Result Bool Fault) (fault : Fault) (left old new : Option (List ℕ)) (read bytes text : List ℕ) (success : Bool)
+    → IsErrAnd r (λ e. e ≡ fault) → IfSome left (λ all. read ≡ all) → bytes ≡ read → IsExtractAnswer bytes text success → AppendsStart old new text
+    → IfSome left (λ input. Answers stage_of (IsExtractAnswer input) r old new)
+broken_off (Ok answer) fault left old new read bytes text success failed is same right begun = absurd failed
+broken_off (Err e) fault left old new read bytes text success failed is same right begun = IfSome_then left is (λ input whole. λ writing.
+    let Right : List ℕ → Type 0 = λ b. IsExtractAnswer b text success in
+    (text, success, subst Right (same ∙ whole) right, begun))

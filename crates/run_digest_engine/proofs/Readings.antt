@@ -1,228 +1,220 @@
--- What the reader gives of all lines, against what they say and which is the first bad one.
-use Rattle.std.proofs.Common.{◌≡◌, ℕ, zero, suc, ◌+◌, ◌-◌, ◌<◌, ◌≤◌, List, [], ◌∷◌, ◌++◌, length, refl, ap, sym, ◌∙◌, subst, arith, length-append, lt-ltb, le-ltb, inl, inr}
-use Rattle.std.specs.Prelude.{◌⊎◌, Some, Ok, Err, codes, slice_get}
-use Rattle.std.specs.declared.result.Result.{Result}
-use Rattle.std.proofs.lemmas.Bool.{cases_lt}
+-- What lines say of runs, a line at a time: one more at their end, which is the first bad one, and that they say one thing alone.
+use Rattle.std.proofs.Common.{◌≡◌, ℕ, zero, suc, ◌+◌, ◌-◌, ◌<◌, ◌≤◌, List, [], ◌∷◌, ◌++◌}
+use Rattle.std.proofs.Common.{length, refl, ap, sym, ◌∙◌, subst, append_assoc, arith, length-append, inl, inr}
+use Rattle.std.specs.Prelude.{Some, codes, slice_get}
+use Rattle.std.proofs.lemmas.List.{append-nil}
+use Rattle.std.proofs.lemmas.Option.{slice_get_within}
+use Rattle.run_events_stats.specs.Counters.{UnitView}
 use Rattle.run_events_stats.specs.declared.stats.RunStart.{RunStart}
-use Rattle.run_digest_engine.specs.Answer.{NoBadLine}
-use Rattle.run_digest_engine.specs.Reader.{EntryView, SubRunEntry, UnitEntry, and_runs, begun, entry_line, entry_of_words, runs_from, runs_of, start_of_words, with_unit, words_of}
-use Rattle.run_digest_engine.specs.Reading.{HasEntry, IsBadLine, IsFirstBadLine, IsReading, Run}
-use Rattle.run_digest_engine.specs.Spelling.{SpellsStart}
-use Rattle.run_digest_engine.proofs.Continued.{Continues, continues-end, continues-start, continues-unit, sub_runs_read, units_read}
-use Rattle.run_digest_engine.proofs.ResultWords.{option_cases}
-use Rattle.run_digest_engine.proofs.SpelledEntries.{SpellsEntry, entry_spelled, has_entry, no_entry}
-use Rattle.run_digest_engine.proofs.SpelledStart.{is_run, start_read, start_spelled}
+use Rattle.run_digest_engine.specs.Reading.{HasEntry, IsBadLine, IsReading, Run, SpellRun, SpellRuns, SpellUnits}
+use Rattle.run_digest_engine.specs.Spelling.{SpellsStart, SpellsUnit}
+use Rattle.run_digest_engine.proofs.Entries.{one_entry, one_unit}
+use Rattle.run_digest_engine.proofs.Starts.{one_start}
 
--- Among the lines from this number on, the line of number k is bad: it is line 10,001, or spells no entry.
-abbrev pub BadFrom : ℕ → List (List ℕ) → ℕ → Type 0
-BadFrom number lines k =
-    ((k ≡ 10001) × (k < number + length lines))
-    ⊎ ((number ≤ k) × ((line : List ℕ) × (slice_get lines (k - number) ≡ Some line) × ¬ HasEntry line))
+-- a run of which only the start is known
+abbrev pub begun : RunStart → Run
+begun start = record { start = start; units = [] }
 
--- none of the lines from this number on is bad
-pub record NoneBad (number : ℕ) (lines : List (List ℕ)) : Type 0 where
-  pub few : number + length lines ≤ 10001
-  pub good : (k : ℕ) → ¬ BadFrom number lines k
+-- a run with one more unit
+abbrev pub with_unit : Run → UnitView → Run
+with_unit run unit = record { start = run.start; units = run.units ++ unit ∷ [] }
 
--- k is the first bad line among those from this number on
-pub record FirstBad (number : ℕ) (lines : List (List ℕ)) (k : ℕ) : Type 0 where
-  pub from : number ≤ k
-  pub bad : BadFrom number lines k
-  pub least : (j : ℕ) → number ≤ j → BadFrom number lines j → k ≤ j
+-- the lines are those of the runs, one after another: the first begins by this keyword, the others by `sub-run`
+abbrev pub SayRuns : List ℕ → List (List ℕ) → List Run → Type 0
+SayRuns keyword lines [] = lines ≡ []
+SayRuns keyword lines (run ∷ runs) =
+    (own : List (List ℕ)) × (rest : List (List ℕ)) × (lines ≡ own ++ rest) × SpellRun keyword own run × SayRuns (codes "sub-run") rest runs
 
--- what the reader gives of the lines from this number on, which go on with a run
-abbrev pub Given : ℕ → Run → List (List ℕ) → Result (List Run) ℕ → Type 0
-Given number run lines (Ok runs) = NoneBad number lines × Continues run lines runs
-Given number run lines (Err k) = FirstBad number lines k
+from_sub_runs : (lines : List (List ℕ)) (runs : List Run) → SpellRuns lines runs → SayRuns (codes "sub-run") lines runs
+from_sub_runs lines [] none = none
+from_sub_runs lines (run ∷ runs) (own, rest, divided, spelled, later) = (own, rest, divided, spelled, from_sub_runs rest runs later)
 
--- the place of a later line
-place-later : (line : List ℕ) (lines : List (List ℕ)) (number k : ℕ) → number + 1 ≤ k → slice_get (line ∷ lines) (k - number) ≡ slice_get lines (k - (number + 1))
-place-later line lines number k later =
-    let next : k - number ≡ suc (k - (number + 1)) = omega (arith, later) in
-    ap (slice_get (line ∷ lines)) next
+to_sub_runs : (lines : List (List ℕ)) (runs : List Run) → SayRuns (codes "sub-run") lines runs → SpellRuns lines runs
+to_sub_runs lines [] none = none
+to_sub_runs lines (run ∷ runs) (own, rest, divided, spelled, later) = (own, rest, divided, spelled, to_sub_runs rest runs later)
 
--- the place of the first line
-place-here : (line : List ℕ) (lines : List (List ℕ)) (number : ℕ) → slice_get (line ∷ lines) (number - number) ≡ Some line
-place-here line lines number =
-    let here : number - number ≡ 0 = omega arith in
-    ap (slice_get (line ∷ lines)) here
-
--- a bad line behind a line
-bad-later : (number : ℕ) (line : List ℕ) (lines : List (List ℕ)) (k : ℕ) → number + 1 ≤ k → BadFrom (number + 1) lines k → BadFrom number (line ∷ lines) k
-bad-later number line lines k later bad =
-    elim bad [
-      | inl late ↦ inl (late.0, omega (arith, late.1))
-      | inr at ↦ inr (omega (arith, later), (at.1.0, place-later line lines number k later ∙ at.1.1, at.1.2))
-    ]
-
--- a bad line is not the first one, where that spells an entry
-bad-earlier : (number : ℕ) (line : List ℕ) (lines : List (List ℕ)) (k d : ℕ) → number ≤ 10000 → HasEntry line → k ≡ number + d → BadFrom number (line ∷ lines) k → (number + 1 ≤ k) × BadFrom (number + 1) lines k
-bad-earlier number line lines k zero few entry is bad =
-    elim bad [
-      | inl late ↦ absurd (omega (arith, late.0, is, few))
-      | inr at ↦
-          let first : k - number ≡ 0 = omega (arith, is) in
-          let here : Some line ≡ Some at.1.0 = ap (slice_get (line ∷ lines)) (sym first) ∙ at.1.1 in
-          let same : line ≡ at.1.0 = cc in
-          absurd (at.1.2 (subst HasEntry same entry))
-    ]
-bad-earlier number line lines k (suc d) few entry is bad =
-    let later : number + 1 ≤ k = omega (arith, is) in
-    elim bad [
-      | inl late ↦ (later, inl (late.0, omega (arith, late.1)))
-      | inr at ↦ (later, inr (later, (at.1.0, sym (place-later line lines number k later) ∙ at.1.1, at.1.2)))
-    ]
-
--- one more line in front, which spells an entry
-none_bad-more : (number : ℕ) (line : List ℕ) (lines : List (List ℕ)) → number ≤ 10000 → HasEntry line → NoneBad (number + 1) lines → NoneBad number (line ∷ lines)
-none_bad-more number line lines few entry rest = record {
-  few = omega (arith, rest.few);
-  good = λ k bad. rest.good k (bad-earlier number line lines k (k - number) few entry (low k bad) bad).1;
-}
-  where
-    low : (k : ℕ) → BadFrom number (line ∷ lines) k → k ≡ number + (k - number)
-    low k bad = elim bad [ inl late ↦ omega (arith, late.0, few) | inr at ↦ omega (arith, at.0) ]
-
-first_bad-more : (number : ℕ) (line : List ℕ) (lines : List (List ℕ)) (k : ℕ) → number ≤ 10000 → HasEntry line → FirstBad (number + 1) lines k → FirstBad number (line ∷ lines) k
-first_bad-more number line lines k few entry rest = record {
-  from = omega (arith, rest.from);
-  bad = bad-later number line lines k rest.from rest.bad;
-  least = λ j from bad.
-      let more = bad-earlier number line lines j (j - number) few entry (omega (arith, from)) bad in
-      rest.least j more.0 more.1;
+-- lines that say runs, at least one, and are not too many, have this reading
+pub reading-made : (lines : List (List ℕ)) (runs : List Run) → 0 < length lines → length lines ≤ 10000 → SayRuns (codes "run") lines runs → IsReading lines runs
+reading-made lines [] some few none = absurd (omega (arith, some, ap length none))
+reading-made lines (run ∷ runs) some few (own, rest, divided, spelled, later) = record {
+  first = run;
+  more = runs;
+  begun = refl;
+  own = own;
+  rest = rest;
+  divided = divided;
+  few = few;
+  run = spelled;
+  sub_runs = to_sub_runs rest runs later;
 }
 
-given-entry : (number : ℕ) (run : Run) (line : List ℕ) (lines : List (List ℕ)) (entry : EntryView) (rest : Run → Result (List Run) ℕ) → number ≤ 10000 → SpellsEntry line entry → ((next : Run) → Given (number + 1) next lines (rest next)) → Given number run (line ∷ lines) (entry_line (Some entry) number run rest)
-given-entry number run line lines (UnitEntry unit) rest few spelled given =
-    let entry : HasEntry line = has_entry line (UnitEntry unit) spelled in
-    (elim (rest (with_unit run unit)) as (λ r. Given (number + 1) (with_unit run unit) lines r → Given number run (line ∷ lines) r) [
-      | Ok runs ↦ λ g. (none_bad-more number line lines few entry g.0, continues-unit run line lines unit runs spelled g.1)
-      | Err k ↦ λ g. first_bad-more number line lines k few entry g
-    ]) (given (with_unit run unit))
-given-entry number run line lines (SubRunEntry start) rest few spelled given =
-    let entry : HasEntry line = has_entry line (SubRunEntry start) spelled in
-    (elim (rest (begun start)) as (λ r. Given (number + 1) (begun start) lines r → Given number run (line ∷ lines) (and_runs run r)) [
-      | Ok runs ↦ λ g. (none_bad-more number line lines few entry g.0, continues-start run line lines start runs spelled g.1)
-      | Err k ↦ λ g. first_bad-more number line lines k few entry g
-    ]) (given (begun start))
+-- line 1, which begins a run
+pub say-first : (line : List ℕ) (start : RunStart) → SpellsStart (codes "run") line start → SayRuns (codes "run") (line ∷ []) (begun start ∷ [])
+say-first line start is = (line ∷ [], [], refl, record { first = line; others = []; divided = refl; start = is; units = tt }, refl)
 
--- what the reader gives of the lines after line 1
-runs_given : (number : ℕ) (run : Run) (lines : List (List ℕ)) → number ≤ 10001 → Given number run lines (runs_from number run lines)
-unfolding runs_from
-runs_given number run [] low = (
+units-more : (lines : List (List ℕ)) (units : List UnitView) (line : List ℕ) (unit : UnitView)
+    → SpellUnits lines units → SpellsUnit line unit → SpellUnits (lines ++ line ∷ []) (units ++ unit ∷ [])
+units-more [] [] line unit spelled is = (is, tt)
+units-more [] (u ∷ units) line unit spelled is = absurd spelled
+units-more (l ∷ lines) [] line unit spelled is = absurd spelled
+units-more (l ∷ lines) (u ∷ units) line unit spelled is = (spelled.0, units-more lines units line unit spelled.1 is)
+
+-- one more line, which spells a unit of the last run
+pub say-unit : (keyword : List ℕ) (lines : List (List ℕ)) (over : List Run) (run : Run) (line : List ℕ) (unit : UnitView)
+    → SayRuns keyword lines (over ++ run ∷ []) → SpellsUnit line unit → SayRuns keyword (lines ++ line ∷ []) (over ++ with_unit run unit ∷ [])
+say-unit keyword lines [] run line unit (own, rest, divided, spelled, none) is = (
+  own ++ line ∷ [],
+  [],
+  ap (λ ls. ls ++ line ∷ []) (divided ∙ ap (λ ls. own ++ ls) none ∙ append-nil own) ∙ sym (append-nil (own ++ line ∷ [])),
   record {
-    few = omega (arith, low);
-    good = λ k bad. elim bad [ inl late ↦ absurd (omega (arith, late.0, late.1, low)) | inr at ↦ absurd cc ];
+    first = spelled.first;
+    others = spelled.others ++ line ∷ [];
+    divided = ap (λ ls. ls ++ line ∷ []) spelled.divided;
+    start = spelled.start;
+    units = units-more spelled.others run.units line unit spelled.units is;
   },
-  continues-end run,
+  refl,
 )
-runs_given number run (line ∷ lines) low =
-    elim (cases_lt 10000 number) [
-      | inl late ↦ rw (lt-ltb 10000 number late) (record {
-        from = omega arith;
-        bad = inl (omega (arith, late, low), omega arith);
-        least = λ j from bad. from;
-      })
-      | inr early ↦
-          elim (option_cases (entry_of_words (words_of line))) [
-            | inl entry ↦ rw (le-ltb 10000 number early, entry.1) (given-entry number run line lines entry.0 (λ next. runs_from (number + 1) next lines) early (entry_spelled line entry.0 entry.1) (λ next. runs_given (number + 1) next lines (omega (arith, early))))
-            | inr none ↦ rw (le-ltb 10000 number early, none) (record {
-              from = omega arith;
-              bad = inr (omega arith, (line, place-here line lines number, no_entry line none));
-              least = λ j from bad. from;
-            })
-          ]
-    ]
-
--- what the reader gives of all lines
-abbrev pub GivenRuns : List (List ℕ) → Result (List Run) ℕ → Type 0
-GivenRuns lines (Ok runs) = NoBadLine lines × IsReading lines runs
-GivenRuns lines (Err k) = IsFirstBadLine lines k
-
--- line 1 is no bad line where it spells a start
-bad-after_start : (line : List ℕ) (lines : List (List ℕ)) (start : RunStart) (k : ℕ) → SpellsStart (codes "run") line start → IsBadLine (line ∷ lines) k → (2 ≤ k) × BadFrom 2 lines k
-bad-after_start line lines start k spelled (inl (first, none)) = absurd cc
-bad-after_start line lines start k spelled (inr (inl (late, there))) = (omega (arith, late), inl (late, omega (arith, there)))
-bad-after_start line lines start zero spelled (inr (inr (some, (l, at, unread)))) = absurd (omega (arith, some))
-bad-after_start line lines start (suc zero) spelled (inr (inr (some, (l, at, unread)))) =
-    let same : line ≡ l = cc in
-    let P : List ℕ → Type 0 = λ x. SpellsStart (codes "run") x start in
-    absurd (unread (inl (refl, (start, subst P same spelled))))
-bad-after_start line lines start (suc (suc k)) spelled (inr (inr (some, (l, at, unread)))) =
-    (omega arith, inr (omega arith, (l, sym (place-later line lines 1 (suc (suc k)) (omega arith)) ∙ at, λ entry. unread (inr (λ one. absurd (omega (arith, one)), entry)))))
-
--- a bad line behind line 1
-bad-behind_start : (line : List ℕ) (lines : List (List ℕ)) (k : ℕ) → 2 ≤ k → BadFrom 2 lines k → IsBadLine (line ∷ lines) k
-bad-behind_start line lines k later (inl (late, there)) = inr (inl (late, omega (arith, there)))
-bad-behind_start line lines k later (inr (from, (l, at, unread))) =
-    inr (inr (omega (arith, later), (l, place-later line lines 1 k later ∙ at, λ reading. elim reading [ inl first ↦ absurd (omega (arith, first.0, later)) | inr other ↦ unread other.1 ])))
-
-bad-positive : (lines : List (List ℕ)) (k : ℕ) → IsBadLine lines k → 1 ≤ k
-bad-positive lines k (inl (first, none)) = omega (arith, first)
-bad-positive lines k (inr (inl (late, there))) = omega (arith, late)
-bad-positive lines k (inr (inr (some, (l, at, unread)))) = omega (arith, some)
-
-with-start : (line : List ℕ) (lines : List (List ℕ)) (start : RunStart) (rest : Result (List Run) ℕ) → SpellsStart (codes "run") line start → Given 2 (begun start) lines rest → GivenRuns (line ∷ lines) rest
-with-start line lines start (Ok runs) spelled (good, c) = (
-  λ k bad. good.good k (bad-after_start line lines start k spelled bad).1,
-  record {
-    first = record { start = start; units = c.units };
-    more = c.more;
-    begun = c.is;
-    own = line ∷ c.own;
-    rest = c.rest;
-    divided = ap (λ ls. line ∷ ls) c.divided;
-    few = omega (arith, good.few);
-    run = record { first = line; others = c.own; divided = refl; start = spelled; units = c.spelled };
-    sub_runs = c.sub_runs;
-  },
-)
-with-start line lines start (Err k) spelled rest = (
-  bad-behind_start line lines k rest.from rest.bad,
-  λ j bad. let later = bad-after_start line lines start j spelled bad in rest.least j later.0 later.1,
+say-unit keyword lines (next ∷ over) run line unit (own, rest, divided, spelled, later) is = (
+  own,
+  rest ++ line ∷ [],
+  ap (λ ls. ls ++ line ∷ []) divided ∙ append_assoc own rest (line ∷ []),
+  spelled,
+  say-unit (codes "sub-run") rest over run line unit later is,
 )
 
--- what the reader gives of all lines
-pub given : (lines : List (List ℕ)) → GivenRuns lines (runs_of lines)
-unfolding runs_of
-given [] = (inl (refl, refl), bad-positive [])
-given (line ∷ lines) =
-    elim (option_cases (start_of_words (codes "run") (words_of line))) [
-      | inl start ↦ rw start.1 (with-start line lines start.0 (runs_from 2 (begun start.0) lines) (start_spelled (codes "run") line start.0 start.1) (runs_given 2 (begun start.0) lines (omega arith)))
-      | inr none ↦ rw none (
-        inr (inr (
-          omega arith,
-          (
-            line,
-            refl,
-            λ reading. elim reading [
-              | inl first ↦ let clash = sym none ∙ start_read (codes "run") line first.1.0 is_run first.1.1 in absurd cc
-              | inr other ↦ other.0 refl
-            ],
-          ),
-        )),
-        bad-positive (line ∷ lines),
-      )
-    ]
+-- one more line, which begins a sub-run
+pub say-sub_run : (keyword : List ℕ) (lines : List (List ℕ)) (over : List Run) (run : Run) (line : List ℕ) (start : RunStart)
+    → SayRuns keyword lines (over ++ run ∷ []) → SpellsStart (codes "sub-run") line start
+    → SayRuns keyword (lines ++ line ∷ []) ((over ++ run ∷ []) ++ begun start ∷ [])
+say-sub_run keyword lines [] run line start (own, rest, divided, spelled, none) is = (
+  own,
+  line ∷ [],
+  ap (λ ls. ls ++ line ∷ []) (divided ∙ ap (λ ls. own ++ ls) none ∙ append-nil own),
+  spelled,
+  (line ∷ [], [], refl, record { first = line; others = []; divided = refl; start = is; units = tt }, refl),
+)
+say-sub_run keyword lines (next ∷ over) run line start (own, rest, divided, spelled, later) is = (
+  own,
+  rest ++ line ∷ [],
+  ap (λ ls. ls ++ line ∷ []) divided ∙ append_assoc own rest (line ∷ []),
+  spelled,
+  say-sub_run (codes "sub-run") rest over run line start later is,
+)
 
--- runs that lines say are read
-reading_read : (lines : List (List ℕ)) (runs : List Run) → IsReading lines runs → runs_of lines ≡ Ok runs
-unfolding runs_of
-reading_read lines runs r =
-    let first : List ℕ = r.run.first in
-    let others : List (List ℕ) = r.run.others in
-    let whole : lines ≡ first ∷ (others ++ r.rest) = r.divided ∙ ap (λ ls. ls ++ r.rest) r.run.divided in
-    let count : length lines ≡ length (others ++ r.rest) + 1 = ap length whole ∙ omega arith in
-    let parts : length (others ++ r.rest) ≡ length others + length r.rest = length-append others r.rest in
-    let last : ℕ = 2 + length others in
-    let after : runs_from 2 (begun r.first.start) (others ++ r.rest) ≡ Ok runs =
-    units_read 2 last (begun r.first.start) others r.first.units r.rest refl (omega (arith, r.few, count, parts)) r.run.units
-    ∙ sub_runs_read last r.first r.rest r.more (omega (arith, r.few, count, parts)) r.sub_runs
-    ∙ ap Ok (sym r.begun) in
-    ap runs_of whole ∙ rw (start_read (codes "run") first r.first.start is_run r.run.start) after
+-- each of these lines spells what a line after line 1 may
+abbrev HaveEntries : List (List ℕ) → Type 0
+HaveEntries [] = Unit {0}
+HaveEntries (line ∷ lines) = HasEntry line × HaveEntries lines
+
+have-append : (xs ys : List (List ℕ)) → HaveEntries xs → HaveEntries ys → HaveEntries (xs ++ ys)
+have-append [] ys front back = back
+have-append (x ∷ xs) ys front back = (front.0, have-append xs ys front.1 back)
+
+units_have : (lines : List (List ℕ)) (units : List UnitView) → SpellUnits lines units → HaveEntries lines
+units_have [] units spelled = tt
+units_have (line ∷ lines) [] spelled = absurd spelled
+units_have (line ∷ lines) (unit ∷ units) spelled = (inl (unit, spelled.0), units_have lines units spelled.1)
+
+runs_have : (lines : List (List ℕ)) (runs : List Run) → SayRuns (codes "sub-run") lines runs → HaveEntries lines
+runs_have lines [] none = subst HaveEntries (sym none) tt
+runs_have lines (run ∷ runs) (own, rest, divided, spelled, later) =
+    subst HaveEntries (sym (divided ∙ ap (λ ls. ls ++ rest) spelled.divided))
+    (inr (run.start, spelled.start), have-append spelled.others rest (units_have spelled.others run.units spelled.units) (runs_have rest runs later))
+
+-- a line that spells no such thing stands after them
+past_entries : (lines left : List (List ℕ)) (k : ℕ) (line : List ℕ) → HaveEntries lines → slice_get (lines ++ left) k ≡ Some line → ¬ HasEntry line
+    → length lines ≤ k
+past_entries [] left k line have at none = omega arith
+past_entries (l ∷ lines) left zero line have at none = let same : l ≡ line = cc in absurd (none (subst HasEntry same have.0))
+past_entries (l ∷ lines) left (suc k) line have at none = omega (arith, past_entries lines left k line have.1 at none)
+
+-- the same after line 1
+past_first : (first : List ℕ) (behind left : List (List ℕ)) (start : RunStart) (k : ℕ) → SpellsStart (codes "run") first start
+    → HaveEntries behind → length behind < 10000 → IsBadLine (first ∷ (behind ++ left)) k → (length behind + 1 < k) × (k ≤ length behind + length left + 1)
+past_first first behind left start k is have few (inl (one, none)) = absurd cc
+past_first first behind left start k is have few (inr (inl (late, there))) = (omega (arith, late, few), omega (arith, there, length-append behind left))
+past_first first behind left start zero is have few (inr (inr (positive, at))) = absurd (omega (arith, positive))
+past_first first behind left start (suc zero) is have few (inr (inr (positive, (line, at, unread)))) =
+    let same : first ≡ line = cc in
+    let P : List ℕ → Type 0 = λ l. SpellsStart (codes "run") l start in
+    absurd (unread (inl (refl, (start, subst P same is))))
+past_first first behind left start (suc (suc k)) is have few (inr (inr (positive, (line, at, unread)))) =
+    let place : suc k ≡ suc (suc k) - 1 = omega arith in
+    let here : slice_get (behind ++ left) k ≡ Some line = ap (slice_get (first ∷ (behind ++ left))) place ∙ at in
+    let past = past_entries behind left k line have here (λ entry. unread (inr (λ one. absurd (omega (arith, one)), entry))) in
+    (omega (arith, past), omega (arith, slice_get_within (behind ++ left) k line here, length-append behind left))
+
+-- no line is bad of those that say runs
+pub past_said : (said left : List (List ℕ)) (runs : List Run) (k : ℕ) → SayRuns (codes "run") said runs → 0 < length said → length said ≤ 10000
+    → IsBadLine (said ++ left) k → (length said < k) × (k ≤ length said + length left)
+past_said said left [] k none some few bad = absurd (omega (arith, some, ap length none))
+past_said said left (run ∷ runs) k (own, rest, divided, spelled, later) some few bad =
+    let behind : List (List ℕ) = spelled.others ++ rest in
+    let whole : said ≡ spelled.first ∷ behind = divided ∙ ap (λ ls. ls ++ rest) spelled.divided in
+    let have = have-append spelled.others rest (units_have spelled.others run.units spelled.units) (runs_have rest runs later) in
+    let P : List (List ℕ) → Type 0 = λ ls. IsBadLine (ls ++ left) k in
+    let past = past_first spelled.first behind left run.start k spelled.start have (omega (arith, few, ap length whole)) (subst P whole bad) in
+    (omega (arith, past.0, ap length whole), omega (arith, past.1, ap length whole))
+
+-- the line behind some lines
+pub line_behind : (lines : List (List ℕ)) (line : List ℕ) (rest : List (List ℕ)) → slice_get (lines ++ line ∷ rest) (length lines) ≡ Some line
+line_behind [] line rest = refl
+line_behind (l ∷ lines) line rest = line_behind lines line rest
+
+-- the first of these lines, if there is one, spells no unit
+abbrev NoUnitFirst : List (List ℕ) → Type 0
+NoUnitFirst [] = Unit {0}
+NoUnitFirst (line ∷ lines) = (unit : UnitView) → ¬ SpellsUnit line unit
+
+no_unit_first : (lines : List (List ℕ)) (runs : List Run) → SayRuns (codes "sub-run") lines runs → NoUnitFirst lines
+no_unit_first lines [] none = subst NoUnitFirst (sym none) tt
+no_unit_first lines (run ∷ runs) (own, rest, divided, spelled, later) =
+    subst NoUnitFirst (sym (divided ∙ ap (λ ls. ls ++ rest) spelled.divided)) (λ unit is. one_entry spelled.first unit run.start is spelled.start)
+
+-- where the units of a run end, and which they are
+one_units : (a b : List (List ℕ)) (xs ys : List UnitView) (rest later : List (List ℕ)) → a ++ rest ≡ b ++ later → NoUnitFirst rest → NoUnitFirst later
+    → SpellUnits a xs → SpellUnits b ys → (xs ≡ ys) × (rest ≡ later)
+one_units [] b (x ∷ xs) ys rest later same none last first second = absurd first
+one_units (l ∷ a) b [] ys rest later same none last first second = absurd first
+one_units a [] xs (y ∷ ys) rest later same none last first second = absurd second
+one_units a (k ∷ b) xs [] rest later same none last first second = absurd second
+one_units [] [] [] [] rest later same none last first second = (refl, same)
+one_units [] (k ∷ b) [] (y ∷ ys) rest later same none last first second = absurd (subst NoUnitFirst same none y second.0)
+one_units (l ∷ a) [] (x ∷ xs) [] rest later same none last first second = absurd (subst NoUnitFirst (sym same) last x first.0)
+one_units (l ∷ a) (k ∷ b) (x ∷ xs) (y ∷ ys) rest later same none last first second =
+    let line : l ≡ k = cc in
+    let P : List ℕ → Type 0 = λ text. SpellsUnit text x in
+    let unit : x ≡ y = one_unit k x y (subst P line first.0) second.0 in
+    let lines : a ++ rest ≡ b ++ later = cc in
+    let others = one_units a b xs ys rest later lines none last first.1 second.1 in
+    (cc (unit, others.0), others.1)
+
+one_say : (keyword : List ℕ) (lines : List (List ℕ)) (a b : List Run) → SayRuns keyword lines a → SayRuns keyword lines b → a ≡ b
+one_say keyword lines [] [] first second = refl
+one_say keyword lines [] (y ∷ ys) none (own, rest, divided, spelled, later) =
+    let clash : [] ≡ spelled.first ∷ (spelled.others ++ rest) = sym none ∙ divided ∙ ap (λ ls. ls ++ rest) spelled.divided in absurd cc
+one_say keyword lines (x ∷ xs) [] (own, rest, divided, spelled, later) none =
+    let clash : [] ≡ spelled.first ∷ (spelled.others ++ rest) = sym none ∙ divided ∙ ap (λ ls. ls ++ rest) spelled.divided in absurd cc
+one_say keyword lines (x ∷ xs) (y ∷ ys) (own, rest, divided, s, later) (own', rest', divided', t, later') =
+    let same : s.first ∷ (s.others ++ rest) ≡ t.first ∷ (t.others ++ rest') =
+    sym (divided ∙ ap (λ ls. ls ++ rest) s.divided) ∙ (divided' ∙ ap (λ ls. ls ++ rest') t.divided) in
+    let line : s.first ≡ t.first = cc in
+    let P : List ℕ → Type 0 = λ text. SpellsStart keyword text x.start in
+    let start : x.start ≡ y.start = one_start keyword t.first x.start y.start (subst P line s.start) t.start in
+    let lines : s.others ++ rest ≡ t.others ++ rest' = cc in
+    let units = one_units s.others t.others x.units y.units rest rest' lines (no_unit_first rest xs later) (no_unit_first rest' ys later') s.units t.units in
+    let Q : List (List ℕ) → Type 0 = λ ls. SayRuns (codes "sub-run") ls xs in
+    ap (λ r. record { start = r; units = x.units } ∷ xs) start
+    ∙ ap (λ us. record { start = y.start; units = us } ∷ xs) units.0
+    ∙ ap (λ runs. y ∷ runs) (one_say (codes "sub-run") rest' xs ys (subst Q units.1 later) later')
 
 -- lines say at most one list of runs
 pub one_reading : (lines : List (List ℕ)) (a b : List Run) → IsReading lines a → IsReading lines b → a ≡ b
 one_reading lines a b first second =
-    let same : Ok a ≡ Ok b = sym (reading_read lines a first) ∙ reading_read lines b second in
-    cc
+    first.begun
+    ∙ one_say (codes "run") lines (first.first ∷ first.more) (second.first ∷ second.more) (said lines a first) (said lines b second)
+    ∙ sym second.begun
+  where
+    said : (lines : List (List ℕ)) (runs : List Run) (r : IsReading lines runs) → SayRuns (codes "run") lines (r.first ∷ r.more)
+    said lines runs r = (r.own, r.rest, r.divided, r.run, from_sub_runs r.rest r.more r.sub_runs)

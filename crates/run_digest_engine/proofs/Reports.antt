@@ -4,13 +4,12 @@ use Rattle.std.specs.List.{concat}
 use Rattle.std.proofs.lemmas.List.{append-nil, map_more}
 use Rattle.std.proofs.lemmas.List.Folds.{concat-append}
 use Rattle.std.proofs.lemmas.Simd.{map-map}
-use Rattle.run_events.specs.Outcome.{IsHighest, outcome_of}
-use Rattle.run_events.specs.Summary.{summary_of}
-use Rattle.run_events_stats.specs.declared.outcome.FinalRunStats.{FinalRunStats}
+use Rattle.run_events_stats.specs.Outcome.{IsHighest, outcome_of}
+use Rattle.run_events_stats.specs.Summary.{summary_of}
 use Rattle.run_events_stats.specs.declared.outcome.run_outcome.RunOutcome.{RunOutcome}
 use Rattle.run_events_stats.specs.declared.stats.RunStats.{RunStats}
 use Rattle.run_digest_engine.specs.Counted.{AreCounted, stats_reports}
-use Rattle.run_digest_engine.specs.Digest.{IsDigest}
+use Rattle.run_digest_engine.specs.Answer.{IsDigest}
 use Rattle.run_digest_engine.specs.Reading.{Run}
 use Rattle.run_digest_engine.specs.Report.{is_success, outcome_line, report_of, reports_of, run_outcome, run_stats}
 
@@ -36,24 +35,26 @@ reports_one (run ∷ []) o one = append-nil (report_of run)
 reports_one (run ∷ next ∷ runs) o one = absurd (omega (arith, one))
 
 -- the text by the statistics of runs is that of the runs
-told : (runs : List Run) (o : RunOutcome) → stats_reports (map run_stats runs) o ≡ reports_of runs o
+pub told : (runs : List Run) (o : RunOutcome) → stats_reports (map run_stats runs) o ≡ reports_of runs o
 told [] o = refl
 told (run ∷ []) o = refl
 told (run ∷ next ∷ runs) o = ap (λ texts. concat texts ++ outcome_line o) (map-map report_of run_stats (run ∷ next ∷ runs))
 
 -- the digest of lines whose runs have these statistics
-pub digest_made : (lines : List (List ℕ)) (stats : List RunStats) (summaries : List FinalRunStats) (text : List ℕ) (success : Bool) (o : RunOutcome) → AreCounted lines stats
-    → summaries ≡ map summary_of stats → IsHighest (map outcome_of summaries) o → text ≡ stats_reports stats o → success ≡ is_success o → IsDigest lines text success
-digest_made lines stats summaries text success o counted are highest text_is success_is =
+pub digest_made : (lines : List (List ℕ)) (stats : List RunStats) (text : List ℕ) (success : Bool) (o : RunOutcome) → AreCounted lines stats
+    → IsHighest (map outcome_of (map summary_of stats)) o → text ≡ stats_reports stats o → success ≡ is_success o → IsDigest lines text success
+digest_made lines stats text success o counted highest text_is success_is =
     let runs : List Run = counted.runs in
     let P : List RunOutcome → Type 0 = λ outcomes. IsHighest outcomes o in
-    let same : map outcome_of summaries ≡ map run_outcome runs =
-    ap (map outcome_of) (are ∙ ap (map summary_of) counted.stats_are.is ∙ map-map summary_of run_stats runs) ∙ map-map outcome_of (λ run. summary_of (run_stats run)) runs in
+    let same : map outcome_of (map summary_of stats) ≡ map run_outcome runs =
+    ap (map outcome_of) (ap (map summary_of) counted.stats_are.is ∙ map-map summary_of run_stats runs)
+    ∙ map-map outcome_of (λ run. summary_of (run_stats run)) runs in
     record {
       good = counted.good;
       runs = runs;
+      reading = counted.reading;
       outcome = o;
-      tells = record { reading = counted.reading; highest = subst P same highest };
+      highest = subst P same highest;
       text_is = text_is ∙ ap (λ s. stats_reports s o) counted.stats_are.is ∙ told runs o;
       success_is = success_is;
     }

@@ -1,56 +1,31 @@
--- What engines leave in their devices, and what `count` answers.
-use Rattle.std.specs.Prelude.{◌≡◌, ℕ, Bool, List, map, Option, Ok, Err}
-use Rattle.std.specs.Io.KnownBytes.{Appends, IsAtEnd, Keeps}
-use Rattle.std.specs.declared.result.Result.{Result}
-use Rattle.run_events.specs.Outcome.{IsHighest}
+-- What `count` makes of the lines of its input.
+use Rattle.std.specs.Prelude.{◌≡◌, ℕ, Bool, List, map}
+use Rattle.run_events_stats.specs.Outcome.{IsHighest}
 use Rattle.run_events_stats.specs.declared.outcome.run_outcome.RunOutcome.{RunOutcome}
-use Rattle.run_digest_devices.specs.Transfer.{AppendsStart}
-use Rattle.run_digest_devices.specs.declared.fault.Fault.{Fault}
-use Rattle.run_digest_devices.specs.declared.fault.Fault.TheVariants as faults
 use Rattle.run_digest_engine.specs.Reading.{IsBadLine, IsFirstBadLine, IsReading, Run}
 use Rattle.run_digest_engine.specs.Report.{is_success, reports_of, run_outcome}
+use Rattle.run_digest_engine.specs.declared.fault.Fault.{Fault}
+use Rattle.run_digest_engine.specs.declared.fault.Fault.TheVariants as faults
 
 -- no line is bad
 abbrev pub NoBadLine : List (List ℕ) → Type 0
 NoBadLine lines = (number : ℕ) → ¬ IsBadLine lines number
 
--- the runs that these lines say, and their outcome, the highest of theirs
-pub record Tells (lines : List (List ℕ)) (runs : List Run) (outcome : RunOutcome) : Type 0 where
+-- No line is bad, the text is the reports of the runs that the lines say, with the line of their outcome where there are more
+-- runs than one, and the answer is whether that outcome, the highest of theirs, is Success.
+pub record IsDigest (lines : List (List ℕ)) (text : List ℕ) (success : Bool) : Type 0 where
+  pub good : NoBadLine lines
+  pub runs : List Run
   pub reading : IsReading lines runs
+  pub outcome : RunOutcome
   pub highest : IsHighest (map run_outcome runs) outcome
+  pub text_is : text ≡ reports_of runs outcome
+  pub success_is : success ≡ is_success outcome
 
--- What is answered to these lines. With Ok no line is bad, the reports of the runs that they say were written, with the
--- line of their outcome where there are more runs than one, and the answer is whether that outcome is Success. After a
--- failed write no line is bad, and a beginning of that text was written. A bad line is the first one.
-abbrev pub Answers : Result Bool Fault → Option (List ℕ) → Option (List ℕ) → List (List ℕ) → Type 0
-Answers (Ok success) old new lines =
-    NoBadLine lines
-    × ((runs : List Run) × (outcome : RunOutcome) × Tells lines runs outcome × Appends old new (reports_of runs outcome) × (success ≡ is_success outcome))
-Answers (Err faults.Write) old new lines =
-    NoBadLine lines
-    × ((runs : List Run) × (outcome : RunOutcome) × Tells lines runs outcome × AppendsStart old new (reports_of runs outcome))
-Answers (Err (faults.BadLine number)) old new lines = IsFirstBadLine lines number
-Answers (Err faults.Read) old new lines = Unit {0}
-Answers (Err faults.OutOfMemory) old new lines = Unit {0}
-Answers (Err faults.CounterFull) old new lines = ⊥
-Answers (Err faults.BadWord) old new lines = ⊥
-
--- nothing was written, but with Ok or after a failed write
-abbrev pub KeepsSink : Result Bool Fault → Option (List ℕ) → Option (List ℕ) → Type 0
-KeepsSink (Ok success) old new = Unit {0}
-KeepsSink (Err faults.Write) old new = Unit {0}
-KeepsSink (Err (faults.BadLine number)) old new = Keeps old new
-KeepsSink (Err faults.Read) old new = Keeps old new
-KeepsSink (Err faults.OutOfMemory) old new = Keeps old new
-KeepsSink (Err faults.CounterFull) old new = ⊥
-KeepsSink (Err faults.BadWord) old new = ⊥
-
--- nothing is left unread, but after a failed read or want of memory
-abbrev pub ReadsToEnd : Result Bool Fault → Option (List ℕ) → Type 0
-ReadsToEnd (Ok success) left = IsAtEnd left
-ReadsToEnd (Err faults.Write) left = IsAtEnd left
-ReadsToEnd (Err (faults.BadLine number)) left = IsAtEnd left
-ReadsToEnd (Err faults.Read) left = Unit {0}
-ReadsToEnd (Err faults.OutOfMemory) left = Unit {0}
-ReadsToEnd (Err faults.CounterFull) left = ⊥
-ReadsToEnd (Err faults.BadWord) left = ⊥
+-- why these lines have no digest: the first bad line, or memory was refused
+abbrev pub IsRefusal : List (List ℕ) → Fault → Type 0
+IsRefusal lines (faults.BadLine number) = IsFirstBadLine lines number
+IsRefusal lines faults.OutOfMemory = Unit {0}
+IsRefusal lines faults.BadWord = ⊥
+IsRefusal lines faults.Read = ⊥
+IsRefusal lines faults.Write = ⊥

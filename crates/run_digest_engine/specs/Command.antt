@@ -2,8 +2,8 @@
 use Rattle.std.specs.Prelude.{List, [], ◌∷◌, ℕ, Ok, Err, codes, if◌then◌else◌}
 use Rattle.std.specs.Str.{bytes_eq}
 use Rattle.std.specs.declared.result.Result.{Result}
-use Rattle.run_digest_devices.specs.declared.fault.Fault.{Fault}
-use Rattle.run_digest_devices.specs.declared.fault.Fault.TheVariants.{BadWord}
+use Rattle.run_digest_engine.specs.declared.fault.Fault.{Fault}
+use Rattle.run_digest_engine.specs.declared.fault.Fault.TheVariants.{BadWord}
 use Rattle.run_digest_engine.specs.declared.command.Command.{Command}
 use Rattle.run_digest_engine.specs.declared.command.Command.TheVariants.{Count, Extract}
 

@@ -1,9 +1,8 @@
 -- The statistics of the runs that lines say.
-use Rattle.std.specs.Prelude.{◌≡◌, ℕ, List, [], ◌∷◌, ◌++◌, map, Ok, Err, All}
+use Rattle.std.specs.Prelude.{◌≡◌, ℕ, List, [], ◌∷◌, ◌++◌, map, All}
 use Rattle.std.specs.List.{concat}
-use Rattle.std.specs.declared.result.Result.{Result}
-use Rattle.run_events.specs.Counters.{ScriptCountersFit, ScriptUnit, TestCountersFit, TestUnit, stats_of, with_script, with_test}
-use Rattle.run_events.specs.Summary.{FailuresFit}
+use Rattle.run_events_stats.specs.Counters.{ScriptCountersFit, ScriptUnit, TestCountersFit, TestUnit, stats_of, with_script, with_test}
+use Rattle.run_events_stats.specs.Summary.{FailuresFit}
 use Rattle.run_events_stats.specs.declared.outcome.run_outcome.RunOutcome.{RunOutcome}
 use Rattle.run_events_stats.specs.declared.stats.RunStats.{RunStats}
 use Rattle.run_digest_engine.specs.Answer.{NoBadLine}
@@ -22,11 +21,6 @@ pub record AreCounted (lines : List (List ℕ)) (stats : List RunStats) : Type 0
   pub runs : List Run
   pub reading : IsReading lines runs
   pub stats_are : AreStats stats runs
-
--- the reader gives runs that have these statistics
-abbrev pub GivesStats : Result (List Run) ℕ → List RunStats → Type 0
-GivesStats (Ok runs) stats = AreStats stats runs
-GivesStats (Err number) stats = ⊥
 
 -- the counters of the run that goes on have room for what a line says
 abbrev pub HasRoom : RunStats → EntryView → Type 0

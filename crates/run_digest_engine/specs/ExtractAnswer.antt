@@ -1,13 +1,9 @@
 -- What `extract` writes and answers.
-use Rattle.std.specs.Prelude.{◌≡◌, ℕ, ◌++◌, Bool, List, length, codes, is_some, Option, None, Some, Ok, Err}
+use Rattle.std.specs.Prelude.{◌≡◌, ℕ, ◌++◌, Bool, List, length, codes, is_some, Option, None, Some}
 use Rattle.std.specs.Fmt.{decimal}
 use Rattle.std.specs.Io.KnownBytes.{Appends}
-use Rattle.std.specs.declared.result.Result.{Result}
-use Rattle.run_events.specs.Extraction.{Extract, IsCappedExtract, error_slice, note_line, panic_slice}
-use Rattle.run_events.specs.Slices.{Slice}
-use Rattle.run_digest_devices.specs.Transfer.{AppendsStart}
-use Rattle.run_digest_devices.specs.declared.fault.Fault.{Fault}
-use Rattle.run_digest_devices.specs.declared.fault.Fault.TheVariants as faults
+use Rattle.output_slice.specs.Extraction.{Extract, IsCappedExtract, error_slice, note_line, panic_slice}
+use Rattle.output_slice.specs.Slices.{Slice}
 
 -- the first line for a slice: its kind, its start and its length in bytes
 unfoldable pub heading : List ℕ → ℕ → ℕ → List ℕ
@@ -28,18 +24,12 @@ extract_text (Some (note_line x)) = slice_text (codes "should-panic") x
 abbrev pub IsExtracted : List ℕ → Option Extract → Type 0
 IsExtracted input found = IsCappedExtract 4096 (Some input) (Some input) found
 
--- What is answered to this input. With Ok the text of what is extracted was written, and the answer is whether there is
--- anything. After a failed write a beginning of that text was written.
-abbrev pub AnswersExtract : Result Bool Fault → Option (List ℕ) → Option (List ℕ) → List ℕ → Type 0
-AnswersExtract (Ok success) old new input =
-    (found : Option Extract) × IsExtracted input found × Appends old new (extract_text found) × (success ≡ is_some found)
-AnswersExtract (Err faults.Write) old new input =
-    (found : Option Extract) × IsExtracted input found × AppendsStart old new (extract_text found)
-AnswersExtract (Err faults.Read) old new input = Unit {0}
-AnswersExtract (Err faults.OutOfMemory) old new input = Unit {0}
-AnswersExtract (Err faults.CounterFull) old new input = ⊥
-AnswersExtract (Err faults.BadWord) old new input = ⊥
-AnswersExtract (Err (faults.BadLine number)) old new input = ⊥
+-- the text of what is extracted of an input, and whether there is anything
+pub record IsExtractAnswer (input text : List ℕ) (success : Bool) : Type 0 where
+  pub found : Option Extract
+  pub extracted : IsExtracted input found
+  pub text_is : text ≡ extract_text found
+  pub success_is : success ≡ is_some found
 
 -- what was written and answered is what anything says that is extracted of the input: so there is no other
 abbrev pub TellsEachExtract : Bool → Option (List ℕ) → Option (List ℕ) → List ℕ → Type 0

@@ -1,8 +1,8 @@
 -- Laws of what lines spell.
 use Rattle.std.specs.Prelude.{◌≡◌, ℕ, List, codes}
 use Rattle.bstr.specs.Text.{lines_of}
-use Rattle.run_events.specs.Counters.{UnitView}
-use Rattle.run_events.specs.Lines.{AreLines}
+use Rattle.run_events_stats.specs.Counters.{UnitView}
+use Rattle.output_slice.specs.Lines.{AreLines}
 use Rattle.run_events_stats.specs.declared.stats.RunStart.{RunStart}
 use Rattle.run_digest_engine.specs.Reading.{IsReading, Run}
 use Rattle.run_digest_engine.specs.Spelling.{SpellsStart, SpellsUnit}

@@ -1,13 +1,14 @@
 pub mod Answer
 pub mod Command
 pub mod Counted
-pub mod Digest
 pub mod EntryView
 pub mod ExtractAnswer
+pub mod Fault
 pub mod Laws
 pub mod Number
 pub mod Parts
 pub mod Reader
 pub mod Reading
 pub mod Report
+pub mod RunReports
 pub mod Spelling

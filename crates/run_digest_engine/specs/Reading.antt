@@ -1,7 +1,7 @@
 -- What the lines of an input say of runs, and which line is the first bad one.
 use Rattle.std.specs.Prelude.{◌≡◌, ◌≢◌, ℕ, ◌-◌, ◌<◌, ◌≤◌, ◌⊎◌, List, [], ◌∷◌, ◌++◌, length, map, slice_get, codes, Some}
 use Rattle.bstr.specs.Text.{lines_of, without_terminator}
-use Rattle.run_events.specs.Counters.{UnitView}
+use Rattle.run_events_stats.specs.Counters.{UnitView}
 use Rattle.run_events_stats.specs.declared.stats.RunStart.{RunStart}
 use Rattle.run_digest_engine.specs.Spelling.{SpellsStart, SpellsUnit}
 

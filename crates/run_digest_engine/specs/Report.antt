@@ -2,9 +2,9 @@
 use Rattle.std.specs.Prelude.{ℕ, Bool, true, false, List, [], ◌∷◌, ◌++◌, map, codes}
 use Rattle.std.specs.Fmt.{decimal}
 use Rattle.std.specs.List.{concat}
-use Rattle.run_events.specs.Counters.{stats_of}
-use Rattle.run_events.specs.Outcome.{outcome_of}
-use Rattle.run_events.specs.Summary.{failed_scripts, failed_tests, summary_of}
+use Rattle.run_events_stats.specs.Counters.{stats_of}
+use Rattle.run_events_stats.specs.Outcome.{outcome_of}
+use Rattle.run_events_stats.specs.Summary.{failed_scripts, failed_tests, summary_of}
 use Rattle.run_events_stats.specs.declared.outcome.FinalRunStats.{FinalRunStats}
 use Rattle.run_events_stats.specs.declared.outcome.FinalRunStats.TheVariants.{Success, NoTestsRun, Cancelled, Failed}
 use Rattle.run_events_stats.specs.declared.outcome.RunFailureStep.TheVariants as step

@@ -1,7 +1,7 @@
 -- What a line of the input spells.
 use Rattle.std.specs.Prelude.{◌≡◌, ◌<◌, ◌+◌, ℕ, Bool, true, false, if◌then◌else◌, List, [], ◌∷◌, ◌++◌, map, length, codes, pos, Option, None, Some}
 use Rattle.std.specs.List.{join_with_byte}
-use Rattle.run_events.specs.Counters.{UnitView, ScriptUnit, TestUnit}
+use Rattle.run_events_stats.specs.Counters.{UnitView, ScriptUnit, TestUnit}
 use Rattle.run_events_settings.specs.declared.config.FlakyResult.TheVariants as setting
 use Rattle.run_events_settings.specs.declared.config.LeakTimeoutResult.TheVariants as leak
 use Rattle.run_events_settings.specs.declared.config.SlowTimeoutResult.TheVariants as slow
@@ -95,7 +95,7 @@ unit_said (TestLine earlier last is_slow flaky_fails) = TestUnit (record {
   result = result_named last;
   attempts = length earlier + 1;
   is_slow = is_slow;
-  setting = if flaky_fails then setting.Fail else setting.Pass;
+  flaky_result = if flaky_fails then setting.Fail else setting.Pass;
 })
 
 -- line is the spelling of this unit

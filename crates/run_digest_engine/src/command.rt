@@ -3,7 +3,7 @@
 ghost use Rattle.std.specs.Prelude.{◌≡◌, map, string_bytes};
 ghost use Rattle.run_digest_engine.specs.Command.{command_of};
 
-use run_digest_devices::fault::Fault;
+use crate::fault::Fault;
 
 /// A command of `run-digest`.
 #[derive(Clone, Copy, Debug, PartialEq, Eq)]

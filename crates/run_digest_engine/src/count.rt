@@ -1,31 +1,19 @@
 //! Counting runs, from the lines of their units to the reports of their counters.
 
-ghost use Rattle.std.specs.Prelude.{◌≡◌, ◌↔◌, true, false, map, IfErr, IfOk, IfSome, OnOk, IsErrOf, string_bytes};
-ghost use Rattle.run_events.specs.Summary.{summary_of};
-ghost use Rattle.run_digest_devices.specs.declared.fault.Fault.TheVariants as faults;
-ghost use Rattle.run_digest_engine.specs.Answer.{Answers, KeepsSink, ReadsToEnd};
-ghost use Rattle.run_digest_engine.specs.Digest.{IsDigest, IsRefusal};
-ghost use Rattle.run_digest_engine.specs.Reading.{texts_of};
+ghost use Rattle.std.specs.Prelude.{◌≡◌, ◌≢◌, ◌↔◌, ℕ, true, false, IfErr, IfOk, IfSome, OnOk, IsErrOf, string_bytes};
+ghost use Rattle.program_io.specs.Engine.{Answers, KeepsSink, ReadsToEnd};
+ghost use Rattle.run_digest_engine.specs.Answer.{IsDigest, IsRefusal};
+ghost use Rattle.run_digest_engine.specs.Fault.{stage_of};
+ghost use Rattle.run_digest_engine.specs.Reading.{IsFirstBadLine, texts_of};
+ghost use Rattle.run_digest_engine.specs.declared.fault.Fault.TheVariants as faults;
 
+use crate::fault::Fault;
 use crate::lines::stats_in;
 use crate::report::reports;
-use run_digest_devices::device::{Sink, Source};
-use run_digest_devices::fault::Fault;
-use run_digest_devices::transfer::{read_all, write_all};
-use run_events::outcome::{FinalRunStats, RunOutcome};
-use run_events::stats::RunStats;
-use std::alloc::{AllocError, Global};
-
-/// Returns the summaries of runs, given their statistics.
-fn summaries_of(alloc: Global, runs: &[RunStats]) -> Result<Vec<FinalRunStats>, AllocError>
-    ensures { IfOk result (λ v. v.items ≡ map summary_of runs.now) }
-{
-    let mut summaries = Vec::with_capacity(alloc, runs.len())?;
-    for stats in runs {
-        summaries.push(stats.summarize_final())?;
-    }
-    Ok(summaries)
-}
+use program_io::device::{Sink, Source};
+use program_io::transfer::{read_all, write_all};
+use run_events_stats::outcome::RunOutcome;
+use std::alloc::Global;
 
 /// Returns the text for an input, and whether the outcome of its runs is `Success`.
 fn digest(alloc: Global, bytes: &[u8]) -> Result<(String, bool), Fault>
@@ -33,9 +21,7 @@ fn digest(alloc: Global, bytes: &[u8]) -> Result<(String, bool), Fault>
     ensures refusal { IfErr result (λ fault. IsRefusal (texts_of bytes.now) fault) }
 {
     let runs = stats_in(alloc, bytes)?;
-    let summaries = summaries_of(alloc, runs.as_slice())?;
-    let outcome = RunOutcome::of_sub_runs(summaries.as_slice());
-    let text = reports(alloc, runs.as_slice(), outcome)?;
+    let (text, outcome) = reports(alloc, runs.as_slice())?;
     Ok((text, outcome == RunOutcome::Success))
 }
 
@@ -67,13 +53,18 @@ fn digest(alloc: Global, bytes: &[u8]) -> Result<(String, bool), Fault>
 pub fn count<R: Source, W: Sink>(alloc: Global, source: &mut R, sink: &mut W) -> Result<bool, Fault>
     requires source_works { R.failed source.old ≡ false }
     requires sink_works { W.failed sink.old ≡ false }
+    ensures faults { IfErr result (λ e. e ≢ faults.BadWord) }
     ensures read { IsErrOf result faults.Read ↔ (R.failed source.new ≡ true) }
     ensures write { IsErrOf result faults.Write ↔ (W.failed sink.new ≡ true) }
-    ensures end { ReadsToEnd result (R.left source.new) }
-    ensures kept { KeepsSink result (W.written sink.old) (W.written sink.new) }
+    ensures end { ReadsToEnd stage_of result (R.left source.new) }
+    ensures kept { KeepsSink stage_of result (W.written sink.old) (W.written sink.new) }
     ensures flushed { OnOk result (W.flushed sink.new ≡ true) }
     ensures answer { IfSome (R.left source.old)
-        (λ input. Answers result (W.written sink.old) (W.written sink.new) (texts_of input)) }
+        (λ input. Answers stage_of (IsDigest (texts_of input)) result
+        (W.written sink.old) (W.written sink.new)) }
+    ensures bad_line { IfSome (R.left source.old)
+        (λ input. (number : ℕ) → IsErrOf result (faults.BadLine number)
+        → IsFirstBadLine (texts_of input) number) }
 {
     let bytes = read_all(alloc, source)?;
     let (text, success) = digest(alloc, bytes.as_slice())?;

@@ -5,16 +5,17 @@ ghost use Rattle.run_digest_engine.specs.EntryView.{entry_view};
 ghost use Rattle.run_digest_engine.specs.Reader.{entry_of_words, words_of};
 
 use crate::parts::Parts;
-use crate::units::{FinishedTest, parse_script, parse_test};
+use crate::units::{parse_script, parse_test};
 use crate::words::parse_start;
-use run_events::results::ExecutionResult;
-use run_events::stats::RunStart;
+use run_events_levels::view::FinishedTest;
+use run_events_results::results::ExecutionResultDescription;
+use run_events_stats::stats::RunStart;
 
 /// A line after line 1.
-#[derive(Clone, Copy)]
+#[derive(Drop)]
 pub(crate) enum Entry {
     /// A finished setup script of the current run, with its result.
-    Script(ExecutionResult),
+    Script(ExecutionResultDescription),
 
     /// A finished test of the current run.
     Test(FinishedTest),

@@ -1,16 +1,17 @@
 //! Finding the part of a test's output that explains its failure.
 
-ghost use Rattle.std.specs.Prelude.{◌≡◌, ◌↔◌, ◌⊎◌, true, false, IfErr, IfOk, IfSome, OnOk, IsErrOf, Option, option_map, string_bytes};
-ghost use Rattle.run_events.specs.Extraction.{Extract};
-ghost use Rattle.run_events.specs.Shown.{extract_of};
-ghost use Rattle.run_digest_devices.specs.declared.fault.Fault.TheVariants as faults;
-ghost use Rattle.run_digest_engine.specs.Answer.{KeepsSink, ReadsToEnd};
-ghost use Rattle.run_digest_engine.specs.ExtractAnswer.{AnswersExtract, IsExtracted, TellsEachExtract, extract_text, heading};
+ghost use Rattle.std.specs.Prelude.{◌≡◌, ◌↔◌, ◌⊎◌, true, false, IfErr, IfOk, IfSome, OnOk, IsErrOf, Option, is_some, option_map, string_bytes};
+ghost use Rattle.program_io.specs.Engine.{Answers, KeepsSink, ReadsToEnd};
+ghost use Rattle.output_slice.specs.Extraction.{Extract};
+ghost use Rattle.output_slice.specs.Shown.{extract_of};
+ghost use Rattle.run_digest_engine.specs.ExtractAnswer.{IsExtractAnswer, IsExtracted, TellsEachExtract, extract_text, heading};
+ghost use Rattle.run_digest_engine.specs.Fault.{stage_of};
+ghost use Rattle.run_digest_engine.specs.declared.fault.Fault.TheVariants as faults;
 
-use run_digest_devices::device::{Sink, Source};
-use run_digest_devices::fault::Fault;
-use run_digest_devices::transfer::{read_all, write_all};
-use run_events::output_slice::subslice::TestOutputErrorSlice;
+use crate::fault::Fault;
+use output_slice::subslice::TestOutputErrorSlice;
+use program_io::device::{Sink, Source};
+use program_io::transfer::{read_all, write_all};
 use std::alloc::{AllocError, Global};
 use std::num::NonZero;
 
@@ -58,6 +59,17 @@ fn text_of(alloc: Global, found: Option<TestOutputErrorSlice<'_>>) -> Result<Vec
     Ok(text)
 }
 
+/// Returns the text for the combined output of a test, and whether a part of it explains the failure.
+fn digest(alloc: Global, output: &[u8]) -> Result<(Vec<u8>, bool), AllocError>
+    ensures answer { IfOk result (λ d. IsExtractAnswer output.now d.0.items d.1) }
+    ensures only { IfOk result (λ d. (found : Option Extract) → IsExtracted output.now found
+        → (d.0.items ≡ extract_text found) × (d.1 ≡ is_some found)) }
+{
+    let found = extracted(output);
+    let text = text_of(alloc, found)?;
+    Ok((text, found.is_some()))
+}
+
 /// Reads a test's combined output from `source`, and writes the part of it that explains its failure
 /// to `sink`, at most 4,096 bytes of it. Returns true if there is such a part.
 ///
@@ -83,20 +95,19 @@ pub fn extract<R: Source, W: Sink>(
         (λ e. (e ≡ faults.Read) ⊎ (e ≡ faults.Write) ⊎ (e ≡ faults.OutOfMemory)) }
     ensures read { IsErrOf result faults.Read ↔ (R.failed source.new ≡ true) }
     ensures write { IsErrOf result faults.Write ↔ (W.failed sink.new ≡ true) }
-    ensures end { ReadsToEnd result (R.left source.new) }
-    ensures kept { KeepsSink result (W.written sink.old) (W.written sink.new) }
+    ensures end { ReadsToEnd stage_of result (R.left source.new) }
+    ensures kept { KeepsSink stage_of result (W.written sink.old) (W.written sink.new) }
     ensures flushed { OnOk result (W.flushed sink.new ≡ true) }
     ensures answer { IfSome (R.left source.old)
-        (λ input. AnswersExtract result (W.written sink.old) (W.written sink.new) input) }
+        (λ input. Answers stage_of (IsExtractAnswer input) result
+        (W.written sink.old) (W.written sink.new)) }
 
     // Of an input nothing else is extracted: where the answer is `false`, there is nothing.
     ensures only { IfOk result (λ success. IfSome (R.left source.old)
         (λ input. TellsEachExtract success (W.written sink.old) (W.written sink.new) input)) }
 {
     let bytes = read_all(alloc, source)?;
-    let output = bytes.as_slice();
-    let found = extracted(output);
-    let text = text_of(alloc, found)?;
+    let (text, success) = digest(alloc, bytes.as_slice())?;
     write_all(sink, text.as_slice())?;
-    Ok(found.is_some())
+    Ok(success)
 }

@@ -8,7 +8,7 @@ ghost use Rattle.run_digest_engine.specs.Laws.{LinesAreCut, OneEntry, OneReading
 pub fn lines_are_cut()
     ensures { LinesAreCut }
 {
-    run_events::output_slice::laws::lines_are_cut();
+    output_slice::laws::lines_are_cut();
 }
 
 /// A line says at most one start of a run by one keyword.

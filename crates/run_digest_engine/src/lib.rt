@@ -1,5 +1,5 @@
-//! The commands of `run-digest`, over any source and any sink of bytes. The devices and the faults are
-//! in `run_digest_devices`.
+//! The commands of `run-digest`, over any source and any sink of bytes. Sources and sinks are in
+//! `program_io`.
 //!
 //! A call that counts the runs of a source and writes their reports to a sink. It returns the number
 //! of the first bad line, if there is one, and ignores a failed write:
@@ -17,9 +17,11 @@ pub mod command;
 pub mod count;
 mod entry;
 pub mod extract;
+pub mod fault;
 pub mod laws;
 mod lines;
 mod parts;
 mod report;
+pub mod runs;
 mod units;
 mod words;

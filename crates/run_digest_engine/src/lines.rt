@@ -1,22 +1,18 @@
 //! Counting the runs of an input.
 
-ghost use Rattle.std.specs.Prelude.{◌≡◌, IfErr, IfOk, codes};
-ghost use Rattle.run_events.specs.Counters.{TestCountersFit, with_test};
-ghost use Rattle.run_digest_engine.specs.Counted.{AreCounted, Counts, GivesStats, HasRoom};
-ghost use Rattle.run_digest_engine.specs.Digest.{IsRefusal};
-ghost use Rattle.run_digest_engine.specs.EntryView.{entry_view, test_view};
-ghost use Rattle.run_digest_engine.specs.Reader.{Refuses, begun, runs_from, start_of_words, words_of};
+ghost use Rattle.std.specs.Prelude.{◌≡◌, IfErr, IfOk};
+ghost use Rattle.run_digest_engine.specs.Counted.{AreCounted, Counts, HasRoom};
+ghost use Rattle.run_digest_engine.specs.Answer.{IsRefusal};
+ghost use Rattle.run_digest_engine.specs.EntryView.{entry_view};
+ghost use Rattle.run_digest_engine.specs.Reader.{start_of_words, words_of};
 ghost use Rattle.run_digest_engine.specs.Reading.{texts_of};
 
 use crate::entry::{Entry, parse_entry};
+use crate::fault::Fault;
 use crate::parts::Parts;
-use crate::units::FinishedTest;
 use crate::words::parse_start;
-use bstr::{ByteSlice, Lines};
-use run_digest_devices::fault::Fault;
-use run_events::results::ExecutionResultDescription;
-use run_events::stats::{RunStart, RunStats};
-use run_events::view::TestView;
+use bstr::ByteSlice;
+use run_events_stats::stats::{RunStart, RunStats};
 use std::alloc::{AllocError, Global};
 
 /// The greatest number of lines of an input.
@@ -25,7 +21,7 @@ const MAX_LINES: usize = 10_000;
 /// Parses line 1.
 #[tactic(auto, unfolding(crate::specs::Reader::start_of_words))]
 fn parse_first(line: &[u8]) -> Option<RunStart>
-    ensures { result ≡ start_of_words (codes "run") (words_of line.now) }
+    ensures { result ≡ start_of_words (words_of line.now) }
 {
     let Ok(text) = str::from_utf8(line) else {
         return None;
@@ -35,20 +31,6 @@ fn parse_first(line: &[u8]) -> Option<RunStart>
         Some("run") => parse_start(words),
         _ => None,
     }
-}
-
-/// Counts a finished test.
-fn count_test(stats: &mut RunStats, test: FinishedTest)
-    requires { TestCountersFit (with_test stats.old (test_view test)) }
-    ensures { stats.new ≡ with_test stats.old (test_view test) }
-{
-    let result = ExecutionResultDescription::from_status(test.result, None);
-    stats.on_test_view(&TestView {
-        result: &result,
-        attempts: test.attempts,
-        is_slow: test.is_slow,
-        flaky_result: test.flaky_result,
-    });
 }
 
 /// Counts a line, and returns the statistics of the current run. If another sub-run begins, those of
@@ -63,10 +45,8 @@ fn count_entry(
         (λ next. Counts (entry_view entry) runs.old.items stats runs.new.items next) }
 {
     match entry {
-        Entry::Script(result) => {
-            stats.on_script_result(&ExecutionResultDescription::from_status(result, None));
-        }
-        Entry::Test(test) => count_test(&mut stats, test),
+        Entry::Script(result) => stats.on_script_result(&result),
+        Entry::Test(test) => stats.on_test_view(&test.view()),
         Entry::SubRun(start) => {
             runs.push(stats)?;
             return Ok(RunStats::of_run(&[], start));
@@ -75,12 +55,19 @@ fn count_entry(
     Ok(stats)
 }
 
-/// Returns the statistics of the runs, given the start of the first run and the lines after line 1.
-fn stats_after(alloc: Global, start: RunStart, mut lines: Lines<'_>) -> Result<Vec<RunStats>, Fault>
-    ensures stats { IfOk result (λ v. GivesStats (runs_from 2 (begun start) lines.entry) v.items) }
-    ensures refusal { IfErr result
-        (λ fault. Refuses fault (runs_from 2 (begun start) lines.entry)) }
+/// Returns the statistics of the runs of an input, which are at least one. The error is the first bad
+/// line.
+pub(crate) fn stats_in(alloc: Global, bytes: &[u8]) -> Result<Vec<RunStats>, Fault>
+    ensures stats { IfOk result (λ v. AreCounted (texts_of bytes.now) v.items) }
+    ensures refusal { IfErr result (λ fault. IsRefusal (texts_of bytes.now) fault) }
 {
+    let mut lines = bytes.lines();
+    let Some(first) = lines.next() else {
+        return Err(Fault::BadLine { number: 1 });
+    };
+    let Some(start) = parse_first(first) else {
+        return Err(Fault::BadLine { number: 1 });
+    };
     let mut runs = Vec::new(alloc);
     let mut stats = RunStats::of_run(&[], start);
     let mut number = 2;
@@ -96,20 +83,4 @@ fn stats_after(alloc: Global, start: RunStart, mut lines: Lines<'_>) -> Result<V
     }
     runs.push(stats)?;
     Ok(runs)
-}
-
-/// Returns the statistics of the runs of an input, which are at least one. The error is the first bad
-/// line.
-pub(crate) fn stats_in(alloc: Global, bytes: &[u8]) -> Result<Vec<RunStats>, Fault>
-    ensures stats { IfOk result (λ v. AreCounted (texts_of bytes.now) v.items) }
-    ensures refusal { IfErr result (λ fault. IsRefusal (texts_of bytes.now) fault) }
-{
-    let mut lines = bytes.lines();
-    let Some(first) = lines.next() else {
-        return Err(Fault::BadLine { number: 1 });
-    };
-    match parse_first(first) {
-        Some(start) => stats_after(alloc, start, lines),
-        None => Err(Fault::BadLine { number: 1 }),
-    }
 }

@@ -2,14 +2,15 @@
 
 ghost use Rattle.std.specs.Prelude.{◌≡◌, ◌++◌, All, IfOk, OnOk, map, string_bytes};
 ghost use Rattle.std.specs.List.{concat};
-ghost use Rattle.run_events.specs.Summary.{FailuresFit};
+ghost use Rattle.run_events_stats.specs.Outcome.{IsHighest, outcome_of};
+ghost use Rattle.run_events_stats.specs.Summary.{FailuresFit, summary_of};
 ghost use Rattle.run_digest_engine.specs.Counted.{stats_reports};
 ghost use Rattle.run_digest_engine.specs.Report.{outcome_words, report_of};
 ghost use Rattle.run_digest_engine.specs.Spelling.{reason_word};
 
-use run_events::outcome::{FinalRunStats, RunFailureStep, RunOutcome, RunStatsFailureKind};
-use run_events::results::CancelReason;
-use run_events::stats::RunStats;
+use run_events_results::results::CancelReason;
+use run_events_stats::outcome::{FinalRunStats, RunFailureStep, RunOutcome, RunStatsFailureKind};
+use run_events_stats::stats::RunStats;
 use std::alloc::{AllocError, Global};
 use std::fmt::{self, Write};
 
@@ -104,10 +105,16 @@ fn outcome_text(outcome: RunOutcome) -> &'static str
     }
 }
 
-/// Appends the three lines of a report. Both sums of failures must fit `usize`.
+/// Appends the three lines of a report. Both sums of failures must fit `usize`, and `summary` must be
+/// the summary of the statistics.
 #[tactic(auto, unfolding(crate::specs::Report::report_of, crate::specs::Report::tests_line, crate::specs::Report::scripts_line))]
-fn push_report(text: &mut String, stats: &RunStats) -> Result<(), AllocError>
-    requires { FailuresFit stats.now }
+fn push_report(
+    text: &mut String,
+    stats: &RunStats,
+    summary: FinalRunStats,
+) -> Result<(), AllocError>
+    requires fit { FailuresFit stats.now }
+    requires summary { summary ≡ summary_of stats.now }
     ensures { OnOk result (string_bytes text.new ≡ string_bytes text.old ++ report_of stats.now) }
 {
     let (finished, passed, flaky) = (stats.finished_count, stats.passed, stats.flaky);
@@ -119,36 +126,55 @@ fn push_report(text: &mut String, stats: &RunStats) -> Result<(), AllocError>
     let finished = stats.setup_scripts_finished_count;
     let failed = stats.failed_setup_script_count();
     writeln!(text, "scripts {finished} failed {failed}")?;
-    let summary = SummaryText(stats.summarize_final());
+    let summary = SummaryText(summary);
     writeln!(text, "summary {summary}")
 }
 
-/// Returns the reports of runs.
-fn report_texts(alloc: Global, runs: &[RunStats]) -> Result<String, AllocError>
-    requires { All FailuresFit runs.now }
-    ensures { IfOk result (λ s. string_bytes s ≡ concat (map report_of runs.now)) }
-{
-    let mut text = String::new(alloc);
-    for stats in runs {
-        push_report(&mut text, stats)?;
-    }
-    Ok(text)
-}
-
-/// Returns the reports of runs, and the line of their outcome unless there is exactly one run. Both
-/// sums of failures of each run must fit `usize`.
-pub(crate) fn reports(
+/// Returns the reports of runs, and their summaries.
+pub(crate) fn report_texts(
     alloc: Global,
     runs: &[RunStats],
-    outcome: RunOutcome,
-) -> Result<String, AllocError>
+) -> Result<(String, Vec<FinalRunStats>), AllocError>
     requires { All FailuresFit runs.now }
-    ensures { IfOk result (λ s. string_bytes s ≡ stats_reports runs.now outcome) }
+    ensures text { IfOk result (λ r. string_bytes r.0 ≡ concat (map report_of runs.now)) }
+    ensures summaries { IfOk result (λ r. r.1.items ≡ map summary_of runs.now) }
 {
-    let mut text = report_texts(alloc, runs)?;
+    let mut text = String::new(alloc);
+    let mut summaries = Vec::with_capacity(alloc, runs.len())?;
+    for stats in runs {
+        let summary = stats.summarize_final();
+        push_report(&mut text, stats, summary)?;
+        summaries.push(summary)?;
+    }
+    Ok((text, summaries))
+}
+
+/// Appends the line of the outcome of runs to their reports, unless there is exactly one run.
+pub(crate) fn push_outcome(
+    text: &mut String,
+    runs: &[RunStats],
+    outcome: RunOutcome,
+) -> Result<(), AllocError>
+    requires { string_bytes text.old ≡ concat (map report_of runs.now) }
+    ensures { OnOk result (string_bytes text.new ≡ stats_reports runs.now outcome) }
+{
     if runs.len() != 1 {
         let words = outcome_text(outcome);
         writeln!(text, "outcome {words}")?;
     }
-    Ok(text)
+    Ok(())
+}
+
+/// Returns the reports of runs with the line of their outcome, unless there is exactly one run, and
+/// their outcome. Both sums of failures of each run must fit `usize`.
+pub(crate) fn reports(alloc: Global, runs: &[RunStats]) -> Result<(String, RunOutcome), AllocError>
+    requires { All FailuresFit runs.now }
+    ensures highest { IfOk result
+        (λ r. IsHighest (map outcome_of (map summary_of runs.now)) r.1) }
+    ensures text { IfOk result (λ r. string_bytes r.0 ≡ stats_reports runs.now r.1) }
+{
+    let (mut text, summaries) = report_texts(alloc, runs)?;
+    let outcome = RunOutcome::of_sub_runs(summaries.as_slice());
+    push_outcome(&mut text, runs, outcome)?;
+    Ok((text, outcome))
 }

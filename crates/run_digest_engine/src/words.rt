@@ -1,15 +1,14 @@
 //! The words of an input.
 
-ghost use Rattle.std.specs.Prelude.{◌≡◌, ◌≤◌, true, None, length, option_map};
+ghost use Rattle.std.specs.Prelude.{◌≡◌, ◌≤◌, true, length};
 ghost use Rattle.std.specs.Char.{is_ascii_digit};
 ghost use Rattle.std.specs.List.{list_all};
-ghost use Rattle.run_events.specs.Described.{described_result};
 ghost use Rattle.run_digest_engine.specs.Reader.{flags_of, number_of, reason_of, result_of, start_fields, value_of_digits};
 
 use crate::parts::Parts;
-use run_events::config::{FlakyResult, LeakTimeoutResult, SlowTimeoutResult};
-use run_events::results::{CancelReason, ExecutionResult, FailureStatus};
-use run_events::stats::RunStart;
+use run_events_results::results::{CancelReason, ExecutionResultDescription, FailureDescription};
+use run_events_settings::config::{FlakyResult, LeakTimeoutResult, SlowTimeoutResult};
+use run_events_stats::stats::RunStart;
 
 /// The greatest number of digits of a number.
 const MAX_DIGITS: usize = 7;
@@ -19,26 +18,26 @@ const MAX_NUMBER: usize = 1_000_000;
 
 /// Parses the word for a result.
 #[tactic(auto, unfolding(crate::specs::Reader::result_of))]
-pub(crate) fn parse_result(word: &str) -> Option<ExecutionResult>
-    ensures { option_map (λ r. described_result r None) result ≡ result_of word.now }
+pub(crate) fn parse_result(word: &str) -> Option<ExecutionResultDescription>
+    ensures { result ≡ result_of word.now }
 {
     match word {
-        "pass" => Some(ExecutionResult::Pass),
-        "leak" => Some(ExecutionResult::Leak {
+        "pass" => Some(ExecutionResultDescription::Pass),
+        "leak" => Some(ExecutionResultDescription::Leak {
             result: LeakTimeoutResult::Pass,
         }),
-        "leak-fail" => Some(ExecutionResult::Leak {
+        "leak-fail" => Some(ExecutionResultDescription::Leak {
             result: LeakTimeoutResult::Fail,
         }),
-        "fail" => Some(ExecutionResult::Fail {
-            failure_status: FailureStatus::ExitCode(1),
+        "fail" => Some(ExecutionResultDescription::Fail {
+            failure: FailureDescription::ExitCode { code: 1 },
             leaked: false,
         }),
-        "exec-fail" => Some(ExecutionResult::ExecFail),
-        "timeout" => Some(ExecutionResult::Timeout {
+        "exec-fail" => Some(ExecutionResultDescription::ExecFail),
+        "timeout" => Some(ExecutionResultDescription::Timeout {
             result: SlowTimeoutResult::Fail,
         }),
-        "timeout-pass" => Some(ExecutionResult::Timeout {
+        "timeout-pass" => Some(ExecutionResultDescription::Timeout {
             result: SlowTimeoutResult::Pass,
         }),
         _ => None,

@@ -1,10 +1,10 @@
 //! The two engines, over memory.
 
-use run_digest_devices::device::{Sink, Source};
-use run_digest_devices::fault::Fault;
-use run_digest_devices::memory_device::{MemorySink, MemorySource};
+use program_io::device::{Sink, Source};
+use program_io::memory_device::{MemorySink, MemorySource};
 use run_digest_engine::count::count;
 use run_digest_engine::extract::extract;
+use run_digest_engine::fault::Fault;
 use std::alloc::Global;
 
 /// A run of two tests, of which one is flaky and one fails.

@@ -2,7 +2,7 @@
 
 use crate::engine::{Devices, EXTRACT, Engine, OUTPUT, REPORT, RUN, SOUND};
 use crate::long_runs::run_of;
-use run_digest_devices::fault::Fault;
+use run_digest_engine::fault::Fault;
 use std::alloc::Global;
 use std::test::Fail;
 

@@ -1,7 +1,7 @@
 //! Runs of many lines.
 
 use crate::engine::{Engine, SOUND};
-use run_digest_devices::fault::Fault;
+use run_digest_engine::fault::Fault;
 use std::alloc::Global;
 use std::test::Fail;
 

@@ -1,7 +1,7 @@
 //! Devices over memory.
 
-use run_digest_devices::device::{DeviceFailed, Sink, Source};
-use run_digest_devices::memory_device::{MemorySink, MemorySource};
+use program_io::device::{DeviceFailed, Sink, Source};
+use program_io::memory_device::{MemorySink, MemorySource};
 
 #[test]
 fn a_source_is_read_in_pieces_and_fails_at_one_read(rt: HostRuntime) {

@@ -1,11 +1,11 @@
 //! What readers and writers of std are asked: fakes that keep a log of their calls.
 
 use crate::engine::{EXTRACT, OUTPUT, REPORT, RUN};
-use run_digest_devices::device::{DeviceFailed, Sink, Source};
-use run_digest_devices::fault::Fault;
-use run_digest_devices::std_device::{StdSink, StdSource};
+use program_io::device::{DeviceFailed, Sink, Source};
+use program_io::std_device::{StdSink, StdSource};
 use run_digest_engine::count::count;
 use run_digest_engine::extract::extract;
+use run_digest_engine::fault::Fault;
 use std::alloc::Global;
 use std::io::{self, Read, Write};
 

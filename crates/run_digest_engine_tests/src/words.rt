@@ -1,7 +1,7 @@
 //! What words ask for, and what faults say.
 
-use run_digest_devices::fault::Fault;
 use run_digest_engine::command::Command;
+use run_digest_engine::fault::Fault;
 use std::test::Fail;
 
 #[test]
@@ -37,7 +37,6 @@ fn faults_have_texts_and_statuses(rt: HostRuntime) -> Result<(), Fail> {
         (Fault::BadWord, 2, "usage: run-digest extract|count"),
         (Fault::Read, 3, "read failed"),
         (Fault::Write, 3, "write failed"),
-        (Fault::CounterFull, 3, "a number does not fit its counter"),
         (Fault::OutOfMemory, 3, "out of memory"),
     ] {
         let said = format!(in rt.alloc(); "{fault}")?;

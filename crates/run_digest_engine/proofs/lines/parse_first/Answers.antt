@@ -1,6 +1,8 @@
-use Rattle.std.proofs.Common.{sym}
-use Rattle.run_digest_engine.proofs.TextLines.{no_text_start}
+use Rattle.run_digest_engine.proofs.Exact.{reads_none}
+use Rattle.run_digest_engine.proofs.Starts.{first_is_text, first_reads}
 use Rattle.run_digest_engine.proofs.lines.parse_first.Goals as goal
 
 pub returns-in_default : goal.returns-in_default
-returns-in_default c = sym (no_text_start c.args.line.now c.in_default.ensures.cases.0)
+returns-in_default c =
+    let line = c.args.line.now in
+    reads_none _ _ (first_reads line) (λ start is. c.in_default.ensures.cases.0 (first_is_text line start is))

@@ -1,13 +1,13 @@
-use Rattle.std.proofs.Common.{length}
-use Rattle.std.specs.Prelude.{None, ◌==◌}
-use Rattle.std.specs.List.{slice_split}
-use Rattle.run_events.specs.Described.{described_result}
-use Rattle.run_digest_engine.proofs.ResultLists.{SoFar}
+use Rattle.std.proofs.Common.{◌≡◌, ◌≤◌, length}
+use Rattle.run_digest_engine.specs.Reader.{results_from, results_of}
 use Rattle.run_digest_engine.proofs.units.parse_results.Given as goal
 
--- the results so far, and those of what is left, are the results of the list
+-- what is left, behind the results so far, gives what the list does
 abbrev pub invariant-loop-word : goal.invariant-loop-word
-invariant-loop-word l = SoFar (slice_split (λ b. b == 44) l.fn.list) l.words (described_result l.last None) l.count
+invariant-loop-word l = record {
+  same : results_from l.words l.last l.count ≡ results_of l.fn.list;
+  few : l.count ≤ 100;
+}
 
 abbrev pub decreases-loop-word : goal.decreases-loop-word
 decreases-loop-word l = length l.words

@@ -1,0 +1,247 @@
+-- A line after line 1, read by its words.
+use Rattle.std.proofs.Common.{◌≡◌, ℕ, ◌+◌, ◌<◌, List, [], ◌∷◌, ◌++◌, Bool, true, false, length, map, refl, ap, sym, ◌∙◌, subst, cond, inl, inr, arith}
+use Rattle.std.specs.Prelude.{◌&&◌, None, Option, Some, codes, option_and_then, option_map}
+use Rattle.std.specs.List.{join_with_byte}
+use Rattle.std.specs.Str.{IsUtf8, bytes_eq}
+use Rattle.std.proofs.lemmas.Bool.{and_parts}
+use Rattle.std.proofs.lemmas.List.{append-nil}
+use Rattle.std.proofs.lemmas.List.Splits.{join_with_byte-slice_split}
+use Rattle.std.proofs.lemmas.Option.{cond_some, same_Some}
+use Rattle.std.proofs.lemmas.Slice.Eq.{bytes_eq-Decides}
+use Rattle.run_events_levels.specs.TestView.{TestView}
+use Rattle.run_events_results.specs.declared.results.ExecutionResultDescription.{ExecutionResultDescription}
+use Rattle.run_events_settings.specs.declared.config.FlakyResult.{FlakyResult}
+use Rattle.run_events_settings.specs.declared.config.FlakyResult.TheVariants as setting
+use Rattle.run_events_stats.specs.Counters.{ScriptUnit, TestUnit, UnitView}
+use Rattle.run_events_stats.specs.declared.stats.RunStart.{RunStart}
+use Rattle.run_digest_engine.specs.Reader.{EntryView, SubRunEntry, UnitEntry, entry_of_words, flags_of, result_of}
+use Rattle.run_digest_engine.specs.Reader.{results_of, script_of_words, start_fields, test_of_words, words_of}
+use Rattle.run_digest_engine.specs.Reading.{HasEntry}
+use Rattle.run_digest_engine.specs.Spelling.{ResultWord, ScriptLine, SpellsStart, SpellsUnit, TestLine, flag_words, result_named, unit_said, word_of}
+use Rattle.run_digest_engine.proofs.Exact.{Reads, none_spelled, reads-by, reads-same, reads-then, reads_all, reads_one}
+use Rattle.run_digest_engine.proofs.Results.{NamesResult, SpellsResults, list_passes, result_reads, results_read}
+use Rattle.run_digest_engine.proofs.Starts.{Fields, field_words, fields_pass, fields_read, start_joined, start_spelled}
+use Rattle.run_digest_engine.proofs.Tables.{chosen, word_is_plain}
+use Rattle.run_digest_engine.proofs.PlainWords.{Pass, cut_joined, is_plain, joined_is_text}
+
+-- line is a spelling of this entry
+abbrev pub SpellsEntry : List ℕ → EntryView → Type 0
+SpellsEntry line (UnitEntry unit) = SpellsUnit line unit
+SpellsEntry line (SubRunEntry start) = SpellsStart (codes "sub-run") line start
+
+-- the words of these flags
+abbrev flag_list : Bool → Bool → List (List ℕ)
+flag_list false false = []
+flag_list true false = codes "slow" ∷ []
+flag_list false true = codes "flaky-fail" ∷ []
+flag_list true true = codes "slow" ∷ codes "flaky-fail" ∷ []
+
+flags_joined : (list : List ℕ) (slow fails : Bool) → join_with_byte 32 (list ∷ flag_list slow fails) ≡ list ++ flag_words slow fails
+flags_joined list slow fails = grind (arith, append-nil)
+
+flags_pass : (slow fails : Bool) → Pass is_plain (flag_list slow fails)
+flags_pass slow fails = grind arith
+
+-- the setting that a flag means
+abbrev setting_by : Bool → FlakyResult
+setting_by fails = cond fails setting.Fail setting.Pass
+
+-- the words are those of these flags
+abbrev SpellsFlags : List (List ℕ) → Bool × FlakyResult → Type 0
+SpellsFlags words f = (slow : Bool) × (fails : Bool) × (words ≡ flag_list slow fails) × (f ≡ (slow, setting_by fails))
+
+flags_spelled : (slow fails : Bool) → flags_of (flag_list slow fails) ≡ Some (slow, setting_by fails)
+unfolding flags_of
+flags_spelled slow fails = grind arith
+
+-- words that are read as flags are their words
+flags_inverse : (words : List (List ℕ)) (f : Bool × FlakyResult) → flags_of words ≡ Some f → SpellsFlags words f
+unfolding flags_of
+flags_inverse [] f e = (false, false, refl, cc)
+flags_inverse (a ∷ []) f e =
+    let other : Option (Bool × FlakyResult) = cond (bytes_eq a (codes "flaky-fail")) (Some (false, setting.Fail)) None in
+    elim (chosen (bytes_eq a (codes "slow")) (Some (true, setting.Pass)) other (Some f) e) [
+      | inl held ↦ (true, false, ap (λ x. x ∷ []) ((bytes_eq-Decides a (codes "slow")).0 held.0), cc)
+      | inr failed ↦
+          let held = cond_some (bytes_eq a (codes "flaky-fail")) (false, setting.Fail) f failed.1 in
+          (false, true, ap (λ x. x ∷ []) ((bytes_eq-Decides a (codes "flaky-fail")).0 held.0), sym held.1)
+    ]
+flags_inverse (a ∷ b ∷ []) f e =
+    let held = cond_some (bytes_eq a (codes "slow") && bytes_eq b (codes "flaky-fail")) (true, setting.Fail) f e in
+    let both = and_parts (bytes_eq a (codes "slow")) (bytes_eq b (codes "flaky-fail")) held.0 in
+    let first : a ≡ codes "slow" = (bytes_eq-Decides a (codes "slow")).0 both.0 in
+    let second : b ≡ codes "flaky-fail" = (bytes_eq-Decides b (codes "flaky-fail")).0 both.1 in
+    (true, true, ap (λ x. x ∷ b ∷ []) first ∙ ap (λ x. codes "slow" ∷ x ∷ []) second, sym held.1)
+flags_inverse (a ∷ b ∷ c ∷ words) f e = absurd cc
+
+-- the flags that words spell are read
+flags_read : (words : List (List ℕ)) → Reads (SpellsFlags words) (flags_of words)
+flags_read words = reads-by (SpellsFlags words) (flags_of words) (λ f s. ap flags_of s.2 ∙ flags_spelled s.0 s.1 ∙ ap Some (sym s.3)) (flags_inverse words)
+
+-- what stands behind the first word of an entry's line
+abbrev Behind : EntryView → List (List ℕ) → Type 0
+Behind (SubRunEntry start) words = Fields words start
+Behind (UnitEntry (ScriptUnit r)) words = (n : ResultWord) × (words ≡ word_of n ∷ []) × (r ≡ result_named n)
+Behind (UnitEntry (TestUnit t)) words =
+    (earlier : List ResultWord) × (last : ResultWord) × (slow : Bool) × (fails : Bool) × (length earlier < 100)
+    × (words ≡ join_with_byte 44 (map word_of (earlier ++ last ∷ [])) ∷ flag_list slow fails) × (TestUnit t ≡ unit_said (TestLine earlier last slow fails))
+
+-- that word
+abbrev keyword_of : EntryView → List ℕ
+keyword_of (SubRunEntry start) = codes "sub-run"
+keyword_of (UnitEntry (ScriptUnit r)) = codes "script"
+keyword_of (UnitEntry (TestUnit t)) = codes "test"
+
+-- a script's result, behind the first word
+script_read : (words : List (List ℕ)) → Reads (λ r. Behind (UnitEntry (ScriptUnit r)) words) (script_of_words words)
+unfolding script_of_words
+script_read [] = λ r s. absurd (let none = s.1 in cc)
+script_read (word ∷ []) =
+    reads-same (NamesResult word) (λ r. Behind (UnitEntry (ScriptUnit r)) (word ∷ [])) (result_of word) (result_reads word)
+    (λ r s. (s.0, ap (λ w. w ∷ []) s.1, s.2))
+    (λ r s. (s.0, cc (s.1), s.2))
+script_read (word ∷ next ∷ words) = λ r s. absurd (let many = s.1 in cc)
+
+-- a test's results and flags
+test_read : (words : List (List ℕ)) → Reads (λ t. Behind (UnitEntry (TestUnit t)) words) (test_of_words words)
+unfolding test_of_words
+test_read [] = λ t s. absurd (let none = s.5 in cc)
+test_read (list ∷ flags) =
+    let P : TestView → Type 0 = λ t. Behind (UnitEntry (TestUnit t)) (list ∷ flags) in
+    let view : Bool × FlakyResult → ExecutionResultDescription × ℕ → TestView = λ f r.
+    record { result = r.0; attempts = r.1; is_slow = f.0; flaky_result = f.1 } in
+    let is_view : (t : TestView) → (s : P t) → t ≡ view (s.2, setting_by s.3) (result_named s.1, length s.0 + 1) = λ t s. cc (s.6) in
+    reads-then (SpellsFlags flags) P (λ f. option_and_then (λ r. Some (view f r)) (results_of list)) (flags_of flags) (flags_read flags)
+    (λ t s. ((s.2, setting_by s.3), (s.2, s.3, cc (s.5), refl))) (λ f is_f only_f.
+    reads-then (SpellsResults list) P (λ r. Some (view f r)) (results_of list) (results_read list)
+    (λ t s. ((result_named s.1, length s.0 + 1), (s.0, s.1, s.4, cc (s.5), refl))) (λ r is_r only_r. (
+      (is_r.0, is_r.1, is_f.0, is_f.1, is_r.2, cc (is_r.3, is_f.2), cc (is_f.3, is_r.4)),
+      λ t s. is_view t s
+          ∙ ap (λ x. view x (result_named s.1, length s.0 + 1)) (only_f (s.2, setting_by s.3) (s.2, s.3, cc (s.5), refl))
+          ∙ ap (view f) (only_r (result_named s.1, length s.0 + 1) (s.0, s.1, s.4, cc (s.5), refl)),
+    )))
+
+-- the words of an entry
+abbrev EntryWords : List (List ℕ) → EntryView → Type 0
+EntryWords words entry = (behind : List (List ℕ)) × (words ≡ keyword_of entry ∷ behind) × Behind entry behind
+
+-- what is read behind a keyword, as an entry
+put_read : {A : Type 0} (kind keyword : List ℕ) (words : List (List ℕ)) (put : A → EntryView) (o : Option A) (entry : EntryView)
+    → bytes_eq kind keyword ≡ true → ((a : A) → keyword_of (put a) ≡ keyword) → Reads (λ a. Behind (put a) words) o → option_map put o ≡ Some entry
+    → EntryWords (kind ∷ words) entry
+put_read kind keyword words put None entry same by read e = absurd cc
+put_read kind keyword words put (Some a) entry same by read e =
+    subst (EntryWords (kind ∷ words)) (same_Some (put a) entry e) (words, ap (λ k. k ∷ words) ((bytes_eq-Decides kind keyword).0 same ∙ sym (by a)), read.0)
+
+-- words from which an entry is read are its words
+words_inverse : (words : List (List ℕ)) (entry : EntryView) → entry_of_words words ≡ Some entry → EntryWords words entry
+unfolding entry_of_words
+words_inverse [] entry e = absurd cc
+words_inverse (kind ∷ words) entry e =
+    let to_script : ExecutionResultDescription → EntryView = λ r. UnitEntry (ScriptUnit r) in
+    let to_test : TestView → EntryView = λ t. UnitEntry (TestUnit t) in
+    let start = option_map SubRunEntry (start_fields words) in
+    let script = option_map to_script (script_of_words words) in
+    let test = option_map to_test (test_of_words words) in
+    let is_script = bytes_eq kind (codes "script") in
+    let is_test = bytes_eq kind (codes "test") in
+    elim (chosen (bytes_eq kind (codes "sub-run")) start (cond is_script script (cond is_test test None)) (Some entry) e) [
+      | inl held ↦ put_read kind (codes "sub-run") words SubRunEntry (start_fields words) entry held.0 (λ _. refl) (fields_read words) held.1
+      | inr failed ↦ elim (chosen is_script script (cond is_test test None) (Some entry) failed.1) [
+        | inl held ↦ put_read kind (codes "script") words to_script (script_of_words words) entry held.0 (λ _. refl) (script_read words) held.1
+        | inr failed ↦ elim (chosen is_test test None (Some entry) failed.1) [
+          | inl held ↦ put_read kind (codes "test") words to_test (test_of_words words) entry held.0 (λ _. refl) (test_read words) held.1
+          | inr none ↦ absurd cc
+        ]
+      ]
+    ]
+
+-- and from the words of an entry it is read
+words_spelled : (words : List (List ℕ)) (entry : EntryView) → EntryWords words entry → entry_of_words words ≡ Some entry
+unfolding entry_of_words
+words_spelled words (SubRunEntry start) (behind, are, is) =
+    ap entry_of_words are ∙ ap (option_map SubRunEntry) (reads_all (Fields behind) _ start (fields_read behind) is)
+words_spelled words (UnitEntry (ScriptUnit r)) (behind, are, is) =
+    ap entry_of_words are
+    ∙ ap (option_map (λ x. UnitEntry (ScriptUnit x))) (reads_all (λ x. Behind (UnitEntry (ScriptUnit x)) behind) _ r (script_read behind) is)
+words_spelled words (UnitEntry (TestUnit t)) (behind, are, is) =
+    ap entry_of_words are ∙ ap (option_map (λ x. UnitEntry (TestUnit x))) (reads_all (λ x. Behind (UnitEntry (TestUnit x)) behind) _ t (test_read behind) is)
+
+-- the words of a line that spells an entry: they are plain, and their join is the line
+record Written (line : List ℕ) (entry : EntryView) : Type 0 where
+  behind : List (List ℕ)
+  is : Behind entry behind
+  line_is : line ≡ join_with_byte 32 (keyword_of entry ∷ behind)
+  plain : Pass is_plain (keyword_of entry ∷ behind)
+
+-- a line that spells an entry is the join of its words
+written : (line : List ℕ) (entry : EntryView) → SpellsEntry line entry → Written line entry
+written line (SubRunEntry start) s = record {
+  behind = field_words (codes "sub-run") line start s;
+  is = (s.tests_number, s.scripts_number, refl, s.none_skipped);
+  line_is = start_joined (codes "sub-run") line start s;
+  plain = (refl, fields_pass (codes "sub-run") line start s);
+}
+written line (UnitEntry unit) (ScriptLine n, ok, is_line, is_unit) =
+    let P : UnitView → Type 0 = λ u. Written line (UnitEntry u) in
+    subst P (sym is_unit) (record { behind = word_of n ∷ []; is = (n, refl, refl); line_is = is_line; plain = (refl, (word_is_plain n, tt)) })
+written line (UnitEntry unit) (TestLine earlier last slow fails, few, is_line, is_unit) =
+    let P : UnitView → Type 0 = λ u. Written line (UnitEntry u) in
+    let list : List ℕ = join_with_byte 44 (map word_of (earlier ++ last ∷ [])) in
+    subst P (sym is_unit) (record {
+      behind = list ∷ flag_list slow fails;
+      is = (earlier, last, slow, fails, few, refl, refl);
+      line_is = is_line ∙ ap (λ x. codes "test " ++ x) (sym (flags_joined list slow fails));
+      plain = (refl, (list_passes (earlier ++ last ∷ []), flags_pass slow fails));
+    })
+
+-- a line that is cut into the words of an entry spells it
+spelled : (line : List ℕ) (entry : EntryView) → EntryWords (words_of line) entry → SpellsEntry line entry
+spelled line (SubRunEntry start) (behind, are, is) = start_spelled (codes "sub-run") line behind start are is
+spelled line (UnitEntry (ScriptUnit r)) (behind, are, (n, word, is)) =
+    (ScriptLine n, tt, sym (join_with_byte-slice_split 32 line) ∙ ap (join_with_byte 32) (are ∙ ap (λ ws. codes "script" ∷ ws) word), ap ScriptUnit is)
+spelled line (UnitEntry (TestUnit t)) (behind, are, (earlier, last, slow, fails, few, words, is)) =
+    let list : List ℕ = join_with_byte 44 (map word_of (earlier ++ last ∷ [])) in (
+      TestLine earlier last slow fails,
+      few,
+      sym (join_with_byte-slice_split 32 line)
+          ∙ ap (join_with_byte 32) (are ∙ ap (λ ws. codes "test" ∷ ws) words)
+          ∙ ap (λ x. codes "test " ++ x) (flags_joined list slow fails),
+      is,
+    )
+
+-- the entry that a line spells is read
+pub entry_reads : (line : List ℕ) → Reads (SpellsEntry line) (entry_of_words (words_of line))
+entry_reads line =
+    let read = entry_of_words (words_of line) in
+    reads-by (SpellsEntry line) read (λ entry s. words_spelled (words_of line) entry (words entry s))
+    (λ entry e. spelled line entry (words_inverse (words_of line) entry e))
+  where
+    words : (entry : EntryView) → SpellsEntry line entry → EntryWords (words_of line) entry
+    words entry s =
+        let w = written line entry s in
+        (w.behind, ap words_of w.line_is ∙ cut_joined is_plain 32 (keyword_of entry) w.behind refl w.plain, w.is)
+
+-- a line that spells an entry is text
+pub entry_is_text : (line : List ℕ) (entry : EntryView) → SpellsEntry line entry → IsUtf8 line
+entry_is_text line entry s =
+    let w = written line entry s in
+    subst IsUtf8 (sym w.line_is) (joined_is_text (keyword_of entry ∷ w.behind) w.plain)
+
+-- a line spells at most one unit
+pub one_unit : (line : List ℕ) (a b : UnitView) → SpellsUnit line a → SpellsUnit line b → a ≡ b
+one_unit line a b first second =
+    let same = reads_one (SpellsEntry line) (entry_of_words (words_of line)) (UnitEntry a) (UnitEntry b) (entry_reads line) first second in
+    cc
+
+-- a line spells a unit or a start, and never both
+pub one_entry : (line : List ℕ) (unit : UnitView) (start : RunStart) → SpellsUnit line unit → ¬ SpellsStart (codes "sub-run") line start
+one_entry line unit start is_unit is_start =
+    let read = entry_of_words (words_of line) in
+    let clash = reads_one (SpellsEntry line) read (UnitEntry unit) (SubRunEntry start) (entry_reads line) is_unit is_start in
+    absurd cc
+
+-- a line from which nothing is read spells no entry
+pub no_entry : (line : List ℕ) → None ≡ entry_of_words (words_of line) → ¬ HasEntry line
+no_entry line none (inl (unit, s)) = none_spelled (SpellsEntry line) (entry_of_words (words_of line)) (UnitEntry unit) (entry_reads line) none s
+no_entry line none (inr (start, s)) = none_spelled (SpellsEntry line) (entry_of_words (words_of line)) (SubRunEntry start) (entry_reads line) none s
