@@ -8,6 +8,9 @@ from comparison.damage import damaged
 from comparison.generated import counted_run, output, reported_run
 
 TOP = Path(__file__).resolve().parent.parent.parent
+
+# The kinds of stored cases that have an input of `run-digest`, and the word that they are run with.
+REPLAYED = {"count": "count", "digest-extract": "extract"}
 REFUSED = [
     ["--nothing"], ["-x"], ["--limit"], ["--limit", "many"], ["--limit=-1"], ["--limit", ""], ["--limit=+7"],
     ["--limit", "18446744073709551616"], ["--raw=yes"], ["--raw", "--raw"], ["--limit", "1", "--limit", "2"],
@@ -102,13 +105,25 @@ def fixed_cases():
         yield Case("test-report", [flag], b"", "version")
 
 
+def replayed_cases():
+    """Yields a case for each input of `run-digest` whose result is stored for the replay."""
+    lines = (TOP / "rust/tests/data/upstream_replay.txt").read_text(encoding="utf-8").splitlines()
+    for number, line in enumerate(lines, 1):
+        kind, _, case = line.partition(" ")
+        if kind in REPLAYED:
+            digits = case.split(" ")[1]
+            text = b"" if digits == "-" else bytes.fromhex(digits)
+            yield Case("run-digest", [REPLAYED[kind]], text, f"line {number} of the replay")
+
+
 def all_cases(seed, number):
-    """Yields the fixed cases, and then as many generated ones as are asked for."""
+    """Yields the fixed cases, the stored ones, and then as many generated ones as are asked for."""
     stored = {
         "report": examples("examples/test-report/*.jsonl"),
         "count": examples("examples/*.txt"),
         "extract": examples("examples/*panic.txt") + examples("examples/test-report/*.jsonl"),
     }
     yield from fixed_cases()
+    yield from replayed_cases()
     for index in range(number):
         yield case_of(seed, index, stored)

@@ -89,9 +89,6 @@ def _set_derive(source, first, derive, words, name):
         line += "\n#[non_exhaustive]"
     if name in types.MUST_USE:
         line += "\n#[must_use]"
-    if name in types.ALLOWED.get(source.name, ()):
-        lint, reason = types.ALLOWED[source.name][name]
-        line += f'\n#[allow({lint}, reason = "{reason}")]'
     if derive is not None:
         hash_token, end = source.before(derive), source.partner[derive]
         if line:

@@ -63,6 +63,7 @@ class Elsewhere:
 
 FAILURES_FIT = "the failures do not fit `usize`: `failed_counts_fit` tests it"
 NOT_LOADED = "output was not loaded"
+NO_SUCCESS = "the status of a success has not succeeded: `is_consistent` tests it"
 UNCOUNTABLE = "no run reads 2^128 bytes"
 FAILED_DEVICE = "a device that has failed fails again, and that is the fault"
 
@@ -82,12 +83,15 @@ CONDITIONS = {
     },
     "run_events_attempts/src/attempts/description.rt": {
         "ExecutionDescription::of_attempts": Arm("there is at least one attempt", None),
-        "ExecutionDescription::status_level": Arm(
-            "the status of a success has not succeeded: `is_consistent` tests it",
+        "ExecutionDescription::status_level": Checked(
+            "StatusLevel::of_success(&single_status.result).unwrap()",
+            f'StatusLevel::of_success(&single_status.result).expect("{NO_SUCCESS}")',
             "the status of a success has not succeeded.",
         ),
-        "ExecutionDescription::final_status_level": Arm(
-            "the status of a success has not succeeded: `is_consistent` tests it",
+        "ExecutionDescription::final_status_level": Checked(
+            "FinalStatusLevel::of_success(&single_status.result, single_status.is_slow).unwrap()",
+            "FinalStatusLevel::of_success(&single_status.result, single_status.is_slow)"
+            f'.expect("{NO_SUCCESS}")',
             "the status of a success has not succeeded and is not slow.",
         ),
     },
@@ -147,11 +151,11 @@ CONDITIONS = {
             function="extracted",
         ),
     },
-    "run_digest_devices/src/device.rt": {
+    "program_io/src/device.rt": {
         "Source::read": Elsewhere("the programs never pass an empty buffer"),
         "Sink::write": Elsewhere("the programs never pass an empty buffer"),
     },
-    "run_digest_devices/src/transfer.rt": {
+    "program_io/src/transfer.rt": {
         "read_all": Elsewhere(FAILED_DEVICE),
         "write_all": Elsewhere(FAILED_DEVICE),
     },

@@ -93,57 +93,12 @@ pub struct ExecutionStatusesIter<'a, S: OutputSpec> {
 """,
         "Moment::UNIX_EPOCH",
     ),
-    (
-        "run_events_tests/src/events.rt",
-        """/// The first moment there is, as the clock shows it that is farthest ahead of UTC.
-const FIRST: Moment = Moment {
-    timestamp: Timestamp::MIN,
-    offset: Offset::MAX,
-};
-
-/// The last moment there is, as the clock shows it that is farthest behind UTC.
-const LAST: Moment = Moment {
-    timestamp: Timestamp::MAX,
-    offset: Offset::MIN,
-};
-
-/// Whether the two moments and their offsets are the same.
-fn is_moment(found: &Moment, wanted: Moment) -> bool {
-    found.timestamp == wanted.timestamp && found.offset == wanted.offset
-}
-""",
-        """/// The first moment there is.
-const FIRST: Moment = Moment::MIN;
-
-/// The last moment there is.
-const LAST: Moment = Moment::MAX;
-
-/// Returns true if the two moments and their offsets are the same.
-fn is_moment(found: &Moment, wanted: Moment) -> bool {
-    *found == wanted
-}
-""",
-    ),
-    (
-        "run_events_tests/src/events/scripts.rt",
-        """status.start_time.timestamp == Timestamp::UNIX_EPOCH
-        && status.start_time.offset == Offset::UTC
-""",
-        "status.start_time == Moment::UNIX_EPOCH",
-    ),
-    # A unit may be ended in other ways.
-    (
-        "run_events_tests/src/events/states.rt",
-        "let UnitTerminateMethod::Signal(signal) = state.method;",
-        "let UnitTerminateMethod::Signal(signal) = state.method else { return false; };",
-    ),
     # No `&&str` is taken for a `&str` by `String::from`.
     (
         "run_digest_engine_tests/src/words.rt",
         "String::from_str(rt.alloc(), word)?",
         "String::from_str(rt.alloc(), *word)?",
     ),
-    ("run_events_tests/src/events.rt", "String::from_str(alloc, text)?", "String::from_str(alloc, *text)?"),
     # The layer has the decimal digits alone.
     (
         "output_slice/src/panic_head/characters.rt",
@@ -220,16 +175,6 @@ fn is_moment(found: &Moment, wanted: Moment) -> bool {
             },
 """,
     ),
-    (
-        "upstream_replay/src/rows/errors.rt",
-        """    match ChildExecutionOutputDescription::from_output(alloc, left, name) {
-        Ok(described) => Ok(described),
-        Err(Refused { .. }) => Err(AllocError),
-    }
-""",
-        """    Ok(ChildExecutionOutputDescription::from_output(alloc, left, name))
-""",
-    ),
     # A shorter form.
     (
         "run_events_attempts/src/attempts/description.rt",
@@ -269,7 +214,4 @@ fn is_moment(found: &Moment, wanted: Moment) -> bool {
         "for (number, line) in (2..).zip(lines) {",
     ),
     ("run_digest_engine/src/lines.rt", "number += 1;", ""),
-    ("run_digest_engine/src/lines.rt", "mut lines: Lines<'_>", "lines: Lines<'_>"),
-    ("run_events_tests/src/events/scripts.rt", "program: &String", "program: &str"),
-    ("run_events_tests/src/events/scripts.rt", 'program.as_str() == "sh"', 'program == "sh"'),
 )

@@ -9,13 +9,12 @@ PACKAGES = {
         "run_events_attempts", "run_events_stats", "run_events",
     ),
     "deodarsieve-cli": (
-        "run_digest_devices", "run_digest_engine", "test_report_events", "test_report_suite",
+        "program_io", "run_digest_engine", "test_report_events", "test_report_suite",
         "test_report_text", "test_report_engine",
     ),
     "deodarsieve-c": ("deodarsieve",),
     "deodarsieve-tests": (
-        "fixtures", "run_events_tests", "run_digest_engine_tests", "test_report_engine_tests",
-        "output_slice_tests", "upstream_replay",
+        "fixtures", "run_digest_engine_tests", "test_report_engine_tests", "output_slice_tests",
     ),
 }
 FOLDERS = {LAYER: "deodarsieve", "deodarsieve-cli": "cli", "deodarsieve-c": "c", "deodarsieve-tests": "tests"}
@@ -36,10 +35,9 @@ HANDLES = ("AllocGlobal", "Input", "Print", "Abort")
 
 # Calls of std and of other crates that return a Result in Rattle, and a plain value in Rust.
 PLAIN_CALLS = (
-    "push", "push_str", "insert", "extend_from_slice", "to_vec", "to_string", "collect", "replace",
-    "String::from_str", "String::from_utf8_lossy", "Vec::with_capacity", "Vec::from_slice",
-    "Vec::unescape_bytes", "Box::new", "Bytes::copy_from_slice", "BufReader::new", "hex::encode",
-    "Value::try_from_str",
+    "push", "push_str", "insert", "extend_from_slice", "to_vec", "to_string", "String::from_str",
+    "String::from_utf8_lossy", "Vec::with_capacity", "Vec::from_slice", "Box::new",
+    "Bytes::copy_from_slice", "BufReader::new", "hex::encode", "Value::try_from_str",
 )
 
 # Calls that have another name in Rust. `(..)` is the place of the arguments.
@@ -49,8 +47,6 @@ RENAMED_CALLS = {
     "Vec::from_slice": "Vec::from",
     "Value::try_from_str": "Value::from",
     "Value::from_slice": "serde_json::from_slice::<Value>",
-    "Value::from_str": "serde_json::from_str::<Value>",
-    "Vec::unescape_bytes": "crate::escapes::unescaped",
 }
 
 # Statements that only say that a value holds nothing.
@@ -60,7 +56,6 @@ EMPTY_STATEMENTS = ("destroy_empty",)
 IMPORTS = {
     "std::alloc::Global": None,
     "std::process::Abort": None,
-    "run_events::child::Refused": None,
     "unicode::properties::GeneralCategory": ("output_slice", "is_decimal_digit"),
     "jiff::Timestamp": ("run_events", "config", "Moment"),
 }
@@ -69,7 +64,6 @@ IMPORTS = {
 RENAMED_PATHS = {
     "crate::output_slice::is_decimal_digit": "crate::decimal_digits::is_decimal_digit",
     "crate::run_events_attempts::moment::Moment": "crate::moment::Moment",
-    "crate::upstream_replay::escapes::unescaped": "crate::escapes::unescaped",
 }
 
 # Names of the layer that are written by hand.

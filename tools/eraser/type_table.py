@@ -83,12 +83,4 @@ RENAMED_METHODS = {
 # The files that call them, and their names there.
 RENAMED_CALLS_OF = {
     "run_events_child/src/chain.rt": {"source": "cause"},
-    "upstream_replay/src/rows/errors.rt": {"source": "cause"},
-}
-
-# Lints that a type or a function is allowed, with the reason.
-ALLOWED = {
-    "upstream_replay/src/unit.rt": {
-        "Unit": ("clippy::large_enum_variant", "a case of the replay has one unit"),
-    },
 }

@@ -4,7 +4,8 @@ use crate::outcome::Outcome;
 use fixtures::{captured, error};
 use run_events::child::{
     ChildError, ChildErrorDescription, ChildExecutionOutput, ChildExecutionOutputDescription,
-    ChildFdError, ChildOutput, ChildOutputDescription, ChildSplitOutput, ErrorList, LiveSpec,
+    ChildFdError, ChildOutput, ChildOutputDescription, ChildSplitOutput, ChildStartError,
+    ErrorList, LiveSpec,
 };
 use run_events::results::{
     AbortStatus, ExecutionResult, ExecutionResultDescription, FailureStatus,
@@ -24,9 +25,11 @@ fn errors(alloc: Global) -> Result<Option<ErrorList<ChildError>>, AllocError> {
     Ok(ErrorList::new("tried", errors))
 }
 
-/// What a process left that a signal ended, with two errors.
-fn left(alloc: Global) -> Result<ChildExecutionOutput, AllocError> {
-    let errors = errors(alloc)?;
+/// What a process left that a signal ended, with these errors.
+fn left_with(
+    alloc: Global,
+    errors: Option<ErrorList<ChildError>>,
+) -> Result<ChildExecutionOutput, AllocError> {
     let stderr = captured(alloc, b"Error: e")?;
     Ok(ChildExecutionOutput::Output {
         result: Some(END),
@@ -36,6 +39,12 @@ fn left(alloc: Global) -> Result<ChildExecutionOutput, AllocError> {
         }),
         errors,
     })
+}
+
+/// What a process left that a signal ended, with two errors.
+fn left(alloc: Global) -> Result<ChildExecutionOutput, AllocError> {
+    let errors = errors(alloc)?;
+    left_with(alloc, errors)
 }
 
 /// The name of that signal.
@@ -107,4 +116,43 @@ pub(crate) fn from_output(alloc: Global) -> Result<Outcome, AllocError> {
     // What is handed back is what was handed in, so it is described in the same way.
     let again = ChildExecutionOutputDescription::from_output(alloc, refused.output, refused.name);
     Ok(Outcome::of_failure(again.is_ok_and(|described| is_described(&described, &end))))
+}
+
+/// Whether this describes a process that ended so, with the output of [`left`] and no errors.
+fn is_described_without_errors(
+    described: &ChildExecutionOutputDescription<LiveSpec>,
+    end: &ExecutionResultDescription,
+) -> bool {
+    match described {
+        ChildExecutionOutputDescription::Output {
+            result: Some(result),
+            output,
+            errors: None,
+        } => result == end && is_left_output(output),
+        _ => false,
+    }
+}
+
+/// Whether this describes a process that was not started, for the error `s`.
+fn is_not_started(described: &ChildExecutionOutputDescription<LiveSpec>) -> bool {
+    match described {
+        ChildExecutionOutputDescription::StartError(error) => error.source().message() == "s",
+        _ => false,
+    }
+}
+
+pub(crate) fn from_output_without_errors(alloc: Global) -> Result<Outcome, AllocError> {
+    let end = ExecutionResultDescription::from_status(END, name(alloc)?);
+    let ended = left_with(alloc, None)?;
+    let not_started = ChildExecutionOutput::StartError(ChildStartError::Spawn(error(alloc, "s")?));
+    let name = name(alloc)?;
+    let Ok(ended) = ChildExecutionOutputDescription::from_output(alloc, ended, name) else {
+        return Ok(Outcome::OutOfMemory);
+    };
+    let Ok(not_started) = ChildExecutionOutputDescription::from_output(alloc, not_started, None)
+    else {
+        return Ok(Outcome::OutOfMemory);
+    };
+    let is_right = is_described_without_errors(&ended, &end) && is_not_started(&not_started);
+    Ok(Outcome::of_answer(is_right, "another description"))
 }

@@ -1,9 +1,10 @@
 //! Makes calls that allocate, to see what they do where an allocation fails.
 //!
 //! `allocation_failures all` makes each call once, and prints a line for each. `allocation_failures
-//! WORD` makes the call of one word: it allocates the word, then the arguments, then makes the call,
-//! and allocates nothing behind a call that answers right. It prints one line, and what came of the
-//! call is
+//! WORD` makes the call of one word, and prints one line: it allocates the word, then the arguments,
+//! then makes the call, and allocates nothing after a call that answers right. Only the calls for
+//! values of many parts, `long-error` and `many-errors`, allocate after it: they are made to see that
+//! memory is found, and not to fail. What came of a call is
 //!
 //! - `not reached`: an allocation failed before the call;
 //! - `out of memory`: the call answered so, and left what it was lent;
@@ -19,22 +20,26 @@ use std::{env, io};
 
 mod chain;
 mod child;
+mod large;
 mod outcome;
 mod stress;
 mod unit_errors;
 
 /// The words of the calls.
-const WORDS: [&str; 10] = [
+const WORDS: [&str; 13] = [
     "from-message-and-causes",
     "to-value",
     "from-value",
     "from-other-values",
     "from-output",
+    "from-output-without-errors",
     "all-errors",
     "exec-fail-errors",
     "child-process-errors",
     "no-errors",
     "unique-id",
+    "long-error",
+    "many-errors",
 ];
 
 /// Makes the arguments of the call that a word names, then the call.
@@ -45,11 +50,14 @@ fn outcome_of(alloc: Global, word: &str) -> Outcome {
         "from-value" => chain::from_value(alloc),
         "from-other-values" => chain::from_other_values(alloc),
         "from-output" => child::from_output(alloc),
+        "from-output-without-errors" => child::from_output_without_errors(alloc),
         "all-errors" => errors(alloc, ErrorKinds::All),
         "exec-fail-errors" => errors(alloc, ErrorKinds::ExecFail),
         "child-process-errors" => errors(alloc, ErrorKinds::ChildProcess),
         "no-errors" => Ok(no_errors(alloc)),
         "unique-id" => Ok(stress::unique_id(alloc)),
+        "long-error" => large::long_error(alloc),
+        "many-errors" => large::many_errors(alloc),
         _ => Ok(Outcome::Wrong("the word names no call")),
     };
     match outcome {

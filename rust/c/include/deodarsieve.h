@@ -206,8 +206,9 @@ typedef struct deodarsieve_head {
 
 /*
  * Finds the last head of a panic message. The first head is taken, then the first one that does not
- * start before the taken one stops, and so on. The search reads a byte at most 3 * length + 8 times,
- * and `reads` is the number of times that it did. The status is always DEODARSIEVE_OK.
+ * start before the taken one stops, and so on. `reads` is the number of times that the search read a
+ * byte: at least `length`, since it reads each byte, and at most 3 * length + 8. The status is always
+ * DEODARSIEVE_OK.
  */
 uint32_t deodarsieve_head_find_last(const uint8_t *bytes, size_t length, deodarsieve_head *answer);
 

@@ -8,7 +8,7 @@
 #[doc(hidden)]
 pub mod program;
 #[doc(hidden)]
-pub mod run_digest_devices;
+pub mod program_io;
 #[doc(hidden)]
 pub mod run_digest_engine;
 #[doc(hidden)]

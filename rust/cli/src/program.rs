@@ -1,7 +1,8 @@
 //! What both programs share: reading, writing, and how they end.
 
-use crate::run_digest_devices::fault::Fault;
-use crate::run_digest_devices::std_device::{StdSink, StdSource};
+use crate::program_io::fault::DeviceFault;
+use crate::program_io::std_device::{StdSink, StdSource};
+use crate::{run_digest_engine, test_report_engine};
 use std::fmt;
 use std::io::{self, ErrorKind, Read, Write};
 use std::process::ExitCode;
@@ -59,23 +60,28 @@ impl<T: Write> Write for KeepError<T> {
     }
 }
 
-/// Why a program ends without a report: a message and an exit status.
-///
-/// The message is the fault's own, or one of the program's, followed by the text of the system's
-/// error if there was one.
+/// The exit status after an argument that is invalid.
+pub const BAD_ARGUMENT: u8 = 2;
+
+/// The exit status after a read or a write that failed.
+pub const DEVICE_FAILED: u8 = 3;
+
+/// Why a program ends without a report: an exit status, and a message, which is followed by the text
+/// of the system's error if there was one.
 #[derive(Debug)]
 pub struct Failure {
-    fault: Fault,
-    message: Option<String>,
+    status: u8,
+    message: String,
     error: Option<io::Error>,
 }
 
 impl Failure {
-    /// Returns a failure with the status of `fault` and a message of the program's.
-    pub fn with_message(fault: Fault, message: impl Into<String>) -> Failure {
+    /// Returns a failure with this exit status and this message.
+    pub fn new(status: u8, message: impl Into<String>) -> Failure {
         Failure {
-            message: Some(message.into()),
-            ..Failure::from(fault)
+            status,
+            message: message.into(),
+            error: None,
         }
     }
 
@@ -88,26 +94,25 @@ impl Failure {
     pub fn exit(&self, prefix: &str) -> ExitCode {
         // If standard error cannot be written, the exit status still says what happened.
         let _ = writeln!(io::stderr(), "{prefix}{self}");
-        ExitCode::from(self.fault.status())
+        ExitCode::from(self.status)
     }
 }
 
-impl From<Fault> for Failure {
-    fn from(fault: Fault) -> Failure {
-        Failure {
-            fault,
-            message: None,
-            error: None,
-        }
+impl From<run_digest_engine::fault::Fault> for Failure {
+    fn from(fault: run_digest_engine::fault::Fault) -> Failure {
+        Failure::new(fault.status(), fault.to_string())
+    }
+}
+
+impl From<test_report_engine::fault::Fault> for Failure {
+    fn from(fault: test_report_engine::fault::Fault) -> Failure {
+        Failure::new(fault.status(), fault.to_string())
     }
 }
 
 impl fmt::Display for Failure {
     fn fmt(&self, f: &mut fmt::Formatter<'_>) -> fmt::Result {
-        match &self.message {
-            Some(message) => f.write_str(message)?,
-            None => write!(f, "{}", self.fault)?,
-        }
+        f.write_str(&self.message)?;
         match &self.error {
             Some(error) => write!(f, ": {error}"),
             None => Ok(()),
@@ -118,13 +123,13 @@ impl fmt::Display for Failure {
 /// Runs an engine from a reader to a writer, and returns status 0 if it returns true, or else 1.
 ///
 /// The failure of a read or a write has the text of the system's error.
-pub fn run_engine<R: Read, W: Write>(
+pub fn run_engine<R: Read, W: Write, E: Into<Failure>>(
     reader: R,
     writer: W,
     engine: impl FnOnce(
         &mut StdSource<&mut KeepError<R>>,
         &mut StdSink<&mut KeepError<W>>,
-    ) -> Result<bool, Fault>,
+    ) -> Result<bool, E>,
 ) -> Result<ExitCode, Failure> {
     let mut reader = KeepError::new(reader);
     let mut writer = KeepError::new(writer);
@@ -134,7 +139,7 @@ pub fn run_engine<R: Read, W: Write>(
         Ok(success) => Ok(ExitCode::from(u8::from(!success))),
         Err(fault) => {
             let error = reader.into_error().or(writer.into_error());
-            Err(Failure::from(fault).caused_by(error))
+            Err(fault.into().caused_by(error))
         }
     }
 }
@@ -143,7 +148,14 @@ pub fn run_engine<R: Read, W: Write>(
 /// returns the exit status.
 pub fn print_clap(message: &clap::Error) -> Result<ExitCode, Failure> {
     match message.print() {
-        Ok(()) => Ok(ExitCode::from(if message.use_stderr() { 2 } else { 0 })),
-        Err(error) => Err(Failure::from(Fault::Write).caused_by(Some(error))),
+        Ok(()) => Ok(ExitCode::from(if message.use_stderr() {
+            BAD_ARGUMENT
+        } else {
+            0
+        })),
+        Err(error) => {
+            let message = DeviceFault::Write.to_string();
+            Err(Failure::new(DEVICE_FAILED, message).caused_by(Some(error)))
+        }
     }
 }

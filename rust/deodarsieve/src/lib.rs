@@ -112,7 +112,7 @@ pub mod reporter {
             ChildErrorDescription, ChildExecutionOutputDescription, ChildOutputDescription,
             ChildStartErrorDescription,
         };
-        pub use crate::run_events_levels::view::TestView;
+        pub use crate::run_events_levels::view::{FinishedTest, TestView};
         pub use crate::run_events_results::results::{
             AbortDescription, AbortStatus, CancelReason, ExecutionResult,
             ExecutionResultDescription, FailureDescription, FailureStatus, SIGTERM, UnitKind,

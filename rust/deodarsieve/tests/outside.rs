@@ -277,6 +277,12 @@ closed!(UnitTerminateSignal {
     UnitTerminateSignal::Kill,
 });
 
+fields!(FinishedTest {
+    result,
+    attempts,
+    is_slow,
+    flaky_result
+});
 fields!(ByteSubslice<'static> { slice, start });
 fields!(ErrorSummary {
     short_message,

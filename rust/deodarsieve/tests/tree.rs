@@ -76,6 +76,7 @@ mod events {
         FailureStatus,
         FinalRunStats,
         FinishedRun<'static>,
+        FinishedTest,
         FinishedUnit<'static>,
         InfoResponse<'static>,
         NonZeroDuration,

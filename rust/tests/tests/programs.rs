@@ -1,4 +1,4 @@
-//! The test programs give the output that is stored next to their input, in `crates`.
+//! The test program gives the output that is stored next to its input, in `crates`.
 
 use std::fs::{self, File};
 use std::path::Path;
@@ -35,9 +35,4 @@ fn output_slice_tests() {
         env!("CARGO_BIN_EXE_output_slice_tests"),
         "output_slice_tests",
     );
-}
-
-#[test]
-fn upstream_replay() {
-    gives_stored_output(env!("CARGO_BIN_EXE_upstream_replay"), "upstream_replay");
 }

@@ -226,9 +226,10 @@ fn start_of(stdout: &[u8], stderr: &[u8]) -> Option<usize> {
 
 #[test]
 fn a_marker_is_found_at_every_place_near_the_edge_of_a_block() {
-    /// The size of the blocks in which markers are searched for, from the end.
-    const BLOCK: usize = 131_072;
-    for after in BLOCK - 40..BLOCK + 2 {
+    /// Where blocks begin, counted from the end: 131,072 bytes for an error and a note, and the others
+    /// for a panic.
+    const EDGES: [usize; 4] = [48, 98_304, 131_072, 196_608];
+    for after in EDGES.into_iter().flat_map(|edge| edge - 40..edge + 2) {
         let rest = vec![b'x'; after];
         let output = |marker: &str| [b"log\n", marker.as_bytes(), &rest].concat();
         let panic = output("thread 'a' panicked at ");

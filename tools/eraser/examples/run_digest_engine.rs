@@ -1,6 +1,6 @@
-use deodarsieve_cli::run_digest_devices::device::{Sink, Source};
-use deodarsieve_cli::run_digest_devices::fault::Fault;
+use deodarsieve_cli::program_io::device::{Sink, Source};
 use deodarsieve_cli::run_digest_engine::count::count;
+use deodarsieve_cli::run_digest_engine::fault::Fault;
 
 fn first_bad_line<R: Source, W: Sink>(
     source: &mut R,

@@ -1,4 +1,4 @@
-use deodarsieve_cli::run_digest_devices::memory_device::{MemorySink, MemorySource};
+use deodarsieve_cli::program_io::memory_device::{MemorySink, MemorySource};
 use deodarsieve_cli::test_report_engine::report::report;
 use deodarsieve_cli::test_report_text::options::Options;
 

@@ -4,9 +4,7 @@
 use crate::exports::codes;
 use crate::exports::layout::{FfiFinalStats, FfiRunStats, FfiTestView};
 use crate::exports::status::{BAD_CODE, OK};
-use deodarsieve::{
-    ExecutionResultDescription, FinalRunStats, FlakyResult, RunStats, RunStatsFailureKind, TestView,
-};
+use deodarsieve::{FinalRunStats, FinishedTest, RunStats, RunStatsFailureKind};
 
 /// Writes a value if there is one, and returns the status of that.
 pub(crate) fn give<T: Copy>(answer: &mut T, value: Option<T>) -> u32 {
@@ -16,32 +14,6 @@ pub(crate) fn give<T: Copy>(answer: &mut T, value: Option<T>) -> u32 {
             OK
         }
         None => BAD_CODE,
-    }
-}
-
-/// The part of a finished test that decides its counters and its levels.
-#[derive(Clone)]
-pub(crate) struct FinishedTest {
-    /// The result of the last attempt.
-    pub result: ExecutionResultDescription,
-
-    /// The number of attempts.
-    pub attempts: usize,
-
-    /// Whether the last attempt was slow.
-    pub is_slow: bool,
-
-    /// How the test counts if it is flaky.
-    pub flaky_result: FlakyResult,
-}
-
-impl FinishedTest {
-    /// Returns a view of the test.
-    pub(crate) fn view(&self) -> TestView<'_> {
-        TestView::new(&self.result)
-            .with_attempts(self.attempts)
-            .with_slow(self.is_slow)
-            .with_flaky_result(self.flaky_result)
     }
 }
 

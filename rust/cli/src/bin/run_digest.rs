@@ -3,9 +3,9 @@
 
 use clap::Command;
 use deodarsieve_cli::program::{Failure, print_clap, run_engine};
-use deodarsieve_cli::run_digest_devices::fault::Fault;
 use deodarsieve_cli::run_digest_engine::count::count;
 use deodarsieve_cli::run_digest_engine::extract::extract;
+use deodarsieve_cli::run_digest_engine::fault::Fault;
 use std::io;
 use std::process::ExitCode;
 

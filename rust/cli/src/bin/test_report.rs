@@ -2,8 +2,7 @@
 //! harness or cargo nextest writes.
 
 use clap::{Arg, ArgAction, ArgMatches, Command, value_parser};
-use deodarsieve_cli::program::{Failure, print_clap, run_engine};
-use deodarsieve_cli::run_digest_devices::fault::Fault;
+use deodarsieve_cli::program::{BAD_ARGUMENT, DEVICE_FAILED, Failure, print_clap, run_engine};
 use deodarsieve_cli::test_report_engine::report::report;
 use deodarsieve_cli::test_report_text::options::Options;
 use std::env;
@@ -56,7 +55,7 @@ fn arguments() -> Result<Vec<String>, Failure> {
     env::args_os()
         .map(OsString::into_string)
         .collect::<Result<_, _>>()
-        .map_err(|_| Failure::with_message(Fault::BadWord, "a word is not UTF-8"))
+        .map_err(|_| Failure::new(BAD_ARGUMENT, "a word is not UTF-8"))
 }
 
 /// Writes the report of the run in `reader` to standard output, and returns the exit status.
@@ -78,7 +77,7 @@ fn report_of(matches: &ArgMatches) -> Result<ExitCode, Failure> {
             Ok(file) => report_from(file, options),
             Err(error) => {
                 let message = format!("{path} cannot be opened");
-                Err(Failure::with_message(Fault::Read, message).caused_by(Some(error)))
+                Err(Failure::new(DEVICE_FAILED, message).caused_by(Some(error)))
             }
         },
     }

@@ -1,7 +1,7 @@
 // Made by tools/erase from crates/run_digest_engine/src/command.rt. Do not edit.
 //! The commands of `run-digest`.
 
-use crate::run_digest_devices::fault::Fault;
+use crate::run_digest_engine::fault::Fault;
 
 /// A command of `run-digest`.
 #[derive(Clone, Copy, Debug, PartialEq, Eq)]

@@ -1,28 +1,17 @@
 // Made by tools/erase from crates/run_digest_engine/src/count.rt. Do not edit.
 //! Counting runs, from the lines of their units to the reports of their counters.
 
-use crate::run_digest_devices::device::{Sink, Source};
-use crate::run_digest_devices::fault::Fault;
-use crate::run_digest_devices::transfer::{read_all, write_all};
+use crate::program_io::device::{Sink, Source};
+use crate::program_io::transfer::{read_all, write_all};
+use crate::run_digest_engine::fault::Fault;
 use crate::run_digest_engine::lines::stats_in;
 use crate::run_digest_engine::report::reports;
-use deodarsieve::{FinalRunStats, RunOutcome, RunStats};
-
-/// Returns the summaries of runs, given their statistics.
-fn summaries_of(runs: &[RunStats]) -> Vec<FinalRunStats> {
-    let mut summaries = Vec::with_capacity(runs.len());
-    for stats in runs {
-        summaries.push(stats.summarize_final());
-    }
-    summaries
-}
+use deodarsieve::RunOutcome;
 
 /// Returns the text for an input, and whether the outcome of its runs is `Success`.
 fn digest(bytes: &[u8]) -> Result<(String, bool), Fault> {
     let runs = stats_in(bytes)?;
-    let summaries = summaries_of(runs.as_slice());
-    let outcome = RunOutcome::of_sub_runs(summaries.as_slice());
-    let text = reports(runs.as_slice(), outcome);
+    let (text, outcome) = reports(runs.as_slice());
     Ok((text, outcome == RunOutcome::Success))
 }
 

@@ -2,15 +2,15 @@
 //! The lines after line 1.
 
 use crate::run_digest_engine::parts::Parts;
-use crate::run_digest_engine::units::{FinishedTest, parse_script, parse_test};
+use crate::run_digest_engine::units::{parse_script, parse_test};
 use crate::run_digest_engine::words::parse_start;
-use deodarsieve::{ExecutionResult, RunStart};
+use deodarsieve::{ExecutionResultDescription, FinishedTest, RunStart};
 
 /// A line after line 1.
-#[derive(Clone, Copy)]
+#[derive(Clone)]
 pub(crate) enum Entry {
     /// A finished setup script of the current run, with its result.
-    Script(ExecutionResult),
+    Script(ExecutionResultDescription),
 
     /// A finished test of the current run.
     Test(FinishedTest),

@@ -1,9 +1,9 @@
 // Made by tools/erase from crates/run_digest_engine/src/extract.rt. Do not edit.
 //! Finding the part of a test's output that explains its failure.
 
-use crate::run_digest_devices::device::{Sink, Source};
-use crate::run_digest_devices::fault::Fault;
-use crate::run_digest_devices::transfer::{read_all, write_all};
+use crate::program_io::device::{Sink, Source};
+use crate::program_io::transfer::{read_all, write_all};
+use crate::run_digest_engine::fault::Fault;
 use deodarsieve::TestOutputErrorSlice;
 use std::num::NonZero;
 
@@ -42,6 +42,13 @@ fn text_of(found: Option<TestOutputErrorSlice<'_>>) -> Vec<u8> {
     text
 }
 
+/// Returns the text for the combined output of a test, and whether a part of it explains the failure.
+fn digest(output: &[u8]) -> (Vec<u8>, bool) {
+    let found = extracted(output);
+    let text = text_of(found);
+    (text, found.is_some())
+}
+
 /// Reads a test's combined output from `source`, and writes the part of it that explains its failure
 /// to `sink`, at most 4,096 bytes of it. Returns true if there is such a part.
 ///
@@ -57,9 +64,7 @@ fn text_of(found: Option<TestOutputErrorSlice<'_>>) -> Vec<u8> {
 ///   fails.
 pub fn extract<R: Source, W: Sink>(source: &mut R, sink: &mut W) -> Result<bool, Fault> {
     let bytes = read_all(source)?;
-    let output = bytes.as_slice();
-    let found = extracted(output);
-    let text = text_of(found);
+    let (text, success) = digest(bytes.as_slice());
     write_all(sink, text.as_slice())?;
-    Ok(found.is_some())
+    Ok(success)
 }

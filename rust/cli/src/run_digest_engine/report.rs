@@ -81,8 +81,9 @@ fn outcome_text(outcome: RunOutcome) -> &'static str {
     }
 }
 
-/// Appends the three lines of a report. Both sums of failures must fit `usize`.
-fn push_report(text: &mut String, stats: &RunStats) {
+/// Appends the three lines of a report. Both sums of failures must fit `usize`, and `summary` must be
+/// the summary of the statistics.
+fn push_report(text: &mut String, stats: &RunStats, summary: FinalRunStats) {
     let (finished, passed, flaky) = (stats.finished_count, stats.passed, stats.flaky);
     let failed = stats.failed_count();
     text.push_str(&format!(
@@ -91,26 +92,35 @@ fn push_report(text: &mut String, stats: &RunStats) {
     let finished = stats.setup_scripts_finished_count;
     let failed = stats.failed_setup_script_count();
     text.push_str(&format!("scripts {finished} failed {failed}\n"));
-    let summary = SummaryText(stats.summarize_final());
+    let summary = SummaryText(summary);
     text.push_str(&format!("summary {summary}\n"));
 }
 
-/// Returns the reports of runs.
-fn report_texts(runs: &[RunStats]) -> String {
+/// Returns the reports of runs, and their summaries.
+pub(crate) fn report_texts(runs: &[RunStats]) -> (String, Vec<FinalRunStats>) {
     let mut text = String::new();
+    let mut summaries = Vec::with_capacity(runs.len());
     for stats in runs {
-        push_report(&mut text, stats);
+        let summary = stats.summarize_final();
+        push_report(&mut text, stats, summary);
+        summaries.push(summary);
     }
-    text
+    (text, summaries)
 }
 
-/// Returns the reports of runs, and the line of their outcome unless there is exactly one run. Both
-/// sums of failures of each run must fit `usize`.
-pub(crate) fn reports(runs: &[RunStats], outcome: RunOutcome) -> String {
-    let mut text = report_texts(runs);
+/// Appends the line of the outcome of runs to their reports, unless there is exactly one run.
+pub(crate) fn push_outcome(text: &mut String, runs: &[RunStats], outcome: RunOutcome) {
     if runs.len() != 1 {
         let words = outcome_text(outcome);
         text.push_str(&format!("outcome {words}\n"));
     }
-    text
+}
+
+/// Returns the reports of runs with the line of their outcome, unless there is exactly one run, and
+/// their outcome. Both sums of failures of each run must fit `usize`.
+pub(crate) fn reports(runs: &[RunStats]) -> (String, RunOutcome) {
+    let (mut text, summaries) = report_texts(runs);
+    let outcome = RunOutcome::of_sub_runs(summaries.as_slice());
+    push_outcome(&mut text, runs, outcome);
+    (text, outcome)
 }

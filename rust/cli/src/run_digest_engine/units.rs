@@ -3,29 +3,13 @@
 
 use crate::run_digest_engine::parts::Parts;
 use crate::run_digest_engine::words::{parse_flags, parse_result};
-use deodarsieve::{ExecutionResult, FlakyResult};
+use deodarsieve::{ExecutionResultDescription, FinishedTest};
 
 /// The greatest number of results of a test.
 const MAX_RESULTS: usize = 100;
 
-/// The parts of a finished test that decide its counters.
-#[derive(Clone, Copy)]
-pub(crate) struct FinishedTest {
-    /// The result of the last attempt.
-    pub(crate) result: ExecutionResult,
-
-    /// The number of attempts.
-    pub(crate) attempts: usize,
-
-    /// True if the last attempt was slow.
-    pub(crate) is_slow: bool,
-
-    /// How the test counts if it is flaky.
-    pub(crate) flaky_result: FlakyResult,
-}
-
 /// Parses the words after `script`.
-pub(crate) fn parse_script(mut words: Parts<'_>) -> Option<ExecutionResult> {
+pub(crate) fn parse_script(mut words: Parts<'_>) -> Option<ExecutionResultDescription> {
     let (Some(word), None) = (words.next(), words.next()) else {
         return None;
     };
@@ -34,10 +18,11 @@ pub(crate) fn parse_script(mut words: Parts<'_>) -> Option<ExecutionResult> {
 
 /// Parses the results of a test, which are separated by commas and at most [`MAX_RESULTS`]. Returns the
 /// last one and their number.
-fn parse_results(list: &str) -> Option<(ExecutionResult, usize)> {
-    let mut words = Parts::new(list, ',');
-    let mut last = parse_result(words.next()?)?;
-    let mut count = 1;
+fn parse_results(list: &str) -> Option<(ExecutionResultDescription, usize)> {
+    // A text has at least one part, so the first result replaces this one.
+    let mut last = ExecutionResultDescription::Pass;
+    let mut count = 0;
+    let words = Parts::new(list, ',');
     for word in words {
         if count == MAX_RESULTS {
             return None;

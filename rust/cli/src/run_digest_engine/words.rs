@@ -3,8 +3,8 @@
 
 use crate::run_digest_engine::parts::Parts;
 use deodarsieve::{
-    CancelReason, ExecutionResult, FailureStatus, FlakyResult, LeakTimeoutResult, RunStart,
-    SlowTimeoutResult,
+    CancelReason, ExecutionResultDescription, FailureDescription, FlakyResult, LeakTimeoutResult,
+    RunStart, SlowTimeoutResult,
 };
 
 /// The greatest number of digits of a number.
@@ -14,24 +14,24 @@ const MAX_DIGITS: usize = 7;
 const MAX_NUMBER: usize = 1_000_000;
 
 /// Parses the word for a result.
-pub(crate) fn parse_result(word: &str) -> Option<ExecutionResult> {
+pub(crate) fn parse_result(word: &str) -> Option<ExecutionResultDescription> {
     match word {
-        "pass" => Some(ExecutionResult::Pass),
-        "leak" => Some(ExecutionResult::Leak {
+        "pass" => Some(ExecutionResultDescription::Pass),
+        "leak" => Some(ExecutionResultDescription::Leak {
             result: LeakTimeoutResult::Pass,
         }),
-        "leak-fail" => Some(ExecutionResult::Leak {
+        "leak-fail" => Some(ExecutionResultDescription::Leak {
             result: LeakTimeoutResult::Fail,
         }),
-        "fail" => Some(ExecutionResult::Fail {
-            failure_status: FailureStatus::ExitCode(1),
+        "fail" => Some(ExecutionResultDescription::Fail {
+            failure: FailureDescription::ExitCode { code: 1 },
             leaked: false,
         }),
-        "exec-fail" => Some(ExecutionResult::ExecFail),
-        "timeout" => Some(ExecutionResult::Timeout {
+        "exec-fail" => Some(ExecutionResultDescription::ExecFail),
+        "timeout" => Some(ExecutionResultDescription::Timeout {
             result: SlowTimeoutResult::Fail,
         }),
-        "timeout-pass" => Some(ExecutionResult::Timeout {
+        "timeout-pass" => Some(ExecutionResultDescription::Timeout {
             result: SlowTimeoutResult::Pass,
         }),
         _ => None,

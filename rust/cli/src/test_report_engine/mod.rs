@@ -5,7 +5,7 @@
 //! if the run succeeded:
 //!
 //! ```
-//! use deodarsieve_cli::run_digest_devices::memory_device::{MemorySink, MemorySource};
+//! use deodarsieve_cli::program_io::memory_device::{MemorySink, MemorySource};
 //! use deodarsieve_cli::test_report_engine::report::report;
 //! use deodarsieve_cli::test_report_text::options::Options;
 //!
@@ -17,6 +17,7 @@
 //! assert_eq!(succeeded, Ok(false));
 //! ```
 
+pub mod fault;
 mod kept;
 mod reading;
 pub mod report;

@@ -1,9 +1,9 @@
 // Made by tools/erase from crates/test_report_engine/src/report.rt. Do not edit.
 //! The report of a run, from the lines of its events.
 
-use crate::run_digest_devices::device::{Sink, Source};
-use crate::run_digest_devices::fault::Fault;
-use crate::run_digest_devices::transfer::write_all;
+use crate::program_io::device::{Sink, Source};
+use crate::program_io::transfer::write_all;
+use crate::test_report_engine::fault::Fault;
 use crate::test_report_engine::kept::Kept;
 use crate::test_report_engine::reading::Reading;
 use crate::test_report_text::options::Options;

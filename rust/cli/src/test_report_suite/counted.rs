@@ -3,8 +3,8 @@
 
 use crate::test_report_events::event::{TestEnd, TestResult};
 use deodarsieve::{
-    CounterFull, ExecutionResultDescription, FailureDescription, FlakyResult, RunStats,
-    SlowTimeoutResult, TestView,
+    CounterFull, ExecutionResultDescription, FailureDescription, FinishedTest, FlakyResult,
+    RunStats, SlowTimeoutResult,
 };
 
 /// The exit code of Rust's test harness if a test failed.
@@ -34,10 +34,11 @@ fn described(test: TestResult) -> ExecutionResultDescription {
 /// The error is [`CounterFull`] if a counter that the test raises is `usize::MAX`. The counters are
 /// then unchanged.
 pub fn count_end(stats: &mut RunStats, end: TestEnd<'_>) -> Result<(), CounterFull> {
-    let result = described(end.result);
-    let view = TestView::new(&result)
-        .with_attempts(end.attempts)
-        .with_slow(false)
-        .with_flaky_result(FlakyResult::Pass);
-    stats.try_on_test_view(&view)
+    let test = FinishedTest {
+        result: described(end.result),
+        attempts: end.attempts,
+        is_slow: false,
+        flaky_result: FlakyResult::Pass,
+    };
+    stats.try_on_test_view(&test.view())
 }

@@ -1,7 +1,6 @@
 // Made by tools/erase from crates/test_report_suite/src/suite.rt. Do not edit.
 //! A suite that is counted line by line.
 
-use crate::run_digest_devices::fault::Fault;
 use crate::test_report_events::event::{Event, TestEnd, TestResult};
 use crate::test_report_suite::counted::count_end;
 use deodarsieve::{CounterFull, RunStats};
@@ -17,14 +16,6 @@ pub enum SuiteError {
 impl From<CounterFull> for SuiteError {
     fn from(_: CounterFull) -> SuiteError {
         SuiteError::CounterFull
-    }
-}
-
-impl From<SuiteError> for Fault {
-    fn from(error: SuiteError) -> Fault {
-        match error {
-            SuiteError::CounterFull => Fault::CounterFull,
-        }
     }
 }
 

@@ -5,7 +5,7 @@ use crate::output_slice::byte_source::CountedBytes;
 use crate::output_slice::lines::{is_line_start, last_byte, line_end, line_start, next_byte};
 use crate::output_slice::panic_head::quotes::{OPENING_SIZE, WORD_SIZE};
 use crate::output_slice::panic_head::{HeadSpan, last_panic_head};
-use crate::output_slice::signs::heads_end;
+use crate::output_slice::signs::{heads_end, last_sign};
 use bstr::ByteSlice;
 
 /// A line feed and the prefix of a head.
@@ -19,7 +19,7 @@ fn last_opening(bytes: &[u8]) -> Option<usize> {
     if is_opening(bytes, last) {
         return Some(last);
     }
-    if let Some(feed) = bytes.rfind(OPENING) {
+    if let Some(feed) = last_sign(bytes, OPENING) {
         return Some(feed + 1);
     }
     if bytes.starts_with_str(&OPENING[1..]) {
@@ -81,8 +81,8 @@ fn head_behind(place: usize, head: HeadSpan) -> HeadSpan {
 ///
 /// The search goes from the end to the start, so a panic near the end of long output is found
 /// without reading the bytes before it. It goes window by window: a window begins at a line start
-/// that no head contains, and ends at the start of the window after it. So the first window from
-/// the end that has a head has the last one.
+/// that no head contains, and ends with the last ` panicked at ` before the window after it. So the
+/// first window from the end that has a head has the last one.
 #[must_use]
 pub fn last_head(bytes: &[u8]) -> Option<HeadSpan> {
     last_head_before(bytes, heads_end(bytes))
@@ -92,12 +92,18 @@ pub fn last_head(bytes: &[u8]) -> Option<HeadSpan> {
 fn last_head_before(bytes: &[u8], end: usize) -> Option<HeadSpan> {
     let mut rest = &bytes[..end];
     while let Some(at) = last_opening(rest) {
-        let front = &rest[..window_end(rest, at)];
-        let cut = cut_before(front, at);
-        if let Some(head) = last_from(front, cut) {
-            return Some(head);
+        let window = &rest[..window_end(rest, at)];
+        // The rest ends with ` panicked at `. If no head can reach that far, an earlier one is next.
+        if window.len() < rest.len() {
+            rest = &window[..heads_end(window)];
+        } else {
+            let cut = cut_before(rest, at);
+            if let Some(head) = last_from(rest, cut) {
+                return Some(head);
+            }
+            let before = &rest[..cut];
+            rest = &before[..heads_end(before)];
         }
-        rest = &front[..cut];
     }
     None
 }

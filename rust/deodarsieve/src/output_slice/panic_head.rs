@@ -27,8 +27,8 @@ pub struct HeadSpan {
 /// and nextest-runner recognizes it by this form. Heads are matched from left to right and do not
 /// overlap.
 ///
-/// The search makes at most 3n + 8 reads of n bytes. The count of `source` plus 8n + 8 must be below
-/// 2^128.
+/// The search reads each of n bytes, and makes at most 3n + 8 reads. The count of `source` plus 8n + 8
+/// must be below 2^128.
 pub fn last_panic_head<S: ByteSource>(source: &mut S) -> Option<HeadSpan> {
     let mut place = 0;
     let mut last = None;

@@ -11,6 +11,10 @@ use bstr::ByteSlice;
 /// search.
 const BLOCK_SIZE: usize = 131_072;
 
+/// The size in bytes of the first block in which the last offset of a marker is searched for. With a
+/// marker it has less than 64 bytes, for which `bstr` makes no table.
+const LEAST_BLOCK_SIZE: usize = 48;
+
 /// The end of a panic's head.
 const PANIC_SIGN: &[u8] = b" panicked at ";
 
@@ -20,9 +24,9 @@ pub(crate) const ERROR_SIGN: &[u8] = b"\nError: ";
 /// The note that a test did not panic.
 pub(crate) const NOTE: &[u8] = b"note: test did not panic as expected";
 
-/// The offset in the note of its last words, which are its marker: a search for at most 32 bytes is
-/// faster than for more.
-const NOTE_SIGN_START: usize = 11;
+/// The offset in the note of its last words, which are its marker: a search for a few words is faster
+/// than for the whole note.
+const NOTE_SIGN_START: usize = 19;
 
 /// For each stream, an offset at or after which no marker begins.
 #[derive(Clone, Copy)]
@@ -33,22 +37,37 @@ pub(crate) struct QuietEnds {
 
 /// Returns an offset that no head extends past.
 pub(crate) fn heads_end(bytes: &[u8]) -> usize {
-    reach(bytes, PANIC_SIGN, panic_end(bytes))
+    match last_sign(bytes, PANIC_SIGN) {
+        Some(at) => at + PANIC_SIGN.len(),
+        None => 0,
+    }
 }
 
-/// Returns an offset at or after which no panic marker begins.
+/// Returns the last offset of `sign`, or `None`.
 ///
-/// The search goes from the end, a block at a time, to the first block that has one.
-fn panic_end(bytes: &[u8]) -> usize {
+/// `sign` must not be empty. Blocks are searched from the end, each of them forwards, since a forward
+/// search is faster. A block is as long as all bytes after it, up to `BLOCK_SIZE`, so a marker near the
+/// end is found in few bytes.
+pub(crate) fn last_sign(bytes: &[u8], sign: &[u8]) -> Option<usize> {
     let mut end = bytes.len();
     while end > 0 {
-        let start = end.saturating_sub(BLOCK_SIZE);
-        if !is_quiet_between(bytes, PANIC_SIGN, start, end) {
-            return end;
+        let size = (bytes.len() - end).clamp(LEAST_BLOCK_SIZE, BLOCK_SIZE);
+        let start = end.saturating_sub(size);
+        if let Some(gap) = last_match(&bytes[start..reach(bytes, sign, end)], sign) {
+            return Some(start + gap);
         }
         end = start;
     }
-    end
+    None
+}
+
+/// Returns the last offset of `sign` in a block. `sign` must not be empty.
+fn last_match(block: &[u8], sign: &[u8]) -> Option<usize> {
+    let mut last = block.find(sign)?;
+    while let Some(gap) = block[last + 1..].find(sign) {
+        last += gap + 1;
+    }
+    Some(last)
 }
 
 /// Returns the offsets at or after which no error and no note begins.

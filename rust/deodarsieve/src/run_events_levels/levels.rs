@@ -1,6 +1,7 @@
 // Made by tools/erase from crates/run_events_levels/src/levels.rt. Do not edit.
 //! The levels of tests, and what a reporter shows of a test at its levels.
 
+mod of_result;
 mod output;
 
 /// The level of a finished attempt or test, ordered from the one that needs most attention. A

@@ -3,7 +3,7 @@
 
 use crate::run_events_levels::levels::{FinalStatusLevel, StatusLevel};
 use crate::run_events_results::results::ExecutionResultDescription;
-use crate::run_events_settings::config::{FlakyResult, LeakTimeoutResult, SlowTimeoutResult};
+use crate::run_events_settings::config::FlakyResult;
 
 /// The parts of a finished test that decide its counters and its levels, borrowed from its attempts.
 /// A caller that does not keep attempts can make it from what it knows.
@@ -29,22 +29,13 @@ impl TestView<'_> {
     /// a failed one, and for a success at the first attempt the level of its result.
     #[must_use]
     pub fn status_level(&self) -> StatusLevel {
-        if self.result.is_success() && self.attempts > 1 {
-            return match self.flaky_result {
-                FlakyResult::Pass => StatusLevel::Retry,
-                FlakyResult::Fail => StatusLevel::Fail,
-            };
+        if !self.result.is_success() {
+            return StatusLevel::Fail;
         }
-        match self.result {
-            ExecutionResultDescription::Pass => StatusLevel::Pass,
-            ExecutionResultDescription::Leak {
-                result: LeakTimeoutResult::Pass,
-            } => StatusLevel::Leak,
-            ExecutionResultDescription::Timeout {
-                result: SlowTimeoutResult::Pass,
-            } => StatusLevel::Slow,
-            _ => StatusLevel::Fail,
+        if self.attempts > 1 {
+            return StatusLevel::of_flaky(self.flaky_result);
         }
+        StatusLevel::of_success(self.result).unwrap_or(StatusLevel::Fail)
     }
 
     /// Returns the level of the test at the end of the run. It is like the status level, except that
@@ -52,24 +43,41 @@ impl TestView<'_> {
     /// is `Slow` whatever its result.
     #[must_use]
     pub fn final_status_level(&self) -> FinalStatusLevel {
-        if self.result.is_success() && self.attempts > 1 {
-            return match self.flaky_result {
-                FlakyResult::Pass => FinalStatusLevel::Flaky,
-                FlakyResult::Fail => FinalStatusLevel::Fail,
-            };
+        if !self.result.is_success() {
+            return FinalStatusLevel::Fail;
         }
-        if self.result.is_success() && self.is_slow {
-            return FinalStatusLevel::Slow;
+        if self.attempts > 1 {
+            return FinalStatusLevel::of_flaky(self.flaky_result);
         }
-        match self.result {
-            ExecutionResultDescription::Pass => FinalStatusLevel::Pass,
-            ExecutionResultDescription::Leak {
-                result: LeakTimeoutResult::Pass,
-            } => FinalStatusLevel::Leak,
-            ExecutionResultDescription::Timeout {
-                result: SlowTimeoutResult::Pass,
-            } => FinalStatusLevel::Slow,
-            _ => FinalStatusLevel::Fail,
+        FinalStatusLevel::of_success(self.result, self.is_slow).unwrap_or(FinalStatusLevel::Fail)
+    }
+}
+
+/// A finished test by the parts that decide its counters and its levels.
+#[derive(Clone, Debug, PartialEq, Eq)]
+pub struct FinishedTest {
+    /// The result of the last attempt.
+    pub result: ExecutionResultDescription,
+
+    /// The number of attempts. 0 counts as 1.
+    pub attempts: usize,
+
+    /// True if the last attempt took longer than the slow timeout.
+    pub is_slow: bool,
+
+    /// How the test counts if it is flaky.
+    pub flaky_result: FlakyResult,
+}
+
+impl FinishedTest {
+    /// Returns a view of the test.
+    #[must_use]
+    pub fn view(&self) -> TestView<'_> {
+        TestView {
+            result: &self.result,
+            attempts: self.attempts,
+            is_slow: self.is_slow,
+            flaky_result: self.flaky_result,
         }
     }
 }

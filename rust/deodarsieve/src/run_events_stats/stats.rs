@@ -6,8 +6,8 @@ use crate::run_events_child::child::LiveSpec;
 use crate::run_events_results::results::CancelReason;
 use core::fmt;
 
-mod raised;
 mod run;
+mod sum;
 mod summary;
 mod update;
 
@@ -83,7 +83,7 @@ pub struct RunStats {
     pub cancel_reason: Option<CancelReason>,
 }
 
-/// A unit was not counted, because a counter that it raises is `usize::MAX`.
+/// Nothing was counted, because a counter would not fit `usize`.
 #[derive(Clone, Copy, Debug, PartialEq, Eq)]
 pub struct CounterFull;
 

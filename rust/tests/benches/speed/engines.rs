@@ -4,7 +4,7 @@ use crate::Row;
 use crate::inputs::{self, LOG, Output, pass_over, share};
 use crate::timing::Work;
 use bstr::ByteSlice;
-use deodarsieve_cli::run_digest_devices::std_device::{StdSink, StdSource};
+use deodarsieve_cli::program_io::std_device::{StdSink, StdSource};
 use deodarsieve_cli::run_digest_engine::count::count;
 use deodarsieve_cli::run_digest_engine::extract::extract;
 use deodarsieve_cli::test_report_engine::report::report;

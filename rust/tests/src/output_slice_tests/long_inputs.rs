@@ -54,22 +54,32 @@ const READ: [Long; 3] = [
 /// A line that holds what ends a head, and is none: without it no head is looked for.
 const NO_HEAD: &[u8] = b"the worker panicked at start\n";
 
+/// The end of a name that is no UTF-8, and what ends a head: any opening before it may reach it.
+const NO_NAME: &[u8] = b"\xFF' panicked at start\n";
+
 /// Inputs on which a search that looks through the rest of the input at every opening or at every
 /// window, or that compares all heads with each other, would not end in time.
-const SEARCHED: [Long; 6] = [
+const SEARCHED: [Long; 7] = [
+    Long {
+        shows: "openings alone",
+        front: b"",
+        piece: b"thread '\n",
+        times: 1_000_000,
+        end: b"",
+    },
     Long {
         shows: "openings, of which each may go on to the next: one window",
         front: b"",
         piece: b"thread '\n",
         times: 1_000_000,
-        end: NO_HEAD,
+        end: NO_NAME,
     },
     Long {
         shows: "the same, set apart by text",
         front: b"",
         piece: b"thread 'a\none line\ntwo lines\nthree lines\n",
         times: 1_000_000,
-        end: NO_HEAD,
+        end: NO_NAME,
     },
     Long {
         shows: "heads",
@@ -81,21 +91,21 @@ const SEARCHED: [Long; 6] = [
     Long {
         shows: "lines that open no head: a million windows",
         front: b"",
-        piece: b"thread 'x' started\n",
+        piece: b"thread 'x' has panicked at \n",
         times: 1_000_000,
         end: NO_HEAD,
     },
     Long {
         shows: "the same, set apart by text",
         front: b"",
-        piece: b"thread 'x' started\n\none line\n",
+        piece: b"thread 'x' has panicked at \n\none line\n",
         times: 1_000_000,
         end: NO_HEAD,
     },
     Long {
         shows: "a head before all of these windows",
         front: b"thread 'a' panicked at b\n",
-        piece: b"thread 'x' started\n",
+        piece: b"thread 'x' has panicked at \n",
         times: 1_000_000,
         end: NO_HEAD,
     },

@@ -1,6 +1,6 @@
 // Made by tools/erase from crates/output_slice_tests/src/main.rt. Do not edit.
 //! What is tested of `output_slice`, through its public calls alone. Worked inputs with their answers
-//! are rows that `upstream_replay` replays; this program tests what no such row can say. What it
+//! are rows of the replay in `rust/tests`; this program tests what no such row can say. What it
 //! prints is compared with the file `stdout`.
 //!
 //! The program compares the searches for the last taken head with slow functions that follow the rules
@@ -25,7 +25,7 @@ use crate::output_slice_tests::beginnings::beginnings;
 use crate::output_slice_tests::damage::damaged_outputs;
 use crate::output_slice_tests::long_inputs::{few_reads, linear_time};
 use crate::output_slice_tests::parts::parts_of_each_stream;
-use crate::output_slice_tests::reads::counted_reads;
+use crate::output_slice_tests::reads::{counted_reads, reads_of_searches};
 use crate::output_slice_tests::small_inputs::{SETS, all_inputs};
 use crate::output_slice_tests::worked_heads::worked_heads;
 use std::io;
@@ -45,6 +45,7 @@ mod worked_heads;
 pub fn main() -> io::Result<ExitCode> {
     parts_of_each_stream()?;
     counted_reads()?;
+    reads_of_searches()?;
     few_reads()?;
     linear_time()?;
     let mut all_agree = worked_heads()?.print("worked heads")?;

@@ -1,6 +1,7 @@
 // Made by tools/erase from crates/output_slice_tests/src/reads.rt. Do not edit.
 //! The reads that a source of bytes counts.
 
+use deodarsieve::counted::last_panic_head;
 use deodarsieve::counted::{ByteSource, CountedBytes};
 use std::io;
 
@@ -14,5 +15,30 @@ pub(crate) fn counted_reads() -> io::Result<()> {
         source.len()
     );
     println!("  reads: {before}, {}", source.reads());
+    Ok(())
+}
+
+/// Outputs whose reads are counted by hand in `stdout`: without a byte, without a quote, with a quote
+/// that opens no head, with a head, and with one of a number.
+const OUTPUTS: [&str; 5] = [
+    "",
+    "no head",
+    "it's",
+    "thread 'a' panicked at b",
+    "thread 'a' (7) panicked at b",
+];
+
+/// Searches each of the outputs for the last head, and prints how many reads are counted.
+pub(crate) fn reads_of_searches() -> io::Result<()> {
+    println!("reads of searches");
+    for output in &OUTPUTS {
+        let mut source = CountedBytes::new(output.as_bytes());
+        let has_head = last_panic_head(&mut source).is_some();
+        println!(
+            "  {} bytes, a head: {has_head}, reads: {}",
+            output.len(),
+            source.reads()
+        );
+    }
     Ok(())
 }

@@ -1,11 +1,11 @@
 // Made by tools/erase from crates/run_digest_engine_tests/src/engine.rt. Do not edit.
 //! The two engines, over memory.
 
-use deodarsieve_cli::run_digest_devices::device::Sink;
-use deodarsieve_cli::run_digest_devices::fault::Fault;
-use deodarsieve_cli::run_digest_devices::memory_device::{MemorySink, MemorySource};
+use deodarsieve_cli::program_io::device::Sink;
+use deodarsieve_cli::program_io::memory_device::{MemorySink, MemorySource};
 use deodarsieve_cli::run_digest_engine::count::count;
 use deodarsieve_cli::run_digest_engine::extract::extract;
+use deodarsieve_cli::run_digest_engine::fault::Fault;
 
 /// A run of two tests, of which one is flaky and one fails.
 pub(crate) const RUN: &[u8] = b"run 2 0 -\ntest fail,pass\ntest fail slow\n";

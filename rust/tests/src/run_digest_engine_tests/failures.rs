@@ -5,7 +5,7 @@ use crate::run_digest_engine_tests::engine::{
     Devices, EXTRACT, Engine, OUTPUT, REPORT, RUN, SOUND,
 };
 use crate::run_digest_engine_tests::long_runs::run_of;
-use deodarsieve_cli::run_digest_devices::fault::Fault;
+use deodarsieve_cli::run_digest_engine::fault::Fault;
 
 /// Three sub-runs. As one run they would be cancelled by the interrupt.
 const SUB_RUNS: &[u8] =

@@ -2,7 +2,7 @@
 //! Runs of many lines.
 
 use crate::run_digest_engine_tests::engine::{Engine, SOUND};
-use deodarsieve_cli::run_digest_devices::fault::Fault;
+use deodarsieve_cli::run_digest_engine::fault::Fault;
 
 /// A run of so many tests: the line of a test, so many times before other lines, and so many times
 /// after them.

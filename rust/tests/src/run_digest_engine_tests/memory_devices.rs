@@ -1,8 +1,8 @@
 // Made by tools/erase from crates/run_digest_engine_tests/src/memory_devices.rt. Do not edit.
 //! Devices over memory.
 
-use deodarsieve_cli::run_digest_devices::device::{DeviceFailed, Sink, Source};
-use deodarsieve_cli::run_digest_devices::memory_device::{MemorySink, MemorySource};
+use deodarsieve_cli::program_io::device::{DeviceFailed, Sink, Source};
+use deodarsieve_cli::program_io::memory_device::{MemorySink, MemorySource};
 
 #[test]
 fn a_source_is_read_in_pieces_and_fails_at_one_read() {

@@ -1,12 +1,14 @@
 // Made by tools/erase from crates/run_digest_engine_tests/src/lib.rt. Do not edit.
-//! Tests of `run_digest_engine` and `run_digest_devices` through their public calls alone, of what whole
-//! inputs with their texts cannot say: those are data of `upstream_replay`. Here are words and
-//! faults, devices that fail, runs of many lines, and what readers and writers of std are asked.
+//! Tests of `run_digest_engine` and of the crates below it through their public calls alone: words
+//! and faults, devices that fail, runs of many lines, the report of finished runs, and what readers and
+//! writers of std are asked. Whole inputs with their texts are data of the replay in `rust/tests`.
 
 #[cfg(test)]
 mod engine;
 #[cfg(test)]
 mod failures;
+#[cfg(test)]
+mod finished_runs;
 #[cfg(test)]
 mod long_runs;
 #[cfg(test)]

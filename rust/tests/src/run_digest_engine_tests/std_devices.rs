@@ -2,11 +2,11 @@
 //! What readers and writers of std are asked: fakes that keep a log of their calls.
 
 use crate::run_digest_engine_tests::engine::{EXTRACT, OUTPUT, REPORT, RUN};
-use deodarsieve_cli::run_digest_devices::device::{DeviceFailed, Sink, Source};
-use deodarsieve_cli::run_digest_devices::fault::Fault;
-use deodarsieve_cli::run_digest_devices::std_device::{StdSink, StdSource};
+use deodarsieve_cli::program_io::device::{DeviceFailed, Sink, Source};
+use deodarsieve_cli::program_io::std_device::{StdSink, StdSource};
 use deodarsieve_cli::run_digest_engine::count::count;
 use deodarsieve_cli::run_digest_engine::extract::extract;
+use deodarsieve_cli::run_digest_engine::fault::Fault;
 use std::io;
 use std::io::{Read, Write};
 

@@ -1,8 +1,8 @@
 // Made by tools/erase from crates/run_digest_engine_tests/src/words.rt. Do not edit.
 //! What words ask for, and what faults say.
 
-use deodarsieve_cli::run_digest_devices::fault::Fault;
 use deodarsieve_cli::run_digest_engine::command::Command;
+use deodarsieve_cli::run_digest_engine::fault::Fault;
 
 #[test]
 fn words_ask_for_a_command() -> Result<(), Box<dyn std::error::Error>> {
@@ -34,7 +34,6 @@ fn faults_have_texts_and_statuses() -> Result<(), Box<dyn std::error::Error>> {
         (Fault::BadWord, 2, "usage: run-digest extract|count"),
         (Fault::Read, 3, "read failed"),
         (Fault::Write, 3, "write failed"),
-        (Fault::CounterFull, 3, "a number does not fit its counter"),
     ] {
         let said = format!("{fault}");
         assert!(fault.status() == status && said.as_str() == text, "{text}");

@@ -2,7 +2,7 @@
 //! A run that is cut short, or of which a byte is damaged.
 
 use crate::test_report_engine_tests::devices::{OPTIONS, REPORT, RUN, reports};
-use deodarsieve_cli::run_digest_devices::memory_device::{MemorySink, MemorySource};
+use deodarsieve_cli::program_io::memory_device::{MemorySink, MemorySource};
 use deodarsieve_cli::test_report_engine::report::report;
 
 /// What is reported of the lines of [`RUN`] before each of its lines, and of all of them.

@@ -1,9 +1,9 @@
 // Made by tools/erase from crates/test_report_engine_tests/src/devices.rt. Do not edit.
 //! The report, over memory.
 
-use deodarsieve_cli::run_digest_devices::device::{Sink, Source};
-use deodarsieve_cli::run_digest_devices::fault::Fault;
-use deodarsieve_cli::run_digest_devices::memory_device::{MemorySink, MemorySource};
+use deodarsieve_cli::program_io::device::{Sink, Source};
+use deodarsieve_cli::program_io::memory_device::{MemorySink, MemorySource};
+use deodarsieve_cli::test_report_engine::fault::Fault;
 use deodarsieve_cli::test_report_engine::report::report;
 use deodarsieve_cli::test_report_text::options::Options;
 

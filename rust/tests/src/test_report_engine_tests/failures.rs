@@ -2,7 +2,7 @@
 //! The report over devices that fail.
 
 use crate::test_report_engine_tests::devices::{Devices, OPTIONS, REPORT, RUN, SOUND, gives};
-use deodarsieve_cli::run_digest_devices::fault::Fault;
+use deodarsieve_cli::test_report_engine::fault::Fault;
 
 #[test]
 fn each_read_that_fails_is_answered() -> Result<(), Box<dyn std::error::Error>> {

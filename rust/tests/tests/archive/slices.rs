@@ -14,8 +14,12 @@ const COUNT: usize = 1_000_000;
 /// The most bytes of a stream that a failed comparison shows.
 const MOST_SHOWN: usize = 1_000;
 
-/// The size of the blocks in which a search goes through a stream.
-const BLOCK_SIZE: usize = 131_072;
+/// Where the blocks of a search begin, counted from the end of a stream: multiples of 131,072 bytes for
+/// an error and a note, and the others for a panic.
+const EDGES: [usize; 4] = [98_304, 131_072, 196_608, 262_144];
+
+/// The cases of the replay, some of which begin with an output.
+const REPLAYED: &str = include_str!("../../data/upstream_replay.txt");
 
 /// What streams are made of: heads, quotes, errors, notes, digits, white space, and bytes that are
 /// no UTF-8.
@@ -155,6 +159,24 @@ fn generated_streams() {
     assert!(kinds.iter().all(|count| *count > COUNT / 50), "{kinds:?}");
 }
 
+/// Returns the outputs of the replay's cases of a kind.
+fn replayed(kind: &str) -> impl Iterator<Item = Vec<u8>> {
+    REPLAYED.lines().filter_map(move |line| {
+        let case = line.strip_prefix(kind)?.strip_prefix(' ')?;
+        let (output, _) = case.split_once(' ').unwrap_or((case, ""));
+        let digits = output.trim_start_matches('-');
+        Some(hex::decode(digits).expect("an output is in hex"))
+    })
+}
+
+#[test]
+fn replayed_outputs() {
+    let slices = replayed("extract").map(|output| compare_slice(Some(&output), Some(&output)));
+    assert_eq!(slices.count(), 2_090);
+    let heads = replayed("heads").map(|output| compare_head(&output));
+    assert_eq!(heads.count(), 2_089);
+}
+
 #[test]
 fn every_character_as_a_digit() {
     let mut digits = 0;
@@ -166,15 +188,14 @@ fn every_character_as_a_digit() {
     assert!(digits > 600, "{digits}");
 }
 
-/// Makes a stream whose pieces lie across the edge of two blocks, or close to it. The search counts
-/// blocks from the end.
+/// Makes a stream whose pieces lie across the edge of two blocks, or close to it.
 fn fill_blocks(generator: &mut Generator, stream: &mut Vec<u8>) {
     let mut pieces = Vec::new();
     fill(generator, &mut pieces);
     stream.clear();
-    stream.resize(generator.below(2) * BLOCK_SIZE + generator.below(80), b'x');
+    stream.resize(generator.below(2) * EDGES[1] + generator.below(80), b'x');
     stream.extend_from_slice(&pieces);
-    let rest = (1 + generator.below(2)) * BLOCK_SIZE - generator.below(80);
+    let rest = EDGES[generator.below(4)] - generator.below(80);
     stream.resize(stream.len() + rest, b'x');
 }
 

@@ -16,6 +16,7 @@ pub(crate) fn next_quote<S: ByteSource>(source: &mut S, from: usize) -> Option<u
 }
 
 /// Returns true if `thread ` is before `quote`, at the start of a line and not before `place`.
+#[inline]
 pub(crate) fn opens<S: ByteSource>(source: &mut S, place: usize, quote: usize) -> bool {
     if quote < WORD_SIZE || quote - WORD_SIZE < place {
         return false;

@@ -4,8 +4,7 @@
 use crate::run_events_attempts::attempts::ExecuteStatus;
 use crate::run_events_child::child::OutputSpec;
 use crate::run_events_levels::levels::{FinalStatusLevel, StatusLevel};
-use crate::run_events_results::results::ExecutionResultDescription;
-use crate::run_events_settings::config::{FlakyResult, LeakTimeoutResult, SlowTimeoutResult};
+use crate::run_events_settings::config::FlakyResult;
 
 /// The description of a finished test, for reporters. It depends only on the number of attempts and
 /// the result of the last one.
@@ -98,22 +97,11 @@ impl<'a, S: OutputSpec> ExecutionDescription<'a, S> {
     #[must_use]
     pub fn status_level(&self) -> StatusLevel {
         match self {
-            ExecutionDescription::Success { single_status } => match single_status.result {
-                ExecutionResultDescription::Pass => StatusLevel::Pass,
-                ExecutionResultDescription::Leak {
-                    result: LeakTimeoutResult::Pass,
-                } => StatusLevel::Leak,
-                ExecutionResultDescription::Timeout {
-                    result: SlowTimeoutResult::Pass,
-                } => StatusLevel::Slow,
-                _ => unreachable!(
-                    "the status of a success has not succeeded: `is_consistent` tests it"
-                ),
-            },
-            ExecutionDescription::Flaky { result, .. } => match result {
-                FlakyResult::Pass => StatusLevel::Retry,
-                FlakyResult::Fail => StatusLevel::Fail,
-            },
+            ExecutionDescription::Success { single_status } => {
+                StatusLevel::of_success(&single_status.result)
+                    .expect("the status of a success has not succeeded: `is_consistent` tests it")
+            }
+            ExecutionDescription::Flaky { result, .. } => StatusLevel::of_flaky(*result),
             ExecutionDescription::Failure { .. } => StatusLevel::Fail,
         }
     }
@@ -132,26 +120,10 @@ impl<'a, S: OutputSpec> ExecutionDescription<'a, S> {
     pub fn final_status_level(&self) -> FinalStatusLevel {
         match self {
             ExecutionDescription::Success { single_status } => {
-                if single_status.is_slow {
-                    return FinalStatusLevel::Slow;
-                }
-                match single_status.result {
-                    ExecutionResultDescription::Pass => FinalStatusLevel::Pass,
-                    ExecutionResultDescription::Leak {
-                        result: LeakTimeoutResult::Pass,
-                    } => FinalStatusLevel::Leak,
-                    ExecutionResultDescription::Timeout {
-                        result: SlowTimeoutResult::Pass,
-                    } => FinalStatusLevel::Slow,
-                    _ => unreachable!(
-                        "the status of a success has not succeeded: `is_consistent` tests it"
-                    ),
-                }
+                FinalStatusLevel::of_success(&single_status.result, single_status.is_slow)
+                    .expect("the status of a success has not succeeded: `is_consistent` tests it")
             }
-            ExecutionDescription::Flaky { result, .. } => match result {
-                FlakyResult::Pass => FinalStatusLevel::Flaky,
-                FlakyResult::Fail => FinalStatusLevel::Fail,
-            },
+            ExecutionDescription::Flaky { result, .. } => FinalStatusLevel::of_flaky(*result),
             ExecutionDescription::Failure { .. } => FinalStatusLevel::Fail,
         }
     }

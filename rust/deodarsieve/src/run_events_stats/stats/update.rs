@@ -5,8 +5,7 @@ use crate::run_events_attempts::attempts::{ExecutionStatuses, SetupScriptExecute
 use crate::run_events_child::child::LiveSpec;
 use crate::run_events_levels::view::TestView;
 use crate::run_events_results::results::ExecutionResultDescription;
-use crate::run_events_settings::config::FlakyResult;
-use crate::run_events_stats::stats::raised::{RaisedByScript, RaisedByTest};
+use crate::run_events_settings::config::{FlakyResult, LeakTimeoutResult};
 use crate::run_events_stats::stats::{CounterFull, RunStats};
 
 impl RunStats {
@@ -44,8 +43,6 @@ impl RunStats {
     /// Raises the counters for a finished test, each of which must be less than `usize::MAX`.
     #[inline]
     pub(super) fn raise_for_test(&mut self, test: &TestView<'_>) {
-        // A match on the result writes only the counters that are raised, which are two to five of
-        // eleven. With `RaisedByTest` all of them would be written.
         self.finished_count += 1;
         if test.result.is_success() {
             self.count_success(test);
@@ -105,18 +102,9 @@ impl RunStats {
     /// `usize::MAX`.
     #[must_use]
     pub fn can_count_view(&self, test: &TestView<'_>) -> bool {
-        let raised = RaisedByTest::of(test);
-        fits(self.finished_count, true)
-            && fits(self.passed, raised.passed)
-            && fits(self.passed_slow, raised.passed_slow)
-            && fits(self.passed_timed_out, raised.passed_timed_out)
-            && fits(self.flaky, raised.flaky)
-            && fits(self.failed, raised.failed)
-            && fits(self.failed_slow, raised.failed_slow)
-            && fits(self.failed_timed_out, raised.failed_timed_out)
-            && fits(self.leaky, raised.leaky)
-            && fits(self.leaky_failed, raised.leaky_failed)
-            && fits(self.exec_failed, raised.exec_failed)
+        let mut one = RunStats::default();
+        one.raise_for_test(test);
+        self.has_room_for_tests(&one)
     }
 
     /// Counts a finished test.
@@ -191,26 +179,28 @@ impl RunStats {
 
     /// Raises the counters for a finished setup script, each of which must be less than `usize::MAX`.
     pub(super) fn raise_for_script(&mut self, script: &ExecutionResultDescription) {
-        let raised = RaisedByScript::of(script);
         self.setup_scripts_finished_count += 1;
-        self.setup_scripts_passed = counter_after(self.setup_scripts_passed, raised.passed);
-        self.setup_scripts_failed = counter_after(self.setup_scripts_failed, raised.failed);
-        self.setup_scripts_exec_failed =
-            counter_after(self.setup_scripts_exec_failed, raised.exec_failed);
-        self.setup_scripts_timed_out =
-            counter_after(self.setup_scripts_timed_out, raised.timed_out);
+        match script {
+            ExecutionResultDescription::Pass
+            | ExecutionResultDescription::Leak {
+                result: LeakTimeoutResult::Pass,
+            } => self.setup_scripts_passed += 1,
+            ExecutionResultDescription::Fail { .. }
+            | ExecutionResultDescription::Leak {
+                result: LeakTimeoutResult::Fail,
+            } => self.setup_scripts_failed += 1,
+            ExecutionResultDescription::ExecFail => self.setup_scripts_exec_failed += 1,
+            ExecutionResultDescription::Timeout { .. } => self.setup_scripts_timed_out += 1,
+        }
     }
 
     /// Returns true if the setup script can be counted, because every counter that its result raises
     /// is less than `usize::MAX`.
     #[must_use]
     pub fn can_count_script_result(&self, script: &ExecutionResultDescription) -> bool {
-        let raised = RaisedByScript::of(script);
-        fits(self.setup_scripts_finished_count, true)
-            && fits(self.setup_scripts_passed, raised.passed)
-            && fits(self.setup_scripts_failed, raised.failed)
-            && fits(self.setup_scripts_exec_failed, raised.exec_failed)
-            && fits(self.setup_scripts_timed_out, raised.timed_out)
+        let mut one = RunStats::default();
+        one.raise_for_script(script);
+        self.has_room_for_scripts(&one)
     }
 
     /// Counts a finished setup script.
@@ -249,14 +239,4 @@ impl RunStats {
     pub fn can_count_script(&self, script: &SetupScriptExecuteStatus<LiveSpec>) -> bool {
         self.can_count_script_result(&script.result)
     }
-}
-
-/// Returns a counter, raised by one if `is_raised`.
-fn counter_after(counter: usize, is_raised: bool) -> usize {
-    counter + usize::from(is_raised)
-}
-
-/// Returns true if a counter is not raised or is less than `usize::MAX`.
-fn fits(counter: usize, is_raised: bool) -> bool {
-    !is_raised || counter < usize::MAX
 }

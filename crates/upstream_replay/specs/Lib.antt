@@ -1,3 +1,0 @@
-pub mod Engine
-pub mod Extracts
-pub mod Units

@@ -1,0 +1,22 @@
+// Made by tools/erase from crates/program_io/src/lib.rt. Do not edit.
+//! Sources and sinks of bytes for programs: what they promise, devices over memory and over `std`, and
+//! how all of a source is read and all of a text written.
+//!
+//! A function that copies all bytes of a source to a sink:
+//!
+//! ```
+//! use deodarsieve_cli::program_io::device::{Sink, Source};
+//! use deodarsieve_cli::program_io::fault::DeviceFault;
+//! use deodarsieve_cli::program_io::transfer::{read_all, write_all};
+//!
+//! fn copy<R: Source, W: Sink>(source: &mut R, sink: &mut W) -> Result<(), DeviceFault> {
+//!     let bytes = read_all(source)?;
+//!     write_all(sink, &bytes)
+//! }
+//! ```
+
+pub mod device;
+pub mod fault;
+pub mod memory_device;
+pub mod std_device;
+pub mod transfer;

@@ -1,0 +1,56 @@
+//! The time of searches, on the beginnings of panic messages that do not go on.
+
+use deodarsieve::TestOutputErrorSlice;
+use std::time::{Duration, Instant};
+
+/// Beginnings of a panic message, one a line: the name in each may go on to the quote of the next.
+const OPENING: &[u8] = b"thread '\n";
+
+/// How often an opening is repeated.
+const COUNT: usize = 1_000_000;
+
+/// By how many times the small input is smaller than the large one.
+const SHARE: usize = 8;
+
+/// Returns where the slice of standard error begins.
+fn start_of(stderr: &[u8]) -> Option<usize> {
+    let found = TestOutputErrorSlice::heuristic_extract(None, Some(stderr))?;
+    found.stderr_subslice().map(|part| part.start)
+}
+
+/// Returns the least time of three searches in openings before a last line, in which the slice must
+/// begin if `is_found`.
+fn least_time(count: usize, last: &[u8], is_found: bool) -> Duration {
+    let stderr = [&OPENING.repeat(count), last].concat();
+    let wanted = is_found.then_some(count * OPENING.len());
+    let time = || {
+        let start = Instant::now();
+        assert_eq!(start_of(&stderr), wanted);
+        start.elapsed()
+    };
+    time().min(time()).min(time())
+}
+
+/// Asserts that the time grows with the size of the input, and not with its square. The limit is three
+/// times as high as needed, and has 50 milliseconds for what a busy machine does in between.
+fn assert_linear(last: &[u8], is_found: bool) {
+    let small = least_time(COUNT / SHARE, last, is_found);
+    let large = least_time(COUNT, last, is_found);
+    let limit = small * 3 * SHARE as u32 + Duration::from_millis(50);
+    assert!(large <= limit, "{small:?} and {large:?}");
+}
+
+#[test]
+fn openings_alone() {
+    assert_linear(b"", false);
+}
+
+#[test]
+fn openings_before_a_line_that_is_no_head() {
+    assert_linear(b"the worker panicked at start\n", false);
+}
+
+#[test]
+fn openings_before_a_head() {
+    assert_linear(b"thread 'a' panicked at src/lib.rs:1:1:\n", true);
+}

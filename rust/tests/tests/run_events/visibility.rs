@@ -1,0 +1,137 @@
+//! What is shown of a finished test.
+
+use deodarsieve::{
+    AbortDescription, CancelReason, ExecutionResultDescription, FailureDescription,
+    FinalStatusLevel, OutputOnTestFinished, OutputStoreFinal, StatusLevel, StatusLevels,
+    TestOutputDisplay,
+};
+
+/// No reason, and all reasons, the least first.
+const REASONS: [Option<CancelReason>; 10] = [
+    None,
+    Some(CancelReason::SetupScriptFailure),
+    Some(CancelReason::TestFailure),
+    Some(CancelReason::ReportError),
+    Some(CancelReason::OutputLimit),
+    Some(CancelReason::TestFailureImmediate),
+    Some(CancelReason::GlobalTimeout),
+    Some(CancelReason::Signal),
+    Some(CancelReason::Interrupt),
+    Some(CancelReason::SecondSignal),
+];
+
+const DISPLAYS: [TestOutputDisplay; 4] = [
+    TestOutputDisplay::Immediate,
+    TestOutputDisplay::ImmediateFinal,
+    TestOutputDisplay::Final,
+    TestOutputDisplay::Never,
+];
+
+/// All final levels, the least first.
+const FINAL_LEVELS: [FinalStatusLevel; 8] = [
+    FinalStatusLevel::None,
+    FinalStatusLevel::Fail,
+    FinalStatusLevel::Flaky,
+    FinalStatusLevel::Slow,
+    FinalStatusLevel::Skip,
+    FinalStatusLevel::Leak,
+    FinalStatusLevel::Pass,
+    FinalStatusLevel::All,
+];
+
+/// Returns a failure of this kind, which left no handle open.
+fn failed(failure: FailureDescription) -> ExecutionResultDescription {
+    ExecutionResultDescription::Fail {
+        failure,
+        leaked: false,
+    }
+}
+
+/// Returns a failure by a signal.
+fn signalled(signal: i32) -> ExecutionResultDescription {
+    let abort = AbortDescription::UnixSignal { signal, name: None };
+    failed(FailureDescription::Abort { abort })
+}
+
+/// Returns what is shown of a failed test with the final level `level`, if the own final level is
+/// `own`. Lines are written from `Pass` on.
+fn output(
+    own: FinalStatusLevel,
+    display: TestOutputDisplay,
+    reason: Option<CancelReason>,
+    level: FinalStatusLevel,
+    execution_result: &ExecutionResultDescription,
+) -> OutputOnTestFinished {
+    let levels = StatusLevels {
+        status_level: StatusLevel::Pass,
+        final_status_level: own,
+    };
+    levels.compute_output_on_test_finished(
+        display,
+        reason,
+        StatusLevel::Fail,
+        level,
+        execution_result,
+    )
+}
+
+/// Returns how much is stored.
+fn amount_stored(stored: OutputStoreFinal) -> u8 {
+    match stored {
+        OutputStoreFinal::No => 0,
+        OutputStoreFinal::Yes {
+            display_output: false,
+        } => 1,
+        OutputStoreFinal::Yes {
+            display_output: true,
+        } => 2,
+    }
+}
+
+/// Returns true if x shows and stores no more than y.
+fn is_no_more(x: OutputOnTestFinished, y: OutputOnTestFinished) -> bool {
+    (y.show_immediate || !x.show_immediate)
+        && amount_stored(x.store_final) <= amount_stored(y.store_final)
+}
+
+/// Asserts that no more is shown of a failed test under the greater of two reasons, except for the one
+/// exception.
+fn assert_that_less_is_shown(
+    own: FinalStatusLevel,
+    display: TestOutputDisplay,
+    execution_result: &ExecutionResultDescription,
+    is_terminated: bool,
+) {
+    for level in FINAL_LEVELS {
+        let is_asked_for = display != TestOutputDisplay::Never || own >= level;
+        for (place, lesser) in REASONS.iter().enumerate() {
+            for greater in &REASONS[place..] {
+                let is_exception = *lesser == Some(CancelReason::TestFailureImmediate)
+                    && (*greater == Some(CancelReason::GlobalTimeout)
+                        || *greater == Some(CancelReason::Signal))
+                    && is_terminated
+                    && is_asked_for;
+                let more = output(own, display, *greater, level, execution_result);
+                let less = output(own, display, *lesser, level, execution_result);
+                assert_eq!(
+                    is_no_more(more, less),
+                    !is_exception,
+                    "{lesser:?} {greater:?}"
+                );
+                assert_eq!(more.write_status_line, less.write_status_line);
+            }
+        }
+    }
+}
+
+#[test]
+fn less_is_shown_under_a_greater_reason() {
+    let exited = failed(FailureDescription::ExitCode { code: 1 });
+    for own in FINAL_LEVELS {
+        for display in DISPLAYS {
+            assert_that_less_is_shown(own, display, &signalled(15), true);
+            assert_that_less_is_shown(own, display, &signalled(9), false);
+            assert_that_less_is_shown(own, display, &exited, false);
+        }
+    }
+}
