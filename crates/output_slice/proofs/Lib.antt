@@ -1,3 +1,4 @@
+mod Words
 mod OccursLemmas
 mod CharLemmas
 mod HeadLemmas

@@ -1,11 +1,5 @@
 -- The state of the counted search: the taken heads so far, and the reads.
-use Rattle.std.proofs.Common.{◌≡◌, ℕ, min, ◌+◌, ◌-◌, ◌*◌, ◌<◌, ◌≤◌, List, [], ◌∷◌, ◌++◌, length, get_or, refl, arith, inl, inr, Option, Some, None, MatchOption, IfSome, ◌^◌, append_assoc, append-nil}
-use Rattle.std.proofs.lemmas.List.{get_or_push, length_push}
-use Rattle.std.proofs.lemmas.Option.{slice_get-get_or}
-use Rattle.output_slice.specs.declared.panic_head.HeadSpan.{HeadSpan}
-use Rattle.output_slice.specs.Head.{IsLineStart, IsHead}
-use Rattle.output_slice.specs.Taken.{last_of, IsTaken}
-use Rattle.output_slice.specs.Steps.{IsOpenedHeadEnd, IsNextQuote, ArePlain, FewReads, HeadReads, QuoteReads, ReadsAll, NoQuoteBetween}
+use Rattle.output_slice.proofs.Words.{◌≡◌, ℕ, min, ◌+◌, ◌-◌, ◌*◌, ◌<◌, ◌≤◌, List, [], ◌∷◌, ◌++◌, length, get_or, arith, inl, inr, Option, Some, None, MatchOption, IfSome, ◌^◌, append_assoc, append-nil, get_or_push, length_push, slice_get-get_or, HeadSpan, IsLineStart, IsHead, last_of, IsTaken, IsOpenedHeadEnd, IsNextQuote, ArePlain, FewReads, HeadReads, QuoteReads, ReadsAll, NoQuoteBetween}
 use Rattle.output_slice.proofs.HeadLemmas.{IsOpenedHeadEnd-none, head-letters}
 use Rattle.output_slice.proofs.TakenLemmas.{IsTaken-from_leftmost, Leftmost, leftmost-before}
 
@@ -18,31 +12,21 @@ starts-late : (b : List ℕ) (place q s e : ℕ) → NoQuoteBetween b place q �
 starts-late b place q s e quiet late head = grind arith
 
 -- a quote that opens no head
-pub settled-none : (b : List ℕ) (place q : ℕ) (taken : List HeadSpan) → Settled b place taken → place ≤ q
-    → get_or b q 0 ≡ 39
+pub settled-none : (b : List ℕ) (place q : ℕ) (taken : List HeadSpan) → Settled b place taken → place ≤ q → get_or b q 0 ≡ 39
     → NoQuoteBetween b place q → ((s e : ℕ) → place ≤ s → s + 7 ≡ q → ¬ IsHead b s e) → Settled b (q + 1) taken
-settled-none b place q taken h low is quiet none rest r =
-    h rest (leftmost-before b place (q + 1) rest (omega arith) (λ s e from head.
-    let late = starts-late b place q s e quiet from head in
-    let letters = head-letters b s e q head in
-    let other = none s e from in
-    grind arith) r)
+settled-none b place q taken h low is quiet none rest r = h rest (leftmost-before b place (q + 1) rest (omega arith) (λ s e from head.
+    grind (arith, starts-late b place q s e quiet from head, head-letters b s e q head, none s e from)) r)
 
 -- a quote that opens a head
-pub settled-head : (b : List ℕ) (place q : ℕ) (taken : List HeadSpan) (x : HeadSpan) → Settled b place taken
-    → NoQuoteBetween b place q
+pub settled-head : (b : List ℕ) (place q : ℕ) (taken : List HeadSpan) (x : HeadSpan) → Settled b place taken → NoQuoteBetween b place q
     → place ≤ x.start → x.start + 7 ≡ q → IsHead b x.start x.stop → Settled b x.stop (taken ++ x ∷ [])
-settled-head b place q taken x h quiet new here head rest r =
-    let least = λ (s e : ℕ) (low : place ≤ s) (other : IsHead b s e). starts-late b place q s e quiet low other in
-    let first : Leftmost b place (x ∷ rest) =
-    (record { head = head; low = new; least = λ s e low other. omega (arith, least s e low other) }, r) in
-    rw append_assoc (h (x ∷ rest) first)
+settled-head b place q taken x h quiet new here head rest r = rw append_assoc (h (x ∷ rest)
+    (record { head = head; low = new; least = λ s e low other. omega (arith, starts-late b place q s e quiet low other) }, r))
 
 -- no quote is left
-pub settled-done : (b : List ℕ) (place : ℕ) (taken : List HeadSpan) → Settled b place taken
-    → NoQuoteBetween b place (length b) → IsTaken b taken
+pub settled-done : (b : List ℕ) (place : ℕ) (taken : List HeadSpan) → Settled b place taken → NoQuoteBetween b place (length b) → IsTaken b taken
 settled-done b place taken h quiet = IsTaken-from_leftmost b taken (rw append-nil at (h [] (λ s e low head.
-    let late = starts-late b place (length b) s e quiet low head in omega (arith, head.opening.fits))))
+    omega (arith, starts-late b place (length b) s e quiet low head, head.opening.fits))))
 
 -- the reads so far, the next quote q, and a place before which no quote follows q
 pub record WithReads (b : List ℕ) (old new place q : ℕ) : Type 0 where
@@ -68,22 +52,7 @@ NextReads b old new place next = MatchOption next ((new ≤ old + (3 * length b 
 -- after one to three reads for each byte up to the place, the next quote was looked for from there
 next-reads : (b : List ℕ) (old mid new place : ℕ) (next : Option ℕ) → place ≤ length b → old + place ≤ mid → mid ≤ old + 3 * place
     → IsNextQuote b place next → QuoteReads b place mid new next → NextReads b old new place next
-next-reads b old mid new place None within all paid is reads = (omega arith, omega arith)
-next-reads b old mid new place (Some q) within all paid is reads =
-    let low = is.0.low in
-    let high = is.0.high in record {
-      seen = q + 1;
-      low = omega arith;
-      high = omega arith;
-      plain = λ k from up. absurd (omega arith);
-      tail = 0;
-      far = omega arith;
-      near = omega arith;
-      paid = omega arith;
-      paid_one = λ far. omega arith;
-      paid_word = λ more line. omega arith;
-      all = omega arith;
-    }
+next-reads b old mid new place next within all paid is reads = grind arith
 
 -- the state of the search: the list so far, the last of it, the next quote and the reads
 pub record Searched (b : List ℕ) (old new place : ℕ) (next : Option ℕ) (last : Option HeadSpan) : Type 0 where
@@ -96,18 +65,9 @@ pub record Searched (b : List ℕ) (old new place : ℕ) (next : Option ℕ) (la
   pub reads : NextReads b old new place next
 
 -- the start of the search
-pub searched-first : (b : List ℕ) (old new : ℕ) (next : Option ℕ) → IsNextQuote b 0 next
-    → IfSome next (λ q. q + 1 < 2 ^ 64)
+pub searched-first : (b : List ℕ) (old new : ℕ) (next : Option ℕ) → IsNextQuote b 0 next → IfSome next (λ q. q + 1 < 2 ^ 64)
     → QuoteReads b 0 old new next → Searched b old new 0 next None
-searched-first b old new next is fits reads = record {
-  taken = [];
-  settled = λ rest h. h;
-  is_last = refl;
-  is_next = is;
-  fits = fits;
-  within = omega arith;
-  reads = next-reads b old old new 0 next (omega arith) (omega arith) (omega arith) is reads;
-}
+searched-first b old new next is fits reads = grind arith
 
 -- a step at a quote that opens no head
 pub searched-none : (b : List ℕ) (old new scanned tested place q : ℕ) (close : Option ℕ) (last : Option HeadSpan)
@@ -115,69 +75,53 @@ pub searched-none : (b : List ℕ) (old new scanned tested place q : ℕ) (close
     → QuoteReads b (q + 1) new scanned close → IsOpenedHeadEnd b place q None → (scanned < tested → place + 7 ≤ q)
     → (scanned + 1 < tested → IsLineStart b (q - 7)) → HeadReads b q scanned tested close None
     → IfSome close (λ c. ReadsAll (c + 1) scanned tested None) → Searched b old tested (q + 1) close last
-searched-none b old new scanned tested place q close last h is fits reads none opened line more all =
-    let i = h.is_next in
-    let high = i.0.high in record {
-      taken = h.taken;
-      settled = settled-none b place q h.taken h.settled i.0.low i.1 i.0.before none;
-      is_last = h.is_last;
-      is_next = is;
-      fits = fits;
-      within = omega arith;
-      reads = by_close close is reads more all;
-    } where
+searched-none b old new scanned tested place q close last h is fits reads none opened line more all = record {
+  taken = h.taken;
+  settled = settled-none b place q h.taken h.settled h.is_next.0.low h.is_next.1 h.is_next.0.before none;
+  is_last = h.is_last;
+  is_next = is;
+  fits = fits;
+  within = omega (arith, h.is_next.0.high);
+  reads = by_close close is reads more all;
+} where
+  -- the reads behind them: of a tail, or of one that is whole and of a name
+  behind : (name at last : ℕ) → FewReads name at last (scanned + 8) tested → at ≤ last → (tail : ℕ) × (tail + at ≤ last + 5) × (tail + 2 * at ≤ 2 * last + 2)
+      × (tested ≤ scanned + 8 + tail + (name - 4))
+  behind name at last (inl f) low = (tested - (scanned + 8), omega arith, omega arith, omega arith)
+  behind name at last (inr f) low = (last + 5 - at, omega arith, omega arith, omega arith)
+
+  by_close : (n : Option ℕ) → IsNextQuote b (q + 1) n → QuoteReads b (q + 1) new scanned n
+      → HeadReads b q scanned tested n None → IfSome n (λ c. ReadsAll (c + 1) scanned tested None) → NextReads b old tested (q + 1) n
+  by_close None i r m a = (omega (arith, h.reads.paid, h.reads.high, h.reads.far), omega (arith, h.reads.all))
+  by_close (Some c) i r m a =
+      let w : WithReads b old new place q = h.reads in
       -- the reads before the quote are paid: none, one, or all eight
-      word : new + min (tested - scanned) 8 ≤ old + (3 * (q + 1) + h.reads.tail)
-      word = let none = h.reads.paid in let one = h.reads.paid_one in let whole = h.reads.paid_word in grind arith
-
-      -- the reads behind them: of a tail, or of one that is whole and of a name
-      behind : (name at last : ℕ) → FewReads name at last (scanned + 8) tested → at ≤ last
-          → (tail : ℕ) × (tail + at ≤ last + 5) × (tail + 2 * at ≤ 2 * last + 2)
-          × (tested ≤ scanned + 8 + tail + (name - 4))
-      behind name at last (inl f) low = (tested - (scanned + 8), omega arith, omega arith, omega arith)
-      behind name at last (inr f) low = (last + 5 - at, omega arith, omega arith, omega arith)
-
-      by_close : (n : Option ℕ) → IsNextQuote b (q + 1) n → QuoteReads b (q + 1) new scanned n
-          → HeadReads b q scanned tested n None → IfSome n (λ c. ReadsAll (c + 1) scanned tested None)
-          → NextReads b old tested (q + 1) n
-      by_close None i r m a = (omega (arith, h.reads.paid, h.reads.high, h.reads.far), omega (arith, h.reads.all))
-      by_close (Some c) i r m a =
-          let before = word in
-          let read = behind _ _ _ m.few (omega (arith, m.low)) in
-          let passed = h.reads.plain c in
-          let far = h.reads.far in
-          let near = h.reads.near in
-          let seen : h.reads.seen ≤ c = grind arith in record {
-            seen = m.last;
-            low = m.low;
-            high = m.high;
-            plain = m.plain;
-            tail = read.0;
-            far = read.1;
-            near = read.2;
-            paid = omega arith;
-            paid_one = λ more. omega arith;
-            paid_word = λ more line.
-                let other = h.reads.plain (c - 7 - 1) in
-                let quote = h.is_next.1 in
-                let feed : h.reads.seen + 8 ≤ c = grind arith in
-                omega arith;
-            all = omega (arith, h.reads.all, a.0);
-          }
+      let before : new + min (tested - scanned) 8 ≤ old + (3 * (q + 1) + w.tail) = grind arith in
+      let read = behind _ _ _ m.few (omega (arith, m.low)) in
+      let seen : w.seen ≤ c = grind (arith, w.plain c) in record {
+        seen = m.last;
+        low = m.low;
+        high = m.high;
+        plain = m.plain;
+        tail = read.0;
+        far = read.1;
+        near = read.2;
+        paid = omega arith;
+        paid_one = λ more. omega arith;
+        paid_word = λ more line. let feed : w.seen + 8 ≤ c = grind (arith, w.plain (c - 8), h.is_next.1) in omega arith;
+        all = omega (arith, w.all, a.0);
+      }
 
 -- a step at a quote that opens a head
 pub searched-found : (b : List ℕ) (old new scanned tested ended place q e : ℕ) (close next : Option ℕ) (last : Option HeadSpan)
     → Searched b old new place (Some q) last → IsNextQuote b (q + 1) close → QuoteReads b (q + 1) new scanned close
     → IsOpenedHeadEnd b place q (Some e) → HeadReads b q scanned tested close (Some e)
     → IfSome close (λ c. ReadsAll (c + 1) scanned tested (Some e)) → IsNextQuote b e next
-    → IfSome next (λ x. x + 1 < 2 ^ 64) → QuoteReads b e tested ended next
-    → Searched b old ended e next (Some (record { start = q - 7; stop = e }))
+    → IfSome next (λ x. x + 1 < 2 ^ 64) → QuoteReads b e tested ended next → Searched b old ended e next (Some (record { start = q - 7; stop = e }))
 searched-found b old new scanned tested ended place q e close next last h is reads stop more all is' fits reads' =
-    let i = h.is_next in
-    let far = stop.0 in
     let x : HeadSpan = record { start = q - 7; stop = e } in record {
       taken = h.taken ++ x ∷ [];
-      settled = settled-head b place q h.taken x h.settled i.0.before (omega arith) (omega arith) stop.1;
+      settled = settled-head b place q h.taken x h.settled h.is_next.0.before (omega (arith, stop.0)) (omega (arith, stop.0)) stop.1;
       is_last = grind (arith, length_push, get_or_push, slice_get-get_or (h.taken ++ x ∷ []) (length h.taken) x);
       is_next = is';
       fits = fits;
@@ -185,15 +129,6 @@ searched-found b old new scanned tested ended place q e close next last h is rea
       reads = let p = paid close is reads more all in next-reads b old tested ended e next stop.1.ends p.0 p.1 is' reads';
     } where
       paid : (n : Option ℕ) → IsNextQuote b (q + 1) n → QuoteReads b (q + 1) new scanned n
-          → HeadReads b q scanned tested n (Some e) → IfSome n (λ c. ReadsAll (c + 1) scanned tested (Some e))
-          → (old + e ≤ tested) × (tested ≤ old + 3 * e)
-      paid None i r m a =
-          let far = stop.0 in absurd (IsOpenedHeadEnd-none b place q i (q - 7) e (omega arith) (omega arith) stop.1)
-      paid (Some c) i r m a =
-          let w = h.reads in
-          let paid = w.paid_word stop.0 stop.1.line_start in
-          let passed = w.plain c in
-          let seen : w.seen ≤ c = grind arith in
-          let name = i.0.low in
-          let whole = m.before in
-          (omega (arith, w.all, a.1), elim m.few [ inl f ↦ omega arith | inr f ↦ omega arith ])
+          → HeadReads b q scanned tested n (Some e) → IfSome n (λ c. ReadsAll (c + 1) scanned tested (Some e)) → (old + e ≤ tested) × (tested ≤ old + 3 * e)
+      paid None i r m a = absurd (IsOpenedHeadEnd-none b place q i (q - 7) e (omega (arith, stop.0)) (omega (arith, stop.0)) stop.1)
+      paid (Some c) i r m a = grind (arith, h.reads.paid_word stop.0 stop.1.line_start, h.reads.plain c, i.1, m.few, m.before, a.1, i.0.low)

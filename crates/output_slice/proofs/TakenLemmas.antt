@@ -1,22 +1,8 @@
 -- There is one list of taken heads.
-use Rattle.std.proofs.Common.{◌≡◌, ℕ, suc, ◌+◌, ◌-◌, ◌<◌, ◌≤◌, ◌⊎◌, ◌↔◌, zero, List, [], ◌∷◌, length, get_or, refl, sym, ap, subst, ◌∙◌, arith, inl, inr, ◌≢◌, ◌==◌, Bool, not, nat_le, ◌&&◌, ◌||◌, codes, All, Decides, ◌++◌, chars, encode_utf8_all, length-append, take_at, AllPairs, Contains, Option, Some, None, IsSome}
-use Rattle.std.proofs.lemmas.Bool.{cases_lt, cases_eq, cases_Bool}
-use Rattle.std.proofs.lemmas.List.Elements.{All-cons, All-head, All-tail, All-nil, All-contains, All-weaker, Contains-get_or}
-use Rattle.std.proofs.lemmas.List.Kept.{AllPairs-cons}
-use Rattle.std.proofs.lemmas.Option.{slice_get-get_or, slice_get_within, get_or_from_slice_get}
+use Rattle.output_slice.proofs.Words.{◌≡◌, ℕ, suc, ◌+◌, ◌-◌, ◌<◌, ◌≤◌, ◌⊎◌, ◌↔◌, zero, List, [], ◌∷◌, length, get_or, refl, sym, ap, subst, ◌∙◌, arith, inl, inr, ◌≢◌, ◌==◌, Bool, not, nat_le, ◌&&◌, ◌||◌, codes, All, Decides, ◌++◌, chars, encode_utf8_all, length-append, take_at, AllPairs, Contains, Option, Some, None, IsSome, cases_lt, cases_eq, All-cons, All-head, All-tail, All-nil, All-contains, All-weaker, Contains-get_or, AllPairs-cons, slice_get-get_or, slice_get_within, get_or_from_slice_get, nat_tests, Decides-by_and, get_or_past, IsUtf8-from_is_utf8, chars-encodes, is_utf8-from_IsUtf8, IsScalar, list_all, OccursAt, part, HeadSpan, IsHead, IsName, IsDigit, IsNumber, IsTail, IsTaken, IsLastTaken, last_of}
 use Rattle.std.proofs.Math.Utf8.{scalar, scalars}
-use Rattle.std.proofs.lemmas.Bool.Decides.{nat_tests, Decides-by_and, Decides-eqb, Decides-not, not_from_Decides}
-use Rattle.std.proofs.lemmas.List.{get_or_past}
 use Rattle.std.proofs.lemmas.Slice.Eq.{bytes_eq-Decides}
-use Rattle.std.proofs.lemmas.Str.{IsUtf8-from_is_utf8, chars-encodes, is_utf8-from_IsUtf8}
-use Rattle.std.specs.Char.{IsScalar}
-use Rattle.std.specs.List.{list_all}
 use Rattle.std.specs.Str.{is_utf8}
-use Rattle.bstr.specs.Find.{OccursAt}
-use Rattle.bstr.specs.Text.{part}
-use Rattle.output_slice.specs.declared.panic_head.HeadSpan.{HeadSpan}
-use Rattle.output_slice.specs.Head.{IsHead, IsName, IsDigit, IsLineStart, IsNumber, IsTail}
-use Rattle.output_slice.specs.Taken.{IsTaken, IsLastTaken, last_of}
 use Rattle.output_slice.proofs.HeadLemmas.{head-order, head-same}
 use Rattle.unicode.specs.Perl.{is_digit_char}
 use Rattle.output_slice.proofs.OccursLemmas.{occurs-part, part-occurs}
@@ -26,8 +12,7 @@ record TakenFrom (b : List ℕ) (from : ℕ) (taken : List HeadSpan) : Type 0 wh
   heads : All (λ h. IsHead b h.start h.stop) taken
   rising : AllPairs (λ g h. g.start < h.start) taken
   low : All (λ h. from ≤ h.start) taken
-  rule : (h : HeadSpan) → from ≤ h.start → IsHead b h.start h.stop
-      → (Contains taken h ↔ All (λ g. g.start < h.start → g.stop ≤ h.start) taken)
+  rule : (h : HeadSpan) → from ≤ h.start → IsHead b h.start h.stop → (Contains taken h ↔ All (λ g. g.start < h.start → g.stop ≤ h.start) taken)
 
 -- what a list with one more in front has
 contains-cases : (x y : HeadSpan) (xs : List HeadSpan) → Contains (x ∷ xs) y → (x ≡ y) ⊎ Contains xs y
@@ -48,17 +33,13 @@ Leftmost b from (x ∷ xs) = IsFirstHead b from x × Leftmost b x.stop xs
 pub leftmost-before : (b : List ℕ) (place later : ℕ) (xs : List HeadSpan) → place ≤ later
     → ((s e : ℕ) → place ≤ s → IsHead b s e → later ≤ s) → Leftmost b later xs → Leftmost b place xs
 leftmost-before b place later [] order none h = λ s e low head. h s e (none s e low head) head
-leftmost-before b place later (x ∷ xs) order none h = (
-  record { head = h.0.head; low = omega (arith, h.0.low); least = λ s e low head. h.0.least s e (none s e low head) head },
-  h.1,
-)
+leftmost-before b place later (x ∷ xs) order none h =
+    (record { head = h.0.head; low = omega (arith, h.0.low); least = λ s e low head. h.0.least s e (none s e low head) head }, h.1)
 
 -- those that are taken leftmost first are the taken ones
 module _ (b : List ℕ) (from : ℕ) (x : HeadSpan) (xs : List HeadSpan) (first : IsFirstHead b from x) (h : TakenFrom b x.stop xs) where
   more-starts : All (λ g. x.start < g.start) xs
-  more-starts =
-      let order = head-order b x.start x.stop first.head in
-      All-weaker (λ g. x.stop ≤ g.start) (λ g. x.start < g.start) (λ g l. omega arith) xs h.low
+  more-starts = λ k d l. let order = head-order b x.start x.stop first.head in omega (arith, h.low k d l)
 
   abbrev Before : HeadSpan → HeadSpan → Type 0
   Before y g = g.start < y.start → g.stop ≤ y.start
@@ -66,42 +47,31 @@ module _ (b : List ℕ) (from : ℕ) (x : HeadSpan) (xs : List HeadSpan) (first 
   more-rule : (y : HeadSpan) → from ≤ y.start → IsHead b y.start y.stop → Contains (x ∷ xs) y ↔ All (Before y) (x ∷ xs)
   more-rule y low head = (
     λ among. elim (contains-cases x y xs among) [
-      | inl same ↦
-          let starts = ap (λ (g : HeadSpan). g.start) same in
-          All-cons (Before y) x xs (λ l. absurd (omega arith)) (λ k d l before. absurd (omega (arith, more-starts k d l)))
+      | inl same ↦ All-cons (Before y) x xs (λ l. grind arith) (λ k d l before. grind (arith, more-starts k d l))
       | inr later ↦
           let past = All-contains (λ g. x.stop ≤ g.start) xs y h.low later in
           All-cons (Before y) x xs (λ l. past) ((h.rule y past head).0 later)
     ],
     λ all. elim (cases_lt x.start y.start) [
       | inl l ↦
-          let past = All-head (Before y) x xs all l in
-          let later = (h.rule y past head).1 (All-tail (Before y) x xs all) in (suc later.0, omega (arith, later.1), later.2)
+          let later = (h.rule y (All-head (Before y) x xs all l) head).1 (All-tail (Before y) x xs all) in (suc later.0, omega (arith, later.1), later.2)
       | inr early ↦
-          let least = first.least y.start y.stop low head in
-          let at : y.start ≡ x.start = omega arith in
-          let ends = head-same b x.start x.stop y.stop first.head (subst (λ s. IsHead b s y.stop) at head) in
-          (0, omega arith, grind arith)
+          let at : y.start ≡ x.start = omega (arith, first.least y.start y.stop low head) in
+          let ends = head-same b x.start x.stop y.stop first.head (rw at at head) in (0, omega arith, grind arith)
     ],
   )
 
   taken-more : TakenFrom b from (x ∷ xs)
-  taken-more =
-      let low = first.low in record {
-        heads = All-cons (λ g. IsHead b g.start g.stop) x xs first.head h.heads;
-        rising = AllPairs-cons (λ g k. g.start < k.start) x xs more-starts h.rising;
-        low = All-cons (λ g. from ≤ g.start) x xs low
-            (All-weaker (λ g. x.start < g.start) (λ g. from ≤ g.start) (λ g l. omega arith) xs more-starts);
-        rule = more-rule;
-      }
+  taken-more = record {
+    heads = All-cons (λ g. IsHead b g.start g.stop) x xs first.head h.heads;
+    rising = AllPairs-cons (λ g k. g.start < k.start) x xs more-starts h.rising;
+    low = All-cons (λ g. from ≤ g.start) x xs first.low (λ k d l. omega (arith, more-starts k d l, first.low));
+    rule = more-rule;
+  }
 
 taken-leftmost : (b : List ℕ) (from : ℕ) (xs : List HeadSpan) → Leftmost b from xs → TakenFrom b from xs
-taken-leftmost b from [] h = record {
-  heads = All-nil _;
-  rising = λ i j d low high. absurd (omega arith);
-  low = All-nil _;
-  rule = λ y low head. absurd (h y.start y.stop low head);
-}
+taken-leftmost b from [] h =
+    record { heads = All-nil _; rising = λ i j d low high. absurd (omega arith); low = All-nil _; rule = λ y low head. absurd (h y.start y.stop low head) }
 taken-leftmost b from (x ∷ xs) h = taken-more b from x xs h.0 (taken-leftmost b x.stop xs h.1)
 
 pub IsTaken-from_leftmost : (b : List ℕ) (xs : List HeadSpan) → Leftmost b 0 xs → IsTaken b xs
@@ -110,8 +80,7 @@ IsTaken-from_leftmost b xs h =
     record { heads = t.heads; rising = t.rising; rule = λ y head. t.rule y (omega arith) head }
 
 -- two lists by the rule have the same heads
-same-heads : (n : ℕ) (b : List ℕ) (xs ys : List HeadSpan) → IsTaken b xs → IsTaken b ys → (h : HeadSpan) → h.start < n
-    → Contains xs h → Contains ys h
+same-heads : (n : ℕ) (b : List ℕ) (xs ys : List HeadSpan) → IsTaken b xs → IsTaken b ys → (h : HeadSpan) → h.start < n → Contains xs h → Contains ys h
 same-heads zero b xs ys p q h low among = absurd (omega arith)
 same-heads (suc n) b xs ys p q h low among =
     let head = All-contains (λ g. IsHead b g.start g.stop) xs h p.heads among in
@@ -124,14 +93,13 @@ abbrev Rising : List HeadSpan → Type 0
 Rising = AllPairs (λ g h. g.start < h.start)
 
 rest-starts : (x : HeadSpan) (xs : List HeadSpan) (h : HeadSpan) → Rising (x ∷ xs) → Contains xs h → x.start < h.start
-rest-starts x xs h rising = All-contains (λ g. x.start < g.start) xs h (λ k d l. rising 0 (suc k) d (omega arith) (omega (arith, l)))
+rest-starts x xs h rising among = let later = rising 0 (suc among.0) h in grind arith
 
 same-rest : (x : HeadSpan) (xs ys : List HeadSpan) → Rising (x ∷ xs) → ((h : HeadSpan) → Contains (x ∷ xs) h → Contains (x ∷ ys) h)
     → (h : HeadSpan) → Contains xs h → Contains ys h
-same-rest x xs ys rising to h among = elim (contains-cases x h ys (to h (suc among.0, omega (arith, among.1), among.2))) [
-  | inl same ↦ absurd (omega (arith, rest-starts x xs h rising among, ap (λ (g : HeadSpan). g.start) same))
-  | inr more ↦ more
-]
+same-rest x xs ys rising to h among =
+    let cases = contains-cases x h ys (to h (suc among.0, omega (arith, among.1), among.2)) in
+    grind (arith, rest-starts x xs h rising among)
 
 rising-same : (xs ys : List HeadSpan) → Rising xs → Rising ys → ((h : HeadSpan) → Contains xs h ↔ Contains ys h) → xs ≡ ys
 rising-same [] [] p q same = refl
@@ -140,14 +108,11 @@ rising-same (x ∷ xs) [] p q same = absurd (omega (arith, ((same x).0 (0, omega
 rising-same (x ∷ xs) (y ∷ ys) p q same =
     let one = contains-cases y x ys ((same x).0 (0, omega arith, refl)) in
     let two = contains-cases x y xs ((same y).1 (0, omega arith, refl)) in
-    let after = rest-starts y ys x q in
-    let before = rest-starts x xs y p in
-    let heads : x ≡ y = grind arith in
-    let to = same-rest x xs ys p (λ h among. subst (λ z. Contains (z ∷ ys) h) (sym heads) ((same h).0 among)) in
-    let back = same-rest y ys xs q (λ h among. subst (λ z. Contains (z ∷ xs) h) heads ((same h).1 among)) in
-    let tails = rising-same xs ys (λ i j d l u. p (suc i) (suc j) d (omega arith) (omega arith))
-    (λ i j d l u. q (suc i) (suc j) d (omega arith) (omega arith)) (λ h. (to h, back h)) in
-    cc
+    let heads : x ≡ y = grind (arith, rest-starts y ys x q, rest-starts x xs y p) in
+    let to = same-rest x xs ys p (λ h among. rw (← heads) at ((same h).0 among)) in
+    let back = same-rest y ys xs q (λ h among. rw heads at ((same h).1 among)) in
+    cc (rising-same xs ys (λ i j d l u. p (suc i) (suc j) d (omega arith) (omega arith))
+    (λ i j d l u. q (suc i) (suc j) d (omega arith) (omega arith)) (λ h. (to h, back h)))
 
 -- there is one list of taken heads
 pub IsTaken-same : (b : List ℕ) (xs ys : List HeadSpan) → IsTaken b xs → IsTaken b ys → xs ≡ ys
@@ -161,26 +126,19 @@ IsLastTaken-same b f g p q = p.2 ∙ ap last_of (IsTaken-same b p.0 q.0 p.1 q.1)
 -- the last taken head is a head
 pub IsLastTaken-head : (b : List ℕ) (h : HeadSpan) → IsLastTaken b (Some h) → IsHead b h.start h.stop
 IsLastTaken-head b h l =
-    let taken = l.0 in
-    let at = length taken - 1 in
-    let within = slice_get_within taken at h (sym l.2) in
-    rw (get_or_from_slice_get taken at h h (sym l.2)) at (l.1.heads at h within)
+    let within = slice_get_within l.0 (length l.0 - 1) h (sym l.2) in
+    rw (get_or_from_slice_get l.0 (length l.0 - 1) h h (sym l.2)) at (l.1.heads (length l.0 - 1) h within)
 
 -- what is the last of one list by the rule is the last of each
-pub IsLastTaken-only : (b : List ℕ) (found : Option HeadSpan) (taken : List HeadSpan) → IsLastTaken b found
-    → IsTaken b taken → found ≡ last_of taken
+pub IsLastTaken-only : (b : List ℕ) (found : Option HeadSpan) (taken : List HeadSpan) → IsLastTaken b found → IsTaken b taken → found ≡ last_of taken
 IsLastTaken-only b found taken last is = last.2 ∙ ap last_of (IsTaken-same b last.0 taken last.1 is)
 
 -- there is a last taken head exactly where there is a head
-pub IsLastTaken-some : (b : List ℕ) (found : Option HeadSpan) → IsLastTaken b found
-    → IsSome found ↔ ((s : ℕ) × (e : ℕ) × IsHead b s e)
+pub IsLastTaken-some : (b : List ℕ) (found : Option HeadSpan) → IsLastTaken b found → IsSome found ↔ ((s : ℕ) × (e : ℕ) × IsHead b s e)
 IsLastTaken-some b (Some h) last = (λ some. (h.start, h.stop, IsLastTaken-head b h last), λ head. refl)
-IsLastTaken-some b None ([], is, none) = (
-  λ some. absurd (cc),
-  λ head. absurd (omega (arith, ((is.rule (record { start = head.0; stop = head.1 }) head.2).1 (All-nil _)).1)),
-)
-IsLastTaken-some b None (x ∷ xs, is, none) =
-    let other = none ∙ slice_get-get_or (x ∷ xs) (length (x ∷ xs) - 1) x (omega arith) in absurd (cc)
+IsLastTaken-some b None ([], is, none) =
+    (λ some. absurd (cc), λ head. absurd (omega (arith, ((is.rule (record { start = head.0; stop = head.1 }) head.2).1 (All-nil _)).1)))
+IsLastTaken-some b None (x ∷ xs, is, none) = absurd (cc (slice_get-get_or (x ∷ xs) (length (x ∷ xs) - 1) x (omega arith)))
 
 -- where there is no head, none is taken
 pub IsLastTaken-none : (b : List ℕ) → ((s e : ℕ) → ¬ IsHead b s e) → IsLastTaken b None
@@ -191,37 +149,23 @@ abbrev Known : Type 0 → Type 0
 Known P = P ⊎ ¬ P
 
 decided : {P : Type 0} (r : Bool) → Decides r P → Known P
-decided r d = elim (cases_Bool r) [ inl t ↦ inl (d.0 t) | inr f ↦ inr (not_from_Decides r d f) ]
+decided r d = grind arith
 
 mapped : {P Q : Type 0} → (P → Q) → (Q → P) → Known P → Known Q
-mapped to from (inl p) = inl (to p)
-mapped to from (inr none) = inr (λ q. none (from q))
+mapped to from k = grind (arith, to, from, k)
 
 both : {P Q : Type 0} → Known P → Known Q → Known (P × Q)
-both (inl p) (inl q) = inl (p, q)
-both (inr none) q = inr (λ h. none h.0)
-both (inl p) (inr none) = inr (λ h. none h.1)
+both p q = grind (arith, p, q)
 
 -- the first of so many places for which something holds
 first : (P : ℕ → Type 0) → ((i : ℕ) → Known (P i)) → (size at : ℕ)
     → ((i : ℕ) × (at ≤ i) × P i × ((j : ℕ) → at ≤ j → j < i → ¬ P j)) ⊎ ((i : ℕ) → at ≤ i → i < at + size → ¬ P i)
-first P known zero at = inr (λ i low high. absurd (omega arith))
-first P known (suc n) at = elim (known at) [
-  | inl here ↦ inl (at, omega arith, here, λ j low high. absurd (omega arith))
-  | inr none ↦
-      let other = λ (i : ℕ) (h : P i) (is : i ≡ at). none (subst P is h) in
-      elim (first P known n (at + 1)) [
-        | inl f ↦ inl (f.0, omega (arith, f.1), f.2, λ j low high h. let apart = other j h in f.3 j (omega arith) high h)
-        | inr all ↦ inr (λ i low high h. let apart = other i h in all i (omega arith) (omega arith) h)
-      ]
-]
+first P known zero at = inr (λ i low high h. omega arith)
+first P known (suc n) at = let here = known at in let rest = first P known n (at + 1) in grind (arith, here, rest)
 
 -- whether there is a place for which it holds
 some : (P : ℕ → Type 0) → ((i : ℕ) → Known (P i)) → (size : ℕ) → ((i : ℕ) → P i → i < size) → Known ((i : ℕ) × P i)
-some P known size below = elim (first P known size 0) [
-  | inl f ↦ inl (f.0, f.2)
-  | inr none ↦ inr (λ h. let low = below h.0 h.1 in none h.0 (omega arith) (omega arith) h.1)
-]
+some P known size below = let one = first P known size 0 in grind (arith, one, below)
 
 -- whether two texts are one
 same-known : (xs ys : List ℕ) → Known (xs ≡ ys)
@@ -229,19 +173,17 @@ same-known xs ys = decided _ (bytes_eq-Decides xs ys)
 
 -- whether characters are digits
 digits-known : (cs : List ℕ) → Known (All (λ c. IsScalar c × IsDigit c) cs)
-digits-known cs = decided _ (Decides-by_and test (λ c. IsScalar c × IsDigit c) (list_all test) each refl (λ x xs. refl) cs) where
-  test : ℕ → Bool
-  test c = scalar c && (nat_le 48 c && nat_le c 57 || nat_le 128 c && is_digit_char c)
-
-  each : (c : ℕ) → Decides (test c) (IsScalar c × IsDigit c)
-  each c = grind (arith, nat_tests)
+digits-known cs =
+    decided _ (Decides-by_and test (λ c. IsScalar c × IsDigit c) (list_all test) (λ c. grind (arith, nat_tests)) refl (λ x xs. refl) cs) where
+      test : ℕ → Bool
+      test c = scalar c && (nat_le 48 c && nat_le c 57 || nat_le 128 c && is_digit_char c)
 
 -- whether a text is a number, and a tail
 number-known : (text : List ℕ) → Known (IsNumber text)
 number-known text =
-    let some : Known (0 < length (chars text)) = grind arith in
-    mapped (λ h. (chars text, h.0, h.1.0, h.1.1)) (λ n. rw (only n) (n.1, (n.2, n.3)))
-    (both some (both (digits-known (chars text)) (same-known text (encode_utf8_all (chars text))))) where
+    let digits = digits-known (chars text) in
+    let same = same-known text (encode_utf8_all (chars text)) in
+    mapped (λ h. (chars text, h.0, h.1.0, h.1.1)) (λ n. rw (only n) (n.1, (n.2, n.3))) (both (grind arith) (both digits same)) where
       only : (n : IsNumber text) → chars text ≡ n.0
       only n =
           let all = All-weaker (λ c. IsScalar c × IsDigit c) IsScalar (λ c h. h.0) n.0 n.2 in
@@ -250,55 +192,36 @@ number-known text =
 tail-known : (text : List ℕ) → Known (IsTail text)
 tail-known text =
     let number = part 2 (length text - 14) text in
-    let end = codes ") panicked at " in
-    let plain = same-known text (codes " panicked at ") in
-    elim (both (number-known number) (same-known text (codes " (" ++ (number ++ end)))) [
+    elim (both (number-known number) (same-known text (codes " (" ++ (number ++ codes ") panicked at ")))) [
       | inl h ↦ inl (inr (number, h.0, h.1))
-      | inr none ↦ mapped (λ h. inl h) (λ t. elim t [
-        | inl h ↦ h
-        | inr n ↦ absurd (none (rw (← only n) (n.1, n.2)))
-      ]) plain
+      | inr none ↦ mapped (λ h. inl h) (λ t. elim t [ inl h ↦ h | inr n ↦ absurd (none (rw (← the_number n.0 n.2) (n.1, n.2))) ])
+          (same-known text (codes " panicked at "))
     ] where
-      only : (n : (number : List ℕ) × IsNumber number × (text ≡ codes " (" ++ (number ++ codes ") panicked at ")))
-          → n.0 ≡ part 2 (length text - 14) text
-      only n = sym (rw n.2 (take_at n.0 (codes ") panicked at ") _ (omega (arith, length-append n.0 (codes ") panicked at ")))))
+      the_number : (n : List ℕ) → text ≡ codes " (" ++ (n ++ codes ") panicked at ") → n ≡ part 2 (length text - 14) text
+      the_number n is = sym (rw is (take_at n (codes ") panicked at ") _ (omega (arith, length-append n (codes ") panicked at ")))))
 
 -- whether a text stands at a place, and a part is a name
 occurs-known : (b xs : List ℕ) (at : ℕ) → 0 < length xs → Known (OccursAt b xs at)
-occurs-known b xs at some = elim (cases_lt (length b) (at + length xs)) [
-  | inl short ↦ inr (λ h. omega (arith, h.fits))
-  | inr fits ↦ mapped (λ same. (part-occurs b xs at (at + length xs) same fits some).0) (λ h. occurs-part b xs at (at + length xs) h refl)
-      (same-known (part at (at + length xs) b) xs)
-]
+occurs-known b xs at some =
+    let same = same-known (part at (at + length xs) b) xs in
+    grind (arith, part-occurs, occurs-part)
 
 name-known : (text : List ℕ) → Known (IsName text)
 name-known text =
-    let is_some : Known (0 < length text) = grind arith in
     let utf8 = decided (is_utf8 text) (IsUtf8-from_is_utf8 text, is_utf8-from_IsUtf8 text) in
-    let quotes = decided _ (Decides-by_and other (λ x. x ≢ 39) (list_all other) (λ x. Decides-not (x == 39) (Decides-eqb x 39)) refl (λ x xs. refl) text) in
-    mapped (λ h. record { some = h.0; utf8 = h.1.0; no_quote = h.1.1 }) (λ h. (h.some, (h.utf8, h.no_quote))) (both is_some (both utf8 quotes)) where
+    let quotes = decided _ (Decides-by_and other (λ x. x ≢ 39) (list_all other) (λ x. grind (arith, nat_tests)) refl (λ x xs. refl) text) in
+    grind arith where
       other : ℕ → Bool
       other x = not (x == 39)
 
 -- whether a head stands at a place, and where it ends
 head-known : (b : List ℕ) (s e : ℕ) → Known (IsHead b s e)
 head-known b s e =
-    let line : Known (IsLineStart b s) = grind arith in
-    let ends : Known (e ≤ length b) = grind arith in
     let opening = occurs-known b (codes "thread '") s (omega arith) in
-    let quote = λ (q : ℕ).
-    both (name-known (part (s + 8) q b)) (both (cases_eq (get_or b q 0) 39) (tail-known (part (q + 1) e b))) in
-    mapped (λ h. record {
-      line_start = h.0;
-      opening = h.1.0;
-      quote = h.1.1.1.0;
-      name = h.1.1.1.1.0;
-      closing = h.1.1.1.1.1.0;
-      tail = h.1.1.1.1.1.1;
-      ends = h.1.1.0;
-    })
-    (λ h. (h.line_start, (h.opening, (h.ends, (h.quote, (h.name, (h.closing, h.tail)))))))
-    (both line (both opening (both ends (some Quote quote (length b) (λ q h. grind (arith, get_or_past)))))) where
+    let quote = λ (q : ℕ). both (name-known (part (s + 8) q b)) (both (cases_eq (get_or b q 0) 39) (tail-known (part (q + 1) e b))) in
+    let there = some Quote quote (length b) (λ q h. grind (arith, get_or_past)) in
+    mapped (λ h. grind arith) (λ h. (h.line_start, (h.opening, (h.ends, (h.quote, (h.name, (h.closing, h.tail)))))))
+    (both (grind arith) (both opening (both (grind arith) there))) where
       Quote : ℕ → Type 0
       Quote q = IsName (part (s + 8) q b) × ((get_or b q 0 ≡ 39) × IsTail (part (q + 1) e b))
 
@@ -308,18 +231,11 @@ heads-from zero b from done = ([], λ s e low head. omega (arith, head.ends, hea
 heads-from (suc n) b from done = elim
     (first (λ s. (e : ℕ) × IsHead b s e) (λ s. some (IsHead b s) (head-known b s) (length b + 1) (λ e h. omega (arith, h.ends))) (length b) from) [
       | inl f ↦
-          let x : HeadSpan = record { start = f.0; stop = f.2.0 } in
-          let rest = heads-from n b x.stop (omega (arith, f.1, head-order b f.0 f.2.0 f.2.1)) in (
-            x ∷ rest.0,
-            (
-              record {
-                head = f.2.1;
-                low = f.1;
-                least = λ s e low head. elim (cases_lt s f.0) [ inl less ↦ absurd (f.3 s low less (e, head)) | inr more ↦ more ];
-              },
-              rest.1,
-            ),
-          )
+          let rest = heads-from n b f.2.0 (omega (arith, f.1, head-order b f.0 f.2.0 f.2.1)) in
+          let least = λ (s e : ℕ) (low : from ≤ s) (head : IsHead b s e) (less : s < f.0). f.3 s low less (e, head) in
+          let first : IsFirstHead b from (record { start = f.0; stop = f.2.0 }) =
+          record { head = f.2.1; low = f.1; least = λ s e low head. omega (arith, least s e low head) } in
+          (record { start = f.0; stop = f.2.0 } ∷ rest.0, (first, rest.1))
       | inr none ↦ ([], λ s e low head. none s low (omega (arith, head.ends, head-order b s e head)) (e, head))
     ]
 

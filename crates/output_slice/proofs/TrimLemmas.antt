@@ -1,64 +1,32 @@
 -- Where a panic slice begins, and what is left when white space is trimmed at the end.
-use Rattle.std.proofs.Common.{◌≡◌, ℕ, zero, suc, ◌+◌, ◌-◌, ◌<◌, ◌≤◌, ◌⊎◌, true, List, [], ◌∷◌, ◌++◌, length, get_or, take, drop, refl, sym, ap, ◌∙◌, arith, inl, inr, length-drop, drop-drop, get_or-drop, drop_at, length-take, codes, Some, get_or-take, All, Option, None, IsTrue, encode_utf8, encode_utf8_all, length-append}
-use Rattle.std.specs.Char.{IsScalar, is_whitespace}
-use Rattle.std.proofs.lemmas.Bool.{cases_Bool}
-use Rattle.std.proofs.lemmas.Bool.Decides.{nat_tests}
-use Rattle.std.proofs.lemmas.Str.{encode_ascii, len_utf8_bounds, length-encode, IsCharBoundary-start, IsUtf8-encode}
-use Rattle.std.proofs.Math.ListN.{get_or-append}
-use Rattle.std.proofs.lemmas.List.Elements.{All-cons, All-head, All-tail, All-nil}
-use Rattle.std.proofs.lemmas.List.{take-append-drop, take-append-le}
+use Rattle.output_slice.proofs.Words.{◌≡◌, ℕ, zero, suc, ◌+◌, ◌-◌, ◌<◌, ◌≤◌, ◌⊎◌, true, List, [], ◌∷◌, ◌++◌, length, get_or, take, drop, refl, sym, ap, ◌∙◌, arith, inl, inr, length-drop, drop-drop, get_or-drop, drop_at, length-take, codes, Some, get_or-take, All, Option, None, IsTrue, encode_utf8, encode_utf8_all, length-append, IsScalar, is_whitespace, cases_Bool, nat_tests, encode_ascii, len_utf8_bounds, length-encode, IsCharBoundary-start, IsUtf8-encode, get_or-append, All-cons, All-head, All-tail, All-nil, take-append-drop, take-append-le, decoded-encode, SpellsChar-decoded, piece-bounds, pieces-append, pieces-nil, pieces-step, StartsClean, OccursAt, IsLast, part, IsBlank, IsBreak, IsTrimmedSlice, IsErrorLine, IsWidened, AreBreaks, AreSpaces, IsSpace}
 use Rattle.bstr.specs.Bytes.{is_in, not_in}
 use Rattle.bstr.specs.Trim.{kept_end, trim_end_by}
 use Rattle.bstr.specs.Utf8.{Decoded, decoded, or_replacement, pieces, spans_from}
-use Rattle.bstr.proofs.lemmas.EncodeLemmas.{decoded-encode}
-use Rattle.bstr.proofs.lemmas.SoundLemmas.{SpellsChar-decoded}
-use Rattle.bstr.proofs.lemmas.PieceLemmas.{piece-bounds, pieces-append, pieces-nil, pieces-step, StartsClean}
-use Rattle.bstr.specs.Find.{OccursAt, IsLast}
-use Rattle.bstr.specs.Text.{part}
-use Rattle.output_slice.specs.Slices.{IsBlank, IsBreak, IsTrimmedSlice, IsErrorLine, IsWidened}
-use Rattle.output_slice.specs.Steps.{AreBreaks, AreSpaces, IsSpace}
-use Rattle.output_slice.proofs.OccursLemmas.{reads}
+use Rattle.output_slice.proofs.OccursLemmas.{is-first, reads}
 
 -- an error line is not empty, and begins with a line feed
 line-start : (b : List ℕ) (s j : ℕ) (h : IsErrorLine b s j) → (j + 7 ≤ h.stop) × (get_or b j 0 ≡ 10)
-line-start b s j h = let first = h.begins.reads 0 in grind (arith, get_or-take, length-take)
+line-start b s j h = grind (arith, get_or-take, length-take, h.begins.reads 0)
 
 module _ (b : List ℕ) (s stop : ℕ) (low : stop ≤ s) (high : s ≤ length b) (breaks : AreBreaks b stop s)
     (text : 0 < stop → ¬ IsBreak (get_or b (stop - 1) 0)) where
   -- where the last line before begins with `Error:`
-  pub widened-some : (at : ℕ) → IsLast (λ k. get_or b k 0 ≡ 10) 0 stop (Some at)
-      → OccursAt (part at stop b) (codes "\nError:") 0 → IsWidened b s (at + 1)
-  widened-some at last starts = inl (
-    at,
-    record {
-      stop = stop;
-      within = low;
-      breaks = breaks;
-      text = text (omega (arith, last.0.high));
-      begins = grind (arith, reads);
-      one_line = λ i l u. last.0.after i (omega arith) u;
-    },
-    refl,
-  )
+  pub widened-some : (at : ℕ) → IsLast (λ k. get_or b k 0 ≡ 10) 0 stop (Some at) → OccursAt (part at stop b) (codes "\nError:") 0 → IsWidened b s (at + 1)
+  widened-some at last starts = grind (arith, low, reads)
 
   -- where it begins with something else
-  pub widened-other : (at : ℕ) → IsLast (λ k. get_or b k 0 ≡ 10) 0 stop (Some at)
-      → ¬ OccursAt (part at stop b) (codes "\nError:") 0 → IsWidened b s s
-  widened-other at last none = inr (
-    λ j line.
-        let same : line.stop ≡ stop = grind arith in
-        let first = line-start b s j line in
-        let one = last.0.after j in
-        let here : j ≡ at = grind arith in
-        let begins = rw same at rw here at line.begins in
-        none (grind (arith, reads)),
-    refl,
-  )
+  pub widened-other : (at : ℕ) → IsLast (λ k. get_or b k 0 ≡ 10) 0 stop (Some at) → ¬ OccursAt (part at stop b) (codes "\nError:") 0 → IsWidened b s s
+  widened-other at last none = inr (no_line, refl) where
+    no_line : (j : ℕ) → ¬ IsErrorLine b s j
+    no_line j line =
+        let same : line.stop ≡ stop = grind (arith, line-start b s j line) in
+        let here : j ≡ at = grind (arith, line-start b s j line, last.0.after j) in
+        none (grind (arith, reads, rw same at rw here at line.begins))
 
 -- widening gives one start
 pub IsWidened-same : (b : List ℕ) (s t u : ℕ) → IsWidened b s t → IsWidened b s u → t ≡ u
-IsWidened-same b s t u (inl x) (inl y) =
-    let one = line-start b s x.0 x.1 in let two = line-start b s y.0 y.1 in grind arith
+IsWidened-same b s t u (inl x) (inl y) = grind (arith, line-start b s x.0 x.1, line-start b s y.0 y.1)
 IsWidened-same b s t u (inl x) (inr none) = absurd (none.0 x.0 x.1)
 IsWidened-same b s t u (inr none) (inl y) = absurd (none.0 y.0 y.1)
 IsWidened-same b s t u (inr none) (inr other) = none.1 ∙ sym other.1
@@ -68,8 +36,7 @@ abbrev IsWhite : ℕ → Type 0
 IsWhite c = IsScalar c × IsTrue (is_whitespace c)
 
 -- text is blank that begins with such a character, and is blank behind it
-blank-more : (bs : List ℕ) → IsTrue (is_whitespace (or_replacement (decoded bs).char)) → IsBlank (drop (decoded bs).size bs)
-    → IsBlank bs
+blank-more : (bs : List ℕ) → IsTrue (is_whitespace (or_replacement (decoded bs).char)) → IsBlank (drop (decoded bs).size bs) → IsBlank bs
 blank-more bs white h = by_char (decoded bs).char refl white where
   by_char : (o : Option ℕ) → (decoded bs).char ≡ o → IsTrue (is_whitespace (or_replacement o)) → IsBlank bs
   by_char None is white = absurd (cc)
@@ -82,8 +49,7 @@ abbrev kept_of : ℕ → ℕ → List Decoded → ℕ
 kept_of end off ps = kept_end is_whitespace end (spans_from off ps)
 
 -- that is a place behind which the bytes are blank, or `end` where all of them are
-kept : (f : ℕ) (bs : List ℕ) (off end : ℕ) → length bs ≤ f
-    → (k : ℕ) × (k ≤ length bs) × IsBlank (drop k bs)
+kept : (f : ℕ) (bs : List ℕ) (off end : ℕ) → length bs ≤ f → (k : ℕ) × (k ≤ length bs) × IsBlank (drop k bs)
     × (((0 < k) × (kept_of end off (pieces bs) ≡ off + k)) ⊎ ((k ≡ 0) × (kept_of end off (pieces bs) ≡ end)))
 unfolding spans_from kept_end
 kept f [] off end short = rw pieces-nil (0, omega arith, ([], All-nil _, refl), inr (refl, refl))
@@ -109,7 +75,7 @@ kept (suc f) (x ∷ xs) off end short =
 
 -- a trim keeps no more than there is
 kept-within : (xs : List ℕ) → kept_of 0 0 (pieces xs) ≤ length xs
-kept-within xs = let h = kept (length xs) xs 0 0 (omega arith) in grind (arith, h.1, h.3)
+kept-within xs = grind (arith, kept (length xs) xs 0 0)
 
 -- blank text keeps nothing more
 blank-kept : (cs : List ℕ) → All IsWhite cs → (end off : ℕ) → kept_of end off (pieces (encode_utf8_all cs)) ≡ end
@@ -118,17 +84,13 @@ blank-kept [] all end off = rw pieces-nil refl
 blank-kept (c ∷ cs) all end off =
     let first = All-head IsWhite c cs all in
     let text = encode_utf8 c in
-    let some = len_utf8_bounds c in
+    let some : 0 < length (text ++ encode_utf8_all cs) = grind (arith, length-append, length-encode, len_utf8_bounds) in
     let rest = blank-kept cs (All-tail IsWhite c cs all) end (off + length text) in
-    rw (
-      pieces-step (text ++ encode_utf8_all cs) (grind (arith, length-append, length-encode)),
-      decoded-encode c (encode_utf8_all cs) first.0,
-      drop_at text (encode_utf8_all cs) (length text) refl,
-    ) (rw (first.1, kept_end) rest)
+    rw (pieces-step (text ++ encode_utf8_all cs) some, decoded-encode c (encode_utf8_all cs) first.0, drop_at text (encode_utf8_all cs) (length text) refl)
+    (rw (first.1, kept_end) rest)
 
 -- pieces that keep nothing more do so behind others too
-pieces-kept : (ps qs : List Decoded) → ((end off : ℕ) → kept_of end off qs ≡ end) → (end off : ℕ)
-    → kept_of end off (ps ++ qs) ≡ kept_of end off ps
+pieces-kept : (ps qs : List Decoded) → ((end off : ℕ) → kept_of end off qs ≡ end) → (end off : ℕ) → kept_of end off (ps ++ qs) ≡ kept_of end off ps
 unfolding spans_from kept_end
 pieces-kept [] qs h end off = h end off
 pieces-kept (p ∷ ps) qs h end off = pieces-kept ps qs h _ (off + p.size)
@@ -141,53 +103,35 @@ kept-before xs ys (cs, all, is) =
       clean : (cs : List ℕ) → All IsWhite cs → StartsClean (encode_utf8_all cs)
       clean [] all some = absurd (omega arith)
       clean (c ∷ cs) all some =
-          let size = len_utf8_bounds c in
           let start = (IsCharBoundary-start (encode_utf8 c) (IsUtf8-encode c (All-head IsWhite c cs all).0)).1 in
-          grind (arith, nat_tests, length-encode, get_or-append)
+          grind (arith, nat_tests, length-encode, get_or-append, len_utf8_bounds)
 
 -- the bytes from s on, up to n and from there on
 split-at : (b : List ℕ) (s n : ℕ) → s ≤ n → drop s b ≡ part s n b ++ drop n b
-split-at b s n low =
-    let behind : drop (n - s) (drop s b) ≡ drop n b = rw drop-drop (ap (λ k. drop k b) (omega arith)) in
-    rw (← behind) (sym (take-append-drop (n - s) (drop s b)))
+split-at b s n low = let both = take-append-drop (n - s) (drop s b) in grind (arith, drop-drop)
 
 -- the trim leaves the trimmed slice
-pub IsTrimmedSlice-trim_end : (b : List ℕ) (s : ℕ) → s ≤ length b
-    → IsTrimmedSlice b (record { start = s; bytes = trim_end_by is_whitespace (drop s b) })
+pub IsTrimmedSlice-trim_end : (b : List ℕ) (s : ℕ) → s ≤ length b → IsTrimmedSlice b (record { start = s; bytes = trim_end_by is_whitespace (drop s b) })
 IsTrimmedSlice-trim_end b s low =
     let size = length-drop s b in
     let h = kept (length (drop s b)) (drop s b) 0 0 (omega arith) in
-    let is : kept_of 0 0 (pieces (drop s b)) ≡ h.0 = grind (arith, h.3) in (
-      s + h.0,
-      (
-        record {
-          low = omega arith;
-          high = omega (arith, h.1);
-          before = λ i from up blank.
-              let same = kept-before (part s i b) (drop i b) blank in
-              let within = kept-within (part s i b) in let few = length-take (i - s) (drop s b) in
-              absurd (omega (arith, rw (← split-at b s i from) at same));
-        },
-        rw drop-drop at h.2,
-      ),
-      ap (λ k. take k (drop s b)) (omega arith),
-    )
+    let is : kept_of 0 0 (pieces (drop s b)) ≡ h.0 = grind (arith, h.3) in
+    let end = is-first (λ i. IsBlank (drop i b)) s (length b + 1) (s + h.0) (omega arith) (omega (arith, h.1)) (λ i from up blank.
+    let same = kept-before (part s i b) (drop i b) blank in
+    omega (arith, rw (← split-at b s i from) at same, kept-within (part s i b), length-take (i - s) (drop s b))) (rw drop-drop at h.2) in
+    (s + h.0, end, ap (λ k. take k (drop s b)) (omega arith))
 
 -- a byte that a search for what is no white space of ASCII passes over is such white space
 pub space-behind : (b : List ℕ) (from k : ℕ) → from ≤ k
     → ¬ (not_in (9 ∷ 10 ∷ 11 ∷ 12 ∷ 13 ∷ 32 ∷ []) (get_or (drop from b) (k - from) 0) ≡ true) → IsSpace (get_or b k 0)
 unfolding is_in
-space-behind b from k low none =
-    let same : get_or (drop from b) (k - from) 0 ≡ get_or b k 0 = grind (arith, get_or-drop) in
-    let byte = rw same at none in
-    grind (arith, nat_tests)
+space-behind b from k low none = grind (arith, get_or-drop, nat_tests)
 
 -- such bytes are blank
 spaces-blank : (ys : List ℕ) → ((k : ℕ) → k < length ys → IsSpace (get_or ys k 0)) → IsBlank ys
 spaces-blank [] h = ([], All-nil _, refl)
 spaces-blank (y ∷ ys) h =
-    let space = h 0 (omega arith) in
-    let white : IsWhite y × (y < 128) = grind (arith, nat_tests) in
+    let white : IsWhite y × (y < 128) = grind (arith, nat_tests, h 0) in
     let rest = spaces-blank ys (λ k low. h (suc k) (omega arith)) in
     (y ∷ rest.0, All-cons IsWhite y rest.0 white.0 rest.1, rw (encode_ascii y white.1) (ap (λ text. y ∷ text) rest.2))
 
@@ -197,7 +141,6 @@ pub IsTrimmedSlice-front : (b : List ℕ) (s n : ℕ) → s ≤ n → n ≤ leng
 IsTrimmedSlice-front b s n low high spaces =
     let front = part s n b in
     let rest = drop n b in
-    let size = length-drop n b in
-    let blank = spaces-blank rest (λ k l. let here = spaces (n + k) (omega arith) (omega arith) in grind (arith, get_or-drop)) in
+    let blank = spaces-blank rest (λ k l. grind (arith, get_or-drop, length-drop, spaces (n + k))) in
     let h = IsTrimmedSlice-trim_end b s (omega arith) in
     (h.0, h.1, sym (take-append-le _ front rest (kept-within front)) ∙ cc (kept-before front rest blank, split-at b s n low, h.2))

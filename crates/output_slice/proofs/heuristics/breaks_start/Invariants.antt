@@ -1,5 +1,4 @@
-use Rattle.std.proofs.Common.{◌≤◌}
-use Rattle.output_slice.specs.Steps.{AreBreaks}
+use Rattle.output_slice.proofs.Words.{◌≤◌, AreBreaks}
 use Rattle.output_slice.proofs.heuristics.breaks_start.Given as goal
 
 abbrev pub invariant-loop-at : goal.invariant-loop-at

@@ -6,5 +6,4 @@ pub returns-clause-only : goal.returns-clause-only
 returns-clause-only c = λ found is. IsNoteLine-same _ found _ is c.should_panic_before.ensures
 
 pub returns-clause-part : goal.returns-clause-part
-returns-clause-part c =
-    found-part IsNoteLine IsNoteLine-part _ c.should_panic_before.result c.should_panic_before.ensures
+returns-clause-part c = found-part IsNoteLine IsNoteLine-part _ c.should_panic_before.result c.should_panic_before.ensures

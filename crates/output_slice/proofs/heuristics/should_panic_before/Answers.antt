@@ -6,9 +6,7 @@ returns-in_err-at c = rw c.from_residual.ensures (note-none c.args.stdout.now c.
 
 pub returns : goal.returns
 returns c =
-    let b = c.args.stdout.now in
     let s = c.line_start-start in
     let e = c.line_end-stop in
-    let text = c.without_end.ensures in
-    rw text (note-line b c.in_ok-at.at s.result e.result c.in_ok-at.ensures s.ensures.within s.ensures.first
+    rw c.without_end.ensures (note-line _ c.in_ok-at.at s.result e.result c.in_ok-at.ensures s.ensures.within s.ensures.first
     s.ensures.one_line e.ensures.low e.ensures.high e.ensures.last e.ensures.one_line)

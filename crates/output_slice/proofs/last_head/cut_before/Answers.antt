@@ -4,6 +4,5 @@ use Rattle.output_slice.proofs.last_head.cut_before.Goals as goal
 
 pub loop-start-preserved : goal.loop-start-preserved
 loop-start-preserved c =
-    let i = c.loop-start.invariant in
     let crosses = c.in-Some.ensures in
-    (omega arith, crosses.opening.0, crossed-more c.args.bytes.now c.in-Some.start c.loop-start.cut c.args.at crosses i.2)
+    (omega arith, crosses.opening.0, crossed-more _ c.in-Some.start c.loop-start.cut c.args.at crosses c.loop-start.invariant.2)

@@ -1,6 +1,4 @@
-use Rattle.std.proofs.Common.{length, Option}
-use Rattle.output_slice.specs.declared.panic_head.HeadSpan.{HeadSpan}
-use Rattle.output_slice.specs.Taken.{IsLastTaken}
+use Rattle.output_slice.proofs.Words.{length, Option, HeadSpan, IsLastTaken}
 use Rattle.output_slice.proofs.last_head.last_head_before.Given as goal
 
 -- the last of the rest is the last of all

@@ -1,5 +1,4 @@
-use Rattle.std.proofs.Common.{length, ◌-◌}
-use Rattle.bstr.specs.Find.{OccursAt}
+use Rattle.output_slice.proofs.Words.{length, ◌-◌, OccursAt}
 use Rattle.output_slice.proofs.signs.last_match.Given as goal
 
 abbrev pub invariant-loop-gap : goal.invariant-loop-gap

@@ -1,5 +1,4 @@
-use Rattle.std.proofs.Common.{◌≤◌, length}
-use Rattle.output_slice.specs.Signs.{IsQuietFrom}
+use Rattle.output_slice.proofs.Words.{◌≤◌, length, IsQuietFrom}
 use Rattle.output_slice.proofs.signs.last_sign.Given as goal
 
 abbrev pub invariant-loop-end : goal.invariant-loop-end

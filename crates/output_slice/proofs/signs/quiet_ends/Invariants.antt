@@ -1,5 +1,4 @@
-use Rattle.std.proofs.Common.{max}
-use Rattle.output_slice.specs.Signs.{AreQuiet}
+use Rattle.output_slice.proofs.Words.{max, AreQuiet}
 use Rattle.output_slice.proofs.signs.quiet_ends.Given as goal
 
 abbrev pub invariant-loop-starts : goal.invariant-loop-starts

@@ -1,20 +1,15 @@
-use Rattle.std.proofs.Common.{◌∙◌, arith}
+use Rattle.std.proofs.Common.{arith}
 use Rattle.output_slice.proofs.CharLemmas.{utf8-char, char-utf8}
 use Rattle.output_slice.proofs.panic_head.characters.is_utf8_between.Goals as goal
 
 pub loop-at-preserved : goal.loop-at-preserved
 loop-at-preserved g c =
     let v = rw c.loop-at.invariant.0 at c.in-Some.ensures.value in
-    let i = c.loop-at.invariant in
-    let step = utf8-char (g.S.ByteSource.bytes c.args.source.now) c.loop-at.at c.args.to c.in-Some.field-0-0 c.in-Some.size v.0 v.1 in
-    let reads = c.in-Some.ensures.reads in
-    (c.in-Some.ensures.same ∙ i.0, omega arith, omega arith, omega arith, (λ u. step.0 (i.4.0 u), λ u. i.4.1 (step.1 u)))
+    let step = utf8-char _ c.loop-at.at c.args.to c.in-Some.field-0-0 c.in-Some.size v.0 v.1 in
+    grind arith
 
 pub returns-in-None-clause-value : goal.returns-in-None-clause-value
 returns-in-None-clause-value g c =
     let none = rw c.loop-at.invariant.0 at c.in-None.ensures.value in
-    let i = c.loop-at.invariant in (
-      λ t. cc,
-      λ u. let first = char-utf8 (g.S.ByteSource.bytes c.args.source.now) c.loop-at.at c.args.to c.loop-at-test.true c.requires.high
-          (i.4.0 u) in absurd (none first.0 first.1),
-    )
+    let first = char-utf8 _ c.loop-at.at c.args.to c.loop-at-test.true c.requires.high in
+    grind arith

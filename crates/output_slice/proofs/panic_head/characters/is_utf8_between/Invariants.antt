@@ -1,11 +1,9 @@
-use Rattle.std.proofs.Common.{◌≡◌, ◌+◌, ◌-◌, ◌≤◌, ◌↔◌, IsUtf8}
-use Rattle.bstr.specs.Text.{part}
+use Rattle.output_slice.proofs.Words.{◌≡◌, ◌+◌, ◌-◌, ◌≤◌, ◌↔◌, IsUtf8, part}
 use Rattle.output_slice.proofs.panic_head.characters.is_utf8_between.Given as goal
 
 abbrev pub invariant-loop-at : goal.invariant-loop-at
 invariant-loop-at g l =
-    (g.S.ByteSource.bytes l.source ≡ g.S.ByteSource.bytes l.fn.source)
-    × (l.from ≤ l.at) × (l.at ≤ l.to)
+    (g.S.ByteSource.bytes l.source ≡ g.S.ByteSource.bytes l.fn.source) × (l.from ≤ l.at) × (l.at ≤ l.to)
     × (g.S.ByteSource.count l.source + l.from ≡ g.S.ByteSource.count l.fn.source + l.at)
     × (IsUtf8 (part l.from l.to (g.S.ByteSource.bytes l.fn.source)) ↔ IsUtf8 (part l.at l.to (g.S.ByteSource.bytes l.fn.source)))
 

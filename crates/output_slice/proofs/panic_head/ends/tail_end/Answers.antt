@@ -1,6 +1,6 @@
 use Rattle.std.proofs.Common.{◌≡◌, ◌+◌, sym, ◌∙◌, arith, codes}
 use Rattle.output_slice.proofs.OccursLemmas.{occurs-both}
-use Rattle.output_slice.proofs.HeadLemmas.{IsTailEnd-none, plain-end, numbered-end, reads-more}
+use Rattle.output_slice.proofs.HeadLemmas.{IsTailEnd-none, plain-end, numbered-end}
 use Rattle.output_slice.proofs.panic_head.ends.tail_end.Goals as goal
 
 pub returns-in_default-after_text : goal.returns-in_default-after_text
@@ -8,20 +8,11 @@ returns-in_default-after_text g c =
     let space = c.in-Some.ensures.value in
     let same = c.after_text-2.ensures.same ∙ c.after_text.ensures.same in
     let none = rw space.1 at rw c.after_text.ensures.same at c.in_default-after_text.ensures.value in
-    let word = rw space.1 at rw same at c.after_text-in_default-after_text.ensures.value in
-    let reads = rw space.1 at rw same at c.after_text-in_default-after_text.ensures.reads in
     let paren = c.in_default-after_text.ensures.reads in
-    let one = c.in-Some.ensures.all in
-    let two = c.in_default-after_text.ensures.all.0 in
-    let whole = reads-more _ _ _ _ _ c.after_text-in_default-after_text.result (omega (arith, one.0, two)) (omega (arith, one.1, two))
-    c.after_text-in_default-after_text.ensures.all in
-    let end = plain-end _ c.args.at paren.0 _ _ _ _ c.after_text-in_default-after_text.result space.0 none
-    c.in-Some.ensures.reads paren.1 paren.3 reads word in record {
-      value = end.0;
-      reads = end.1;
-      all = whole;
-      same = c.after_text-in_default-after_text.ensures.same ∙ same;
-    }
+    let last = c.after_text-in_default-after_text.ensures in
+    let end = plain-end _ c.args.at paren.0 _ _ _ _ _ space.0 none c.in-Some.ensures.reads paren.1 paren.3
+    (rw space.1 at rw same at last.reads) (rw space.1 at rw same at last.value) in
+    record { value = end.0; reads = end.1; all = grind (arith, c.in-Some.ensures.all, c.in_default-after_text.ensures.all, last.all); same = last.same ∙ same }
 
 pub returns-then-close-number-clause-value : goal.returns-then-close-number-clause-value
 returns-then-close-number-clause-value g c =
@@ -42,19 +33,8 @@ returns g c =
     let all = c.digits_end-close.ensures.same ∙ same in
     let run = rw two at rw same at c.digits_end-close.ensures.run in
     let opens = occurs-both _ (codes " ") (codes "(") c.args.at space.0 paren.0 in
-    let word = rw all at c.after_text-3.ensures.value in
-    let few = c.in-Some-after_text.ensures.reads in
-    let few' = c.in-Some.ensures.reads in
-    let one = c.in-Some.ensures.all in
-    let more = c.in-Some-after_text.ensures.all in
-    let digits = run.digits.ends in
-    let whole = reads-more _ _ _ _ _ c.after_text-3.result (omega (arith, one.0, more.0)) (omega (arith, one.1, more.1)) c.after_text-3.ensures.all in
-    let some = λ (e : c.digits_end-close.result ≡ c.args.at + 2). c.if-close-number.false (e ∙ sym two) in
-    let end = numbered-end _ c.args.at c.digits_end-close.result _ _ _ _ c.after_text-3.result opens run some (omega arith)
-    (rw two at c.digits_end-close.ensures.reads) (rw two at rw same at c.digits_end-close.ensures.ascii)
-    (rw all at c.after_text-3.ensures.reads) word in record {
-      value = end.0;
-      reads = end.1;
-      all = whole;
-      same = c.after_text-3.ensures.same ∙ all;
-    }
+    let last = c.after_text-3.ensures in
+    let end = numbered-end _ c.args.at c.digits_end-close.result _ _ _ _ c.after_text-3.result opens run (λ e. c.if-close-number.false (e ∙ sym two))
+    (omega (arith, c.in-Some-after_text.ensures.reads, c.in-Some.ensures.reads)) (rw two at c.digits_end-close.ensures.reads)
+    (rw two at rw same at c.digits_end-close.ensures.ascii) (rw all at last.reads) (rw all at last.value) in
+    record { value = end.0; reads = end.1; all = grind (arith, c.in-Some.ensures.all, c.in-Some-after_text.ensures.all, last.all); same = last.same ∙ all }
