@@ -1,9 +1,9 @@
 -- Laws of `count_of`, and of what is kept of a list.
-use Rattle.std.proofs.Common.{◌≡◌, ℕ, ◌+◌, ◌≤◌, List, [], ◌∷◌, ◌++◌, length, Bool, true, false, cond, not, ◌&&◌, refl, ap, sym, ◌∙◌, arith}
-use Rattle.std.specs.Prelude.{filter, Option, Some, None}
-use Rattle.std.specs.List.{filter_map, cons_option, list_all}
+use Rattle.std.proofs.Common.{◌≡◌, ℕ, ◌+◌, ◌≤◌, List, [], ◌∷◌, ◌++◌, length, Bool, true, cond, not, refl, ap, ◌∙◌, arith, rules}
+use Rattle.std.specs.Prelude.{filter, Option}
+use Rattle.std.specs.List.{filter_map, AllPass}
 use Rattle.std.proofs.lemmas.List.{length-append}
-use Rattle.std.proofs.lemmas.List.Elements.{filter-append, filter_agree}
+use Rattle.std.proofs.lemmas.List.Elements.{All-cons, All-head, All-tail, filter-append, filter_agree}
 use Rattle.std.proofs.lemmas.List.Filters.{length-filter_both}
 use Rattle.std.proofs.lemmas.List.Sums.{count_by-le-length, length-filter, sum_by-cons}
 use Rattle.run_events_stats.specs.Counters.{count_of, plus_if}
@@ -39,25 +39,20 @@ count_of-same p q same xs = ap length (filter_agree p q same xs)
 pub count_of-not : {X : Type 0} (p : X → Bool) (xs : List X) → count_of (λ x. not (p x)) xs + count_of p xs ≡ length xs
 count_of-not p xs = omega (arith, length-filter_both p (λ x. not (p x)) (λ _. refl) xs)
 
--- a rule that holds of nothing in a list fails of each element
-pub count_of-zero : {X : Type 0} (p : X → Bool) (xs : List X) → count_of p xs ≡ 0 → list_all (λ x. not (p x)) xs ≡ true
-count_of-zero p [] e = refl
-count_of-zero p (x ∷ xs) e =
-    let step = count_of-cons p x xs in
-    elim (p x) as (λ b. one b + count_of p xs ≡ 0
-    → (not b && list_all (λ y. not (p y)) xs) ≡ true) [ true ↦ λ h. absurd (omega (arith, h)) | false ↦ λ h. count_of-zero p xs (omega (arith, h)) ]
-    (sym step ∙ e)
+-- a rule is counted as often as the list is long where each element passes it
+pub AllPass-from_count : {X : Type 0} (p : X → Bool) (xs : List X) → count_of p xs ≡ length xs → AllPass p xs
+AllPass-from_count p [] e = search rules
+AllPass-from_count p (x ∷ xs) e =
+    let now : p x ≡ true = grind (arith, count_of-cons p x xs, count_of-le p xs) in
+    All-cons (λ y. p y ≡ true) x xs now (AllPass-from_count p xs (grind (arith, count_of-cons p x xs, now)))
 
-pub zero-count_of : {X : Type 0} (p : X → Bool) (xs : List X) → list_all (λ x. not (p x)) xs ≡ true → count_of p xs ≡ 0
-zero-count_of p [] e = refl
-zero-count_of p (x ∷ xs) e =
-    count_of-cons p x xs ∙ elim (p x) as
-    (λ b. (not b && list_all (λ y. not (p y)) xs) ≡ true
-    → one b + count_of p xs ≡ 0) [ true ↦ λ h. absurd cc | false ↦ λ h. omega (arith, zero-count_of p xs h) ] e
+pub count-from_AllPass : {X : Type 0} (p : X → Bool) (xs : List X) → AllPass p xs → count_of p xs ≡ length xs
+count-from_AllPass p [] all = refl
+count-from_AllPass p (x ∷ xs) all =
+    let rest = count-from_AllPass p xs (All-tail (λ y. p y ≡ true) x xs all) in
+    grind (arith, count_of-cons p x xs, All-head (λ y. p y ≡ true) x xs all)
 
 -- what is kept of a list is no longer than the list
 pub length-filter_map-le : {X Y : Type 0} (h : X → Option Y) (xs : List X) → length (filter_map h xs) ≤ length xs
 length-filter_map-le h [] = omega arith
-length-filter_map-le h (x ∷ xs) =
-    let shorter = length-filter_map-le h xs in
-    elim (h x) as (λ o. length (cons_option o (filter_map h xs)) ≤ length (x ∷ xs)) [ None ↦ omega (arith, shorter) | Some y ↦ omega (arith, shorter) ]
+length-filter_map-le h (x ∷ xs) = grind (arith, length-filter_map-le h xs)

@@ -2,6 +2,5 @@ pub mod Counting
 pub mod Counts
 pub mod Parts
 pub mod SubRuns
-pub mod Sums
 pub mod SuccessLaws
 pub mod Verdicts
