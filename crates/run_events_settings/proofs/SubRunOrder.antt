@@ -33,9 +33,8 @@ by_number m n = nat_cmp (non_zero_u32_get m) (non_zero_u32_get n)
 
 same-total : (a b : Option NonZeroU32) → option_cmp by_number a b ≡ Equal → a ≡ b
 same-total None None e = refl
-same-total None (Some n) e = cc
-same-total (Some m) None e = cc
 same-total (Some m) (Some n) e = ap Some (same-non_zero m n (same-number _ _ e))
+same-total _ _ e = cc
 
 itself-equal : (a : Option NonZeroU32) → option_cmp by_number a a ≡ Equal
 itself-equal None = refl
@@ -48,9 +47,7 @@ same-sub_run a b e =
     ap (λ (n : ℕ). record { current = n; total = a.total }) number ∙ ap (λ t. record { current = b.current; total = t }) total
 
 pub sub_run-equal : (a b : StressIndex) → a ≡ b → ordering_then (nat_cmp a.current b.current) (option_cmp by_number a.total b.total) ≡ Equal
-sub_run-equal a b e =
-    let P : StressIndex → Type 0 = λ x. ordering_then (nat_cmp a.current x.current) (option_cmp by_number a.total x.total) ≡ Equal in
-    subst P e (rw (equal-number a.current) (itself-equal a.total))
+sub_run-equal a b e = rw (e, equal-number b.current) (itself-equal b.total)
 
 -- The same of `==`.
 
@@ -59,9 +56,8 @@ is_number m n = non_zero_u32_get m == non_zero_u32_get n
 
 tells-total : (a b : Option NonZeroU32) → option_eq is_number a b ≡ true → a ≡ b
 tells-total None None e = refl
-tells-total None (Some n) e = cc
-tells-total (Some m) None e = cc
 tells-total (Some m) (Some n) e = ap Some (same-non_zero m n (eqb-true _ _ e))
+tells-total _ _ e = cc
 
 total-itself : (a : Option NonZeroU32) → option_eq is_number a a ≡ true
 total-itself None = refl
@@ -74,6 +70,4 @@ tells-sub_run a b e =
     ap (λ (n : ℕ). record { current = n; total = a.total }) number ∙ ap (λ t. record { current = b.current; total = t }) total
 
 pub sub_run-itself : (a b : StressIndex) → a ≡ b → (a.current == b.current && option_eq is_number a.total b.total) ≡ true
-sub_run-itself a b e =
-    let P : StressIndex → Type 0 = λ x. (a.current == x.current && option_eq is_number a.total x.total) ≡ true in
-    subst P e (rw (eq-eqb a.current _ refl) (total-itself a.total))
+sub_run-itself a b e = rw (e, eq-eqb b.current _ refl) (total-itself b.total)

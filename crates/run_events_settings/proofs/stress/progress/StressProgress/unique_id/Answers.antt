@@ -1,3 +1,4 @@
+use Rattle.std.proofs.Common.{arith}
 use Rattle.run_events_settings.proofs.SubRunIds.{written_alone, written_id}
 use Rattle.run_events_settings.proofs.stress.progress.StressProgress.unique_id.Goals as goal
 
@@ -7,4 +8,4 @@ returns-clause-text c = written_id c.format.result c.args.run_id _ _ c.completed
 pub returns-clause-tells_apart : goal.returns-clause-tells_apart
 returns-clause-tells_apart c =
     let id = rw c.as_bytes.ensures at c.greatest_of-greatest.ensures in
-    written_alone c.format.result c.args.run_id _ _ id c.completed-completed.type_inv c.completed-completed.ensures c.format.ensures.ok
+    written_alone c.format.result c.args.run_id _ id (omega arith) (written_id c.format.result _ _ _ c.completed-completed.ensures c.format.ensures.ok)

@@ -1,5 +1,0 @@
-use Rattle.std.proofs.Common.{rules}
-use Rattle.program_io.proofs.std_device.StdSourceSource.has_failed.Goals as goal
-
-pub returns : goal.returns
-returns g c = search rules

@@ -1,5 +1,0 @@
-use Rattle.std.proofs.Common.{rules}
-use Rattle.run_events_attempts.proofs.attempts.statuses.ExecutionStatusesIntoIterator.into_iter.Goals as goal
-
-pub returns : goal.returns
-returns g c = search rules

@@ -1,5 +1,0 @@
-use Rattle.std.proofs.Common.{rules}
-use Rattle.run_events_child.proofs.chain.SerializableError.sources.Goals as goal
-
-pub returns : goal.returns
-returns c = search rules

@@ -1,5 +1,0 @@
-use Rattle.std.proofs.Common.{rules}
-use Rattle.run_events_results.proofs.laws.results_are_equal.Goals as goal
-
-pub returns : goal.returns
-returns c = search rules
