@@ -1,0 +1,44 @@
+"""How the toolchain's compiler is called on the crates of this repository.
+
+`rt` calls it in the same way, but builds one library after another.
+"""
+
+import os
+import shutil
+
+import crate_list
+
+TOP = os.path.dirname(os.path.dirname(os.path.realpath(__file__)))
+
+
+def kit():
+    """Returns the toolchain's folder, or None if there is no `rt` on the path."""
+    found = shutil.which("rt")
+    return found and os.path.dirname(os.path.dirname(os.path.realpath(found)))
+
+
+def root_of(crate):
+    """Returns the source file of a crate that names its other files, by its path in the crate's folder."""
+    return "src/main.rt" if os.path.exists(f"{TOP}/crates/{crate}/src/main.rt") else "src/lib.rt"
+
+
+def words(toolchain, crate, built, sources=()):
+    """Returns the arguments that name a crate and all that it uses, for a call in the crate's folder.
+
+    `built` has the files of the libraries below it that are built, and `sources` names those that are
+    read as source. These are checked with the crate. Each source may name only what its own crate uses.
+    """
+    uses = crate_list.used()
+    named = {"std": None}
+    for name in [crate, *sources]:
+        named.update(dict.fromkeys(uses[name]))
+    arguments = ["--crate-name", crate, root_of(crate), "-L", f"dependency={toolchain}/rlibs"]
+    for name in named:
+        if name not in sources:
+            arguments += ["--extern", f"{name}={built.get(name, f'{toolchain}/rlibs/{name}.rlib')}"]
+    for folder in dict.fromkeys(map(os.path.dirname, built.values())):
+        arguments += ["-L", f"dependency={folder}"]
+    for name in sources:
+        arguments += ["--lib", f"{name}:{','.join(['std', *uses[name]])}={TOP}/crates/{name}/{root_of(name)}"]
+    arguments += ["--antt-project", f"{toolchain}/rattle/logic/antt-project.json"]
+    return [*arguments, "--logic-built", f"{toolchain}/logic_built", "--links", f"{crate}="]
