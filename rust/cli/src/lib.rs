@@ -10,12 +10,14 @@ pub mod program;
 #[doc(hidden)]
 pub mod program_io;
 #[doc(hidden)]
+pub mod replaced_file;
+#[doc(hidden)]
 pub mod run_digest_engine;
 #[doc(hidden)]
 pub mod test_report_engine;
 #[doc(hidden)]
 pub mod test_report_events;
 #[doc(hidden)]
-pub mod test_report_suite;
+pub mod test_report_forms;
 #[doc(hidden)]
-pub mod test_report_text;
+pub mod test_report_run;
