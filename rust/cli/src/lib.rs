@@ -10,14 +10,12 @@ pub mod program;
 #[doc(hidden)]
 pub mod program_io;
 #[doc(hidden)]
-pub mod replaced_file;
-#[doc(hidden)]
 pub mod run_digest_engine;
 #[doc(hidden)]
 pub mod test_report_engine;
 #[doc(hidden)]
 pub mod test_report_events;
 #[doc(hidden)]
-pub mod test_report_forms;
+pub mod test_report_suite;
 #[doc(hidden)]
-pub mod test_report_run;
+pub mod test_report_text;

@@ -1,9 +1,0 @@
-pub mod Counted
-pub mod Ended
-pub mod LastLine
-pub mod Note
-pub mod Over
-pub mod Prints
-pub mod Running
-pub mod Said
-pub mod Suite
