@@ -22,23 +22,15 @@ def root_of(crate):
     return "src/main.rt" if os.path.exists(f"{TOP}/crates/{crate}/src/main.rt") else "src/lib.rt"
 
 
-def words(toolchain, crate, built, sources=()):
+def words(toolchain, crate, built):
     """Returns the arguments that name a crate and all that it uses, for a call in the crate's folder.
 
-    `built` has the files of the libraries below it that are built, and `sources` names those that are
-    read as source. These are checked with the crate. Each source may name only what its own crate uses.
+    `built` has the files of this repository's libraries below it.
     """
-    uses = crate_list.used()
-    named = {"std": None}
-    for name in [crate, *sources]:
-        named.update(dict.fromkeys(uses[name]))
     arguments = ["--crate-name", crate, root_of(crate), "-L", f"dependency={toolchain}/rlibs"]
-    for name in named:
-        if name not in sources:
-            arguments += ["--extern", f"{name}={built.get(name, f'{toolchain}/rlibs/{name}.rlib')}"]
+    for name in ("std", *crate_list.used()[crate]):
+        arguments += ["--extern", f"{name}={built.get(name, f'{toolchain}/rlibs/{name}.rlib')}"]
     for folder in dict.fromkeys(map(os.path.dirname, built.values())):
         arguments += ["-L", f"dependency={folder}"]
-    for name in sources:
-        arguments += ["--lib", f"{name}:{','.join(['std', *uses[name]])}={TOP}/crates/{name}/{root_of(name)}"]
     arguments += ["--antt-project", f"{toolchain}/rattle/logic/antt-project.json"]
     return [*arguments, "--logic-built", f"{toolchain}/logic_built", "--links", f"{crate}="]
