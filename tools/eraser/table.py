@@ -6,7 +6,7 @@ LAYER = "deodarsieve"
 PACKAGES = {
     LAYER: (
         "output_slice", "run_events_settings", "run_events_results", "run_events_levels", "run_events_child",
-        "run_events_attempts", "run_events_stats", "run_events",
+        "run_events_attempts", "run_events_stats", "run_events_stress", "run_events",
     ),
     "deodarsieve-cli": (
         "program_io", "run_digest_engine", "test_report_events", "test_report_suite",

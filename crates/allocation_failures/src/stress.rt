@@ -1,7 +1,7 @@
 //! The id of the last sub-run that can be counted.
 
 use crate::outcome::Outcome;
-use run_events::stress::{StressCount, StressProgress};
+use run_events::progress::{StressCount, StressProgress};
 use std::alloc::Global;
 use std::time::Duration;
 use uuid::Uuid;

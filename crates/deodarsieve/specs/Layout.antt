@@ -20,7 +20,7 @@ use Rattle.run_events_levels.specs.Visibility.{Asked, asked_of, visibility}
 use Rattle.run_events_levels.specs.declared.levels.OutputOnTestFinished.{OutputOnTestFinished}
 use Rattle.run_events_levels.specs.declared.levels.StatusLevels.{StatusLevels}
 use Rattle.run_events_results.specs.declared.results.ExecutionResultDescription.{ExecutionResultDescription}
-use Rattle.run_events_settings.specs.Stress.{Left, above_zero, endless, nanos, sub_runs}
+use Rattle.run_events_stress.specs.Progress.{Left, above_zero, endless, nanos, sub_runs}
 use Rattle.run_events_stats.specs.Counters.{with_script, with_test}
 use Rattle.run_events_stats.specs.Outcome.{combined, last_summary, outcome_of}
 use Rattle.run_events_stats.specs.Summary.{failed_scripts, failed_tests}

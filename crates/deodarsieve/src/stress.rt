@@ -4,12 +4,13 @@ ghost use Rattle.std.specs.Prelude.{◌≡◌, ◌≢◌, ◌<◌, Option, Some,
 ghost use Rattle.std.specs.Duration.{as_nanos};
 ghost use Rattle.deodarsieve.specs.Layout.{HasOnlyItsKind, duration_in, left_after, left_in};
 ghost use Rattle.deodarsieve.specs.Status.{status_of};
-ghost use Rattle.run_events_settings.specs.Stress.{left_of, remaining_of};
+ghost use Rattle.run_events_stress.specs.Progress.{left_of, remaining_of};
 
 use crate::layout::{FfiDuration, FfiStressProgress, FfiStressRemaining};
 use crate::status::OK;
 use crate::values;
-use run_events_settings::stress::{NonZeroDuration, StressCount, StressProgress, StressRemaining};
+use run_events_settings::stress::NonZeroDuration;
+use run_events_stress::progress::{StressCount, StressProgress, StressRemaining};
 use std::num::NonZero;
 use std::time::Duration;
 

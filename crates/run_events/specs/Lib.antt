@@ -31,3 +31,4 @@ pub use Rattle.run_events_stats.specs.RunLaws
 pub use Rattle.run_events_stats.specs.ScriptCounters
 pub use Rattle.run_events_stats.specs.Summary
 pub use Rattle.run_events_stats.specs.TestCounters
+pub use Rattle.run_events_stress.specs.Progress

@@ -29,6 +29,7 @@ pub use run_events_levels::{levels, view};
 pub use run_events_results::results;
 pub use run_events_settings::{run_mode, stress};
 pub use run_events_stats::{outcome, stats};
+pub use run_events_stress::progress;
 
 pub mod config;
 pub mod events;

@@ -1,2 +1,1 @@
-pub mod SubRunIds
 pub mod SubRunOrder

@@ -1,4 +1,4 @@
-//! Repeated runs: their progress and what remains of them.
+//! Repeated runs: the numbers of their sub-runs, and durations.
 
 ghost use Rattle.std.specs.Prelude.{◌≡◌, ◌↔◌, ◌<◌, IsNone, IfSome, option_map};
 ghost use Rattle.std.specs.Duration.{as_nanos};
@@ -7,10 +7,6 @@ ghost use Rattle.std.specs.Int.NonZero.{non_zero_u32_get};
 use std::marker::Model;
 use std::num::NonZero;
 use std::time::Duration;
-
-mod progress;
-
-pub use crate::stress::progress::{StressCount, StressProgress, StressRemaining};
 
 /// A duration that is not zero.
 #[derive(Clone, Copy, Debug, PartialEq, Eq)]

@@ -1,10 +1,12 @@
 //! Short callers that the first pages of libraries show, where no other file has one.
 
-ghost use Rattle.std.specs.Prelude.{◌≡◌, ◌||◌, if◌then◌else◌, codes};
+ghost use Rattle.std.specs.Prelude.{◌≡◌, ◌||◌, if◌then◌else◌, codes, is_none};
 ghost use Rattle.run_events.specs.Config.{is_final_display, is_immediate_display};
+ghost use Rattle.run_events.specs.Progress.{remaining_of};
 ghost use Rattle.run_events.specs.Results.{status_succeeds, status_word};
 
 use run_events::config::TestOutputDisplay;
+use run_events::progress::StressProgress;
 use run_events::results::ExecutionResult;
 
 /// Whether the output of a test is displayed at any time.
@@ -12,6 +14,13 @@ pub fn is_displayed(display: TestOutputDisplay) -> bool
     ensures { result ≡ (is_immediate_display display || is_final_display display) }
 {
     display.is_immediate() || display.is_final()
+}
+
+/// Returns true if nothing remains of a repeated run.
+pub fn is_over(progress: &StressProgress) -> bool
+    ensures { result ≡ is_none (remaining_of progress.now) }
+{
+    progress.remaining().is_none()
 }
 
 /// How an attempt ended, in one word: `ok` for every success.

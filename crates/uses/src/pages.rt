@@ -1,7 +1,7 @@
 //! What the callers of the pages on calling answer.
 
 use crate::demo::{PANICKED, PASSED, START};
-use crate::first_pages::{is_displayed, word_of_end};
+use crate::first_pages::{is_displayed, is_over, word_of_end};
 use crate::of_output_slice::{failure_in, has_panicked};
 use crate::of_program_io::copy;
 use crate::of_run_digest_engine::first_bad_line;
@@ -12,8 +12,10 @@ use crate::of_test_report_suite::suite_behind;
 use crate::of_test_report_text::failure_text;
 use program_io::memory_device::{MemorySink, MemorySource};
 use run_events::config::TestOutputDisplay;
+use run_events::progress::StressProgress;
 use run_events::stats::FinishedUnit;
 use std::io;
+use std::time::Duration;
 use test_report_engine::fault::Fault;
 use test_report_events::event::{TestEnd, TestResult};
 
@@ -80,12 +82,19 @@ pub(crate) fn show<R: AllocGlobal + Print>(
     show_report(rt)
 }
 
-/// Prints what the callers of first pages answer, for two ends and one display.
+/// Prints what the callers of first pages answer, for two ends, one display and one repeated run.
 fn show_first_pages<R: Print>(rt: &R) -> io::Result<()> {
     let (passed, panicked) = (word_of_end(PASSED.outcome), word_of_end(PANICKED.outcome));
     println!(rt; "  ends: {passed}, {panicked}")?;
     let displayed = is_displayed(TestOutputDisplay::Final);
-    println!(rt; "  displayed at any time: {displayed}")
+    println!(rt; "  displayed at any time: {displayed}")?;
+    let hour = Duration::from_secs(3_600);
+    let over = is_over(&StressProgress::Time {
+        total: hour,
+        elapsed: hour,
+        completed: 7,
+    });
+    println!(rt; "  nothing remains: {over}")
 }
 
 /// Prints which line of the bad run is bad.

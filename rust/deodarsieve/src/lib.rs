@@ -76,6 +76,7 @@ mod run_events_levels;
 mod run_events_results;
 mod run_events_settings;
 mod run_events_stats;
+mod run_events_stress;
 mod std_impls;
 
 /// What a run is for.
@@ -117,14 +118,13 @@ pub mod reporter {
             AbortDescription, AbortStatus, CancelReason, ExecutionResult,
             ExecutionResultDescription, FailureDescription, FailureStatus, SIGTERM, UnitKind,
         };
-        pub use crate::run_events_settings::stress::{
-            NonZeroDuration, StressIndex, StressProgress, StressRemaining,
-        };
+        pub use crate::run_events_settings::stress::{NonZeroDuration, StressIndex};
         pub use crate::run_events_stats::outcome::{
             FinalRunStats, RunFailureStep, RunFinishedStats, RunOutcome, RunStatsFailureKind,
             StressFinalRunStats, StressRunStats,
         };
         pub use crate::run_events_stats::stats::{FinishedRun, FinishedUnit, RunStart, RunStats};
+        pub use crate::run_events_stress::progress::{StressProgress, StressRemaining};
     }
 
     /// What a reporter writes on a terminal.
@@ -179,7 +179,7 @@ pub mod output_spec {
 /// Settings of a runner.
 pub mod runner {
     pub use crate::run_events::config::StressCondition;
-    pub use crate::run_events_settings::stress::StressCount;
+    pub use crate::run_events_stress::progress::StressCount;
 }
 
 /// The captured output of a child process, as a runner has it.

@@ -11,7 +11,8 @@ use run_events_attempts::attempts::{
     ExecuteStatus, ExecutionStatuses, RetryData, SetupScriptExecuteStatus,
 };
 use run_events_child::child::LiveSpec;
-use run_events_settings::stress::{StressIndex, StressProgress};
+use run_events_settings::stress::StressIndex;
+use run_events_stress::progress::StressProgress;
 use run_events_stats::outcome::RunFinishedStats;
 use run_events_stats::stats::RunStats;
 use std::time::Duration;

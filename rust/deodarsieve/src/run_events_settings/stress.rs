@@ -1,14 +1,8 @@
 // Made by tools/erase from crates/run_events_settings/src/stress.rt. Do not edit.
-//! Repeated runs: their progress and what remains of them.
+//! Repeated runs: the numbers of their sub-runs, and durations.
 
 use core::num::NonZero;
 use core::time::Duration;
-
-mod progress;
-
-pub use crate::run_events_settings::stress::progress::{
-    StressCount, StressProgress, StressRemaining,
-};
 
 /// A duration that is not zero.
 #[derive(Clone, Copy, Debug, PartialEq, Eq)]

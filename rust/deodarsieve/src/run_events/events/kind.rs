@@ -12,9 +12,10 @@ use crate::run_events_attempts::attempts::{
     ExecuteStatus, ExecutionStatuses, RetryData, SetupScriptExecuteStatus,
 };
 use crate::run_events_child::child::LiveSpec;
-use crate::run_events_settings::stress::{StressIndex, StressProgress};
+use crate::run_events_settings::stress::StressIndex;
 use crate::run_events_stats::outcome::RunFinishedStats;
 use crate::run_events_stats::stats::RunStats;
+use crate::run_events_stress::progress::StressProgress;
 use alloc::string::String;
 use alloc::vec::Vec;
 use core::time::Duration;

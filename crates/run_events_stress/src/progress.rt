@@ -1,9 +1,9 @@
 //! The progress of a repeated run.
 
 ghost use Rattle.std.specs.Prelude.{◌≡◌, IfOk, option_map, string_bytes};
-ghost use Rattle.run_events_settings.specs.Stress.{IsRunId, TellsApart, completed_of, left_of, remaining_of, sub_run_id};
+ghost use Rattle.run_events_stress.specs.Progress.{IsRunId, TellsApart, completed_of, left_of, remaining_of, sub_run_id};
 
-use crate::stress::NonZeroDuration;
+use run_events_settings::stress::NonZeroDuration;
 use std::alloc::{AllocError, Global};
 use std::num::NonZero;
 use std::time::Duration;

@@ -1,6 +1,6 @@
 use Rattle.std.proofs.Common.{arith}
-use Rattle.run_events_settings.proofs.SubRunIds.{written_alone, written_id}
-use Rattle.run_events_settings.proofs.stress.progress.StressProgress.unique_id.Goals as goal
+use Rattle.run_events_stress.proofs.SubRunIds.{written_alone, written_id}
+use Rattle.run_events_stress.proofs.progress.StressProgress.unique_id.Goals as goal
 
 pub returns-clause-text : goal.returns-clause-text
 returns-clause-text c = written_id c.format.result c.args.run_id _ _ c.completed-completed.ensures c.format.ensures.ok

@@ -9,7 +9,7 @@ use Rattle.std.proofs.Math.Seq.{take-append_seam}
 use Rattle.uuid.specs.Text.{hyphenated_text, lower, parsed_hyphenated}
 use Rattle.uuid.proofs.TextLemmas.{by_index_length}
 use Rattle.uuid.proofs.RoundTrips.{parses_hyphenated_text}
-use Rattle.run_events_settings.specs.Stress.{IsRunId, TellsApart, sub_run_id}
+use Rattle.run_events_stress.specs.Progress.{IsRunId, TellsApart, sub_run_id}
 
 same_run : (a b : List ℕ) → IsRunId a → IsRunId b → hyphenated_text lower a ≡ hyphenated_text lower b → a ≡ b
 same_run a b ida idb e =

@@ -1,4 +1,4 @@
-// Made by tools/erase from crates/run_events_settings/src/stress/progress.rt. Do not edit.
+// Made by tools/erase from crates/run_events_stress/src/progress.rt. Do not edit.
 //! The progress of a repeated run.
 
 use crate::run_events_settings::stress::NonZeroDuration;
