@@ -12,9 +12,9 @@ use run_events_attempts::attempts::{
 };
 use run_events_child::child::LiveSpec;
 use run_events_settings::stress::StressIndex;
-use run_events_stress::progress::StressProgress;
 use run_events_stats::outcome::RunFinishedStats;
 use run_events_stats::stats::RunStats;
+use run_events_stress::progress::StressProgress;
 use std::time::Duration;
 use uuid::Uuid;
 
