@@ -1,0 +1,14 @@
+pub mod Books
+pub mod Counters
+pub mod Cuts
+pub mod EndSums
+pub mod Ends
+pub mod FailedLines
+pub mod Outcomes
+pub mod Places
+pub mod Runs
+pub mod Shown
+pub mod Sound
+pub mod Sums
+pub mod Tallies
+pub mod ToldFailures
