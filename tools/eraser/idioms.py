@@ -9,9 +9,7 @@ SHORTER = (
     ("unwrap_or ( Vec :: new ( ) )", "unwrap_or_default()"),
     ("map_or ( false ,", "is_some_and("),
     (". as_ref ( ) . map ( | bytes | bytes . as_slice ( ) )", ".as_deref()"),
-    (". as_ref ( ) . map ( String :: as_str )", ".as_deref()"),
 )
-NO_LIST = (",", "Vec", "::", "new", "(", ")", ")")
 NEW_LIST = ("=", "Vec", "::", "new", "(", ")", ";")
 LEAVES = ("?", "return", "break", "continue")
 OPERATORS = (
@@ -31,7 +29,6 @@ def with_idioms(text, name):
             _match(source, i)
         else:
             _shorter_call(source, i)
-            _taken_list(source, i)
     for function in functions_of(source):
         if function.body:
             _for_loops(source, function)
@@ -65,17 +62,6 @@ def _shorter_call(source, i):
         words = long.split()
         if source.reads(i, *words):
             source.replace(i, source.after(i, len(words) - 1), short)
-
-
-def _taken_list(source, i):
-    """Takes `mem::replace(list, Vec::new())` to `mem::take(list)`."""
-    if not source.reads(i, "mem", "::", "replace", "("):
-        return
-    close = source.partner[source.after(i, 3)]
-    comma = source.before(close, len(NO_LIST) - 1)
-    if source.reads(comma, *NO_LIST):
-        source.replace(source.after(i, 2), source.after(i, 2), "take")
-        source.drop(comma, source.before(close))
 
 
 def _for_loops(source, function):
@@ -183,30 +169,20 @@ def _two_arms(value, arms, is_postfix, leaves):
     `is_postfix` says whether a method can be called on `value`; `leaves`, whether an arm leaves its
     function or a loop.
     """
-    others = {pattern: text for pattern, text in arms.items() if pattern not in ("None", "Err(_)", "_")}
+    others = {pattern: text for pattern, text in arms.items() if pattern not in ("None", "Err(_)")}
     if len(others) != 1:
         return None
     pattern, text = next(iter(others.items()))
-    if arms.get("_") == "{}":
-        return f"if let {pattern} = {value} {text}" if text.startswith("{") else None
     if not pattern.startswith(("Some(", "Ok(")) or not pattern.endswith(")"):
         return None
     inner = pattern[pattern.index("(") + 1:-1]
     if arms.get("Err(_)") == "None" and text == f"Some({inner})" and is_postfix:
         return f"{value}.ok()"
-    if arms.get("None") == "None" and _is_some(text) and not leaves:
-        return _mapped(value, inner, text[5:-1], is_postfix)
+    if arms.get("None") == "None" and _is_some(text) and is_postfix:
+        return None if leaves else f"{value}.map(|{inner}| {text[5:-1]})"
     if arms.get("None") == "{}":
         return f"if let {pattern} = {value} {{ {text} }}"
     return _other_error(value, arms, inner, text) if is_postfix else None
-
-
-def _mapped(value, inner, text, is_postfix):
-    """Returns an optional value, or a reference to one, with `text` in place of the `inner` that it may have."""
-    place = value.removeprefix("&")
-    if re.fullmatch(r"&[a-z_]+(\.[a-z_]+)*", value):
-        return f"{place}.clone()" if text == f"{inner}.clone()" else f"{place}.as_ref().map({_closure(inner, text)})"
-    return f"{value}.map({_closure(inner, text)})" if is_postfix else None
 
 
 def _other_error(value, arms, inner, text):
@@ -219,12 +195,6 @@ def _other_error(value, arms, inner, text):
     if arm is None or text != (inner if arm[1] else f"Ok({inner})"):
         return None
     return f"{value}." + call.format(arm[2]) + ("?" if arm[1] else "")
-
-
-def _closure(name, text):
-    """Returns the closure from `name` to `text`: a function, if it calls just that."""
-    call = re.fullmatch(r"([\w:]+)\((\w+)\)", text)
-    return call[1] if call and call[2] == name else f"|{name}| {text}"
 
 
 def _is_some(text):

@@ -1,5 +1,6 @@
 pub mod Fault
-pub mod Laws
+pub mod Kept
 pub mod Lines
-pub mod Reading
 pub mod Report
+pub mod Run
+pub mod Steps

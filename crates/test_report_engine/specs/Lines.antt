@@ -1,6 +1,6 @@
--- The lines of an input, and the events that they say.
-use Rattle.std.specs.Prelude.{◌≡◌, ◌≢◌, ℕ, List, [], ◌∷◌, ◌++◌, All}
-use Rattle.std.specs.List.{AllZip, flat_map}
+-- The lines of an input, and what each says.
+use Rattle.std.specs.Prelude.{◌≡◌, ◌≢◌, ℕ, List, [], ◌∷◌, ◌++◌, All, Option, Some, None}
+use Rattle.std.specs.List.{flat_map}
 use Rattle.test_report_events.specs.Event.{EventView}
 use Rattle.test_report_events.specs.Line.{LineSays}
 
@@ -25,8 +25,7 @@ pub record AreLines (input : List ℕ) (lines : List (List ℕ)) : Type 0 where
   pub one_line : All IsOneLine (ended ++ last ∷ [])
   pub lines_are : lines ≡ ended ++ not_empty last
 
--- these are the events of an input: what its lines say, line by line
-pub record AreEventsOf (input : List ℕ) (events : List EventView) : Type 0 where
-  pub lines : List (List ℕ)
-  pub are_lines : AreLines input lines
-  pub say : AllZip LineSays lines events
+-- the line says this event, or none
+abbrev pub Tells : List ℕ → Option EventView → Type 0
+Tells line None = (e : EventView) → ¬ LineSays line e
+Tells line (Some e) = LineSays line e

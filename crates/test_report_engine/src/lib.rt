@@ -1,14 +1,18 @@
-//! The report of a test run, from the lines of Rust's test harness, cargo and cargo nextest.
+//! The report of a test run, from the JSON output of Rust's test harness or of nextest.
 //!
-//! A call that reads the run of a source and writes its report to a sink:
+//! A call that reads the events of a run from a source and writes its report to a sink. It returns true
+//! if the run succeeded:
 //!
 //! ```rust
-//! let mut report = Report::new(alloc, TextForm::new(alloc, options))?;
-//! report.read_file(alloc, source, sink)?;
-//! report.finish(alloc, sink)
+//! let options = Options {
+//!     limit: 4_096,
+//!     raw: false,
+//! };
+//! report(alloc, source, sink, options)
 //! ```
 #![tactic(auto)]
 
 pub mod fault;
-pub mod laws;
+mod kept;
+mod reading;
 pub mod report;

@@ -1,7 +1,5 @@
-mod Colours
-mod Events
-mod Headings
 mod Objects
 mod Readings
-mod Times
-mod Values
+mod Attempts
+mod Names
+mod Events

@@ -1,3 +1,4 @@
 pub mod DisplayerLemmas
 pub mod Lists
 pub mod RunnerLemmas
+pub mod SuiteLemmas

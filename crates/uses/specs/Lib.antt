@@ -3,3 +3,4 @@ pub mod ExitStatus
 pub mod Junit
 pub mod Recorder
 pub mod Runner
+pub mod Suite

@@ -8,8 +8,8 @@ use crate::of_run_digest_engine::first_bad_line;
 use crate::of_run_events::{ends_well, finished_at_first, stats_of_test};
 use crate::of_test_report_engine::succeeds;
 use crate::of_test_report_events::test_count_of;
-use crate::of_test_report_forms::text_of_note;
-use crate::of_test_report_run::end_of_lines;
+use crate::of_test_report_suite::suite_behind;
+use crate::of_test_report_text::failure_text;
 use program_io::memory_device::{MemorySink, MemorySource};
 use run_events::config::TestOutputDisplay;
 use run_events::progress::StressProgress;
@@ -17,8 +17,7 @@ use run_events::stats::FinishedUnit;
 use std::io;
 use std::time::Duration;
 use test_report_engine::fault::Fault;
-use test_report_forms::options::Options;
-use test_report_run::note::{Disagreement, Note};
+use test_report_events::event::{TestEnd, TestResult};
 
 /// A run whose line 3 names no result.
 const BAD_RUN: &[u8] = b"run 2 0 -\ntest pass\ntest maybe\n";
@@ -26,21 +25,22 @@ const BAD_RUN: &[u8] = b"run 2 0 -\ntest pass\ntest maybe\n";
 /// A line at which a suite begins.
 const SUITE: &[u8] = b"{ \"type\": \"suite\", \"event\": \"started\", \"test_count\": 10 }";
 
-/// The options of a report.
-const OPTIONS: Options = Options {
-    limit: 4_096,
-    raw: false,
-    color: false,
-    no_tests_pass: false,
+/// A test that failed at its second attempt, and wrote in red.
+const FAILED: TestEnd<'static> = TestEnd {
+    name: "divides",
+    attempts: 2,
+    result: TestResult::Failed,
+    output: Some("\u{1b}[31mby zero\n"),
+    message: None,
 };
 
-/// Lines at which a test starts and passes, and another starts, which has no end.
-const PARSES_STARTS: &[u8] =
+/// Lines at which a test begins and passes, and another begins.
+const PARSES_BEGINS: &[u8] =
     b"{ \"type\": \"test\", \"event\": \"started\", \"name\": \"parses\" }";
 
 const PARSES_PASSES: &[u8] = b"{ \"type\": \"test\", \"event\": \"ok\", \"name\": \"parses\" }";
 
-const PRINTS_STARTS: &[u8] =
+const PRINTS_BEGINS: &[u8] =
     b"{ \"type\": \"test\", \"event\": \"started\", \"name\": \"prints\" }";
 
 /// The lines of a run that ended while its third test was running.
@@ -77,8 +77,8 @@ pub(crate) fn show<R: AllocGlobal + Print>(
     show_bad_line(rt)?;
     show_copy(rt)?;
     show_test_count(rt)?;
-    show_end(rt)?;
-    show_note(rt)?;
+    show_suite(rt)?;
+    show_failure(rt)?;
     show_report(rt)
 }
 
@@ -132,22 +132,23 @@ fn show_test_count<R: AllocGlobal + Print>(rt: &R) -> io::Result<()> {
     }
 }
 
-/// Prints what a note that tests started outside of a suite is as text.
-fn show_note<R: AllocGlobal + Print>(rt: &R) -> io::Result<()> {
-    let note = Note::Disagreement(Disagreement::OutsideSuite { started: 2 });
-    let text = text_of_note(rt.alloc(), &note, OPTIONS)?;
-    print!(rt; "  a note: {text}")
+/// Prints the text of the failed test.
+fn show_failure<R: AllocGlobal + Print>(rt: &R) -> io::Result<()> {
+    let text = failure_text(rt.alloc(), FAILED)?;
+    print!(rt; "  a failed test:\n{text}")
 }
 
-/// Prints how a run of two tests ends, of which one has no end.
-fn show_end<R: AllocGlobal + Print>(rt: &R) -> io::Result<()> {
-    match end_of_lines(
+/// Prints how a suite of three tests stands behind its lines.
+fn show_suite<R: AllocGlobal + Print>(rt: &R) -> io::Result<()> {
+    match suite_behind(
         rt.alloc(),
-        &[SUITE, PARSES_STARTS, PARSES_PASSES, PRINTS_STARTS],
+        3,
+        &[PARSES_BEGINS, PARSES_PASSES, PRINTS_BEGINS],
     ) {
-        Ok(end) => println!(rt;
-            "  a run: {} passed, {} crashed, {} not run",
-            end.stats.passed, end.crashed, end.not_run
+        Ok(suite) => println!(rt;
+            "  a suite of 3 tests: {} passed, {} running",
+            suite.stats().passed,
+            suite.running().len()
         ),
         Err(error) => println!(rt; "  {}", Fault::from(error)),
     }
@@ -155,10 +156,10 @@ fn show_end<R: AllocGlobal + Print>(rt: &R) -> io::Result<()> {
 
 /// Prints the report of the run that ended early.
 fn show_report<R: AllocGlobal + Print>(rt: &R) -> io::Result<()> {
-    let mut buffer = [0; 1_024];
+    let mut buffer = [0; 512];
     let mut source = MemorySource::new(ABORTED_RUN, None);
     let mut sink = MemorySink::new(&mut buffer, None);
-    match succeeds(rt.alloc(), &mut source, &mut sink, OPTIONS) {
+    match succeeds(rt.alloc(), &mut source, &mut sink) {
         Ok(success) => {
             let text = String::from_utf8_lossy(rt.alloc(), sink.written())?;
             print!(rt; "  a run that ended early, success {success}:\n{text}")

@@ -10,18 +10,12 @@ pub mod program;
 #[doc(hidden)]
 pub mod program_io;
 #[doc(hidden)]
-pub mod replaced_file;
-#[doc(hidden)]
 pub mod run_digest_engine;
 #[doc(hidden)]
 pub mod test_report_engine;
 #[doc(hidden)]
 pub mod test_report_events;
 #[doc(hidden)]
-pub mod test_report_forms;
+pub mod test_report_suite;
 #[doc(hidden)]
-#[allow(
-    clippy::new_without_default,
-    reason = "`TestRun::new` takes an allocator in the proved text, where there is no `Default` for it"
-)]
-pub mod test_report_run;
+pub mod test_report_text;

@@ -85,9 +85,8 @@ fn input_that_is_not_utf8() {
         &["-"],
         b"\xff\xfe\n{ \"type\": \"te\xffst\" }\n",
     );
-    let report = "------------\n     \
-        Summary 0 tests run: 0 passed (0 flaky), 0 failed (0 timed out, 0 crashed), 0 skipped, 0 not run\n\
-        outcome no-tests-run\n";
+    let report =
+        "tests 0 passed 0 failed 0 flaky 0 skipped 0\noutcome no-tests-run\nlines passed over 2\n";
     assert_output(&output, report.as_bytes(), b"", 1, "test-report");
 }
 

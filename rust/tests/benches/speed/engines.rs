@@ -7,9 +7,8 @@ use bstr::ByteSlice;
 use deodarsieve_cli::program_io::std_device::{StdSink, StdSource};
 use deodarsieve_cli::run_digest_engine::count::count;
 use deodarsieve_cli::run_digest_engine::extract::extract;
-use deodarsieve_cli::test_report_engine::report::Report;
-use deodarsieve_cli::test_report_forms::options::Options;
-use deodarsieve_cli::test_report_forms::text::TextForm;
+use deodarsieve_cli::test_report_engine::report::report;
+use deodarsieve_cli::test_report_text::options::Options;
 use serde_json::Value;
 use std::hint::black_box;
 use std::rc::Rc;
@@ -17,8 +16,6 @@ use std::rc::Rc;
 const OPTIONS: Options = Options {
     limit: 4_096,
     raw: false,
-    color: false,
-    no_tests_pass: false,
 };
 
 /// The number of blocks of a log that a failed test writes.
@@ -95,19 +92,15 @@ fn lines(event: &str, count: usize, more: impl Fn(usize) -> String) -> String {
 }
 
 /// Returns the report of a run that the lines say.
-fn reported(lines: String, expected: String) -> Work {
+fn reported(lines: String, is_success: bool, expected: String) -> Work {
     let lines: Rc<str> = lines.into();
     let read = Rc::clone(&lines);
     Work {
         call: Box::new(move || {
             let mut written = Vec::with_capacity(expected.len());
             let mut source = StdSource::new(black_box(lines.as_bytes()));
-            let mut sink = StdSink::new(&mut written);
-            let mut report = Report::new(TextForm::new(OPTIONS)).expect("the report begins");
-            report
-                .read_file(&mut source, &mut sink)
-                .expect("the run is read");
-            report.finish(&mut sink).expect("the report ends");
+            let result = report(&mut source, &mut StdSink::new(&mut written), OPTIONS);
+            assert_eq!(result, Ok(is_success));
             assert!(written == expected.as_bytes());
         }),
         archived: None,
@@ -121,11 +114,9 @@ fn reported(lines: String, expected: String) -> Work {
 /// Returns the report of a run whose tests pass.
 fn reported_passed(size: usize) -> Work {
     let count = share(size, 1_000_000);
-    let expected = format!(
-        "------------\n     Summary {count} tests run: {count} passed (0 flaky), \
-         0 failed (0 timed out, 0 crashed), 0 skipped, 0 not run\noutcome success\n"
-    );
-    reported(lines("ok", count, |_| String::new()), expected)
+    let expected =
+        format!("tests {count} passed {count} failed 0 flaky 0 skipped 0\noutcome success\n");
+    reported(lines("ok", count, |_| String::new()), true, expected)
 }
 
 /// Returns the report of a run whose tests write a log and panic.
@@ -138,24 +129,17 @@ fn reported_failed(size: usize) -> Work {
     let more = |number| format!(", \"stdout\": \"{log}{}\\nno room left\\n\"", head(number));
     let failure = |number| {
         format!(
-            "FAIL suite 1 {}\n    {}\n    no room left\n",
+            "failed {}\n    {}\n    no room left\n",
             name(number),
             head(number)
         )
     };
-    let listed = |number| {
-        format!(
-            "        FAIL suite 1 {}: panicked at src/pool.rs:41:9: no room left\n",
-            name(number)
-        )
-    };
     let expected = format!(
-        "{}------------\n     Summary {count} tests run: 0 passed (0 flaky), \
-         {count} failed (0 timed out, 0 crashed), 0 skipped, 0 not run\n{}outcome failed\n",
-        (0..count).map(failure).collect::<String>(),
-        (0..count).map(listed).collect::<String>()
+        "{}suite 1: failed, {count} of {count} tests ran, {count} failed\n\
+         tests {count} passed 0 failed {count} flaky 0 skipped 0\noutcome failed\n",
+        (0..count).map(failure).collect::<String>()
     );
-    reported(lines("failed", count, more), expected)
+    reported(lines("failed", count, more), false, expected)
 }
 
 /// Returns the rows of the engines.

@@ -1,0 +1,4 @@
+pub mod AfterLast
+pub mod LineLemmas
+pub mod RunningNames
+pub mod Steps

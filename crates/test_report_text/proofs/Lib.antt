@@ -1,0 +1,2 @@
+mod LastLines
+mod Texts

@@ -1,1 +1,0 @@
-"""What `tools/report-counts` is made of: events of lines, suites, the run, its report, and stored reports."""
