@@ -8,12 +8,16 @@ use program_io::memory_device::{MemorySink, MemorySource};
 use serde_json::Value;
 use std::alloc::{AllocError, Global};
 use std::fmt::Write;
-use test_report_engine::report::report;
-use test_report_text::options::Options;
+use test_report_engine::fault::Fault;
+use test_report_engine::report::Report;
+use test_report_forms::options::Options;
+use test_report_forms::text::TextForm;
 
 const OPTIONS: Options = Options {
     limit: 4_096,
     raw: false,
+    color: false,
+    no_tests_pass: false,
 };
 
 /// How many blocks of a log a failed test writes, of 640 bytes each.
@@ -50,7 +54,6 @@ impl Ending {
 #[derive(Drop)]
 pub(crate) struct TestRun {
     alloc: Global,
-    ending: Ending,
 
     /// The lines that tell the run.
     lines: String,
@@ -74,19 +77,21 @@ impl TestRun {
         let room = vec![in alloc; 0; text.len()]?;
         Ok(TestRun {
             alloc,
-            ending,
             lines,
             text,
             room,
         })
     }
 
-    /// Whether the report answers and writes what it has to.
-    fn reports(&mut self) -> bool {
+    /// Writes the report, and returns true if it is what has to be written.
+    fn reports(&mut self) -> Result<bool, Fault> {
         let mut source = MemorySource::new(self.lines.as_bytes(), None);
         let mut sink = MemorySink::new(self.room.as_mut_slice(), None);
-        let answer = report(self.alloc, &mut source, &mut sink, OPTIONS);
-        answer == Ok(self.ending == Ending::Passed) && sink.written() == self.text.as_bytes()
+        let form = TextForm::new(self.alloc, OPTIONS);
+        let mut report = Report::new(self.alloc, form)?;
+        report.read_file(self.alloc, &mut source, &mut sink)?;
+        report.finish(self.alloc, &mut sink)?;
+        Ok(sink.written() == self.text.as_bytes())
     }
 
     /// Whether each line is read as JSON.
@@ -103,7 +108,7 @@ impl TestRun {
 impl Work for TestRun {
     fn run(&mut self, step: Step) -> bool {
         match step {
-            Step::Call => self.reports(),
+            Step::Call => self.reports() == Ok(true),
             Step::Beside => true,
             Step::Pass => self.is_json(),
         }
@@ -165,14 +170,17 @@ fn escaped_log(alloc: Global) -> Result<String, AllocError> {
 
 /// The report of so many tests that passed.
 fn passed_text(alloc: Global, count: usize) -> Result<String, AllocError> {
-    format!(in alloc; "tests {count} passed {count} failed 0 flaky 0 skipped 0\noutcome success\n")
+    format!(in alloc;
+        "------------\n     Summary {count} tests run: {count} passed (0 flaky), \
+         0 failed (0 timed out, 0 crashed), 0 skipped, 0 not run\noutcome success\n"
+    )
 }
 
 /// The report of so many tests that failed.
 fn failed_text(alloc: Global, count: usize) -> Result<String, AllocError> {
     let mut text = String::new(alloc);
     for number in 0..count {
-        writeln!(text, "failed module::tests::case_{number}")?;
+        writeln!(text, "FAIL suite 1 module::tests::case_{number}")?;
         writeln!(
             text,
             "    thread 'module::tests::case_{number}' panicked at src/pool.rs:41:9:"
@@ -181,12 +189,15 @@ fn failed_text(alloc: Global, count: usize) -> Result<String, AllocError> {
     }
     writeln!(
         text,
-        "suite 1: failed, {count} of {count} tests ran, {count} failed"
+        "------------\n     Summary {count} tests run: 0 passed (0 flaky), \
+         {count} failed (0 timed out, 0 crashed), 0 skipped, 0 not run"
     )?;
-    writeln!(
-        text,
-        "tests {count} passed 0 failed {count} flaky 0 skipped 0"
-    )?;
+    for number in 0..count {
+        writeln!(
+            text,
+            "        FAIL suite 1 module::tests::case_{number}: panicked at src/pool.rs:41:9: no room left"
+        )?;
+    }
     text.push_str("outcome failed\n")?;
     Ok(text)
 }

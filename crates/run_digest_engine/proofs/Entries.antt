@@ -1,28 +1,134 @@
 -- A line after line 1, read by its words.
-use Rattle.std.proofs.Common.{◌≡◌, ℕ, ◌+◌, ◌<◌, List, [], ◌∷◌, ◌++◌, Bool, true, false, length, map, refl, ap, sym, ◌∙◌, subst, cond, inl, inr, arith}
-use Rattle.std.specs.Prelude.{◌&&◌, None, Option, Some, codes, option_and_then, option_map}
-use Rattle.std.specs.List.{join_with_byte}
-use Rattle.std.specs.Str.{IsUtf8, bytes_eq}
+use Rattle.std.proofs.Common.{◌≡◌, ℕ, ◌+◌, ◌<◌, ◌≤◌, List, [], ◌∷◌, ◌++◌, true, false, length, map, not, refl, ap, sym, ◌∙◌, arith, inl, inr, length-append, Bool, subst, cond}
+use Rattle.std.specs.Prelude.{◌==◌, Some, None, Option, codes, option_and_then, option_map}
+use Rattle.std.specs.List.{join_with_byte, list_all, slice_split}
 use Rattle.std.proofs.lemmas.Bool.{and_parts}
-use Rattle.std.proofs.lemmas.List.{append-nil}
-use Rattle.std.proofs.lemmas.List.Splits.{join_with_byte-slice_split}
-use Rattle.std.proofs.lemmas.Option.{cond_some, same_Some}
+use Rattle.std.proofs.lemmas.Bool.Decides.{eqb_tells}
+use Rattle.std.proofs.lemmas.List.{length-map, append-nil}
+use Rattle.std.proofs.lemmas.List.Splits.{join_with_byte-slice_split, length-slice_split}
+use Rattle.std.proofs.lemmas.Option.{none-some, option_and_then_some, same_Some}
+use Rattle.std.specs.Str.{IsUtf8, bytes_eq}
 use Rattle.std.proofs.lemmas.Slice.Eq.{bytes_eq-Decides}
-use Rattle.run_events_levels.specs.TestView.{TestView}
 use Rattle.run_events_results.specs.declared.results.ExecutionResultDescription.{ExecutionResultDescription}
+use Rattle.run_events_results.specs.declared.results.ExecutionResultDescription.TheVariants as result
+use Rattle.run_digest_engine.specs.Reader.{named, result_of, result_words, results_from, results_of, EntryView, SubRunEntry, UnitEntry, entry_of_words, flags_of, script_of_words, start_fields, test_of_words, words_of}
+use Rattle.run_digest_engine.specs.Spelling.{ResultWord, result_named, word_of, ScriptLine, SpellsStart, SpellsUnit, TestLine, flag_words, unit_said}
+use Rattle.run_digest_engine.proofs.Exact.{Reads, reads-by, reads-put, reads_all, reads_only, none_spelled, reads-then, reads_one, result_found, table_reads, word_passes, chosen, word_is_plain}
+use Rattle.run_digest_engine.proofs.PlainWords.{Pass, cut_joined, is_letter, is_plain, join_passes, weaker_words, joined_is_text}
+use Rattle.run_events_levels.specs.TestView.{TestView}
 use Rattle.run_events_settings.specs.declared.config.FlakyResult.{FlakyResult}
 use Rattle.run_events_settings.specs.declared.config.FlakyResult.TheVariants as setting
 use Rattle.run_events_stats.specs.Counters.{ScriptUnit, TestUnit, UnitView}
 use Rattle.run_events_stats.specs.declared.stats.RunStart.{RunStart}
-use Rattle.run_digest_engine.specs.Reader.{EntryView, SubRunEntry, UnitEntry, entry_of_words, flags_of, result_of}
-use Rattle.run_digest_engine.specs.Reader.{results_of, script_of_words, start_fields, test_of_words, words_of}
 use Rattle.run_digest_engine.specs.Reading.{HasEntry}
-use Rattle.run_digest_engine.specs.Spelling.{ResultWord, ScriptLine, SpellsStart, SpellsUnit, TestLine, flag_words, result_named, unit_said, word_of}
-use Rattle.run_digest_engine.proofs.Exact.{Reads, none_spelled, reads-by, reads-same, reads-then, reads_all, reads_one}
-use Rattle.run_digest_engine.proofs.Results.{NamesResult, SpellsResults, list_passes, result_reads, results_read}
 use Rattle.run_digest_engine.proofs.Starts.{Fields, field_words, fields_pass, fields_read, start_joined, start_spelled}
-use Rattle.run_digest_engine.proofs.Tables.{chosen, word_is_plain}
-use Rattle.run_digest_engine.proofs.PlainWords.{Pass, cut_joined, is_plain, joined_is_text}
+
+-- the word is that of this result
+abbrev pub NamesResult : List ℕ → ExecutionResultDescription → Type 0
+NamesResult word r = (n : ResultWord) × (word ≡ word_of n) × (r ≡ result_named n)
+
+pub result_reads : (word : List ℕ) → Reads (NamesResult word) (result_of word)
+unfolding result_of
+result_reads word =
+    reads-put (λ n. word ≡ word_of n) (NamesResult word) result_named (named word_of result_words word) (table_reads word_of result_words word result_found)
+    (λ r is. is) (λ n is. (n, is, refl))
+
+-- the last of these results, or the one before them
+abbrev last_of : ExecutionResultDescription → List ResultWord → ExecutionResultDescription
+last_of last [] = last
+last_of last (n ∷ ns) = last_of (result_named n) ns
+
+last_of-end : (r : ExecutionResultDescription) (earlier : List ResultWord) (last : ResultWord) → last_of r (earlier ++ last ∷ []) ≡ result_named last
+last_of-end r [] last = refl
+last_of-end r (n ∷ ns) last = last_of-end (result_named n) ns last
+
+-- some results have a last one
+parted : (n : ResultWord) (ns : List ResultWord) → (earlier : List ResultWord) × (last : ResultWord) × (n ∷ ns ≡ earlier ++ last ∷ [])
+parted n [] = ([], n, refl)
+parted n (m ∷ ns) = let rest = parted m ns in (n ∷ rest.0, rest.1, ap (λ xs. n ∷ xs) rest.2)
+
+-- words of results are read, where there are not too many
+words_read : (ns : List ResultWord) (last : ExecutionResultDescription) (count : ℕ) → count + length ns ≤ 100
+    → results_from (map word_of ns) last count ≡ Some (last_of last ns, count + length ns)
+unfolding results_from
+words_read [] last count few = ap (λ k. Some (last, k)) (omega arith)
+words_read (n ∷ ns) last count few =
+    let less : (count == 100) ≡ false = elim (eqb_tells count 100) [ inl same ↦ absurd (omega (arith, same.1, few)) | inr different ↦ different.0 ] in
+    let first = reads_all (NamesResult (word_of n)) (result_of (word_of n)) (result_named n) (result_reads (word_of n)) (n, refl, refl) in
+    rw (less, first) (words_read ns (result_named n) (count + 1) (omega (arith, few)) ∙ ap (λ k. Some (last_of (result_named n) ns, k)) (omega arith))
+
+-- words that are read are those of results
+results_inverse : (words : List (List ℕ)) (last : ExecutionResultDescription) (count : ℕ) (found : ExecutionResultDescription × ℕ)
+    → count ≤ 100 → results_from words last count ≡ Some found
+    → (ns : List ResultWord) × (words ≡ map word_of ns) × (count + length ns ≤ 100) × (found ≡ (last_of last ns, count + length ns))
+unfolding results_from
+results_inverse [] last count found few e = ([], refl, omega (arith, few), sym (same_Some (last, count) found e) ∙ ap (λ k. (last, k)) (omega arith))
+results_inverse (word ∷ words) last count found few e =
+    elim (eqb_tells count 100) [
+      | inl same ↦ absurd (none-some found (rw same.0 at e))
+      | inr different ↦ option_and_then_some (λ r. results_from words r (count + 1)) (result_of word) found (rw different.0 at e) (λ r is_r more.
+          let first = reads_only (NamesResult word) (result_of word) r (result_reads word) is_r in
+          let rest = results_inverse words r (count + 1) found (omega (arith, few, different.1)) more in (
+            first.0 ∷ rest.0,
+            cc (first.1, rest.1),
+            omega (arith, rest.2),
+            rest.3 ∙ ap (λ d. (last_of d rest.0, count + 1 + length rest.0)) first.2 ∙ ap (λ k. (last_of (result_named first.0) rest.0, k)) (omega arith),
+          ))
+    ]
+
+-- the list is of one to a hundred results; this is the last, and so many they are
+abbrev pub SpellsResults : List ℕ → ExecutionResultDescription × ℕ → Type 0
+SpellsResults list found =
+    (earlier : List ResultWord) × (last : ResultWord) × (length earlier < 100)
+    × (list ≡ join_with_byte 44 (map word_of (earlier ++ last ∷ []))) × (found ≡ (result_named last, length earlier + 1))
+
+words_pass : (ns : List ResultWord) → Pass is_letter (map word_of ns)
+words_pass [] = tt
+words_pass (n ∷ ns) = (word_passes n, words_pass ns)
+
+-- and has no space
+pub list_passes : (ns : List ResultWord) → list_all is_plain (join_with_byte 44 (map word_of ns)) ≡ true
+list_passes ns =
+    let plain = weaker_words is_letter is_plain (λ b e. (and_parts (is_plain b) (not (b == 44)) e).0) (map word_of ns) (words_pass ns) in
+    join_passes is_plain 44 (map word_of ns) refl plain
+
+-- a list is cut into its words
+list_cut : (ns : List ResultWord) → 0 < length ns → slice_split (λ b. b == 44) (join_with_byte 44 (map word_of ns)) ≡ map word_of ns
+list_cut [] some = absurd (omega (arith, some))
+list_cut (n ∷ ns) some = cut_joined is_letter 44 (word_of n) (map word_of ns) refl (words_pass (n ∷ ns))
+
+pub results_read : (list : List ℕ) → Reads (SpellsResults list) (results_of list)
+unfolding results_of
+results_read list = reads-by (SpellsResults list) (results_of list) all only
+  where
+    all : (found : ExecutionResultDescription × ℕ) → SpellsResults list found → results_of list ≡ Some found
+    all found (earlier, last, few, is_list, is) =
+        let count = length-append earlier (last ∷ []) in
+        let read = words_read (earlier ++ last ∷ []) result.Pass 0 (omega (arith, count, few)) in
+        rw (is_list, list_cut (earlier ++ last ∷ []) (omega (arith, count)), read, last_of-end, is)
+        (ap (λ k. Some (result_named last, k)) (omega (arith, count)))
+
+    only : (found : ExecutionResultDescription × ℕ) → results_of list ≡ Some found → SpellsResults list found
+    only found e =
+        let read = results_inverse (slice_split (λ b. b == 44) list) result.Pass 0 found (omega arith) e in
+        let joined : list ≡ join_with_byte 44 (map word_of read.0) = sym (join_with_byte-slice_split 44 list) ∙ ap (join_with_byte 44) read.1 in
+        let some : 0 < length read.0 = omega (arith, ap length read.1, length-map read.0 word_of, length-slice_split (λ b. b == 44) list) in
+        spelled found read.0 some read.2 joined read.3
+      where
+        spelled : (found : ExecutionResultDescription × ℕ) (ns : List ResultWord) → 0 < length ns → 0 + length ns ≤ 100
+            → list ≡ join_with_byte 44 (map word_of ns) → found ≡ (last_of result.Pass ns, 0 + length ns) → SpellsResults list found
+        spelled found [] some few is_list is = absurd (omega (arith, some))
+        spelled found (n ∷ ns) some few is_list is =
+            let end = parted n ns in
+            let count = length-append end.0 (end.1 ∷ []) in
+            let same : length (n ∷ ns) ≡ length (end.0 ++ end.1 ∷ []) = ap length end.2 in (
+              end.0,
+              end.1,
+              omega (arith, count, same, few),
+              is_list ∙ ap (λ xs. join_with_byte 44 (map word_of xs)) end.2,
+              is ∙ ap (λ xs. (last_of result.Pass xs, 0 + length xs)) end.2
+                  ∙ rw last_of-end (ap (λ k. (result_named end.1, k)) (omega (arith, count))),
+            )
 
 -- line is a spelling of this entry
 abbrev pub SpellsEntry : List ℕ → EntryView → Type 0
@@ -59,19 +165,13 @@ flags_inverse : (words : List (List ℕ)) (f : Bool × FlakyResult) → flags_of
 unfolding flags_of
 flags_inverse [] f e = (false, false, refl, cc)
 flags_inverse (a ∷ []) f e =
-    let other : Option (Bool × FlakyResult) = cond (bytes_eq a (codes "flaky-fail")) (Some (false, setting.Fail)) None in
-    elim (chosen (bytes_eq a (codes "slow")) (Some (true, setting.Pass)) other (Some f) e) [
-      | inl held ↦ (true, false, ap (λ x. x ∷ []) ((bytes_eq-Decides a (codes "slow")).0 held.0), cc)
-      | inr failed ↦
-          let held = cond_some (bytes_eq a (codes "flaky-fail")) (false, setting.Fail) f failed.1 in
-          (false, true, ap (λ x. x ∷ []) ((bytes_eq-Decides a (codes "flaky-fail")).0 held.0), sym held.1)
-    ]
+    let slow = bytes_eq-Decides a (codes "slow") in
+    let fails = bytes_eq-Decides a (codes "flaky-fail") in
+    (bytes_eq a (codes "slow"), not (bytes_eq a (codes "slow")), grind (arith, slow, fails), grind (arith, slow, fails))
 flags_inverse (a ∷ b ∷ []) f e =
-    let held = cond_some (bytes_eq a (codes "slow") && bytes_eq b (codes "flaky-fail")) (true, setting.Fail) f e in
-    let both = and_parts (bytes_eq a (codes "slow")) (bytes_eq b (codes "flaky-fail")) held.0 in
-    let first : a ≡ codes "slow" = (bytes_eq-Decides a (codes "slow")).0 both.0 in
-    let second : b ≡ codes "flaky-fail" = (bytes_eq-Decides b (codes "flaky-fail")).0 both.1 in
-    (true, true, ap (λ x. x ∷ b ∷ []) first ∙ ap (λ x. codes "slow" ∷ x ∷ []) second, sym held.1)
+    let slow = bytes_eq-Decides a (codes "slow") in
+    let fails = bytes_eq-Decides b (codes "flaky-fail") in
+    (true, true, grind (arith, slow, fails), grind (arith, slow, fails))
 flags_inverse (a ∷ b ∷ c ∷ words) f e = absurd cc
 
 -- the flags that words spell are read
@@ -94,13 +194,11 @@ keyword_of (UnitEntry (TestUnit t)) = codes "test"
 
 -- a script's result, behind the first word
 script_read : (words : List (List ℕ)) → Reads (λ r. Behind (UnitEntry (ScriptUnit r)) words) (script_of_words words)
-unfolding script_of_words
-script_read [] = λ r s. absurd (let none = s.1 in cc)
+unfolding script_of_words result_of
 script_read (word ∷ []) =
-    reads-same (NamesResult word) (λ r. Behind (UnitEntry (ScriptUnit r)) (word ∷ [])) (result_of word) (result_reads word)
-    (λ r s. (s.0, ap (λ w. w ∷ []) s.1, s.2))
-    (λ r s. (s.0, cc (s.1), s.2))
-script_read (word ∷ next ∷ words) = λ r s. absurd (let many = s.1 in cc)
+    reads-put (λ n. word ≡ word_of n) (λ r. Behind (UnitEntry (ScriptUnit r)) (word ∷ [])) result_named (named word_of result_words word)
+    (table_reads word_of result_words word result_found) (λ r s. (s.0, cc (s.1), s.2)) (λ n is. (n, ap (λ w. w ∷ []) is, refl))
+script_read _ = λ r s. absurd (let many = s.1 in cc)
 
 -- a test's results and flags
 test_read : (words : List (List ℕ)) → Reads (λ t. Behind (UnitEntry (TestUnit t)) words) (test_of_words words)
@@ -183,12 +281,10 @@ written line (SubRunEntry start) s = record {
   plain = (refl, fields_pass (codes "sub-run") line start s);
 }
 written line (UnitEntry unit) (ScriptLine n, ok, is_line, is_unit) =
-    let P : UnitView → Type 0 = λ u. Written line (UnitEntry u) in
-    subst P (sym is_unit) (record { behind = word_of n ∷ []; is = (n, refl, refl); line_is = is_line; plain = (refl, (word_is_plain n, tt)) })
+    rw is_unit (record { behind = word_of n ∷ []; is = (n, refl, refl); line_is = is_line; plain = (refl, (word_is_plain n, tt)) })
 written line (UnitEntry unit) (TestLine earlier last slow fails, few, is_line, is_unit) =
-    let P : UnitView → Type 0 = λ u. Written line (UnitEntry u) in
     let list : List ℕ = join_with_byte 44 (map word_of (earlier ++ last ∷ [])) in
-    subst P (sym is_unit) (record {
+    rw is_unit (record {
       behind = list ∷ flag_list slow fails;
       is = (earlier, last, slow, fails, few, refl, refl);
       line_is = is_line ∙ ap (λ x. codes "test " ++ x) (sym (flags_joined list slow fails));
@@ -230,16 +326,12 @@ entry_is_text line entry s =
 
 -- a line spells at most one unit
 pub one_unit : (line : List ℕ) (a b : UnitView) → SpellsUnit line a → SpellsUnit line b → a ≡ b
-one_unit line a b first second =
-    let same = reads_one (SpellsEntry line) (entry_of_words (words_of line)) (UnitEntry a) (UnitEntry b) (entry_reads line) first second in
-    cc
+one_unit line a b first second = cc (reads_one (SpellsEntry line) _ (UnitEntry a) (UnitEntry b) (entry_reads line) first second)
 
 -- a line spells a unit or a start, and never both
 pub one_entry : (line : List ℕ) (unit : UnitView) (start : RunStart) → SpellsUnit line unit → ¬ SpellsStart (codes "sub-run") line start
 one_entry line unit start is_unit is_start =
-    let read = entry_of_words (words_of line) in
-    let clash = reads_one (SpellsEntry line) read (UnitEntry unit) (SubRunEntry start) (entry_reads line) is_unit is_start in
-    absurd cc
+    absurd (cc (reads_one (SpellsEntry line) _ (UnitEntry unit) (SubRunEntry start) (entry_reads line) is_unit is_start))
 
 -- a line from which nothing is read spells no entry
 pub no_entry : (line : List ℕ) → None ≡ entry_of_words (words_of line) → ¬ HasEntry line

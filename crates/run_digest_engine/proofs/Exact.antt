@@ -1,7 +1,14 @@
--- A reader gives the one value that is spelled, and nothing where none is.
-use Rattle.std.proofs.Common.{◌≡◌, refl, ap, sym, ◌∙◌, subst}
-use Rattle.std.specs.Prelude.{None, Option, Some, option_and_then, option_map}
+-- A reader gives the one value that is spelled, and nothing where none is; so does one that looks a word up among those of some values.
+use Rattle.std.proofs.Common.{◌≡◌, refl, ap, sym, ◌∙◌, subst, ℕ, List, [], ◌∷◌, Bool, true, false, cond, arith, inl, inr}
+use Rattle.std.specs.Prelude.{None, Option, Some, option_and_then, option_map, ◌⊎◌}
 use Rattle.std.proofs.lemmas.Option.{none-some, same_Some}
+use Rattle.std.specs.List.{list_all}
+use Rattle.std.specs.Str.{bytes_eq}
+use Rattle.std.proofs.lemmas.Slice.Eq.{bytes_eq-Decides}
+use Rattle.run_events_results.specs.declared.results.CancelReason.{CancelReason}
+use Rattle.run_digest_engine.specs.Reader.{named, reasons, result_words}
+use Rattle.run_digest_engine.specs.Spelling.{ResultWord, reason_word, word_of}
+use Rattle.run_digest_engine.proofs.PlainWords.{is_letter, is_plain}
 
 -- the value given, if any, has the property, and no other value has
 abbrev pub Reads : {A : Type 0} → (A → Type 0) → Option A → Type 0
@@ -30,8 +37,7 @@ reads_none P (Some a) read none = absurd (none a read.0)
 
 -- and nothing is spelled where nothing is given
 pub none_spelled : {A : Type 0} (P : A → Type 0) (o : Option A) (a : A) → Reads P o → None ≡ o → ¬ P a
-none_spelled P None a none e is = none a is
-none_spelled P (Some b) a read e is = none-some b e
+none_spelled P o a read e is = none-some a (e ∙ reads_all P o a read is)
 
 -- two that are spelled are one
 pub reads_one : {A : Type 0} (P : A → Type 0) (o : Option A) (a b : A) → Reads P o → P a → P b → a ≡ b
@@ -49,7 +55,36 @@ pub reads-put : {A B : Type 0} (P : A → Type 0) (Q : B → Type 0) (put : A �
 reads-put P Q put None none back to = λ b is. none (back b is).0 (back b is).1
 reads-put P Q put (Some a) read back to = (to a read.0, λ b is. (back b is).2 ∙ ap put (read.1 (back b is).0 (back b is).1))
 
--- the same, said in another way
-pub reads-same : {A : Type 0} (P Q : A → Type 0) (o : Option A) → Reads P o → ((a : A) → P a → Q a) → ((a : A) → Q a → P a) → Reads Q o
-reads-same P Q None none to from = λ a is. none a (from a is)
-reads-same P Q (Some a) read to from = (to a read.0, λ b is. read.1 b (from b is))
+-- a choice that gave a value
+pub chosen : {A : Type 0} (b : Bool) (x y z : A) → cond b x y ≡ z → ((b ≡ true) × (x ≡ z)) ⊎ ((b ≡ false) × (y ≡ z))
+chosen true x y z e = inl (refl, e)
+chosen false x y z e = inr (refl, e)
+
+-- what a word names among some values has this word
+named_is : {A : Type 0} (spell : A → List ℕ) (xs : List A) (word : List ℕ) (x : A) → named spell xs word ≡ Some x → word ≡ spell x
+named_is spell [] word x e = absurd (none-some x e)
+named_is spell (y ∷ ys) word x e =
+    elim (chosen (bytes_eq word (spell y)) (Some y) (named spell ys word) (Some x) e) [
+      | inl held ↦ (bytes_eq-Decides word (spell y)).0 held.0 ∙ ap spell (same_Some y x held.1)
+      | inr failed ↦ named_is spell ys word x failed.1
+    ]
+
+-- where the word of each value names it, a word names the value whose word it is
+pub table_reads : {A : Type 0} (spell : A → List ℕ) (xs : List A) (word : List ℕ) → ((a : A) → named spell xs (spell a) ≡ Some a)
+    → Reads (λ a. word ≡ spell a) (named spell xs word)
+table_reads spell xs word found = reads-by (λ a. word ≡ spell a) (named spell xs word) (λ a is. ap (named spell xs) is ∙ found a) (named_is spell xs word)
+
+pub result_found : (r : ResultWord) → named word_of result_words (word_of r) ≡ Some r
+result_found r = grind arith
+
+pub word_passes : (r : ResultWord) → list_all is_letter (word_of r) ≡ true
+word_passes r = grind arith
+
+pub word_is_plain : (r : ResultWord) → list_all is_plain (word_of r) ≡ true
+word_is_plain r = grind arith
+
+pub reason_found : (why : Option CancelReason) → named reason_word reasons (reason_word why) ≡ Some why
+reason_found why = grind arith
+
+pub reason_passes : (why : Option CancelReason) → list_all is_plain (reason_word why) ≡ true
+reason_passes why = grind arith

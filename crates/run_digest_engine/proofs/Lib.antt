@@ -1,13 +1,6 @@
-pub mod Counting
 pub mod Entries
 pub mod Exact
-pub mod Extracting
-pub mod Numbers
 pub mod PlainWords
 pub mod Readings
 pub mod Reports
-pub mod Results
-pub mod RunTexts
 pub mod Starts
-pub mod Tables
-pub mod TextParts

@@ -1,14 +1,16 @@
 -- Words of plain bytes, joined and cut.
-use Rattle.std.proofs.Common.{◌≡◌, ℕ, ◌<◌, zero, suc, List, [], ◌∷◌, Bool, true, false, not, refl, ap, sym, ◌∙◌, arith, inl, inr, ltb-true}
-use Rattle.std.specs.Prelude.{◌==◌, ◌&&◌, All, nat_lt, slice_index}
+use Rattle.std.proofs.Common.{◌≡◌, ℕ, ◌<◌, List, [], ◌∷◌, Bool, true, false, not, refl, ap, ◌∙◌, arith, ltb-true}
+use Rattle.std.specs.Prelude.{◌==◌, ◌&&◌, All, nat_lt}
 use Rattle.std.specs.List.{join_with_byte, list_all, slice_split}
 use Rattle.std.specs.Str.{IsUtf8}
 use Rattle.std.proofs.lemmas.Bool.{and_parts}
-use Rattle.std.proofs.lemmas.Bool.Decides.{eqb_tells}
-use Rattle.std.proofs.lemmas.List.Elements.{All-cons, All-nil}
+use Rattle.std.proofs.lemmas.Bool.Decides.{nat_tests}
+use Rattle.std.proofs.lemmas.List.Elements.{All-cons, All-nil, All-weaker}
 use Rattle.std.proofs.lemmas.List.Folds.{list_all-append}
 use Rattle.std.proofs.lemmas.List.Splits.{slice_split_at, slice_split_none}
+use Rattle.std.proofs.lemmas.List.Sums.{AllPass-from_list_all, list_all-from_AllPass}
 use Rattle.std.proofs.lemmas.Str.{IsUtf8-from_ascii}
+use Rattle.std.proofs.lemmas.Str.Ascii.{IsAscii-from_all}
 
 -- a byte of ASCII, and no space
 abbrev pub is_plain : ℕ → Bool
@@ -28,21 +30,15 @@ lacks : (p : ℕ → Bool) (c : ℕ) (word : List ℕ) → p c ≡ false → lis
 lacks p c [] fails all = All-nil (λ b. (b == c) ≡ false)
 lacks p c (b ∷ bs) fails all =
     let both = and_parts (p b) (list_all p bs) all in
-    All-cons (λ x. (x == c) ≡ false) b bs (other both.0) (lacks p c bs fails both.1)
-  where
-    other : p b ≡ true → (b == c) ≡ false
-    other passes = elim (eqb_tells b c) [ inl same ↦ let clash : true ≡ false = sym passes ∙ ap p same.1 ∙ fails in absurd cc | inr different ↦ different.0 ]
+    All-cons (λ x. (x == c) ≡ false) b bs (grind (arith, nat_tests, both.0)) (lacks p c bs fails both.1)
 
 -- words that were joined are cut into themselves
 pub cut_joined : (p : ℕ → Bool) (c : ℕ) (word : List ℕ) (words : List (List ℕ)) → p c ≡ false → Pass p (word ∷ words)
     → slice_split (λ b. b == c) (join_with_byte c (word ∷ words)) ≡ word ∷ words
 cut_joined p c word [] fails pass = slice_split_none (λ b. b == c) word (lacks p c word fails pass.0)
 cut_joined p c word (next ∷ words) fails pass =
-    slice_split_at (λ b. b == c) word c (join_with_byte c (next ∷ words)) (lacks p c word fails pass.0) here
+    slice_split_at (λ b. b == c) word c (join_with_byte c (next ∷ words)) (lacks p c word fails pass.0) (grind (arith, nat_tests))
     ∙ ap (λ ws. word ∷ ws) (cut_joined p c next words fails pass.1)
-  where
-    here : (c == c) ≡ true
-    here = elim (eqb_tells c c) [ inl same ↦ same.0 | inr different ↦ absurd (different.1 refl) ]
 
 -- joined words pass, where the byte between them does
 pub join_passes : (p : ℕ → Bool) (c : ℕ) (words : List (List ℕ)) → p c ≡ true → Pass p words → list_all p (join_with_byte c words) ≡ true
@@ -53,10 +49,8 @@ join_passes p c (word ∷ next ∷ words) between pass =
 
 -- what passes a test passes a weaker one
 weaker : (p q : ℕ → Bool) → ((b : ℕ) → p b ≡ true → q b ≡ true) → (word : List ℕ) → list_all p word ≡ true → list_all q word ≡ true
-weaker p q implied [] all = refl
-weaker p q implied (b ∷ bs) all =
-    let both = and_parts (p b) (list_all p bs) all in
-    rw (implied b both.0, weaker p q implied bs both.1) refl
+weaker p q implied word all =
+    list_all-from_AllPass q word (All-weaker (λ b. p b ≡ true) (λ b. q b ≡ true) implied word (AllPass-from_list_all p word all))
 
 pub weaker_words : (p q : ℕ → Bool) → ((b : ℕ) → p b ≡ true → q b ≡ true) → (words : List (List ℕ)) → Pass p words → Pass q words
 weaker_words p q implied [] pass = tt
@@ -68,9 +62,5 @@ joined_is_text words pass =
     let line : List ℕ = join_with_byte 32 words in
     let is_ascii : ℕ → Bool = λ b. nat_lt b 128 in
     let ascii : Pass is_ascii words = weaker_words is_plain is_ascii (λ b e. (and_parts (is_ascii b) (not (b == 32)) e).0) words pass in
-    IsUtf8-from_ascii line (below line (join_passes is_ascii 32 words refl ascii))
-  where
-    below : (bs : List ℕ) → list_all (λ b. nat_lt b 128) bs ≡ true → (i : ℕ) → slice_index bs i < 128
-    below [] all i = omega arith
-    below (b ∷ bs) all zero = ltb-true b 128 (and_parts (nat_lt b 128) (list_all (λ x. nat_lt x 128) bs) all).0
-    below (b ∷ bs) all (suc i) = below bs (and_parts (nat_lt b 128) (list_all (λ x. nat_lt x 128) bs) all).1 i
+    let passes = AllPass-from_list_all is_ascii line (join_passes is_ascii 32 words refl ascii) in
+    IsUtf8-from_ascii line (IsAscii-from_all line (All-weaker (λ b. is_ascii b ≡ true) (λ b. b < 128) (λ b e. ltb-true b 128 e) line passes))

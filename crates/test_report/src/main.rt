@@ -1,49 +1,46 @@
-//! `test-report`: tells which tests of a run failed, and why, from the lines in which Rust's test
-//! harness or cargo nextest tells the run in JSON.
+//! `test-report`: reports which tests of a run failed, and why, from the JSON lines that Rust's test
+//! harness or cargo nextest writes.
 #![tactic(auto)]
 
-use clap::{Arg, ArgAction, ArgMatches, Command, value_parser};
+mod arguments;
+mod failure;
+mod files;
+mod output;
+
+use crate::arguments::{command, options_of};
+use crate::failure::Failure;
+use crate::files::{append, replace};
+use crate::output::Output;
+use clap::ArgMatches;
+use program_io::device::Sink;
 use program_io::std_device::{StdSink, StdSource};
+use run_events_stats::outcome::RunOutcome;
 use std::alloc::{AllocError, Global};
 use std::env;
 use std::fs::File;
-use std::io::{self, ErrorKind, Read};
+use std::io::{self, ErrorKind, IsTerminal, Read, Write};
 use std::process::ExitCode;
 use std::rt::{Env, Files};
 use test_report_engine::fault::Fault;
-use test_report_engine::report::report;
-use test_report_text::options::Options;
+use test_report_engine::report::Report;
+use test_report_forms::files::{FileForms, FileTexts};
+use test_report_forms::form::Form;
+use test_report_forms::github::GithubForm;
+use test_report_forms::html::HtmlForm;
+use test_report_forms::junit::JunitForm;
+use test_report_forms::markdown::MarkdownForm;
+use test_report_forms::names::NamesForm;
+use test_report_forms::options::Options;
+use test_report_forms::text::TextForm;
+use test_report_run::note::RunEnd;
 
-/// How many bytes of what says why a test failed are shown, where no word says another number.
-const LIMIT: &str = "4096";
+/// The exit status after an invalid argument.
+const BAD_ARGUMENT: u8 = 2;
 
-/// The exit status after a bad word.
-const BAD_WORD: u8 = 2;
+/// The exit status after a failure.
+const FAILED: u8 = 3;
 
-/// The words that the program takes.
-fn command<'a>(alloc: Global) -> Result<Command<'a>, AllocError> {
-    let file = Arg::new(alloc, "file").value_name("FILE").help(
-        "The lines of the run; standard input, where no file or `-` is named",
-    );
-    let limit = Arg::new(alloc, "limit")
-        .long("limit")
-        .value_name("BYTES")
-        .value_parser(value_parser!(usize))
-        .default_value(LIMIT)
-        .help("Show at most so many bytes of why a test failed");
-    let raw = Arg::new(alloc, "raw")
-        .long("raw")
-        .action(ArgAction::SetTrue)
-        .help("Keep control characters that tests wrote");
-    Command::new(alloc, "test-report")
-        .version("0.1.0")
-        .about("Tells which tests of a run failed, and why, from its JSON lines")
-        .arg(file)?
-        .arg(limit)?
-        .arg(raw)
-}
-
-/// The program's name and the words behind it, or nothing where one of them is not UTF-8.
+/// Returns the program's name and its arguments, or `None` if one of them is not UTF-8.
 fn words_of<R: Env + AllocGlobal>(rt: &R) -> Result<Option<Vec<String>>, Fault> {
     let args = match env::args(rt) {
         Ok(args) => args,
@@ -57,56 +54,166 @@ fn words_of<R: Env + AllocGlobal>(rt: &R) -> Result<Option<Vec<String>>, Fault> 
     Ok(Some(words))
 }
 
-/// Reports the run that a reader tells to standard output, and answers the status.
-fn report_from<R: AllocGlobal + Print, S: Read + Drop>(
-    rt: &R,
-    reader: S,
-    options: Options,
-) -> Result<u8, Fault> {
-    let mut source = StdSource::new(reader);
-    let mut sink = StdSink::new(io::writer(rt));
-    let success = report(rt.alloc(), &mut source, &mut sink, options)?;
-    Ok(u8::from(!success))
-}
-
-/// Reports the run that the words name, and answers the status.
-fn report_of<R: Files + AllocGlobal + Input + Print + Eprint>(
-    rt: &R,
+/// Returns the forms of the files that the arguments name.
+fn file_forms(
+    alloc: Global,
     matches: &ArgMatches<'_>,
-) -> Result<u8, Fault> {
-    let options = Options {
-        limit: matches.get_one::<usize>("limit").unwrap_or(0),
-        raw: matches.get_flag("raw"),
-    };
-    match matches.get_str("file") {
-        None | Some("-") => report_from(rt, rt.reader(), options),
-        Some(path) => report_file(rt, path, options),
-    }
-}
-
-/// Reports the run that a file tells, and answers the status.
-fn report_file<R: Files + AllocGlobal + Print + Eprint>(
-    rt: &R,
-    path: &str,
     options: Options,
-) -> Result<u8, Fault> {
+) -> Result<FileForms, AllocError> {
+    let mut forms = FileForms::none();
+    if matches.contains_id("junit") {
+        forms.junit = Some(JunitForm::new(alloc, options)?);
+    }
+    if matches.contains_id("html") {
+        forms.html = Some(HtmlForm::new(alloc, options));
+    }
+    if matches.contains_id("markdown") {
+        forms.markdown = Some(MarkdownForm::new(alloc, options));
+    }
+    Ok(forms)
+}
+
+/// Writes the files that the arguments name.
+fn write_files<'a, R: Files + AllocGlobal>(
+    rt: &R,
+    matches: &ArgMatches<'a>,
+    texts: &FileTexts,
+) -> Result<(), Failure<'a>> {
+    if let (Some(path), Some(text)) = (matches.get_str("junit"), &texts.junit) {
+        replace(rt, path, text.as_str()).map_err(|_| Failure::Write(path))?;
+    }
+    if let (Some(path), Some(text)) = (matches.get_str("html"), &texts.html) {
+        replace(rt, path, text.as_str()).map_err(|_| Failure::Write(path))?;
+    }
+    if let (Some(path), Some(text)) = (matches.get_str("markdown"), &texts.markdown) {
+        append(rt, path, text.as_str()).map_err(|_| Failure::Write(path))?;
+    }
+    Ok(())
+}
+
+/// Reads a file of the run, or standard input if its name is `-`.
+fn read_file<'a, R: Files + AllocGlobal + Input, F: Form + Drop, W: Sink>(
+    rt: &R,
+    path: &'a str,
+    report: &mut Report<F>,
+    sink: &mut W,
+) -> Result<(), Failure<'a>> {
+    if path == "-" {
+        read_from(rt.alloc(), rt.reader(), report, sink)?;
+        return Ok(());
+    }
     match File::open(rt, path) {
-        Ok(file) => report_from(rt, file, options),
-        Err(_) => {
-            let _ = eprintln!(rt; "test-report: {path} cannot be opened");
-            Ok(Fault::Read.status())
-        }
+        Ok(file) => Ok(read_from(rt.alloc(), file, report, sink)?),
+        Err(_) => Err(Failure::Open(path)),
     }
 }
 
-/// Does what the words ask for, and answers the status.
-fn run<R: Env + Files + AllocGlobal + Input + Print + Eprint>(rt: &R) -> Result<u8, Fault> {
+/// Reads a file of the run from a reader.
+fn read_from<S: Read + Drop, F: Form + Drop, W: Sink>(
+    alloc: Global,
+    reader: S,
+    report: &mut Report<F>,
+    sink: &mut W,
+) -> Result<(), Fault> {
+    if sink.has_failed() {
+        return Err(Fault::Write);
+    }
+    report.read_file(alloc, &mut StdSource::new(reader), sink)
+}
+
+/// Reads the files of the run, and writes the report. Returns the end of the run, and the texts of the files
+/// that are written as well.
+fn report_to<'a, R: Files + AllocGlobal + Input, F: Form + Drop, W: Write>(
+    rt: &R,
+    matches: &ArgMatches<'a>,
+    mut report: Report<F>,
+    output: &mut Output<W>,
+) -> Result<(RunEnd, FileTexts), Failure<'a>> {
+    let mut sink = StdSink::new(output);
+    match matches.get_strs("file") {
+        Some(paths) if !paths.is_empty() => {
+            for path in paths {
+                read_file(rt, path, &mut report, &mut sink)?;
+            }
+        }
+        _ => read_file(rt, "-", &mut report, &mut sink)?,
+    }
+    let texts = report.file_texts(rt.alloc())?;
+    if sink.has_failed() {
+        return Err(Failure::Fault(Fault::Write));
+    }
+    Ok((report.finish(rt.alloc(), &mut sink)?, texts))
+}
+
+/// Writes the report to standard output in a form, and then the files. Returns the exit status. A reader of
+/// standard output that has gone needs no message.
+fn report_in<'a, R: Files + AllocGlobal + Input + Print, F: Form + Drop>(
+    rt: &R,
+    matches: &ArgMatches<'a>,
+    options: Options,
+    form: F,
+) -> Result<u8, Failure<'a>> {
+    let files = file_forms(rt.alloc(), matches, options)?;
+    let report = Report::with_files(rt.alloc(), form, files)?;
+    let mut output = Output::new(io::writer(rt));
+    match report_to(rt, matches, report, &mut output) {
+        Ok((end, texts)) => {
+            write_files(rt, matches, &texts)?;
+            Ok(status_of(end.outcome, options))
+        }
+        Err(_) if output.is_closed() => Ok(FAILED),
+        Err(failure) => Err(failure),
+    }
+}
+
+/// Returns the exit status of a run with this outcome.
+fn status_of(outcome: RunOutcome, options: Options) -> u8 {
+    u8::from(!match outcome {
+        RunOutcome::Success => true,
+        RunOutcome::NoTestsRun => options.no_tests_pass,
+        RunOutcome::Cancelled { .. } | RunOutcome::Failed { .. } => false,
+    })
+}
+
+/// Writes the report that the arguments ask for, and returns the exit status.
+fn report_of<'a, R: Files + AllocGlobal + Input + Print>(
+    rt: &R,
+    matches: &ArgMatches<'a>,
+    options: Options,
+) -> Result<u8, Failure<'a>> {
+    let alloc = rt.alloc();
+    match matches.get_str("format") {
+        Some("github") => report_in(rt, matches, options, GithubForm::new(options)),
+        Some("names") => report_in(rt, matches, options, NamesForm),
+        Some("junit") => report_in(rt, matches, options, JunitForm::new(alloc, options)?),
+        Some("html") => report_in(rt, matches, options, HtmlForm::new(alloc, options)),
+        Some("markdown") => report_in(rt, matches, options, MarkdownForm::new(alloc, options)),
+        _ => report_in(rt, matches, options, TextForm::new(alloc, options)),
+    }
+}
+
+/// Returns true if standard output is coloured unless an argument says otherwise.
+fn has_colors(rt: &HostRuntime) -> bool {
+    rt.stdout().is_terminal() && env::var(rt, "NO_COLOR") == Err(env::VarError::NotPresent)
+}
+
+/// Does what the arguments ask for, and returns the exit status.
+fn run(rt: &HostRuntime) -> Result<u8, Fault> {
     let Some(words) = words_of(rt)? else {
         let _ = eprintln!(rt; "test-report: a word is not UTF-8");
-        return Ok(BAD_WORD);
+        return Ok(BAD_ARGUMENT);
     };
     match command(rt.alloc())?.try_get_matches_from(words.as_slice()) {
-        Ok(matches) => report_of(rt, &matches),
+        Ok(matches) => {
+            let options = options_of(&matches, has_colors(rt));
+            match report_of(rt, &matches, options) {
+                Ok(status) => Ok(status),
+                Err(failure) => {
+                    let _ = eprintln!(rt; "test-report: {failure}");
+                    Ok(FAILED)
+                }
+            }
+        }
         Err(error) if error.kind() == clap::error::ErrorKind::OutOfMemory => Err(
             Fault::OutOfMemory,
         ),

@@ -1,9 +1,5 @@
-pub mod ClosedSuites
-pub mod Input
-pub mod KeptLines
-pub mod LastSuite
-pub mod Reported
-pub mod RunLines
-pub mod Steps
-pub mod SuiteTexts
-pub mod Told
+pub mod Inputs
+pub mod Lines
+pub mod Lists
+pub mod Notes
+pub mod Reports

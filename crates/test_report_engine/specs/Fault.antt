@@ -1,10 +1,9 @@
 -- What a fault is to the caller of the program.
 use Rattle.std.specs.Prelude.{ℕ, List, codes}
-use Rattle.program_io.specs.Engine.{Stage, Reading, Writing}
 use Rattle.program_io.specs.declared.fault.DeviceFault.{DeviceFault}
 use Rattle.program_io.specs.declared.fault.DeviceFault.TheVariants as device
-use Rattle.test_report_suite.specs.declared.suite.SuiteError.{SuiteError}
-use Rattle.test_report_suite.specs.declared.suite.SuiteError.TheVariants as suite
+use Rattle.test_report_run.specs.declared.error.RunError.{RunError}
+use Rattle.test_report_run.specs.declared.error.RunError.TheVariants as run
 use Rattle.test_report_engine.specs.declared.fault.Fault.{Fault}
 use Rattle.test_report_engine.specs.declared.fault.Fault.TheVariants.{Read, Write, CounterFull, OutOfMemory}
 
@@ -14,19 +13,12 @@ fault_of device.Read = Read
 fault_of device.Write = Write
 fault_of device.OutOfMemory = OutOfMemory
 
--- an error of a suite, as a fault of the program
-abbrev pub fault_of_suite : SuiteError → Fault
-fault_of_suite suite.CounterFull = CounterFull
-fault_of_suite suite.OutOfMemory = OutOfMemory
+-- an error of a run, as a fault of the program
+abbrev pub fault_of_run : RunError → Fault
+fault_of_run run.CounterFull = CounterFull
+fault_of_run run.OutOfMemory = OutOfMemory
 
--- what the engine may have been doing when a fault came
-abbrev pub stage_of : Fault → Stage
-stage_of Read = Reading
-stage_of Write = Writing
-stage_of CounterFull = Reading
-stage_of OutOfMemory = Reading
-
--- the line that tells of a fault
+-- the text of a fault
 abbrev pub fault_text : Fault → List ℕ
 fault_text Read = codes "read failed"
 fault_text Write = codes "write failed"

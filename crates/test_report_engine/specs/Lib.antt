@@ -1,6 +1,5 @@
 pub mod Fault
-pub mod Kept
+pub mod Laws
 pub mod Lines
+pub mod Reading
 pub mod Report
-pub mod Run
-pub mod Steps

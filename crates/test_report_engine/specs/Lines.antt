@@ -1,10 +1,10 @@
--- The lines of an input, and what each says.
-use Rattle.std.specs.Prelude.{◌≡◌, ◌≢◌, ℕ, List, [], ◌∷◌, ◌++◌, All, Option, Some, None}
-use Rattle.std.specs.List.{flat_map}
+-- The lines of an input, and the events that they say.
+use Rattle.std.specs.Prelude.{◌≡◌, ◌≢◌, ℕ, List, [], ◌∷◌, ◌++◌, All}
+use Rattle.std.specs.List.{AllZip, flat_map}
 use Rattle.test_report_events.specs.Event.{EventView}
 use Rattle.test_report_events.specs.Line.{LineSays}
 
--- no line feed stands in the line
+-- the line has no line feed
 abbrev pub IsOneLine : List ℕ → Type 0
 IsOneLine line = All (λ b. b ≢ 10) line
 
@@ -17,7 +17,7 @@ abbrev pub not_empty : List ℕ → List (List ℕ)
 not_empty [] = []
 not_empty (b ∷ bs) = (b ∷ bs) ∷ []
 
--- these are the lines of an input: those that end with a line feed, and what stands behind the last line feed
+-- these are the lines of an input: those that end with a line feed, and the text after the last line feed, unless it is empty
 pub record AreLines (input : List ℕ) (lines : List (List ℕ)) : Type 0 where
   pub ended : List (List ℕ)
   pub last : List ℕ
@@ -25,7 +25,8 @@ pub record AreLines (input : List ℕ) (lines : List (List ℕ)) : Type 0 where
   pub one_line : All IsOneLine (ended ++ last ∷ [])
   pub lines_are : lines ≡ ended ++ not_empty last
 
--- the line says this event, or none
-abbrev pub Tells : List ℕ → Option EventView → Type 0
-Tells line None = (e : EventView) → ¬ LineSays line e
-Tells line (Some e) = LineSays line e
+-- these are the events of an input: what its lines say, line by line
+pub record AreEventsOf (input : List ℕ) (events : List EventView) : Type 0 where
+  pub lines : List (List ℕ)
+  pub are_lines : AreLines input lines
+  pub say : AllZip LineSays lines events

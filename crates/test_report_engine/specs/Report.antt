@@ -1,58 +1,89 @@
--- The report of a run.
-use Rattle.std.specs.Prelude.{◌≡◌, ◌+◌, ℕ, Bool, true, false, List, [], ◌∷◌, ◌++◌, map, Option}
-use Rattle.std.specs.List.{AllZip}
-use Rattle.run_events_stats.specs.Outcome.{IsHighest}
-use Rattle.run_events_stats.specs.declared.outcome.run_outcome.RunOutcome.{RunOutcome}
-use Rattle.run_events_stats.specs.declared.outcome.run_outcome.RunOutcome.TheVariants as outcome
-use Rattle.test_report_events.specs.Event.{EndView, EventView}
-use Rattle.test_report_suite.specs.Suite.{AreRunning}
-use Rattle.test_report_text.specs.Report.{IsFailureText, suite_text, totals_text}
-use Rattle.test_report_text.specs.declared.options.Options.{Options}
-use Rattle.test_report_engine.specs.Lines.{AreLines, Tells}
-use Rattle.test_report_engine.specs.Run.{IsRun, Run, SuiteLines, failures_of, has_end, passed_over_of, skipped_of, stats_of_suite, suite_outcome, totals_of}
+-- The report of a run, which the lines of inputs describe, one input after the other.
+use Rattle.std.specs.Prelude.{◌≡◌, ℕ, List, [], ◌∷◌, ◌++◌}
+use Rattle.std.specs.List.{AllZip, flat_map, fold}
+use Rattle.test_report_events.specs.Event.{EventView}
+use Rattle.test_report_forms.specs.Entry.{EntryView, IsEntryOf}
+use Rattle.test_report_forms.specs.Files.{FilesSay}
+use Rattle.test_report_forms.specs.declared.files.FileForms.{FileForms}
+use Rattle.test_report_forms.specs.declared.files.FileTexts.{FileTexts}
+use Rattle.test_report_run.specs.Note.{NoteView}
+use Rattle.test_report_run.specs.Run.{RunState, after, after_file, end_of, file_notes, notes_at, run_start, run_state}
+use Rattle.test_report_run.specs.declared.note.RunEnd.{RunEnd}
+use Rattle.test_report_run.specs.declared.run.TestRun.{TestRun}
+use Rattle.test_report_engine.specs.Lines.{AreEventsOf}
 
--- this is the text of failed tests, each once, in order
-abbrev pub AreFailures : Options → List EndView → List ℕ → Type 0
-AreFailures options [] text = text ≡ []
-AreFailures options (e ∷ es) text =
-    (first : List ℕ) × (rest : List ℕ) × IsFailureText options e first × AreFailures options es rest × (text ≡ first ++ rest)
+-- the run of a report. It and the next four do not unfold by themselves, since they are long
+unfoldable pub run_of : TestRun → RunState
+run_of run = run_state run
 
--- this is the text of the suite with this number: the names in it are those of the tests that began and never ended
-pub record IsSuiteText (number : ℕ) (s : SuiteLines) (text : List ℕ) : Type 0 where
-  pub running : List (List ℕ)
-  pub are_running : AreRunning s.lines running
-  pub is : text ≡ suite_text number (stats_of_suite s) (has_end s) running
+-- what a line makes known
+unfoldable pub line_notes : RunState → EventView → List NoteView
+line_notes run e = notes_at run e
 
--- this is the text of suites, each once, in order, the first with this number
-abbrev pub AreSuites : ℕ → List SuiteLines → List ℕ → Type 0
-AreSuites number [] text = text ≡ []
-AreSuites number (s ∷ ss) text =
-    (first : List ℕ) × (rest : List ℕ) × IsSuiteText number s first × AreSuites (number + 1) ss rest × (text ≡ first ++ rest)
+-- the run after a line
+unfoldable pub after_line : RunState → EventView → RunState
+after_line run e = after run e
 
--- this is the report of a run with this outcome: its failed tests, its suites, and the totals
-pub record IsReport (options : Options) (run : Run) (o : RunOutcome) (text : List ℕ) : Type 0 where
-  pub failures : List ℕ
-  pub are_failures : AreFailures options (failures_of run.suites) failures
-  pub suites : List ℕ
-  pub are_suites : AreSuites 1 run.suites suites
-  pub highest : IsHighest (map suite_outcome run.suites) o
-  pub is : text ≡ failures ++ suites ++ totals_text (totals_of run.suites) (skipped_of run.suites) o (passed_over_of run)
+-- what the end of an input makes known
+unfoldable pub end_notes : RunState → List NoteView
+end_notes run = file_notes run
 
--- the outcome is a success
-abbrev pub is_success : RunOutcome → Bool
-is_success outcome.Success = true
-is_success outcome.NoTestsRun = false
-is_success (outcome.Cancelled step) = false
-is_success (outcome.Failed step) = false
+-- the run after the end of an input
+unfoldable pub after_end : RunState → RunState
+after_end run = after_file run
 
--- this is the report of the run that the lines of an input say, and the answer is whether its outcome is a success
-pub record IsReportOf (options : Options) (input text : List ℕ) (success : Bool) : Type 0 where
-  pub lines : List (List ℕ)
-  pub are_lines : AreLines input lines
-  pub events : List (Option EventView)
-  pub tell : AllZip Tells lines events
-  pub run : Run
-  pub is_run : IsRun run events
-  pub outcome : RunOutcome
-  pub report : IsReport options run outcome text
-  pub success_is : success ≡ is_success outcome
+-- a run after lines that say these events
+abbrev pub run_after : RunState → List EventView → RunState
+run_after run events = fold after_line run events
+
+-- what lines make known that say these events
+abbrev pub notes_of : RunState → List EventView → List NoteView
+notes_of run [] = []
+notes_of run (e ∷ es) = line_notes run e ++ notes_of (after_line run e) es
+
+-- a run after an input with these events
+abbrev pub run_after_input : RunState → List EventView → RunState
+run_after_input run events = after_end (run_after run events)
+
+-- what an input makes known that has these events, with its end
+abbrev pub notes_of_input : RunState → List EventView → List NoteView
+notes_of_input run events = notes_of run events ++ end_notes (run_after run events)
+
+-- a run after inputs
+abbrev pub run_after_inputs : RunState → List (List EventView) → RunState
+run_after_inputs run inputs = fold run_after_input run inputs
+
+-- what inputs make known
+abbrev pub notes_of_inputs : RunState → List (List EventView) → List NoteView
+notes_of_inputs run [] = []
+notes_of_inputs run (events ∷ inputs) = notes_of_input run events ++ notes_of_inputs (run_after_input run events) inputs
+
+-- these are the entries of the run that inputs describe, and the run after them
+pub record AreEntriesOf (inputs : List (List ℕ)) (entries : List EntryView) (run : RunState) : Type 0 where
+  pub events : List (List EventView)
+  pub say : AllZip AreEventsOf inputs events
+  pub are : AllZip IsEntryOf (notes_of_inputs run_start events) entries
+  pub run_is : run ≡ run_after_inputs run_start events
+
+-- this is written of inputs before the end of the report: of each entry its line
+pub record AreLinesOf (line : EntryView → List ℕ) (inputs : List (List ℕ)) (text : List ℕ) : Type 0 where
+  pub entries : List EntryView
+  pub run : RunState
+  pub are : AreEntriesOf inputs entries run
+  pub is : text ≡ flat_map line entries
+
+-- this is the report of inputs, and the end of the run: the line of each entry, and then the end of the report
+pub record IsReport (line : EntryView → List ℕ) (last : List EntryView → RunEnd → List ℕ) (inputs : List (List ℕ)) (text : List ℕ) (end : RunEnd)
+    : Type 0 where
+  pub entries : List EntryView
+  pub run : RunState
+  pub are : AreEntriesOf inputs entries run
+  pub is : text ≡ flat_map line entries ++ last entries end
+  pub end_is : end ≡ end_of run
+
+-- these are the texts of the files for inputs
+pub record AreTexts (files : FileForms) (inputs : List (List ℕ)) (texts : FileTexts) : Type 0 where
+  pub entries : List EntryView
+  pub run : RunState
+  pub are : AreEntriesOf inputs entries run
+  pub say : FilesSay files entries (end_of run) texts

@@ -5,7 +5,7 @@ ghost use Rattle.std.specs.Prelude.{◌≡◌};
 use program_io::fault::DeviceFault;
 use std::alloc::{AllocError, AllocFailed};
 use std::fmt;
-use test_report_suite::suite::SuiteError;
+use test_report_run::error::RunError;
 
 /// Why `test-report` ends without a report. It is displayed as a few words, such as `read failed`.
 #[derive(Clone, Copy, Debug, PartialEq, Eq)]
@@ -47,16 +47,16 @@ impl From<DeviceFault> for Fault {
     }
 }
 
-impl From<SuiteError> for Fault {
+impl From<RunError> for Fault {
     ghost use Rattle.std.specs.Prelude.{◌≡◌};
-    ghost use Rattle.test_report_engine.specs.Fault.{fault_of_suite};
+    ghost use Rattle.test_report_engine.specs.Fault.{fault_of_run};
 
-    ghost from_gives = { λ error e. e ≡ fault_of_suite error };
+    ghost from_gives = { λ error e. e ≡ fault_of_run error };
 
-    fn from(error: SuiteError) -> Fault {
+    fn from(error: RunError) -> Fault {
         match error {
-            SuiteError::CounterFull => Fault::CounterFull,
-            SuiteError::OutOfMemory => Fault::OutOfMemory,
+            RunError::CounterFull => Fault::CounterFull,
+            RunError::OutOfMemory => Fault::OutOfMemory,
         }
     }
 }

@@ -1,18 +1,15 @@
-//! The report of a test run, from the JSON output of Rust's test harness or of nextest.
+//! The report of a test run, from the lines of Rust's test harness, cargo and cargo nextest.
 //!
-//! A call that reads the events of a run from a source and writes its report to a sink. It returns true
-//! if the run succeeded:
+//! Calls that read the run of a source, write its report to a sink, and say whether the run succeeded:
 //!
 //! ```rust
-//! let options = Options {
-//!     limit: 4_096,
-//!     raw: false,
-//! };
-//! report(alloc, source, sink, options)
+//! let mut report = Report::new(alloc, TextForm::new(alloc, options))?;
+//! report.read_file(alloc, source, sink)?;
+//! let end = report.finish(alloc, sink)?;
+//! Ok(end.outcome == RunOutcome::Success)
 //! ```
 #![tactic(auto)]
 
 pub mod fault;
-mod kept;
-mod reading;
+pub mod laws;
 pub mod report;

@@ -1,109 +1,260 @@
-//! The report of a run, from the lines of its events.
+//! The report of a run, written while the run goes on.
 
-ghost use Rattle.std.specs.Prelude.{◌≡◌, ◌↔◌, ◌⊎◌, true, false, IfErr, IfOk, IfSome, OnOk, IsErrOf};
-ghost use Rattle.std.specs.Io.KnownBytes.{IsAtEnd};
-ghost use Rattle.program_io.specs.Engine.{Answers, KeepsSink, ReadsToEnd};
-ghost use Rattle.test_report_engine.specs.Fault.{stage_of};
-ghost use Rattle.test_report_engine.specs.Kept.{HasRead, HasReadAll};
-ghost use Rattle.test_report_engine.specs.Report.{IsReportOf};
+ghost use Rattle.std.specs.Prelude.{◌≡◌, ◌≢◌, ◌↔◌, ◌⊎◌, ◌++◌, ◌∷◌, [], ℕ, true, false, List, Option, IfErr, IfOk, IfSome, OnOk, OnErr, IsErrOf, IsOk, map, string_bytes};
+ghost use Rattle.std.specs.Io.KnownBytes.{Appends, IsAtEnd};
+ghost use Rattle.program_io.specs.Transfer.{AppendsStart};
+ghost use Rattle.test_report_events.specs.Event.{EventView};
+ghost use Rattle.test_report_events.specs.Line.{LineSays};
+ghost use Rattle.test_report_forms.specs.Files.{FilesKnow};
+ghost use Rattle.test_report_forms.specs.declared.files.FileForms.{FileForms};
+ghost use Rattle.test_report_run.specs.Note.{note_view};
+ghost use Rattle.test_report_engine.specs.Lines.{IsOneLine};
+ghost use Rattle.test_report_engine.specs.Report.{AreTexts, line_notes, run_of};
 ghost use Rattle.test_report_engine.specs.declared.fault.Fault.TheVariants as faults;
 
 use crate::fault::Fault;
-use crate::kept::Kept;
-use crate::reading::Reading;
+use bstr::ByteSlice;
 use program_io::device::{Sink, Source};
 use program_io::transfer::write_all;
-use run_events_stats::outcome::RunOutcome;
-use std::alloc::Global;
-use test_report_text::options::Options;
+use std::alloc::{AllocError, Global};
+use test_report_events::line::Line;
+use test_report_forms::entry::Entry;
+use test_report_forms::files::{FileForms, FileTexts};
+use test_report_forms::form::Form;
+use test_report_run::note::{Note, RunEnd};
+use test_report_run::run::TestRun;
 
 /// The number of bytes that are read at once.
 const CHUNK: usize = 16_384;
 
-/// Reads a source to its end, piece by piece, and takes each line as soon as it is complete.
-fn read_lines<R: Source>(alloc: Global, source: &mut R, options: Options) -> Result<Reading, Fault>
-    requires { R.failed source.old ≡ false }
-    ensures reads { IfOk result (λ reading. IfSome (R.left source.old) (HasRead reading)) }
-    ensures options { IfOk result (λ reading. reading.kept.options ≡ options) }
-    ensures end { OnOk result (IsAtEnd (R.left source.new)) }
-    ensures errors { IfErr result
-        (λ e. (e ≡ faults.Read) ⊎ (e ≡ faults.CounterFull) ⊎ (e ≡ faults.OutOfMemory)) }
-    ensures read { IsErrOf result faults.Read ↔ (R.failed source.new ≡ true) }
-{
-    let mut reading = Reading::new(alloc, options);
-    let mut chunk = [0u8; CHUNK];
-    for _piece in 0..u64::MAX {
-        let n = match source.read(&mut chunk) {
-            Ok(n) => n,
-            Err(_) => return Err(Fault::Read),
-        };
-        if n == 0 {
-            return Ok(reading);
-        }
-        reading.on_bytes(alloc, &chunk[..n])?;
+/// A report that is written in one form while its input is read.
+#[derive(Drop)]
+pub struct Report<F: Form> {
+    run: TestRun,
+    form: F,
+    files: FileForms,
+}
+
+impl<F: Form + Drop> Report<F> {
+    ghost use Rattle.test_report_engine.specs.Reading as reading;
+
+    /// Returns a report of which nothing is written.
+    pub fn new(alloc: Global, form: F) -> Result<Report<F>, Fault>
+        ensures ok { IsOk result }
+        ensures reads { IfOk result (λ report. F.Knows form []
+            → reading.HasRead F.line F.last F.Knows form report [] []) }
+    {
+        Report::with_files(alloc, form, FileForms::none())
     }
-    Err(Fault::CounterFull)
-}
 
-/// Returns the state of the run after all lines of a source.
-fn read_run<R: Source>(alloc: Global, source: &mut R, options: Options) -> Result<Kept, Fault>
-    requires { R.failed source.old ≡ false }
-    ensures reads { IfOk result (λ kept. IfSome (R.left source.old) (HasReadAll kept)) }
-    ensures options { IfOk result (λ kept. kept.options ≡ options) }
-    ensures end { OnOk result (IsAtEnd (R.left source.new)) }
-    ensures errors { IfErr result
-        (λ e. (e ≡ faults.Read) ⊎ (e ≡ faults.CounterFull) ⊎ (e ≡ faults.OutOfMemory)) }
-    ensures read { IsErrOf result faults.Read ↔ (R.failed source.new ≡ true) }
-{
-    let mut reading = read_lines(alloc, source, options)?;
-    reading.finish(alloc)?;
-    let Reading { kept, begun: _ } = reading;
-    Ok(kept)
-}
+    /// Returns a report of which nothing is written, and which has texts for files at its end.
+    pub fn with_files(alloc: Global, form: F, files: FileForms) -> Result<Report<F>, Fault>
+        ensures ok { IsOk result }
+        ensures reads { IfOk result (λ report. F.Knows form []
+            → reading.HasRead F.line F.last F.Knows form report [] []) }
+        ensures files { IfOk result (λ report. FilesKnow files []
+            → reading.FilesHaveRead files report []) }
+    {
+        Ok(Report {
+            run: TestRun::new(alloc),
+            form,
+            files,
+        })
+    }
 
-/// Reads the events of a test run from `source` and writes a report to `sink`. Returns true if the
-/// outcome of the run is `Success`.
-///
-/// The input is the JSON output of Rust's test harness or of nextest, one event a line. The events of
-/// tests belong to the open suite, which is the one that began last and has not ended. A line is
-/// passed over and counted if it is no event, or if it is of a test that is not running.
-///
-/// The report lists
-///
-/// - each failed test, in the order in which they ended;
-/// - each suite in which a test failed, or fewer tests ran than were to run, or which has no end, or
-///   in which a test began and never ended, with the names of those tests;
-/// - the totals, the outcome of the run and the number of lines that were passed over.
-///
-/// The outcome of the run is the highest of the outcomes of its suites.
-///
-/// Neither device may have failed before. All input is read first, then the whole report is written,
-/// then the sink is flushed. After a fault nothing was written, except that after [`Fault::Write`]
-/// some first bytes of the report may have been written.
-///
-/// - [`Fault::Read`] if and only if the source fails, and [`Fault::Write`] if and only if the sink
-///   fails.
-/// - [`Fault::CounterFull`] if a number does not fit its counter.
-/// - [`Fault::OutOfMemory`] if there is not enough memory.
-pub fn report<R: Source, W: Sink>(
-    alloc: Global,
-    source: &mut R,
-    sink: &mut W,
-    options: Options,
-) -> Result<bool, Fault>
-    requires source_works { R.failed source.old ≡ false }
-    requires sink_works { W.failed sink.old ≡ false }
-    ensures read { IsErrOf result faults.Read ↔ (R.failed source.new ≡ true) }
-    ensures write { IsErrOf result faults.Write ↔ (W.failed sink.new ≡ true) }
-    ensures end { ReadsToEnd stage_of result (R.left source.new) }
-    ensures kept { KeepsSink stage_of result (W.written sink.old) (W.written sink.new) }
-    ensures flushed { OnOk result (W.flushed sink.new ≡ true) }
-    ensures answer { IfSome (R.left source.old)
-        (λ input. Answers stage_of (IsReportOf options input) result
-        (W.written sink.old) (W.written sink.new)) }
-{
-    let mut kept = read_run(alloc, source, options)?;
-    let outcome = kept.finish()?;
-    write_all(sink, kept.failures.as_bytes())?;
-    Ok(outcome == RunOutcome::Success)
+    /// Reads a file of the run to its end. What its lines make known is written, and the sink flushed, as
+    /// soon as a line is read.
+    ///
+    /// Neither device may have failed before. After a fault a beginning of what the lines of the file make
+    /// known was written.
+    ///
+    /// - [`Fault::Read`] if and only if the source fails, and [`Fault::Write`] if and only if the sink
+    ///   fails.
+    /// - [`Fault::CounterFull`] if a number does not fit its counter.
+    /// - [`Fault::OutOfMemory`] if there is not enough memory.
+    pub fn read_file<R: Source, W: Sink>(
+        &mut self,
+        alloc: Global,
+        source: &mut R,
+        sink: &mut W,
+    ) -> Result<(), Fault>
+        requires source_works { R.failed source.old ≡ false }
+        requires sink_works { W.failed sink.old ≡ false }
+        ensures read { IsErrOf result faults.Read ↔ (R.failed source.new ≡ true) }
+        ensures write { IsErrOf result faults.Write ↔ (W.failed sink.new ≡ true) }
+        ensures end { OnOk result (IsAtEnd (R.left source.new)) }
+        ensures flushed { OnOk result (W.flushed sink.old ≡ true → W.flushed sink.new ≡ true) }
+        ensures reads { OnOk result (IfSome (R.left source.old)
+            (λ input. reading.ReadsOneMore F.line F.last F.Knows self.old self.new input
+            (W.written sink.old) (W.written sink.new))) }
+        ensures files { OnOk result (IfSome (R.left source.old)
+            (λ input. (files : FileForms) (inputs : List (List ℕ)) → reading.FilesHaveRead files self.old inputs
+            → reading.FilesHaveRead files self.new (inputs ++ input ∷ []))) }
+        ensures breaks_off { OnErr result (IfSome (R.left source.old)
+            (λ input. reading.BreaksOff F.line F.last F.Knows self.old input
+            (W.written sink.old) (W.written sink.new))) }
+    {
+        test_report_events::laws::one_event_of_line();
+        test_report_forms::laws::one_entry();
+        let mut begun = Vec::new(alloc);
+        let mut chunk = [0u8; CHUNK];
+        for _piece in 0..u64::MAX {
+            let n = match source.read(&mut chunk) {
+                Ok(n) => n,
+                Err(_) => return Err(Fault::Read),
+            };
+            if n == 0 {
+                return self.end_file(alloc, begun.as_slice(), sink);
+            }
+            self.on_bytes(alloc, &mut begun, &chunk[..n], sink)?;
+        }
+        Err(Fault::CounterFull)
+    }
+
+    /// Returns the texts of the files, after the last file of the run was read.
+    pub fn file_texts(&mut self, alloc: Global) -> Result<FileTexts, Fault>
+        ensures texts { IfOk result (λ texts. (files : FileForms) (inputs : List (List ℕ))
+            → reading.FilesHaveRead files self.old inputs → AreTexts files inputs texts) }
+        ensures errors { IfErr result (λ e. e ≡ faults.OutOfMemory) }
+        ensures same { (form : F) (inputs : List (List ℕ)) (written : List ℕ)
+            → reading.HasRead F.line F.last F.Knows form self.old inputs written
+            → reading.HasRead F.line F.last F.Knows form self.new inputs written }
+    {
+        let end = self.run.end();
+        Ok(self.files.texts(alloc, &end)?)
+    }
+
+    /// Writes the end of the report, and returns the sums and the outcome of the run.
+    ///
+    /// The sink must not have failed before. After a fault a beginning of the end of the report was
+    /// written.
+    ///
+    /// - [`Fault::Write`] if and only if the sink fails.
+    /// - [`Fault::OutOfMemory`] if there is not enough memory.
+    pub fn finish<W: Sink>(mut self, alloc: Global, sink: &mut W) -> Result<RunEnd, Fault>
+        requires sink_works { W.failed sink.old ≡ false }
+        ensures write { IsErrOf result faults.Write ↔ (W.failed sink.new ≡ true) }
+        ensures errors { IfErr result (λ e. (e ≡ faults.Write) ⊎ (e ≡ faults.OutOfMemory)) }
+        ensures flushed { OnOk result (W.flushed sink.new ≡ true) }
+        ensures finishes { IfOk result (λ end. reading.Finishes F.line F.last F.Knows self end
+            (W.written sink.old) (W.written sink.new)) }
+        ensures breaks_off { OnErr result (reading.BreaksOffEnd F.line F.last F.Knows self
+            (W.written sink.old) (W.written sink.new)) }
+    {
+        test_report_events::laws::one_event_of_line();
+        test_report_forms::laws::one_entry();
+        let end = self.run.end();
+        let mut text = String::new(alloc);
+        self.form.on_end(alloc, &end, &mut text)?;
+        write_all(sink, text.as_bytes())?;
+        Ok(end)
+    }
+
+    /// Takes the next bytes of a file. `begun` is the beginning of the line that goes on.
+    fn on_bytes<W: Sink>(
+        &mut self,
+        alloc: Global,
+        begun: &mut Vec<u8>,
+        bytes: &[u8],
+        sink: &mut W,
+    ) -> Result<(), Fault>
+        requires sink_works { W.failed sink.old ≡ false }
+        requires one_line { IsOneLine begun.old.items }
+        ensures one_line { OnOk result (IsOneLine begun.new.items) }
+        ensures write { IsErrOf result faults.Write ↔ (W.failed sink.new ≡ true) }
+        ensures errors { IfErr result (λ e. e ≢ faults.Read) }
+        ensures flushed { OnOk result (W.flushed sink.old ≡ true → W.flushed sink.new ≡ true) }
+        ensures leads { OnOk result (reading.LeadsTo F.line F.last F.Knows self.old self.new
+            begun.old.items begun.new.items bytes.now (W.written sink.old) (W.written sink.new)) }
+        ensures starts { OnErr result ((rest : List ℕ) → reading.ReadsStart F.line self.old
+            (begun.old.items ++ (bytes.now ++ rest)) (W.written sink.old) (W.written sink.new)) }
+    {
+        test_report_events::laws::one_event_of_line();
+        test_report_forms::laws::one_entry();
+        let mut rest = bytes;
+        while let Some(at) = rest.find_byte(b'\n') {
+            let (end, after) = rest.split_at(at);
+            begun.extend_from_slice(end)?;
+            self.on_line(alloc, begun.as_slice(), sink)?;
+            begun.clear();
+            rest = &after[1..];
+        }
+        begun.extend_from_slice(rest)?;
+        Ok(())
+    }
+
+    /// Takes a line.
+    fn on_line<W: Sink>(&mut self, alloc: Global, bytes: &[u8], sink: &mut W) -> Result<(), Fault>
+        requires sink_works { W.failed sink.old ≡ false }
+        ensures write { IsErrOf result faults.Write ↔ (W.failed sink.new ≡ true) }
+        ensures errors { IfErr result (λ e. e ≢ faults.Read) }
+        ensures flushed { OnOk result (W.flushed sink.old ≡ true → W.flushed sink.new ≡ true) }
+        ensures reads { OnOk result (reading.ReadsLine F.line F.last F.Knows self.old self.new bytes.now
+            (W.written sink.old) (W.written sink.new)) }
+        ensures starts { OnErr result ((event : EventView) → LineSays bytes.now event
+            → reading.AppendsLinesStart (F.line self.old.form) (line_notes (run_of self.old.run) event)
+            (W.written sink.old) (W.written sink.new)) }
+    {
+        test_report_events::laws::one_event_of_line();
+        let line = Line::read(alloc, bytes)?;
+        let notes = self.run.on_event(alloc, line.event())?;
+        self.write(alloc, notes.as_slice(), sink)
+    }
+
+    /// Takes the end of a file. If there are bytes after the last line feed, they are a line.
+    fn end_file<W: Sink>(&mut self, alloc: Global, begun: &[u8], sink: &mut W) -> Result<(), Fault>
+        requires sink_works { W.failed sink.old ≡ false }
+        requires one_line { IsOneLine begun.now }
+        ensures write { IsErrOf result faults.Write ↔ (W.failed sink.new ≡ true) }
+        ensures errors { IfErr result (λ e. e ≢ faults.Read) }
+        ensures flushed { OnOk result (W.flushed sink.old ≡ true → W.flushed sink.new ≡ true) }
+        ensures reads { OnOk result (reading.ReadsInput F.line F.last F.Knows self.old self.new begun.now
+            (W.written sink.old) (W.written sink.new)) }
+        ensures starts { OnErr result (reading.ReadsStart F.line self.old begun.now
+            (W.written sink.old) (W.written sink.new)) }
+    {
+        test_report_events::laws::one_event_of_line();
+        test_report_forms::laws::one_entry();
+        if !begun.is_empty() {
+            self.on_line(alloc, begun, sink)?;
+        }
+        let notes = self.run.end_file(alloc)?;
+        self.write(alloc, notes.as_slice(), sink)
+    }
+
+    /// Writes what is known.
+    fn write<W: Sink>(&mut self, alloc: Global, notes: &[Note], sink: &mut W) -> Result<(), Fault>
+        requires sink_works { W.failed sink.old ≡ false }
+        ensures write { IsErrOf result faults.Write ↔ (W.failed sink.new ≡ true) }
+        ensures errors { IfErr result (λ e. e ≢ faults.Read) }
+        ensures flushed { OnOk result (W.flushed sink.old ≡ true → W.flushed sink.new ≡ true) }
+        ensures same_run { self.new.run ≡ self.old.run }
+        ensures writes { OnOk result (reading.WritesNotes F.line F.last F.Knows self.old self.new
+            (map note_view notes.now) (W.written sink.old) (W.written sink.new)) }
+        ensures starts { OnErr result (reading.AppendsLinesStart (F.line self.old.form)
+            (map note_view notes.now) (W.written sink.old) (W.written sink.new)) }
+    {
+        test_report_forms::laws::one_entry();
+        let text = self.lines_of(alloc, notes)?;
+        if text.is_empty() {
+            return Ok(());
+        }
+        write_all(sink, text.as_bytes())?;
+        Ok(())
+    }
+
+    /// Takes what is known, and returns the lines that are written of it.
+    fn lines_of(&mut self, alloc: Global, notes: &[Note]) -> Result<String, AllocError>
+        ensures same_run { self.new.run ≡ self.old.run }
+        ensures takes { IfOk result (λ text. reading.TakesNotes F.line F.last F.Knows self.old self.new
+            (map note_view notes.now) (string_bytes text)) }
+    {
+        let mut text = String::new(alloc);
+        for note in notes {
+            let entry = Entry::of(alloc, note)?;
+            self.files.on_entry(alloc, &entry)?;
+            self.form.on_entry(alloc, &entry, &mut text)?;
+        }
+        Ok(text)
+    }
 }

@@ -1,26 +1,28 @@
-//! The report over devices that fail.
+//! The report over devices that fail: what was written is a beginning of the report.
 
-use crate::devices::{Devices, OPTIONS, REPORT, RUN, SOUND, gives};
+use crate::devices::{Devices, PARTS, RUN, SOUND, gives, report_of_run};
 use std::test::Fail;
 use test_report_engine::fault::Fault;
 
 #[test]
-fn each_read_that_fails_is_answered(rt: HostRuntime) -> Result<(), Fail> {
-    // Three reads of the bytes, then the one that finds the end.
+fn each_read_that_fails_is_reported(rt: HostRuntime) -> Result<(), Fail> {
+    // Three reads of the bytes, of which the third has the run, and then the one that finds the end.
     let input = format!(in rt.alloc(); "{:x>40000}\n{RUN}", "")?;
-    let report = format!(in rt.alloc(); "{REPORT}lines passed over 1\n")?;
-    for at in 0..6 {
+    let known = format!(in rt.alloc(); "{}{}", PARTS[0], PARTS[1])?;
+    let report = report_of_run(rt.alloc())?;
+    for (at, wanted, text) in [
+        (0, Err(Fault::Read), ""),
+        (1, Err(Fault::Read), ""),
+        (2, Err(Fault::Read), ""),
+        (3, Err(Fault::Read), known.as_str()),
+        (4, Ok(false), report.as_str()),
+    ] {
         let devices = Devices {
             read_fails: Some(at),
             ..SOUND
         };
-        let (wanted, text) = if at < 4 {
-            (Err(Fault::Read), "")
-        } else {
-            (Ok(false), report.as_str())
-        };
         assert!(rt;
-            gives(rt.alloc(), input.as_bytes(), OPTIONS, devices, wanted, text),
+            gives(rt.alloc(), input.as_bytes(), devices, wanted, text),
             "read {at}"
         );
     }
@@ -28,39 +30,66 @@ fn each_read_that_fails_is_answered(rt: HostRuntime) -> Result<(), Fail> {
 }
 
 #[test]
-fn a_write_or_a_flush_that_fails_is_answered(rt: HostRuntime) {
-    // The write takes the whole report; the flush comes after it.
-    for (at, wanted, text) in [
-        (0, Err(Fault::Write), ""),
-        (1, Err(Fault::Write), REPORT),
-        (2, Ok(false), REPORT),
-    ] {
-        let devices = Devices {
-            write_fails: Some(at),
+fn each_write_and_each_flush_that_fails_is_reported(rt: HostRuntime) -> Result<(), Fail> {
+    // Each part is one write, and then one flush.
+    let mut written = String::new(rt.alloc());
+    for (number, part) in PARTS.into_iter().enumerate() {
+        let write = Devices {
+            write_fails: Some(number.saturating_mul(2)),
             ..SOUND
         };
-        assert!(rt;
-            gives(rt.alloc(), RUN.as_bytes(), OPTIONS, devices, wanted, text),
-            "call {at}"
-        );
-    }
-}
-
-#[test]
-fn a_sink_that_is_too_small_takes_the_beginning(rt: HostRuntime) {
-    for room in 0..REPORT.len() {
-        let devices = Devices { room, ..SOUND };
-        let text = REPORT.get(..room).unwrap_or("");
         assert!(rt;
             gives(
                 rt.alloc(),
                 RUN.as_bytes(),
-                OPTIONS,
-                devices,
+                write,
                 Err(Fault::Write),
-                text
+                written.as_str()
             ),
+            "write {number}"
+        );
+        written.push_str(part)?;
+        let flush = Devices {
+            write_fails: Some(number.saturating_mul(2).saturating_add(1)),
+            ..SOUND
+        };
+        assert!(rt;
+            gives(
+                rt.alloc(),
+                RUN.as_bytes(),
+                flush,
+                Err(Fault::Write),
+                written.as_str()
+            ),
+            "flush {number}"
+        );
+    }
+    let after = Devices {
+        write_fails: Some(6),
+        ..SOUND
+    };
+    assert!(rt;
+        gives(
+            rt.alloc(),
+            RUN.as_bytes(),
+            after,
+            Ok(false),
+            written.as_str()
+        )
+    );
+    Ok(())
+}
+
+#[test]
+fn a_sink_that_is_too_small_takes_the_beginning(rt: HostRuntime) -> Result<(), Fail> {
+    let report = report_of_run(rt.alloc())?;
+    for room in 0..report.len() {
+        let devices = Devices { room, ..SOUND };
+        let text = report.as_str().get(..room).unwrap_or("");
+        assert!(rt;
+            gives(rt.alloc(), RUN.as_bytes(), devices, Err(Fault::Write), text),
             "room for {room} bytes"
         );
     }
+    Ok(())
 }

@@ -1,8 +1,10 @@
-//! Tests of `test_report_engine` through its one call, of what its clauses leave to their words:
-//! whole reports that were written by hand, for hostile, cut, damaged and long inputs, and what is
-//! answered where a device fails.
+//! Tests of `test_report_engine` and of the crates below it through their public calls alone: what
+//! is written if a device fails, cut and damaged runs, long lines, several files, and each form. Whole
+//! reports of hostile runs are in `rust/tests/tests/reports`.
 #![tactic(auto)]
 
+#[cfg(test)]
+mod calls;
 #[cfg(test)]
 mod damage;
 #[cfg(test)]
@@ -10,8 +12,6 @@ mod devices;
 #[cfg(test)]
 mod failures;
 #[cfg(test)]
-mod hostile;
+mod forms;
 #[cfg(test)]
 mod long_lines;
-#[cfg(test)]
-mod shown;

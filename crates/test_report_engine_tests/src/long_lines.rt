@@ -1,20 +1,20 @@
-//! Lines that the pieces cross in which an input is read, and lines that nest deeply.
+//! Lines that cross the pieces in which an input is read, and lines that nest deeply.
 
-use crate::devices::{REPORT, RUN, reports};
+use crate::devices::{RUN, report_of_run, reports};
 use std::test::Fail;
 
-/// How many bytes of an input are read at once.
+/// The number of bytes of an input that are read at once.
 const PIECE: usize = 16_384;
 
 #[test]
 fn pieces_end_at_each_byte_of_a_run(rt: HostRuntime) -> Result<(), Fail> {
-    let report = format!(in rt.alloc(); "{REPORT}lines passed over 1\n")?;
+    let report = report_of_run(rt.alloc())?;
     for before in 0..=RUN.len() {
-        // The first piece has so many bytes of the run.
+        // The first piece ends with this number of bytes of the run.
         let width = PIECE.saturating_sub(before).saturating_sub(1);
         let input = format!(in rt.alloc(); "{:x>width$}\n{RUN}", "")?;
         assert!(rt;
-            reports(rt.alloc(), input.as_bytes(), false, report.as_str()),
+            reports(rt.alloc(), input.as_bytes(), report.as_str()),
             "{before} bytes"
         );
     }
@@ -26,38 +26,36 @@ fn a_line_of_many_pieces_is_shown_up_to_the_limit(rt: HostRuntime) -> Result<(),
     let input = format!(in rt.alloc();
         r#"{{"type":"suite","event":"started","test_count":1}}
 {{"type":"test","event":"started","name":"a"}}
-{{"type":"test","event":"failed","name":"a","message":"{:y>50000}"}}"#,
+{{"type":"test","event":"failed","name":"a","message":"{:y>50000}"}}
+{{"type":"suite","event":"failed"}}"#,
         ""
     )?;
     let report = format!(in rt.alloc();
-        "failed a\n    {:y>4096}\n  bytes not shown: 45904\n\
-         suite 1: failed, no line says that it ended, 1 of 1 tests ran, 1 failed\n\
-         tests 1 passed 0 failed 1 flaky 0 skipped 0\noutcome failed\n",
-        ""
+        "FAIL suite 1 a\n    {:y>4096}\n    (45904 more bytes)\n------------\n     \
+         Summary 1 tests run: 0 passed (0 flaky), 1 failed (0 timed out, 0 crashed), 0 skipped, 0 not run\n        \
+         FAIL suite 1 a: {:y>4096}\noutcome failed\n",
+        "", ""
     )?;
-    assert!(rt; reports(rt.alloc(), input.as_bytes(), false, report.as_str()));
+    assert!(rt; reports(rt.alloc(), input.as_bytes(), report.as_str()));
     Ok(())
 }
 
 #[test]
 fn lines_nest_at_most_127_deep(rt: HostRuntime) -> Result<(), Fail> {
-    let told = "suite 1: ended early, no line says that it ended, 0 of 3 tests ran, 0 failed\n\
-         tests 0 passed 0 failed 0 flaky 0 skipped 0\noutcome cancelled\n";
-    let passed_over = "tests 0 passed 0 failed 0 flaky 0 skipped 0\noutcome no-tests-run\n\
-         lines passed over 1\n";
+    let event = "suite 1 ended early\nsuite 1: 3 of 3 tests were not run\n------------\n     \
+         Summary 0 tests run: 0 passed (0 flaky), 0 failed (0 timed out, 0 crashed), 0 skipped, 3 not run\n\
+         outcome failed\n";
+    let print = "------------\n     \
+         Summary 0 tests run: 0 passed (0 flaky), 0 failed (0 timed out, 0 crashed), 0 skipped, 0 not run\n\
+         outcome no-tests-run\n";
     // The object itself is one level.
-    for (arrays, report) in [
-        (1, told),
-        (126, told),
-        (127, passed_over),
-        (50_000, passed_over),
-    ] {
+    for (arrays, report) in [(1, event), (126, event), (127, print), (50_000, print)] {
         let input = format!(in rt.alloc();
             r#"{{"type":"suite","event":"started","test_count":3,"nextest":{:[>arrays$}{:]>arrays$}}}"#,
             "", ""
         )?;
         assert!(rt;
-            reports(rt.alloc(), input.as_bytes(), false, report),
+            reports(rt.alloc(), input.as_bytes(), report),
             "{arrays} arrays"
         );
     }

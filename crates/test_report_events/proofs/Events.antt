@@ -1,145 +1,161 @@
--- What a value says is what the table gives, and nothing else.
-use Rattle.std.proofs.Common.{◌≡◌, ◌∙◌, ℕ, true, false, List, Option, Some, None, IfSome, codes, inl, inr, sym, ap, subst, refl, option_map}
-use Rattle.std.proofs.Math.Logic.{◌⊎◌, ⊎_elim}
+-- What an object says is what the table gives, and nothing else.
+use Rattle.std.proofs.Common.{◌≡◌, ◌≢◌, ◌∙◌, ℕ, Bool, true, false, List, Option, Some, None, IfSome, codes, inl, inr, cond, sym, ap, refl, subst, option_and_then}
+use Rattle.std.proofs.Math.Logic.{⊎_elim}
 use Rattle.std.proofs.lemmas.Bool.{cond-false, cond_both, false_from_ne_true, false≢true}
 use Rattle.std.proofs.lemmas.Slice.Eq.{bytes_eq-Decides}
 use Rattle.std.specs.Str.{bytes_eq}
 use Rattle.serde_json.specs.Data.{Data}
-use Rattle.test_report_events.proofs.Names.{names-one}
-use Rattle.test_report_events.specs.Event.{EndView, EventView, event_view, SuiteEnds, SuiteStarts, TestEnds, TestIsSlow, TestStarts}
-use Rattle.test_report_events.specs.Said.{EndsAs, HasEvent, HasType, IsOfTest, Names, Says, number_of, text_of}
-use Rattle.test_report_events.specs.Table.{end_said, failure_said, is_text, suite_said, test_said}
-use Rattle.test_report_events.specs.declared.event.Event.{Event}
+use Rattle.test_report_events.proofs.Times.{one-time}
+use Rattle.test_report_events.specs.Event.{EventView, SuiteEndView, TestEndView, SuiteStarts, SuiteEnds, TestStarts, TestEnds, OtherLine, HeadingLine, CargoFails, Prints}
+use Rattle.test_report_events.specs.Said.{EndsAs, HasEvent, HasName, HasType, HasVerdict, IsOther, ObjectSays, Says, text_of}
+use Rattle.test_report_events.specs.Table.{bench_result, is_text, object_said, suite_end_said, suite_said, test_end_said, test_said, typed_said}
 use Rattle.test_report_events.specs.declared.event.TestResult.{TestResult}
-use Rattle.test_report_events.specs.declared.event.TestResult.TheVariants.{Passed, Failed, TimedOut, Ignored}
+use Rattle.test_report_events.specs.declared.event.TestResult.TheVariants.{Ok, Failed, Ignored}
+
+-- an option that is known by its value gives what the function gives there
+at-some : {A B : Type 0} {o : Option A} {a : A} (f : A → Option B) → o ≡ Some a → option_and_then f o ≡ f a
+at-some f h = ap (option_and_then f) h
 
 some-one : {A : Type 0} {o : Option A} {a b : A} → o ≡ Some a → o ≡ Some b → a ≡ b
 some-one h k = let e = sym h ∙ k in cc
 
--- a member has one text
-apart : {o : Option (List ℕ)} {a b : List ℕ} → o ≡ Some a → o ≡ Some b → bytes_eq a b ≡ false → ⊥
-apart {o} {a} {b} h k differ = false≢true (sym differ ∙ (bytes_eq-Decides a b).1 (some-one h k))
+-- a text is not another one
+unlike : (w word : List ℕ) → w ≢ word → bytes_eq w word ≡ false
+unlike w word h = false_from_ne_true _ (λ same. h ((bytes_eq-Decides w word).0 same))
 
-text-tells : (o : Option (List ℕ)) (word : List ℕ) → is_text o word ≡ true → o ≡ Some word
-text-tells None word h = absurd (false≢true h)
-text-tells (Some w) word h = ap (λ x. Some x) ((bytes_eq-Decides w word).0 h)
+other-word : (w word : List ℕ) → bytes_eq w word ≡ false → w ≢ word
+other-word w word h same = false≢true (sym h ∙ (bytes_eq-Decides w word).1 same)
 
-text-told : (o : Option (List ℕ)) (word : List ℕ) → o ≡ Some word → is_text o word ≡ true
-text-told o word h = rw h ((bytes_eq-Decides word word).1 refl)
+read-as : {o : Option (List ℕ)} {w : List ℕ} (word : List ℕ) → o ≡ Some w → bytes_eq w word ≡ true → o ≡ Some word
+read-as {o} {w} word h same = h ∙ ap (λ x. Some x) ((bytes_eq-Decides w word).0 same)
 
--- the text of a member is the word that it equals
-pub read-as : {o : Option (List ℕ)} {w word : List ℕ} → Some w ≡ o → w ≡ word → o ≡ Some word
-read-as is same = sym is ∙ ap (λ x. Some x) same
+-- what holds of each value of a function holds of what an option gives
+each-some : {A B : Type 0} (P : B → Type 0) (f : A → Option B) (o : Option A) → ((a : A) → o ≡ Some a → IfSome (f a) P) → IfSome (option_and_then f o) P
+each-some P f None h = tt
+each-some P f (Some a) h = h a refl
 
-held : {o : Option (List ℕ)} (w word : List ℕ) → o ≡ Some w → bytes_eq w word ≡ true → o ≡ Some word
-held w word h same = read-as (sym h) ((bytes_eq-Decides w word).0 same)
+module _ (d : Data) (time : Option ℕ) where
+  -- one row of a table by words
+  row : (w word : List ℕ) (x y : Option EventView) → ((bytes_eq w word ≡ true) → IfSome x (Says time d)) → ((w ≢ word) → IfSome y (Says time d))
+      → IfSome (cond (bytes_eq w word) x y) (Says time d)
+  row w word x y h k = cond_both (bytes_eq w word) x y (λ o. IfSome o (Says time d)) h (λ differ. k (other-word w word differ))
 
--- the written name of an object is that of one test
-test-one : (d : Data) (a b : List ℕ) (m n : ℕ) → IsOfTest d a m → IsOfTest d b n → (a ≡ b) × (m ≡ n)
-test-one d a b m n h k = names-one h.0 a b m n h.2 (subst (λ w. Names w b n) (some-one k.1 h.1) k.2)
-
-module _ (d : Data) where
-  -- what was returned is said, where its view is
-  pub says-of : (r : Option Event) (o : Option EventView) → option_map event_view r ≡ o → IfSome o (Says d) → IfSome r (λ e. Says d (event_view e))
-  says-of None o is h = tt
-  says-of (Some e) o is h = subst (λ x. IfSome x (Says d)) (sym is) h
-
-  -- the object of a suite
-  started-says : HasType d (codes "suite") → HasEvent d (codes "started") → (o : Option ℕ) → number_of (codes "test_count") d ≡ o
-      → IfSome (option_map SuiteStarts o) (Says d)
-  started-says of is None h = tt
-  started-says of is (Some count) h = (of, is, h)
-
-  pub suite-says : (w : List ℕ) → HasType d (codes "suite") → HasEvent d w → IfSome (suite_said w d) (Says d)
+  suite-says : HasType d (codes "suite") → (w : List ℕ) → HasEvent d w → IfSome (suite_said time d w) (Says time d)
   unfolding suite_said
-  suite-says w of is =
-      let Holds : Option EventView → Type 0 = λ o. IfSome o (Says d) in
-      cond_both (bytes_eq w (codes "started")) _ _ Holds (λ same. started-says of (held w (codes "started") is same) _ refl)
-      (λ _. cond_both (bytes_eq w (codes "ok")) _ _ Holds (λ same. (of, inl (held w (codes "ok") is same)))
-      (λ _. cond_both (bytes_eq w (codes "failed")) _ _ Holds (λ same. (of, inr (held w (codes "failed") is same))) (λ _. tt)))
+  suite-says of w is =
+      row w (codes "started") _ _ (λ same. (of, read-as _ is same, refl, refl))
+      (λ a. row w (codes "ok") _ _ (λ same. (of, read-as _ is same, refl, refl, refl, refl, refl, refl))
+      (λ b. row w (codes "failed") _ _ (λ same. (of, read-as _ is same, refl, refl, refl, refl, refl, refl))
+      (λ c. inr (inl (of, (w, is, (a, b, c)))))))
 
-  -- an end is told by the object of a test or of a benchmark
-  end-row : (r : TestResult) → EndsAs d r → (HasType d (codes "test") × ((w : List ℕ) × HasEvent d w)) ⊎ HasType d (codes "bench")
-  end-row Passed (inl h) = inl (h.0, (_, h.1))
-  end-row Passed (inr h) = inr h
-  end-row Failed h = inl (h.0, (_, h.1))
-  end-row TimedOut h = inl (h.0, (_, h.1))
-  end-row Ignored h = inl (h.0, (_, h.1))
+  test-says : HasType d (codes "test") → (name : List ℕ) → HasName d name → (w : List ℕ) → HasEvent d w → IfSome (test_said time d name w) (Says time d)
+  unfolding test_said
+  test-says of name named w is =
+      row w (codes "started") _ _ (λ same. (of, read-as _ is same, named))
+      (λ a. row w (codes "ok") _ _ (λ same. (inl (of, read-as _ is same), named, refl, refl, refl, refl))
+      (λ b. row w (codes "failed") _ _ (λ same. ((inl of, read-as _ is same), named, refl, refl, refl, refl))
+      (λ c. row w (codes "ignored") _ _ (λ same. ((of, read-as _ is same), named, refl, refl, refl, refl))
+      (λ e. inr (inr (of, (name, named), (w, is, (a, b, c, e))))))))
 
-  pub suite-only : (w : List ℕ) → HasType d (codes "suite") → HasEvent d w → (e : EventView) → Says d e → suite_said w d ≡ Some e
+  -- how a benchmark ended
+  text-tells : (o : Option (List ℕ)) (word : List ℕ) → is_text o word ≡ true → o ≡ Some word
+  text-tells None word h = absurd (false≢true h)
+  text-tells (Some w) word h = ap (λ x. Some x) ((bytes_eq-Decides w word).0 h)
+
+  text-told : (o : Option (List ℕ)) (word : List ℕ) → o ≡ Some word → is_text o word ≡ true
+  text-told o word h = rw h ((bytes_eq-Decides word word).1 refl)
+
+  bench-ends : HasType d (codes "bench") → EndsAs d (bench_result d)
+  unfolding bench_result
+  bench-ends of = cond_both (is_text (text_of (codes "event") d) (codes "failed")) Failed Ok (EndsAs d)
+      (λ same. (inr of, text-tells _ _ same)) (λ differ. inr (of, λ failed. false≢true (sym differ ∙ text-told _ _ failed)))
+
+  bench-says : HasType d (codes "bench")
+      → IfSome (option_and_then (λ name. Some (TestEnds (test_end_said time d name (bench_result d)))) (text_of (codes "name") d)) (Says time d)
+  bench-says of = each-some (Says time d) (λ name. Some (TestEnds (test_end_said time d name (bench_result d)))) (text_of (codes "name") d)
+      (λ name named. (bench-ends of, named, refl, refl, refl, refl))
+
+  pub object-says : IfSome (object_said time d) (Says time d)
+  unfolding typed_said
+  object-says = each-some (Says time d) (typed_said time d) (text_of (codes "type") d) (λ w is.
+      row w (codes "report") _ _ (λ same. inl (read-as _ is same))
+      (λ _. row w (codes "suite") _ _ (λ same. each-some (Says time d) _ _ (suite-says (read-as _ is same)))
+      (λ _. row w (codes "test") _ _ (λ same. each-some (Says time d) _ _
+      (λ name named. each-some (Says time d) _ _ (test-says (read-as _ is same) name named)))
+      (λ _. row w (codes "bench") _ _ (λ same. bench-says (read-as _ is same))
+      (λ _. tt)))))
+
+  -- the end of a test is told by the table
+  end-only : (e : TestEndView) → Says time d (TestEnds e) → test_end_said time d e.name e.result ≡ e
+  end-only e h = λ i. record { name = e.name; result = e.result; stdout = sym h.2 i; message = sym h.3 i; reason = sym h.4 i; time = sym h.5 i }
+
+  suite-end-only : (e : SuiteEndView) → Says time d (SuiteEnds e) → suite_end_said time d e.failed_verdict ≡ e
+  suite-end-only e h = λ i. record {
+    key = sym h.2 i;
+    failed_verdict = e.failed_verdict;
+    passed = sym h.3 i;
+    failed = sym h.4 i;
+    ignored = sym h.5 i;
+    measured = sym h.6 i;
+    time = sym h.7 i;
+  }
+
+  of-suite : HasType d (codes "suite") → (w : List ℕ) → HasEvent d w → object_said time d ≡ suite_said time d w
+  unfolding typed_said
+  of-suite of w is = at-some (typed_said time d) of ∙ at-some (suite_said time d) is
+
+  of-test : HasType d (codes "test") → (name : List ℕ) → HasName d name → (w : List ℕ) → HasEvent d w → object_said time d ≡ test_said time d name w
+  unfolding typed_said
+  of-test of name named w is = at-some (typed_said time d) of
+      ∙ (at-some (λ x. option_and_then (test_said time d x) (text_of (codes "event") d)) named ∙ at-some (test_said time d name) is)
+
+  of-bench : HasType d (codes "bench") → (name : List ℕ) → HasName d name
+      → object_said time d ≡ Some (TestEnds (test_end_said time d name (bench_result d)))
+  unfolding typed_said
+  of-bench of name named = at-some (typed_said time d) of ∙ at-some (λ x. Some (TestEnds (test_end_said time d x (bench_result d)))) named
+
+  bench-failed : HasEvent d (codes "failed") → bench_result d ≡ Failed
+  unfolding bench_result
+  bench-failed is = rw is refl
+
+  bench-passed : (¬ HasEvent d (codes "failed")) → bench_result d ≡ Ok
+  unfolding bench_result
+  bench-passed h = cond-false _ Failed Ok (false_from_ne_true _ (λ same. h (text-tells _ _ same)))
+
+  -- an end has one row of the table
+  end-row : (name : List ℕ) → HasName d name → (r : TestResult) → EndsAs d r → object_said time d ≡ Some (TestEnds (test_end_said time d name r))
+  unfolding test_said
+  end-row name named Ok (inl h) = of-test h.0 name named _ h.1
+  end-row name named Ok (inr h) = of-bench h.0 name named ∙ ap (λ r. Some (TestEnds (test_end_said time d name r))) (bench-passed h.1)
+  end-row name named Failed h = ⊎_elim (λ of. of-test of name named _ h.1)
+      (λ of. of-bench of name named ∙ ap (λ r. Some (TestEnds (test_end_said time d name r))) (bench-failed h.1)) h.0
+  end-row name named Ignored h = of-test h.0 name named _ h.1
+
+  suite-end-row : (verdict : Bool) → HasType d (codes "suite") → HasVerdict d verdict → object_said time d ≡ Some (SuiteEnds (suite_end_said time d verdict))
   unfolding suite_said
-  suite-only w of is (SuiteStarts count) h = let e : w ≡ codes "started" = some-one is h.1 in rw e (ap (option_map SuiteStarts) h.2)
-  suite-only w of is SuiteEnds h =
-      ⊎_elim (λ k. let e : w ≡ codes "ok" = some-one is k in rw e refl) (λ k. let e : w ≡ codes "failed" = some-one is k in rw e refl) h.1
-  suite-only w of is (TestStarts name) h = absurd (apart of h.0 refl)
-  suite-only w of is (TestIsSlow name) h = absurd (apart of h.0 refl)
-  suite-only w of is (TestEnds e) h = ⊎_elim (λ k. absurd (apart of k.0 refl)) (λ k. absurd (apart of k refl)) (end-row e.result h.0)
+  suite-end-row true of is = of-suite of _ is
+  suite-end-row false of is = of-suite of _ is
 
-  -- the object of a test
-  module _ (name : List ℕ) (n : ℕ) (named : IsOfTest d name n) where
-    end-says : (r : TestResult) → EndsAs d r → Says d (TestEnds (end_said d name n r))
-    end-says r h = (h, named, refl, refl)
+  other-row : IsOther d → object_said time d ≡ Some OtherLine
+  unfolding suite_said test_said typed_said
+  other-row (inl of) = at-some (typed_said time d) of
+  other-row (inr (inl h)) = of-suite h.0 h.1.0 h.1.1
+      ∙ (let w = h.1.0 in let o = h.1.2 in rw (unlike w _ o.0, unlike w _ o.1, unlike w _ o.2) refl)
+  other-row (inr (inr h)) = of-test h.0 h.1.0 h.1.1 h.2.0 h.2.1
+      ∙ (let w = h.2.0 in let o = h.2.2 in rw (unlike w _ o.0, unlike w _ o.1, unlike w _ o.2, unlike w _ o.3) refl)
 
-    failed-as : HasType d (codes "test") → HasEvent d (codes "failed") → EndsAs d (failure_said d)
-    unfolding failure_said
-    failed-as of is = cond_both (is_text (text_of (codes "reason") d) (codes "time limit exceeded")) TimedOut Failed (EndsAs d)
-        (λ same. (of, is, text-tells _ _ same)) (λ other. (of, is, λ reason. false≢true (sym other ∙ text-told _ _ reason)))
+  pub object-only : (e : EventView) → Says time d e → object_said time d ≡ Some e
+  unfolding suite_said test_said
+  object-only (SuiteStarts key count) h = of-suite h.0 _ h.1 ∙ (λ i. Some (SuiteStarts (sym h.2 i) (sym h.3 i)))
+  object-only (SuiteEnds e) h = suite-end-row e.failed_verdict h.0 h.1 ∙ ap (λ x. Some (SuiteEnds x)) (suite-end-only e h)
+  object-only (TestStarts name) h = of-test h.0 name h.2 _ h.1
+  object-only (TestEnds e) h = end-row e.name h.1 e.result h.0 ∙ ap (λ x. Some (TestEnds x)) (end-only e h)
+  object-only OtherLine h = other-row h
+  object-only (HeadingLine suite) h = absurd h
+  object-only (CargoFails failure text plain) h = absurd h
+  object-only (Prints text plain) h = absurd h
 
-    pub test-says : (w : List ℕ) → HasType d (codes "test") → HasEvent d w → IfSome (test_said w d name n) (Says d)
-    unfolding test_said
-    test-says w of is =
-        let Holds : Option EventView → Type 0 = λ o. IfSome o (Says d) in
-        cond_both (bytes_eq w (codes "started")) _ _ Holds (λ same. (of, held w (codes "started") is same, (n, named)))
-        (λ _. cond_both (bytes_eq w (codes "timeout")) _ _ Holds (λ same. (of, held w (codes "timeout") is same, (n, named)))
-        (λ _. cond_both (bytes_eq w (codes "ok")) _ _ Holds (λ same. end-says Passed (inl (of, held w (codes "ok") is same)))
-        (λ _. cond_both (bytes_eq w (codes "failed")) _ _ Holds (λ same. end-says (failure_said d) (failed-as of (held w (codes "failed") is same)))
-        (λ _. cond_both (bytes_eq w (codes "ignored")) _ _ Holds (λ same. end-says Ignored (of, held w (codes "ignored") is same)) (λ _. tt)))))
-
-    end-only : (e : EndView) → Says d (TestEnds e) → end_said d name n e.result ≡ e
-    end-only e h =
-        let same = test-one d name e.name n e.attempts named h.1 in
-        λ i. record { name = same.0 i; attempts = same.1 i; result = e.result; output = sym h.2 i; message = sym h.3 i }
-
-    ends-only : (w : List ℕ) → HasType d (codes "test") → HasEvent d w → (r : TestResult) → EndsAs d r
-        → test_said w d name n ≡ Some (TestEnds (end_said d name n r))
-    unfolding test_said failure_said
-    ends-only w of is Passed (inl h) = let e : w ≡ codes "ok" = some-one is h.1 in rw e refl
-    ends-only w of is Passed (inr h) = absurd (apart of h refl)
-    ends-only w of is Failed h = let e : w ≡ codes "failed" = some-one is h.1 in
-        rw e (ap (λ r. Some (TestEnds (end_said d name n r))) (cond-false _ TimedOut Failed (false_from_ne_true _ (λ same. h.2 (text-tells _ _ same)))))
-    ends-only w of is TimedOut h = let e : w ≡ codes "failed" = some-one is h.1 in rw e (rw h.2 refl)
-    ends-only w of is Ignored h = let e : w ≡ codes "ignored" = some-one is h.1 in rw e refl
-
-    pub test-only : (w : List ℕ) → HasType d (codes "test") → HasEvent d w → (e : EventView) → Says d e → test_said w d name n ≡ Some e
-    unfolding test_said
-    test-only w of is (SuiteStarts count) h = absurd (apart of h.0 refl)
-    test-only w of is SuiteEnds h = absurd (apart of h.0 refl)
-    test-only w of is (TestStarts other) h = let e : w ≡ codes "started" = some-one is h.1 in rw e
-        (ap (λ x. Some (TestStarts x)) (test-one d name other n h.2.0 named h.2.1).0)
-    test-only w of is (TestIsSlow other) h = let e : w ≡ codes "timeout" = some-one is h.1 in rw e
-        (ap (λ x. Some (TestIsSlow x)) (test-one d name other n h.2.0 named h.2.1).0)
-    test-only w of is (TestEnds e) h = ends-only w of is e.result h.0 ∙ ap (λ x. Some (TestEnds x)) (end-only e h)
-
-    pub bench-only : HasType d (codes "bench") → (e : EventView) → Says d e → TestEnds (end_said d name n Passed) ≡ e
-    bench-only of (SuiteStarts count) h = absurd (apart of h.0 refl)
-    bench-only of SuiteEnds h = absurd (apart of h.0 refl)
-    bench-only of (TestStarts other) h = absurd (apart of h.0 refl)
-    bench-only of (TestIsSlow other) h = absurd (apart of h.0 refl)
-    bench-only of (TestEnds e) h = rw (passed e.result h.0) (ap TestEnds (end-only e h))
-      where
-        passed : (r : TestResult) → EndsAs d r → Passed ≡ r
-        passed Passed h = refl
-        passed Failed h = absurd (apart of h.0 refl)
-        passed TimedOut h = absurd (apart of h.0 refl)
-        passed Ignored h = absurd (apart of h.0 refl)
-
--- a value says one event
-pub one-event : (d : Data) (a b : EventView) → Says d a → Says d b → a ≡ b
-one-event d (SuiteStarts count) b h k = some-one (suite-only d _ h.0 h.1 _ h) (suite-only d _ h.0 h.1 b k)
-one-event d SuiteEnds b h k =
-    ⊎_elim (λ is. some-one (suite-only d _ h.0 is _ h) (suite-only d _ h.0 is b k)) (λ is. some-one (suite-only d _ h.0 is _ h) (suite-only d _ h.0 is b k)) h.1
-one-event d (TestStarts name) b h k = some-one (test-only d name h.2.0 h.2.1 _ h.0 h.1 _ h) (test-only d name h.2.0 h.2.1 _ h.0 h.1 b k)
-one-event d (TestIsSlow name) b h k = some-one (test-only d name h.2.0 h.2.1 _ h.0 h.1 _ h) (test-only d name h.2.0 h.2.1 _ h.0 h.1 b k)
-one-event d (TestEnds e) b h k =
-    ⊎_elim (λ is. some-one (test-only d e.name e.attempts h.1 is.1.0 is.0 is.1.1 _ h) (test-only d e.name e.attempts h.1 is.1.0 is.0 is.1.1 b k))
-    (λ is. sym (bench-only d e.name e.attempts h.1 is _ h) ∙ bench-only d e.name e.attempts h.1 is b k) (end-row d e.result h.0)
+-- an object of a line says one event
+pub one-object : (line : List ℕ) (d : Data) (a b : EventView) → ObjectSays line d a → ObjectSays line d b → a ≡ b
+one-object line d a b h k =
+    some-one (object-only d h.0 a h.2) (object-only d h.0 b (subst (λ t. Says t d b) (one-time line d k.0 h.0 k.1 h.1) k.2))

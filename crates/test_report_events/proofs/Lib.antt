@@ -1,5 +1,7 @@
+mod Colours
+mod Events
+mod Headings
 mod Objects
 mod Readings
-mod Attempts
-mod Names
-mod Events
+mod Times
+mod Values

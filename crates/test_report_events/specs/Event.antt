@@ -1,50 +1,99 @@
 -- What a line of a test run says.
-use Rattle.std.specs.Prelude.{ℕ, List, Option, option_map}
+use Rattle.std.specs.Prelude.{ℕ, List, ◌++◌, codes, Bool, Option, Some, None, option_map}
+use Rattle.std.specs.Fmt.{decimal}
+use Rattle.test_report_events.specs.declared.event.CargoFailure.{CargoFailure}
 use Rattle.test_report_events.specs.declared.event.Event.{Event}
 use Rattle.test_report_events.specs.declared.event.Event.TheVariants as event
-use Rattle.test_report_events.specs.declared.event.TestEnd.{TestEnd}
+use Rattle.test_report_events.specs.declared.event.SuiteEnd.{SuiteEnd}
+use Rattle.test_report_events.specs.declared.event.SuiteKey.{SuiteKey}
+use Rattle.test_report_events.specs.declared.event.TestDetails.{TestDetails}
 use Rattle.test_report_events.specs.declared.event.TestResult.{TestResult}
 
+-- the last line of a suite
+pub record SuiteEndView : Type 0 where
+  -- the key, as text
+  pub key : Option (List ℕ)
+  -- true if the suite failed
+  pub failed_verdict : Bool
+  -- the numbers of tests that passed, failed and were ignored, and of benchmarks that were measured
+  pub passed : Option ℕ
+  pub failed : Option ℕ
+  pub ignored : Option ℕ
+  pub measured : Option ℕ
+  -- the time, in microseconds
+  pub time : Option ℕ
+
 -- the end of a test
-pub record EndView : Type 0 where
-  -- the name of the test
+pub record TestEndView : Type 0 where
+  -- the name, as it is written
   pub name : List ℕ
-  -- how many attempts it took
-  pub attempts : ℕ
-  -- how it ended
+  -- how the test ended
   pub result : TestResult
-  -- what it wrote, where that was captured
-  pub output : Option (List ℕ)
-  -- what the harness says of it
+  -- its output, the message of the harness, and the reason for a failure
+  pub stdout : Option (List ℕ)
   pub message : Option (List ℕ)
+  pub reason : Option (List ℕ)
+  -- the time, in microseconds
+  pub time : Option ℕ
 
 -- what a line says
 pub data EventView : Type 0 where
-  -- a suite of so many tests begins
-  SuiteStarts : ℕ → EventView
-  -- the suite ends
-  SuiteEnds : EventView
-  -- a test begins
+  -- a suite with this key and number of tests starts
+  SuiteStarts : Option (List ℕ) → Option ℕ → EventView
+  -- a suite ends
+  SuiteEnds : SuiteEndView → EventView
+  -- a test with this name starts
   TestStarts : List ℕ → EventView
-  -- a test takes long
-  TestIsSlow : List ℕ → EventView
   -- a test ends
-  TestEnds : EndView → EventView
+  TestEnds : TestEndView → EventView
+  -- another line of a test harness
+  OtherLine : EventView
+  -- a heading, with the name of the suites that follow it
+  HeadingLine : List ℕ → EventView
+  -- something failed: what, the line, and the plain text of the line
+  CargoFails : CargoFailure → List ℕ → List ℕ → EventView
+  -- a print: the line, and the plain text of the line
+  Prints : List ℕ → List ℕ → EventView
 
--- what the end of a test says
-abbrev pub end_view : TestEnd → EndView
-end_view e = record {
-  name = e.name.now;
-  attempts = e.attempts;
-  result = e.result;
-  output = option_map (λ text. text.now) e.output;
-  message = option_map (λ text. text.now) e.message;
+-- the text of a key: `CRATE::BINARY`, and `@stress-N` if there is an index
+abbrev pub key_text : List ℕ → List ℕ → Option ℕ → List ℕ
+key_text crate_name binary None = crate_name ++ (codes "::" ++ binary)
+key_text crate_name binary (Some index) = crate_name ++ (codes "::" ++ (binary ++ (codes "@stress-" ++ decimal index)))
+
+-- the text of this key
+abbrev pub text_of_key : SuiteKey → List ℕ
+text_of_key k = key_text k.«package».now k.binary.now k.stress_index
+
+-- what the last line of a suite says
+abbrev pub suite_end_view : SuiteEnd → SuiteEndView
+suite_end_view e = record {
+  key = option_map text_of_key e.key;
+  failed_verdict = e.failed_verdict;
+  passed = e.passed;
+  failed = e.failed;
+  ignored = e.ignored;
+  measured = e.measured;
+  time = e.time;
+}
+
+-- what the end of a test says that has this name, this result and these details
+abbrev pub test_end_view : List ℕ → TestResult → TestDetails → TestEndView
+test_end_view name outcome details = record {
+  name = name;
+  result = outcome;
+  stdout = option_map (λ text. text.now) details.stdout;
+  message = option_map (λ text. text.now) details.message;
+  reason = option_map (λ text. text.now) details.reason;
+  time = details.time;
 }
 
 -- what an event says
 abbrev pub event_view : Event → EventView
-event_view (event.SuiteStarted count) = SuiteStarts count
-event_view event.SuiteEnded = SuiteEnds
+event_view (event.SuiteStarted key count) = SuiteStarts (option_map text_of_key key) count
+event_view (event.SuiteEnded e) = SuiteEnds (suite_end_view e)
 event_view (event.TestStarted name) = TestStarts name.now
-event_view (event.TestSlow name) = TestIsSlow name.now
-event_view (event.TestEnded e) = TestEnds (end_view e)
+event_view (event.TestEnded name outcome details) = TestEnds (test_end_view name.now outcome details)
+event_view event.Other = OtherLine
+event_view (event.Heading suite) = HeadingLine suite.now
+event_view (event.CargoFailed failure line plain) = CargoFails failure line.now plain.now
+event_view (event.Print line plain) = Prints line.now plain.now

@@ -1,5 +1,9 @@
+pub mod Cargo
+pub mod Content
 pub mod Event
 pub mod Laws
 pub mod Line
+pub mod Plain
 pub mod Said
 pub mod Table
+pub mod Time

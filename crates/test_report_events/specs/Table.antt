@@ -1,59 +1,78 @@
--- The table as functions on values: what the private steps answer. What a value says is defined apart from it, in Said.
-use Rattle.std.specs.Prelude.{◌≡◌, ◌<◌, ◌^◌, ℕ, List, codes, Bool, false, MatchOption, Option, Some, None, option_map, if◌then◌else◌}
-use Rattle.std.specs.Fmt.{decimal}
+-- The table as functions on values: what the private steps return. What an object says is defined apart from it, in Said.
+use Rattle.std.specs.Prelude.{ℕ, List, codes, Bool, true, false, MatchOption, Option, Some, None, option_and_then, if◌then◌else◌}
 use Rattle.std.specs.Str.{bytes_eq}
 use Rattle.serde_json.specs.Data.{Data}
-use Rattle.test_report_events.specs.Event.{EndView, EventView, SuiteEnds, SuiteStarts, TestEnds, TestIsSlow, TestStarts}
 use Rattle.serde_json.specs.View.{view}
 use Rattle.serde_json.specs.declared.value.Value.{Value}
+use Rattle.test_report_events.specs.Event.{EventView, SuiteEndView, TestEndView, SuiteStarts, SuiteEnds, TestStarts, TestEnds, OtherLine}
 use Rattle.test_report_events.specs.Line.{IsJson, IsLastObject, ObjectBegins}
-use Rattle.test_report_events.specs.Said.{number_of, text_of}
+use Rattle.test_report_events.specs.Said.{key_of, number_of, text_of, words_of}
 use Rattle.test_report_events.specs.declared.event.TestResult.{TestResult}
-use Rattle.test_report_events.specs.declared.event.TestResult.TheVariants.{Passed, Failed, TimedOut, Ignored}
+use Rattle.test_report_events.specs.declared.event.TestResult.TheVariants.{Ok, Failed, Ignored}
 
--- what the object of a suite says
-unfoldable pub suite_said : List ℕ → Data → Option EventView
-suite_said event d =
-    if bytes_eq event (codes "started") then option_map SuiteStarts (number_of (codes "test_count") d)
-    else if bytes_eq event (codes "ok") then Some SuiteEnds
-    else if bytes_eq event (codes "failed") then Some SuiteEnds
-    else None
-
--- the end of a test with this name and so many attempts
-abbrev pub end_said : Data → List ℕ → ℕ → TestResult → EndView
-end_said d name attempts result = record {
-  name = name;
-  attempts = attempts;
-  result = result;
-  output = text_of (codes "stdout") d;
-  message = text_of (codes "message") d;
+-- the end of a suite with this time and verdict
+abbrev pub suite_end_said : Option ℕ → Data → Bool → SuiteEndView
+suite_end_said time d verdict = record {
+  key = key_of d;
+  failed_verdict = verdict;
+  passed = number_of (codes "passed") d;
+  failed = number_of (codes "failed") d;
+  ignored = number_of (codes "ignored") d;
+  measured = number_of (codes "measured") d;
+  time = time;
 }
+
+-- what the object of a suite says, of this event
+unfoldable pub suite_said : Option ℕ → Data → List ℕ → Option EventView
+suite_said time d event =
+    if bytes_eq event (codes "started") then Some (SuiteStarts (key_of d) (number_of (codes "test_count") d))
+    else if bytes_eq event (codes "ok") then Some (SuiteEnds (suite_end_said time d false))
+    else if bytes_eq event (codes "failed") then Some (SuiteEnds (suite_end_said time d true))
+    else Some OtherLine
+
+-- the end of a test with this time, name and result
+abbrev pub test_end_said : Option ℕ → Data → List ℕ → TestResult → TestEndView
+test_end_said time d name outcome = record {
+  name = name;
+  result = outcome;
+  stdout = text_of (codes "stdout") d;
+  message = words_of (codes "message") d;
+  reason = words_of (codes "reason") d;
+  time = time;
+}
+
+-- what the object of a test says, of this name and event
+unfoldable pub test_said : Option ℕ → Data → List ℕ → List ℕ → Option EventView
+test_said time d name event =
+    if bytes_eq event (codes "started") then Some (TestStarts name)
+    else if bytes_eq event (codes "ok") then Some (TestEnds (test_end_said time d name Ok))
+    else if bytes_eq event (codes "failed") then Some (TestEnds (test_end_said time d name Failed))
+    else if bytes_eq event (codes "ignored") then Some (TestEnds (test_end_said time d name Ignored))
+    else Some OtherLine
 
 -- whether a text is there, and is this one
 abbrev pub is_text : Option (List ℕ) → List ℕ → Bool
 is_text None word = false
 is_text (Some text) word = bytes_eq text word
 
--- how a test failed
-unfoldable pub failure_said : Data → TestResult
-failure_said d = if is_text (text_of (codes "reason") d) (codes "time limit exceeded") then TimedOut else Failed
+-- how a benchmark ended
+unfoldable pub bench_result : Data → TestResult
+bench_result d = if is_text (text_of (codes "event") d) (codes "failed") then Failed else Ok
 
--- what the object of a test with this name and so many attempts says
-unfoldable pub test_said : List ℕ → Data → List ℕ → ℕ → Option EventView
-test_said event d name attempts =
-    if bytes_eq event (codes "started") then Some (TestStarts name)
-    else if bytes_eq event (codes "timeout") then Some (TestIsSlow name)
-    else if bytes_eq event (codes "ok") then Some (TestEnds (end_said d name attempts Passed))
-    else if bytes_eq event (codes "failed") then Some (TestEnds (end_said d name attempts (failure_said d)))
-    else if bytes_eq event (codes "ignored") then Some (TestEnds (end_said d name attempts Ignored))
+-- what an object of this type says
+unfoldable pub typed_said : Option ℕ → Data → List ℕ → Option EventView
+typed_said time d word =
+    if bytes_eq word (codes "report") then Some OtherLine
+    else if bytes_eq word (codes "suite") then option_and_then (suite_said time d) (text_of (codes "event") d)
+    else if bytes_eq word (codes "test") then
+    option_and_then (λ name. option_and_then (test_said time d name) (text_of (codes "event") d)) (text_of (codes "name") d)
+    else if bytes_eq word (codes "bench") then
+    option_and_then (λ name. Some (TestEnds (test_end_said time d name (bench_result d)))) (text_of (codes "name") d)
     else None
 
--- the number of attempts that digits say, if they say one
-abbrev pub IsAttempts : List ℕ → Option ℕ → Type 0
-IsAttempts digits found =
-    MatchOption found
-    ((n : ℕ) → 0 < n → n < 2 ^ 64 → ¬ (digits ≡ decimal n))
-    (λ n. (0 < n) × (n < 2 ^ 64) × (digits ≡ decimal n))
+-- what an object with this time says
+abbrev pub object_said : Option ℕ → Data → Option EventView
+object_said time d = option_and_then (typed_said time d) (text_of (codes "type") d)
 
 -- this was read of bytes: the value that they are the text of, if they are one
 abbrev pub IsValueOf : List ℕ → Option Value → Type 0

@@ -1,12 +1,13 @@
 //! The members of the JSON object of an event.
 
-ghost use Rattle.std.specs.Prelude.{◌≡◌, Some, IfSome, codes, option_map};
+ghost use Rattle.std.specs.Prelude.{◌≡◌, Some, MatchOption, codes, option_and_then, option_map};
 ghost use Rattle.serde_json.specs.View.{view};
-ghost use Rattle.test_report_events.specs.Event.{EventView, end_view, event_view};
+ghost use Rattle.test_report_events.specs.Event.{EventView, TestEnds, event_view, suite_end_view, text_of_key};
 ghost use Rattle.test_report_events.specs.Said as said;
-ghost use Rattle.test_report_events.specs.Table.{IsAttempts, end_said, failure_said, suite_said, test_said};
+ghost use Rattle.test_report_events.specs.Table.{bench_result, object_said, suite_end_said, suite_said, test_end_said, test_said, typed_said};
 
-use crate::event::{Event, TestEnd, TestResult};
+use crate::event::{Event, SuiteEnd, SuiteKey, TestDetails, TestResult};
+use crate::time::exec_time;
 use serde_json::Value;
 
 /// Returns the text of a member.
@@ -16,50 +17,96 @@ fn text_of<'a>(value: &'a Value, key: &str) -> Option<&'a str>
     value.get(key).and_then(Value::as_str)
 }
 
+/// Returns the text of a member, unless it is empty.
+fn words_of<'a>(value: &'a Value, key: &str) -> Option<&'a str>
+    ensures { option_map (λ text. text.now) result ≡ said.words_of key.now (view value.now) }
+{
+    match text_of(value, key) {
+        Some("") | None => None,
+        words => words,
+    }
+}
+
 /// Returns the number of a member.
-fn number_of(value: &Value, key: &str) -> Option<usize>
+fn number_of(value: &Value, key: &str) -> Option<u64>
     ensures { result ≡ said.number_of key.now (view value.now) }
 {
-    let number = value.get(key).and_then(Value::as_u64)?;
-    usize::try_from(number).ok()
+    value.get(key).and_then(Value::as_u64)
+}
+
+/// Returns the time of an object. `line` is the text that the object was read from.
+#[tactic(auto, using(crate::proofs::Times::time_is))]
+pub(crate) fn time_of(value: &Value, line: &[u8]) -> Option<u64>
+    ensures { said.IsTime line.now (view value.now) result }
+{
+    if value.get("exec_time").is_some_and(Value::is_number) {
+        exec_time(line)
+    } else {
+        None
+    }
+}
+
+/// Returns the key of a suite.
+fn key_of(value: &Value) -> Option<SuiteKey<'_>>
+    ensures { option_map text_of_key result ≡ said.key_of (view value.now) }
+{
+    let nextest = value.get("nextest")?;
+    Some(SuiteKey {
+        package: text_of(nextest, "crate")?,
+        binary: text_of(nextest, "test_binary")?,
+        stress_index: number_of(nextest, "stress_index"),
+    })
+}
+
+/// Returns the end of a suite.
+fn suite_end_of(value: &Value, time: Option<u64>, failed_verdict: bool) -> SuiteEnd<'_>
+    ensures { suite_end_view result ≡ suite_end_said time (view value.now) failed_verdict }
+{
+    SuiteEnd {
+        key: key_of(value),
+        failed_verdict,
+        passed: number_of(value, "passed"),
+        failed: number_of(value, "failed"),
+        ignored: number_of(value, "ignored"),
+        measured: number_of(value, "measured"),
+        time,
+    }
 }
 
 /// Returns the event of a suite's object.
 #[tactic(auto, unfolding(crate::specs::Table::suite_said))]
-fn suite_event_of<'a>(value: &'a Value, event: &str) -> Option<Event<'a>>
-    ensures { option_map event_view result ≡ suite_said event.now (view value.now) }
+fn suite_event_of<'a>(value: &'a Value, time: Option<u64>, event: &str) -> Option<Event<'a>>
+    ensures { option_map event_view result ≡ suite_said time (view value.now) event.now }
 {
     match event {
-        "started" => {
-            let test_count = number_of(value, "test_count")?;
-            Some(Event::SuiteStarted { test_count })
-        }
-        "ok" | "failed" => Some(Event::SuiteEnded),
-        _ => None,
+        "started" => Some(Event::SuiteStarted {
+            key: key_of(value),
+            test_count: number_of(value, "test_count"),
+        }),
+        "ok" => Some(Event::SuiteEnded(suite_end_of(value, time, false))),
+        "failed" => Some(Event::SuiteEnded(suite_end_of(value, time, true))),
+        _ => Some(Event::Other),
     }
 }
 
 /// Returns the end of a test.
-fn end_of<'a>(value: &'a Value, name: &'a str, attempts: usize, test: TestResult) -> TestEnd<'a>
-    ensures { end_view result ≡ end_said (view value.now) name.now attempts test }
+fn test_end_of<'a>(
+    value: &'a Value,
+    time: Option<u64>,
+    name: &'a str,
+    outcome: TestResult,
+) -> Event<'a>
+    ensures { event_view result ≡ TestEnds (test_end_said time (view value.now) name.now outcome) }
 {
-    TestEnd {
+    Event::TestEnded {
         name,
-        attempts,
-        result: test,
-        output: text_of(value, "stdout"),
-        message: text_of(value, "message"),
-    }
-}
-
-/// Returns the result of a failed test.
-#[tactic(auto, unfolding(crate::specs::Table::failure_said))]
-fn failure_of(value: &Value) -> TestResult
-    ensures { result ≡ failure_said (view value.now) }
-{
-    match text_of(value, "reason") {
-        Some("time limit exceeded") => TestResult::TimedOut,
-        _ => TestResult::Failed,
+        result: outcome,
+        details: TestDetails {
+            stdout: text_of(value, "stdout"),
+            message: words_of(value, "message"),
+            reason: words_of(value, "reason"),
+            time,
+        },
     }
 }
 
@@ -67,62 +114,57 @@ fn failure_of(value: &Value) -> TestResult
 #[tactic(auto, unfolding(crate::specs::Table::test_said))]
 fn test_event_of<'a>(
     value: &'a Value,
-    event: &str,
+    time: Option<u64>,
     name: &'a str,
-    attempts: usize,
+    event: &str,
 ) -> Option<Event<'a>>
-    ensures { option_map event_view result
-        ≡ test_said event.now (view value.now) name.now attempts }
+    ensures { option_map event_view result ≡ test_said time (view value.now) name.now event.now }
 {
-    let result = match event {
-        "started" => return Some(Event::TestStarted { name }),
-        "timeout" => return Some(Event::TestSlow { name }),
-        "ok" => TestResult::Passed,
-        "failed" => failure_of(value),
-        "ignored" => TestResult::Ignored,
-        _ => return None,
-    };
-    Some(Event::TestEnded(end_of(value, name, attempts, result)))
-}
-
-/// Parses a number of attempts, which has no sign and no leading zero.
-fn attempts_of(digits: &str) -> Option<usize>
-    ensures { IsAttempts digits.now result }
-{
-    if digits.starts_with('+') || digits.starts_with('0') {
-        return None;
+    match event {
+        "started" => Some(Event::TestStarted { name }),
+        "ok" => Some(test_end_of(value, time, name, TestResult::Ok)),
+        "failed" => Some(test_end_of(value, time, name, TestResult::Failed)),
+        "ignored" => Some(test_end_of(value, time, name, TestResult::Ignored)),
+        _ => Some(Event::Other),
     }
-    digits.parse().ok()
 }
 
-/// Splits a written name into the name of a test and the number of its attempts.
-fn name_of(written: &str) -> (&str, usize)
-    ensures { said.Names written.now result.0.now result.1 }
+/// Returns the result of a benchmark, which passed unless it failed.
+#[tactic(auto, unfolding(crate::specs::Table::bench_result))]
+fn bench_result_of(value: &Value) -> TestResult
+    ensures { result ≡ bench_result (view value.now) }
 {
-    if let Some((name, digits)) = written.rsplit_once('#') {
-        if let Some(attempts) = attempts_of(digits) {
-            return (name, attempts);
-        }
+    match text_of(value, "event") {
+        Some("failed") => TestResult::Failed,
+        _ => TestResult::Ok,
     }
-    (written, 1)
 }
 
-/// Returns the event of an object.
-pub(crate) fn event_of(value: &Value) -> Option<Event<'_>>
-    ensures says { IfSome result (λ e. said.Says (view value.now) (event_view e)) }
-    ensures only { (event : EventView) → said.Says (view value.now) event
-        → option_map event_view result ≡ Some event }
+/// Returns the event of an object of a type.
+#[tactic(auto, unfolding(crate::specs::Table::typed_said))]
+fn typed_event_of<'a>(value: &'a Value, time: Option<u64>, kind: &str) -> Option<Event<'a>>
+    ensures { option_map event_view result ≡ typed_said time (view value.now) kind.now }
 {
-    match text_of(value, "type")? {
-        "suite" => suite_event_of(value, text_of(value, "event")?),
-        "test" => {
-            let (name, attempts) = name_of(text_of(value, "name")?);
-            test_event_of(value, text_of(value, "event")?, name, attempts)
-        }
+    match kind {
+        "report" => Some(Event::Other),
+        "suite" => suite_event_of(value, time, text_of(value, "event")?),
+        "test" => test_event_of(
+            value,
+            time,
+            text_of(value, "name")?,
+            text_of(value, "event")?,
+        ),
         "bench" => {
-            let (name, attempts) = name_of(text_of(value, "name")?);
-            Some(Event::TestEnded(end_of(value, name, attempts, TestResult::Passed)))
+            let name = text_of(value, "name")?;
+            Some(test_end_of(value, time, name, bench_result_of(value)))
         }
         _ => None,
     }
+}
+
+/// Returns the event of an object with a time.
+pub(crate) fn event_of(value: &Value, time: Option<u64>) -> Option<Event<'_>>
+    ensures { option_map event_view result ≡ object_said time (view value.now) }
+{
+    typed_event_of(value, time, text_of(value, "type")?)
 }

@@ -1,4 +1,5 @@
 pub mod DisplayerLemmas
+pub mod EndOfLines
 pub mod Lists
 pub mod RunnerLemmas
-pub mod SuiteLemmas
+pub mod WholeReports

@@ -3,4 +3,3 @@ pub mod ExitStatus
 pub mod Junit
 pub mod Recorder
 pub mod Runner
-pub mod Suite

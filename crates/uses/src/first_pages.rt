@@ -1,4 +1,4 @@
-//! Short callers that the first pages of libraries show, where no other file has one.
+//! Short callers that the first pages of libraries show, if no other file has one.
 
 ghost use Rattle.std.specs.Prelude.{◌≡◌, ◌||◌, if◌then◌else◌, codes, is_none};
 ghost use Rattle.run_events.specs.Config.{is_final_display, is_immediate_display};

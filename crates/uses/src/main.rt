@@ -1,5 +1,5 @@
 //! Examples of use of the layer: a runner, a displayer, a JUnit writer, a recorder and the exit
-//! status of a run, and the callers that the pages on calling the libraries show, which stand in the
+//! status of a run, and the callers that the pages on calling the libraries show, which are in the
 //! files `of_LIBRARY`; each on a small input. The libraries' first pages show some of these, and of
 //! `first_pages`.
 #![tactic(auto)]
@@ -15,8 +15,8 @@ mod of_run_digest_engine;
 mod of_run_events;
 mod of_test_report_engine;
 mod of_test_report_events;
-mod of_test_report_suite;
-mod of_test_report_text;
+mod of_test_report_forms;
+mod of_test_report_run;
 mod pages;
 mod recorder;
 mod runner;

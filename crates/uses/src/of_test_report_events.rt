@@ -1,6 +1,6 @@
 //! The caller that the page on calling `test_report_events` shows.
 
-ghost use Rattle.std.specs.Prelude.{IfOk, IfSome};
+ghost use Rattle.std.specs.Prelude.{IfOk, IsSome, List, Option, ℕ};
 ghost use Rattle.test_report_events.specs.Event.{SuiteStarts};
 ghost use Rattle.test_report_events.specs.Line.{LineSays};
 
@@ -8,14 +8,14 @@ use std::alloc::{AllocError, Global};
 use test_report_events::event::Event;
 use test_report_events::line::Line;
 
-/// How many tests the suite has that begins at a line, if the line says that one does.
-pub fn test_count_of(alloc: Global, bytes: &[u8]) -> Result<Option<usize>, AllocError>
+/// Returns the number of tests of the suite that starts with this line, if the line says one.
+pub fn test_count_of(alloc: Global, bytes: &[u8]) -> Result<Option<u64>, AllocError>
     ensures says { IfOk result
-        (λ found. IfSome found (λ count. LineSays bytes.now (SuiteStarts count))) }
+        (λ count. IsSome count → (key : Option (List ℕ)) × LineSays bytes.now (SuiteStarts key count)) }
 {
     let line = Line::read(alloc, bytes)?;
     match line.event() {
-        Some(Event::SuiteStarted { test_count }) => Ok(Some(test_count)),
+        Event::SuiteStarted { test_count, .. } => Ok(test_count),
         _ => Ok(None),
     }
 }

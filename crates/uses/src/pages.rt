@@ -1,4 +1,4 @@
-//! What the callers of the pages on calling answer.
+//! Runs the callers that the pages on calling show, and prints what they return.
 
 use crate::demo::{PANICKED, PASSED, START};
 use crate::first_pages::{is_displayed, is_over, word_of_end};
@@ -8,8 +8,8 @@ use crate::of_run_digest_engine::first_bad_line;
 use crate::of_run_events::{ends_well, finished_at_first, stats_of_test};
 use crate::of_test_report_engine::succeeds;
 use crate::of_test_report_events::test_count_of;
-use crate::of_test_report_suite::suite_behind;
-use crate::of_test_report_text::failure_text;
+use crate::of_test_report_forms::text_of_note;
+use crate::of_test_report_run::end_of_lines;
 use program_io::memory_device::{MemorySink, MemorySource};
 use run_events::config::TestOutputDisplay;
 use run_events::progress::StressProgress;
@@ -17,30 +17,30 @@ use run_events::stats::FinishedUnit;
 use std::io;
 use std::time::Duration;
 use test_report_engine::fault::Fault;
-use test_report_events::event::{TestEnd, TestResult};
+use test_report_forms::options::Options;
+use test_report_run::note::{Disagreement, Note};
 
 /// A run whose line 3 names no result.
 const BAD_RUN: &[u8] = b"run 2 0 -\ntest pass\ntest maybe\n";
 
-/// A line at which a suite begins.
+/// The line that starts a suite of ten tests.
 const SUITE: &[u8] = b"{ \"type\": \"suite\", \"event\": \"started\", \"test_count\": 10 }";
 
-/// A test that failed at its second attempt, and wrote in red.
-const FAILED: TestEnd<'static> = TestEnd {
-    name: "divides",
-    attempts: 2,
-    result: TestResult::Failed,
-    output: Some("\u{1b}[31mby zero\n"),
-    message: None,
+/// The options of a report.
+const OPTIONS: Options = Options {
+    limit: 4_096,
+    raw: false,
+    color: false,
+    no_tests_pass: false,
 };
 
-/// Lines at which a test begins and passes, and another begins.
-const PARSES_BEGINS: &[u8] =
+/// Lines that start a test, end it, and start another test, which has no end.
+const PARSES_STARTS: &[u8] =
     b"{ \"type\": \"test\", \"event\": \"started\", \"name\": \"parses\" }";
 
 const PARSES_PASSES: &[u8] = b"{ \"type\": \"test\", \"event\": \"ok\", \"name\": \"parses\" }";
 
-const PRINTS_BEGINS: &[u8] =
+const PRINTS_STARTS: &[u8] =
     b"{ \"type\": \"test\", \"event\": \"started\", \"name\": \"prints\" }";
 
 /// The lines of a run that ended while its third test was running.
@@ -53,7 +53,7 @@ const ABORTED_RUN: &[u8] = b"{ \"type\": \"suite\", \"event\": \"started\", \"te
       { \"type\": \"test\", \"event\": \"started\", \"name\": \"loops\" }\n\
       what a test printed\n";
 
-/// Prints what each of the callers answers, for the output of a test and the units of a run.
+/// Prints what each of the callers returns, for the output of a test and the units of a run.
 pub(crate) fn show<R: AllocGlobal + Print>(
     rt: &R,
     output: &[u8],
@@ -77,12 +77,12 @@ pub(crate) fn show<R: AllocGlobal + Print>(
     show_bad_line(rt)?;
     show_copy(rt)?;
     show_test_count(rt)?;
-    show_suite(rt)?;
-    show_failure(rt)?;
+    show_end(rt)?;
+    show_note(rt)?;
     show_report(rt)
 }
 
-/// Prints what the callers of first pages answer, for two ends, one display and one repeated run.
+/// Prints what the callers of first pages return, for two ends, one display and one repeated run.
 fn show_first_pages<R: Print>(rt: &R) -> io::Result<()> {
     let (passed, panicked) = (word_of_end(PASSED.outcome), word_of_end(PANICKED.outcome));
     println!(rt; "  ends: {passed}, {panicked}")?;
@@ -132,23 +132,22 @@ fn show_test_count<R: AllocGlobal + Print>(rt: &R) -> io::Result<()> {
     }
 }
 
-/// Prints the text of the failed test.
-fn show_failure<R: AllocGlobal + Print>(rt: &R) -> io::Result<()> {
-    let text = failure_text(rt.alloc(), FAILED)?;
-    print!(rt; "  a failed test:\n{text}")
+/// Prints the text of a note that says that tests started outside of a suite.
+fn show_note<R: AllocGlobal + Print>(rt: &R) -> io::Result<()> {
+    let note = Note::Disagreement(Disagreement::OutsideSuite { started: 2 });
+    let text = text_of_note(rt.alloc(), &note, OPTIONS)?;
+    print!(rt; "  a note: {text}")
 }
 
-/// Prints how a suite of three tests stands behind its lines.
-fn show_suite<R: AllocGlobal + Print>(rt: &R) -> io::Result<()> {
-    match suite_behind(
+/// Prints how a run of two tests ends, of which one has no end.
+fn show_end<R: AllocGlobal + Print>(rt: &R) -> io::Result<()> {
+    match end_of_lines(
         rt.alloc(),
-        3,
-        &[PARSES_BEGINS, PARSES_PASSES, PRINTS_BEGINS],
+        &[SUITE, PARSES_STARTS, PARSES_PASSES, PRINTS_STARTS],
     ) {
-        Ok(suite) => println!(rt;
-            "  a suite of 3 tests: {} passed, {} running",
-            suite.stats().passed,
-            suite.running().len()
+        Ok(end) => println!(rt;
+            "  a run: {} passed, {} crashed, {} not run",
+            end.stats.passed, end.crashed, end.not_run
         ),
         Err(error) => println!(rt; "  {}", Fault::from(error)),
     }
@@ -156,10 +155,10 @@ fn show_suite<R: AllocGlobal + Print>(rt: &R) -> io::Result<()> {
 
 /// Prints the report of the run that ended early.
 fn show_report<R: AllocGlobal + Print>(rt: &R) -> io::Result<()> {
-    let mut buffer = [0; 512];
+    let mut buffer = [0; 1_024];
     let mut source = MemorySource::new(ABORTED_RUN, None);
     let mut sink = MemorySink::new(&mut buffer, None);
-    match succeeds(rt.alloc(), &mut source, &mut sink) {
+    match succeeds(rt.alloc(), &mut source, &mut sink, OPTIONS) {
         Ok(success) => {
             let text = String::from_utf8_lossy(rt.alloc(), sink.written())?;
             print!(rt; "  a run that ended early, success {success}:\n{text}")

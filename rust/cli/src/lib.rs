@@ -10,12 +10,18 @@ pub mod program;
 #[doc(hidden)]
 pub mod program_io;
 #[doc(hidden)]
+pub mod replaced_file;
+#[doc(hidden)]
 pub mod run_digest_engine;
 #[doc(hidden)]
 pub mod test_report_engine;
 #[doc(hidden)]
 pub mod test_report_events;
 #[doc(hidden)]
-pub mod test_report_suite;
+pub mod test_report_forms;
 #[doc(hidden)]
-pub mod test_report_text;
+#[allow(
+    clippy::new_without_default,
+    reason = "`TestRun::new` takes an allocator in the proved text, where there is no `Default` for it"
+)]
+pub mod test_report_run;

@@ -3,6 +3,7 @@
 mod common;
 
 use common::{assert_output, run};
+use std::path::Path;
 use std::process::Output;
 
 /// A run of one test that passes.
@@ -14,7 +15,9 @@ const PASSED: &str = "\
 ";
 
 /// The report of that run.
-const REPORT: &str = "tests 1 passed 1 failed 0 flaky 0 skipped 0\noutcome success\n";
+const REPORT: &str = "------------\n     \
+    Summary 1 tests run: 1 passed (0 flaky), 0 failed (0 timed out, 0 crashed), 0 skipped, 0 not run\n\
+    outcome success\n";
 
 /// What `run-digest` writes to standard error if an argument is invalid.
 const USAGE: &str = "usage: run-digest extract|count\n";
@@ -35,10 +38,17 @@ fn not_utf8() -> std::ffi::OsString {
 
 #[test]
 fn test_report_refuses_arguments() {
-    let refused: [&[&str]; 8] = [
+    let refused: [&[&str]; 15] = [
         &["--nothing"],
         &["-x"],
-        &["one.jsonl", "two.jsonl"],
+        &["--format", "xml"],
+        &["--format", ""],
+        &["--format", "text", "--format", "text"],
+        &["--no-tests", "warn"],
+        &["--color", "yes"],
+        &["--junit"],
+        &["--html", "a", "--html", "b"],
+        &["--markdown=a", "--markdown=b"],
         &["--limit"],
         &["--limit", "many"],
         &["--limit", "-1"],
@@ -55,8 +65,13 @@ fn test_report_refuses_arguments() {
 
 #[test]
 fn test_report_takes_arguments() {
-    let taken: [&[&str]; 7] = [
+    let taken: [&[&str]; 12] = [
         &[],
+        &["--format", "text"],
+        &["--format=text", "--color=never", "--no-tests=fail"],
+        &["--color", "auto"],
+        &["--color", "always"],
+        &["--no-tests", "pass"],
         &["-"],
         &["--raw"],
         &["--limit", "0"],
@@ -73,6 +88,48 @@ fn test_report_takes_arguments() {
             0,
             &format!("{arguments:?}"),
         );
+    }
+}
+
+#[test]
+fn test_report_reads_several_files() {
+    let samples = Path::new(env!("CARGO_MANIFEST_DIR")).join("tests/samples/test-report");
+    let failed = samples.join("failed.jsonl");
+    let failed = failed.to_str().expect("the path is UTF-8");
+    let cases: [(&[&str], &str); 4] = [
+        (&[failed], "money::parses\n"),
+        (&[failed, failed], "money::parses\nmoney::parses\n"),
+        (&[failed, "-"], "money::parses\n"),
+        (&["-", failed, "-"], "money::parses\n"),
+    ];
+    for (files, names) in cases {
+        let arguments = [&["--format", "names"], files].concat();
+        let output = run("test-report", &arguments, PASSED.as_bytes());
+        assert_output(&output, names.as_bytes(), b"", 1, &format!("{files:?}"));
+    }
+}
+
+#[test]
+fn test_report_without_tests() {
+    for (action, status) in [("fail", 1), ("pass", 0)] {
+        let output = run("test-report", &["--no-tests", action], b"");
+        let report = REPORT
+            .replace("1 tests", "0 tests")
+            .replace("1 passed", "0 passed")
+            .replace("success", "no-tests-run");
+        assert_output(&output, report.as_bytes(), b"", status, action);
+    }
+}
+
+#[test]
+fn test_report_colours_by_its_argument_alone_in_a_pipe() {
+    let lines = PASSED.replace("\"ok\"", "\"failed\"");
+    let red = "\u{1b}[1;31mFAIL\u{1b}[0m suite 1 adds\n";
+    for (color, is_red) in [("auto", false), ("never", false), ("always", true)] {
+        let output = run("test-report", &["--color", color], lines.as_bytes());
+        assert_eq!(output.status.code(), Some(1), "{color}");
+        assert_eq!(output.stdout.starts_with(red.as_bytes()), is_red, "{color}");
+        assert_eq!(output.stdout.contains(&0x1b), is_red, "{color}");
     }
 }
 
@@ -115,10 +172,18 @@ fn help_names_all_arguments() {
         let output = run("test-report", &[flag], b"");
         let help = stdout_of(&output);
         for part in [
-            "Usage: test-report [OPTIONS] [FILE]",
+            "Usage: test-report [OPTIONS] [FILE]...",
+            "--format <FORM>",
+            "text, github, names, junit, html, markdown",
+            "--junit <FILE>",
+            "--html <FILE>",
+            "--markdown <FILE>",
+            "--no-tests <ACTION>",
+            "--color <WHEN>",
             "--limit <BYTES>",
             "4096",
             "--raw",
+            "Exit status:",
         ] {
             assert!(help.contains(part), "{part} is not in {help}");
         }

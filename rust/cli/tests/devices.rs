@@ -43,16 +43,39 @@ fn a_folder_cannot_be_read() {
 
 #[test]
 fn standard_output_that_is_closed() {
-    let cases = [
-        ("test-report", "-", "test-report: write failed"),
-        ("run-digest", "count", "write failed"),
-    ];
-    for (program, argument, message) in cases {
+    for (program, argument) in [("test-report", "-"), ("run-digest", "count")] {
         let mut child = command(program, &[argument])
             .spawn()
             .expect("the program starts");
         // The program writes after it has read all of its input, and so after this end is closed.
         drop(child.stdout.take());
+        let mut stdin = child.stdin.take().expect("standard input is a pipe");
+        stdin.write_all(b"run 0 0 -\n").expect("the program reads");
+        drop(stdin);
+        let output = child.wait_with_output().expect("the program ends");
+        if program == "run-digest" {
+            assert_failed(&output, "write failed");
+        } else {
+            assert_output(&output, b"", b"", 3, program);
+        }
+    }
+}
+
+#[cfg(target_os = "linux")]
+#[test]
+fn standard_output_that_is_full() {
+    for (program, argument, message) in [
+        ("test-report", "-", "test-report: write failed"),
+        ("run-digest", "count", "write failed"),
+    ] {
+        let full = std::fs::OpenOptions::new()
+            .write(true)
+            .open("/dev/full")
+            .expect("the device can be opened");
+        let mut child = command(program, &[argument])
+            .stdout(full)
+            .spawn()
+            .expect("the program starts");
         let mut stdin = child.stdin.take().expect("standard input is a pipe");
         stdin.write_all(b"run 0 0 -\n").expect("the program reads");
         drop(stdin);
@@ -85,8 +108,9 @@ fn input_that_is_not_utf8() {
         &["-"],
         b"\xff\xfe\n{ \"type\": \"te\xffst\" }\n",
     );
-    let report =
-        "tests 0 passed 0 failed 0 flaky 0 skipped 0\noutcome no-tests-run\nlines passed over 2\n";
+    let report = "------------\n     \
+        Summary 0 tests run: 0 passed (0 flaky), 0 failed (0 timed out, 0 crashed), 0 skipped, 0 not run\n\
+        outcome no-tests-run\n";
     assert_output(&output, report.as_bytes(), b"", 1, "test-report");
 }
 

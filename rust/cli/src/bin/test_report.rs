@@ -2,23 +2,44 @@
 //! harness or cargo nextest writes.
 
 use clap::{Arg, ArgAction, ArgMatches, Command, value_parser};
-use deodarsieve_cli::program::{BAD_ARGUMENT, DEVICE_FAILED, Failure, print_clap, run_engine};
-use deodarsieve_cli::test_report_engine::report::report;
-use deodarsieve_cli::test_report_text::options::Options;
+use deodarsieve::RunOutcome;
+use deodarsieve_cli::program::{BAD_ARGUMENT, DEVICE_FAILED, Failure, KeepError, print_clap};
+use deodarsieve_cli::program_io::std_device::{StdSink, StdSource};
+use deodarsieve_cli::replaced_file::{append, replace};
+use deodarsieve_cli::test_report_engine::report::Report;
+use deodarsieve_cli::test_report_forms::files::{FileForms, FileTexts};
+use deodarsieve_cli::test_report_forms::form::Form;
+use deodarsieve_cli::test_report_forms::github::GithubForm;
+use deodarsieve_cli::test_report_forms::html::HtmlForm;
+use deodarsieve_cli::test_report_forms::junit::JunitForm;
+use deodarsieve_cli::test_report_forms::markdown::MarkdownForm;
+use deodarsieve_cli::test_report_forms::names::NamesForm;
+use deodarsieve_cli::test_report_forms::options::Options;
+use deodarsieve_cli::test_report_forms::text::TextForm;
+use deodarsieve_cli::test_report_run::note::RunEnd;
 use std::env;
 use std::ffi::OsString;
 use std::fs::File;
-use std::io::{self, Read};
+use std::io::{self, ErrorKind, IsTerminal, Read, Write};
 use std::process::ExitCode;
 
 /// How many bytes of why a test failed are shown if `--limit` is absent.
 const LIMIT: &str = "4096";
 
+/// The values of `--format`.
+const FORMS: [&str; 6] = ["text", "github", "names", "junit", "html", "markdown"];
+
 /// What `--help` says after the options.
 const AFTER_HELP: &str = "\
-Input, for example:
-  cargo test --no-fail-fast -- -Z unstable-options --format json | test-report
-  cargo nextest run --message-format libtest-json | test-report
+Examples (with `set -o pipefail` a pipe also fails if the test command does):
+  cargo test --no-fail-fast -- -Z unstable-options --format json 2>&1 | test-report
+  cargo nextest run --message-format libtest-json 2>&1 | test-report
+  .. | test-report --format github                      annotations of a workflow on GitHub
+  .. | test-report --format names                       the names of failed tests, to run them again
+  .. | test-report --junit junit.xml                    the text, and a file for a build server
+  .. | test-report --html report.html                   the text, and a page for a browser
+  .. | test-report --markdown \"$GITHUB_STEP_SUMMARY\"    the text, and a summary on GitHub
+  test-report --format junit first.jsonl second.jsonl   two files, as one run
 
 Exit status:
   0  the run succeeded
@@ -28,26 +49,58 @@ Exit status:
 
 /// Returns the arguments that the program takes.
 fn command() -> Command {
-    let file = Arg::new("file")
-        .value_name("FILE")
-        .help("The JSON lines of the run; standard input if absent or `-`");
-    let limit = Arg::new("limit")
-        .long("limit")
-        .value_name("BYTES")
-        .value_parser(value_parser!(usize))
-        .default_value(LIMIT)
-        .help("Show at most BYTES bytes of why a test failed");
-    let raw = Arg::new("raw")
-        .long("raw")
-        .action(ArgAction::SetTrue)
-        .help("Print control characters as the tests wrote them, not as escapes");
     Command::new("test-report")
         .version(env!("CARGO_PKG_VERSION"))
         .about("Reports which tests of a run failed, and why, from the JSON output of the run")
-        .arg(file)
-        .arg(limit)
-        .arg(raw)
+        .arg(Arg::new("file").value_name("FILE").num_args(0..).help(
+            "The JSON lines of the run, in one file or several; standard input if absent or `-`",
+        ))
+        .arg(choice("format", "FORM", "text", FORMS).help("Write the report in this form"))
+        .arg(file("junit").help("Write JUnit's XML to FILE as well"))
+        .arg(file("html").help("Write a page for a browser to FILE as well"))
+        .arg(file("markdown").help("Append Markdown to FILE as well, such as $GITHUB_STEP_SUMMARY"))
+        .arg(
+            choice("no-tests", "ACTION", "fail", ["fail", "pass"])
+                .help("How the run ends if it has no tests"),
+        )
+        .arg(
+            choice("color", "WHEN", "auto", ["auto", "always", "never"])
+                .help("Colour the words for results"),
+        )
+        .arg(
+            Arg::new("limit")
+                .long("limit")
+                .value_name("BYTES")
+                .value_parser(value_parser!(usize))
+                .default_value(LIMIT)
+                .help("Show at most BYTES bytes of why a test failed"),
+        )
+        .arg(
+            Arg::new("raw")
+                .long("raw")
+                .action(ArgAction::SetTrue)
+                .help("Print control characters as the tests wrote them, not as escapes"),
+        )
         .after_help(AFTER_HELP)
+}
+
+/// Returns an option that has one of several values.
+fn choice<const N: usize>(
+    name: &'static str,
+    value: &'static str,
+    default: &'static str,
+    values: [&'static str; N],
+) -> Arg {
+    Arg::new(name)
+        .long(name)
+        .value_name(value)
+        .value_parser(values)
+        .default_value(default)
+}
+
+/// Returns an option that names a file.
+fn file(name: &'static str) -> Arg {
+    Arg::new(name).long(name).value_name("FILE")
 }
 
 /// Returns the program's name and its arguments.
@@ -58,28 +111,145 @@ fn arguments() -> Result<Vec<String>, Failure> {
         .map_err(|_| Failure::new(BAD_ARGUMENT, "a word is not UTF-8"))
 }
 
-/// Writes the report of the run in `reader` to standard output, and returns the exit status.
-fn report_from(reader: impl Read, options: Options) -> Result<ExitCode, Failure> {
-    run_engine(reader, io::stdout().lock(), |source, sink| {
-        report(source, sink, options)
+/// Returns the value of an option that has a default.
+fn value<'a>(matches: &'a ArgMatches, name: &str) -> &'a str {
+    matches.get_one::<String>(name).map_or("", String::as_str)
+}
+
+/// Returns the options of the report.
+fn options_of(matches: &ArgMatches) -> Options {
+    Options {
+        limit: matches.get_one("limit").copied().unwrap_or_default(),
+        raw: matches.get_flag("raw"),
+        color: match value(matches, "color") {
+            "always" => true,
+            "never" => false,
+            _ => io::stdout().is_terminal() && env::var_os("NO_COLOR").is_none(),
+        },
+        no_tests_pass: value(matches, "no-tests") == "pass",
+    }
+}
+
+/// Returns the forms of the files that the arguments name.
+fn file_forms(matches: &ArgMatches, options: Options) -> FileForms {
+    FileForms {
+        junit: matches
+            .contains_id("junit")
+            .then(|| JunitForm::new(options)),
+        html: matches.contains_id("html").then(|| HtmlForm::new(options)),
+        markdown: matches
+            .contains_id("markdown")
+            .then(|| MarkdownForm::new(options)),
+    }
+}
+
+/// Writes the files that the arguments name.
+fn write_files(matches: &ArgMatches, texts: &FileTexts) -> Result<(), Failure> {
+    let files = [
+        (
+            "junit",
+            &texts.junit,
+            replace as fn(&str, &str) -> io::Result<()>,
+        ),
+        ("html", &texts.html, replace),
+        ("markdown", &texts.markdown, append),
+    ];
+    for (name, text, write) in files {
+        if let (Some(path), Some(text)) = (matches.get_one::<String>(name), text) {
+            write(path, text).map_err(|error| {
+                let message = format!("{path} cannot be written");
+                Failure::new(DEVICE_FAILED, message).caused_by(Some(error))
+            })?;
+        }
+    }
+    Ok(())
+}
+
+/// Reads one file of the run.
+fn read_file<F: Form, W: Write>(
+    report: &mut Report<F>,
+    reader: impl Read,
+    sink: &mut StdSink<&mut KeepError<W>>,
+) -> Result<(), Failure> {
+    let mut reader = KeepError::new(reader);
+    let mut source = StdSource::new(&mut reader);
+    let read = report.read_file(&mut source, sink);
+    read.map_err(|fault| Failure::from(fault).caused_by(reader.into_error()))
+}
+
+/// Reads all files of the run, and writes the report. Returns the end of the run, and the texts of the files
+/// that are written as well.
+fn report_files<F: Form, W: Write>(
+    files: &[&str],
+    mut report: Report<F>,
+    sink: &mut StdSink<&mut KeepError<W>>,
+) -> Result<(RunEnd, FileTexts), Failure> {
+    for &path in files {
+        if path == "-" {
+            read_file(&mut report, io::stdin().lock(), sink)?;
+            continue;
+        }
+        match File::open(path) {
+            Ok(file) => read_file(&mut report, file, sink)?,
+            Err(error) => {
+                let message = format!("{path} cannot be opened");
+                return Err(Failure::new(DEVICE_FAILED, message).caused_by(Some(error)));
+            }
+        }
+    }
+    let texts = report.file_texts()?;
+    Ok((report.finish(sink)?, texts))
+}
+
+/// Writes the report to standard output in a form, and then the files. A reader of standard output that has
+/// gone needs no message.
+fn report_in<F: Form>(
+    matches: &ArgMatches,
+    options: Options,
+    form: F,
+) -> Result<ExitCode, Failure> {
+    let mut files: Vec<&str> = match matches.get_many::<String>("file") {
+        Some(files) => files.map(String::as_str).collect(),
+        None => Vec::new(),
+    };
+    if files.is_empty() {
+        files.push("-");
+    }
+    let report = Report::with_files(form, file_forms(matches, options))?;
+    let mut writer = KeepError::new(io::stdout().lock());
+    let written = report_files(&files, report, &mut StdSink::new(&mut writer));
+    match (written, writer.into_error()) {
+        (Ok((end, texts)), _) => {
+            write_files(matches, &texts)?;
+            Ok(ExitCode::from(status_of(end.outcome, options)))
+        }
+        (Err(_), Some(error)) if error.kind() == ErrorKind::BrokenPipe => {
+            Ok(ExitCode::from(DEVICE_FAILED))
+        }
+        (Err(failure), Some(error)) => Err(failure.caused_by(Some(error))),
+        (Err(failure), None) => Err(failure),
+    }
+}
+
+/// Returns the exit status of a run with this outcome.
+fn status_of(outcome: RunOutcome, options: Options) -> u8 {
+    u8::from(!match outcome {
+        RunOutcome::Success => true,
+        RunOutcome::NoTestsRun => options.no_tests_pass,
+        RunOutcome::Cancelled { .. } | RunOutcome::Failed { .. } => false,
     })
 }
 
 /// Writes the report that the arguments ask for, and returns the exit status.
 fn report_of(matches: &ArgMatches) -> Result<ExitCode, Failure> {
-    let options = Options {
-        limit: matches.get_one("limit").copied().unwrap_or_default(),
-        raw: matches.get_flag("raw"),
-    };
-    match matches.get_one::<String>("file").map(String::as_str) {
-        None | Some("-") => report_from(io::stdin().lock(), options),
-        Some(path) => match File::open(path) {
-            Ok(file) => report_from(file, options),
-            Err(error) => {
-                let message = format!("{path} cannot be opened");
-                Err(Failure::new(DEVICE_FAILED, message).caused_by(Some(error)))
-            }
-        },
+    let options = options_of(matches);
+    match value(matches, "format") {
+        "github" => report_in(matches, options, GithubForm::new(options)),
+        "names" => report_in(matches, options, NamesForm),
+        "junit" => report_in(matches, options, JunitForm::new(options)),
+        "html" => report_in(matches, options, HtmlForm::new(options)),
+        "markdown" => report_in(matches, options, MarkdownForm::new(options)),
+        _ => report_in(matches, options, TextForm::new(options)),
     }
 }
 

@@ -2,7 +2,7 @@
 //! The faults that `test-report` ends with.
 
 use crate::program_io::fault::DeviceFault;
-use crate::test_report_suite::suite::SuiteError;
+use crate::test_report_run::error::RunError;
 use std::fmt;
 
 /// Why `test-report` ends without a report. It is displayed as a few words, such as `read failed`.
@@ -34,10 +34,10 @@ impl From<DeviceFault> for Fault {
     }
 }
 
-impl From<SuiteError> for Fault {
-    fn from(error: SuiteError) -> Fault {
+impl From<RunError> for Fault {
+    fn from(error: RunError) -> Fault {
         match error {
-            SuiteError::CounterFull => Fault::CounterFull,
+            RunError::CounterFull => Fault::CounterFull,
         }
     }
 }

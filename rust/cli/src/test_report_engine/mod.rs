@@ -1,23 +1,25 @@
 // Made by tools/erase from crates/test_report_engine/src/lib.rt. Do not edit.
-//! The report of a test run, from the JSON output of Rust's test harness or of nextest.
+//! The report of a test run, from the lines of Rust's test harness, cargo and cargo nextest.
 //!
-//! A call that reads the events of a run from a source and writes its report to a sink. It returns true
-//! if the run succeeded:
+//! Calls that read the run of a source, write its report to a sink, and say whether the run succeeded:
 //!
 //! ```
+//! use deodarsieve::RunOutcome;
 //! use deodarsieve_cli::program_io::memory_device::{MemorySink, MemorySource};
-//! use deodarsieve_cli::test_report_engine::report::report;
-//! use deodarsieve_cli::test_report_text::options::Options;
+//! use deodarsieve_cli::test_report_engine::report::Report;
+//! use deodarsieve_cli::test_report_forms::names::NamesForm;
 //!
-//! let lines = b"{ \"type\": \"suite\", \"event\": \"started\", \"test_count\": 0 }\n";
+//! let lines = b"{ \"type\": \"test\", \"name\": \"adds\", \"event\": \"failed\" }\n";
 //! let mut source = MemorySource::new(lines, None);
 //! let mut buffer = [0; 1_000];
 //! let mut sink = MemorySink::new(&mut buffer, None);
-//! let succeeded = report(&mut source, &mut sink, Options { limit: 4_096, raw: false });
-//! assert_eq!(succeeded, Ok(false));
+//! let mut report = Report::new(NamesForm)?;
+//! report.read_file(&mut source, &mut sink)?;
+//! let end = report.finish(&mut sink)?;
+//! assert!(end.outcome != RunOutcome::Success);
+//! assert_eq!(sink.written(), b"adds\n");
+//! # Ok::<(), deodarsieve_cli::test_report_engine::fault::Fault>(())
 //! ```
 
 pub mod fault;
-mod kept;
-mod reading;
 pub mod report;

@@ -1,68 +1,140 @@
 // Made by tools/erase from crates/test_report_engine/src/report.rt. Do not edit.
-//! The report of a run, from the lines of its events.
+//! The report of a run, written while the run goes on.
 
 use crate::program_io::device::{Sink, Source};
 use crate::program_io::transfer::write_all;
 use crate::test_report_engine::fault::Fault;
-use crate::test_report_engine::kept::Kept;
-use crate::test_report_engine::reading::Reading;
-use crate::test_report_text::options::Options;
-use deodarsieve::RunOutcome;
+use crate::test_report_events::line::Line;
+use crate::test_report_forms::entry::Entry;
+use crate::test_report_forms::files::{FileForms, FileTexts};
+use crate::test_report_forms::form::Form;
+use crate::test_report_run::note::{Note, RunEnd};
+use crate::test_report_run::run::TestRun;
+use bstr::ByteSlice;
 
 /// The number of bytes that are read at once.
 const CHUNK: usize = 16_384;
 
-/// Reads a source to its end, piece by piece, and takes each line as soon as it is complete.
-fn read_lines<R: Source>(source: &mut R, options: Options) -> Result<Reading, Fault> {
-    let mut reading = Reading::new(options);
-    let mut chunk = [0u8; CHUNK];
-    loop {
-        let n = source.read(&mut chunk).map_err(|_| Fault::Read)?;
-        if n == 0 {
-            return Ok(reading);
-        }
-        reading.on_bytes(&chunk[..n])?;
+/// A report that is written in one form while its input is read.
+pub struct Report<F: Form> {
+    run: TestRun,
+    form: F,
+    files: FileForms,
+}
+
+impl<F: Form> Report<F> {
+    /// Returns a report of which nothing is written.
+    pub fn new(form: F) -> Result<Report<F>, Fault> {
+        Report::with_files(form, FileForms::none())
     }
-}
 
-/// Returns the state of the run after all lines of a source.
-fn read_run<R: Source>(source: &mut R, options: Options) -> Result<Kept, Fault> {
-    let mut reading = read_lines(source, options)?;
-    reading.finish()?;
-    let Reading { kept, begun: _ } = reading;
-    Ok(kept)
-}
+    /// Returns a report of which nothing is written, and which has texts for files at its end.
+    pub fn with_files(form: F, files: FileForms) -> Result<Report<F>, Fault> {
+        Ok(Report {
+            run: TestRun::new(),
+            form,
+            files,
+        })
+    }
 
-/// Reads the events of a test run from `source` and writes a report to `sink`. Returns true if the
-/// outcome of the run is `Success`.
-///
-/// The input is the JSON output of Rust's test harness or of nextest, one event a line. The events of
-/// tests belong to the open suite, which is the one that began last and has not ended. A line is
-/// passed over and counted if it is no event, or if it is of a test that is not running.
-///
-/// The report lists
-///
-/// - each failed test, in the order in which they ended;
-/// - each suite in which a test failed, or fewer tests ran than were to run, or which has no end, or
-///   in which a test began and never ended, with the names of those tests;
-/// - the totals, the outcome of the run and the number of lines that were passed over.
-///
-/// The outcome of the run is the highest of the outcomes of its suites.
-///
-/// Neither device may have failed before. All input is read first, then the whole report is written,
-/// then the sink is flushed. After a fault nothing was written, except that after [`Fault::Write`]
-/// some first bytes of the report may have been written.
-///
-/// - [`Fault::Read`] if and only if the source fails, and [`Fault::Write`] if and only if the sink
-///   fails.
-/// - [`Fault::CounterFull`] if a number does not fit its counter.
-pub fn report<R: Source, W: Sink>(
-    source: &mut R,
-    sink: &mut W,
-    options: Options,
-) -> Result<bool, Fault> {
-    let mut kept = read_run(source, options)?;
-    let outcome = kept.finish()?;
-    write_all(sink, kept.failures.as_bytes())?;
-    Ok(outcome == RunOutcome::Success)
+    /// Reads a file of the run to its end. What its lines make known is written, and the sink flushed, as
+    /// soon as a line is read.
+    ///
+    /// Neither device may have failed before. After a fault a beginning of what the lines of the file make
+    /// known was written.
+    ///
+    /// - [`Fault::Read`] if and only if the source fails, and [`Fault::Write`] if and only if the sink
+    ///   fails.
+    /// - [`Fault::CounterFull`] if a number does not fit its counter.
+    pub fn read_file<R: Source, W: Sink>(
+        &mut self,
+        source: &mut R,
+        sink: &mut W,
+    ) -> Result<(), Fault> {
+        let mut begun = Vec::new();
+        let mut chunk = [0u8; CHUNK];
+        loop {
+            let n = source.read(&mut chunk).map_err(|_| Fault::Read)?;
+            if n == 0 {
+                return self.end_file(begun.as_slice(), sink);
+            }
+            self.on_bytes(&mut begun, &chunk[..n], sink)?;
+        }
+    }
+
+    /// Returns the texts of the files, after the last file of the run was read.
+    pub fn file_texts(&mut self) -> Result<FileTexts, Fault> {
+        let end = self.run.end();
+        Ok(self.files.texts(&end))
+    }
+
+    /// Writes the end of the report, and returns the sums and the outcome of the run.
+    ///
+    /// The sink must not have failed before. After a fault a beginning of the end of the report was
+    /// written.
+    ///
+    /// - [`Fault::Write`] if and only if the sink fails.
+    pub fn finish<W: Sink>(mut self, sink: &mut W) -> Result<RunEnd, Fault> {
+        let end = self.run.end();
+        let mut text = String::new();
+        self.form.on_end(&end, &mut text);
+        write_all(sink, text.as_bytes())?;
+        Ok(end)
+    }
+
+    /// Takes the next bytes of a file. `begun` is the beginning of the line that goes on.
+    fn on_bytes<W: Sink>(
+        &mut self,
+        begun: &mut Vec<u8>,
+        bytes: &[u8],
+        sink: &mut W,
+    ) -> Result<(), Fault> {
+        let mut rest = bytes;
+        while let Some(at) = rest.find_byte(b'\n') {
+            let (end, after) = rest.split_at(at);
+            begun.extend_from_slice(end);
+            self.on_line(begun.as_slice(), sink)?;
+            begun.clear();
+            rest = &after[1..];
+        }
+        begun.extend_from_slice(rest);
+        Ok(())
+    }
+
+    /// Takes a line.
+    fn on_line<W: Sink>(&mut self, bytes: &[u8], sink: &mut W) -> Result<(), Fault> {
+        let line = Line::read(bytes);
+        let notes = self.run.on_event(line.event())?;
+        self.write(notes.as_slice(), sink)
+    }
+
+    /// Takes the end of a file. If there are bytes after the last line feed, they are a line.
+    fn end_file<W: Sink>(&mut self, begun: &[u8], sink: &mut W) -> Result<(), Fault> {
+        if !begun.is_empty() {
+            self.on_line(begun, sink)?;
+        }
+        let notes = self.run.end_file()?;
+        self.write(notes.as_slice(), sink)
+    }
+
+    /// Writes what is known.
+    fn write<W: Sink>(&mut self, notes: &[Note], sink: &mut W) -> Result<(), Fault> {
+        let text = self.lines_of(notes);
+        if text.is_empty() {
+            return Ok(());
+        }
+        write_all(sink, text.as_bytes())?;
+        Ok(())
+    }
+
+    /// Takes what is known, and returns the lines that are written of it.
+    fn lines_of(&mut self, notes: &[Note]) -> String {
+        let mut text = String::new();
+        for note in notes {
+            let entry = Entry::of(note);
+            self.files.on_entry(&entry);
+            self.form.on_entry(&entry, &mut text);
+        }
+        text
+    }
 }

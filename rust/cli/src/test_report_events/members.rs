@@ -1,7 +1,8 @@
 // Made by tools/erase from crates/test_report_events/src/members.rt. Do not edit.
 //! The members of the JSON object of an event.
 
-use crate::test_report_events::event::{Event, TestEnd, TestResult};
+use crate::test_report_events::event::{Event, SuiteEnd, SuiteKey, TestDetails, TestResult};
+use crate::test_report_events::time::exec_time;
 use serde_json::Value;
 
 /// Returns the text of a member.
@@ -9,96 +10,127 @@ fn text_of<'a>(value: &'a Value, key: &str) -> Option<&'a str> {
     value.get(key).and_then(Value::as_str)
 }
 
+/// Returns the text of a member, unless it is empty.
+fn words_of<'a>(value: &'a Value, key: &str) -> Option<&'a str> {
+    match text_of(value, key) {
+        Some("") | None => None,
+        words => words,
+    }
+}
+
 /// Returns the number of a member.
-fn number_of(value: &Value, key: &str) -> Option<usize> {
-    let number = value.get(key).and_then(Value::as_u64)?;
-    usize::try_from(number).ok()
+fn number_of(value: &Value, key: &str) -> Option<u64> {
+    value.get(key).and_then(Value::as_u64)
+}
+
+/// Returns the time of an object. `line` is the text that the object was read from.
+pub(crate) fn time_of(value: &Value, line: &[u8]) -> Option<u64> {
+    if value.get("exec_time").is_some_and(Value::is_number) {
+        exec_time(line)
+    } else {
+        None
+    }
+}
+
+/// Returns the key of a suite.
+fn key_of(value: &Value) -> Option<SuiteKey<'_>> {
+    let nextest = value.get("nextest")?;
+    Some(SuiteKey {
+        package: text_of(nextest, "crate")?,
+        binary: text_of(nextest, "test_binary")?,
+        stress_index: number_of(nextest, "stress_index"),
+    })
+}
+
+/// Returns the end of a suite.
+fn suite_end_of(value: &Value, time: Option<u64>, failed_verdict: bool) -> SuiteEnd<'_> {
+    SuiteEnd {
+        key: key_of(value),
+        failed_verdict,
+        passed: number_of(value, "passed"),
+        failed: number_of(value, "failed"),
+        ignored: number_of(value, "ignored"),
+        measured: number_of(value, "measured"),
+        time,
+    }
 }
 
 /// Returns the event of a suite's object.
-fn suite_event_of<'a>(value: &'a Value, event: &str) -> Option<Event<'a>> {
+fn suite_event_of<'a>(value: &'a Value, time: Option<u64>, event: &str) -> Option<Event<'a>> {
     match event {
-        "started" => {
-            let test_count = number_of(value, "test_count")?;
-            Some(Event::SuiteStarted { test_count })
-        }
-        "ok" | "failed" => Some(Event::SuiteEnded),
-        _ => None,
+        "started" => Some(Event::SuiteStarted {
+            key: key_of(value),
+            test_count: number_of(value, "test_count"),
+        }),
+        "ok" => Some(Event::SuiteEnded(suite_end_of(value, time, false))),
+        "failed" => Some(Event::SuiteEnded(suite_end_of(value, time, true))),
+        _ => Some(Event::Other),
     }
 }
 
 /// Returns the end of a test.
-fn end_of<'a>(value: &'a Value, name: &'a str, attempts: usize, test: TestResult) -> TestEnd<'a> {
-    TestEnd {
+fn test_end_of<'a>(
+    value: &'a Value,
+    time: Option<u64>,
+    name: &'a str,
+    outcome: TestResult,
+) -> Event<'a> {
+    Event::TestEnded {
         name,
-        attempts,
-        result: test,
-        output: text_of(value, "stdout"),
-        message: text_of(value, "message"),
-    }
-}
-
-/// Returns the result of a failed test.
-fn failure_of(value: &Value) -> TestResult {
-    match text_of(value, "reason") {
-        Some("time limit exceeded") => TestResult::TimedOut,
-        _ => TestResult::Failed,
+        result: outcome,
+        details: TestDetails {
+            stdout: text_of(value, "stdout"),
+            message: words_of(value, "message"),
+            reason: words_of(value, "reason"),
+            time,
+        },
     }
 }
 
 /// Returns the event of a test's object.
 fn test_event_of<'a>(
     value: &'a Value,
-    event: &str,
+    time: Option<u64>,
     name: &'a str,
-    attempts: usize,
+    event: &str,
 ) -> Option<Event<'a>> {
-    let result = match event {
-        "started" => return Some(Event::TestStarted { name }),
-        "timeout" => return Some(Event::TestSlow { name }),
-        "ok" => TestResult::Passed,
-        "failed" => failure_of(value),
-        "ignored" => TestResult::Ignored,
-        _ => return None,
-    };
-    Some(Event::TestEnded(end_of(value, name, attempts, result)))
-}
-
-/// Parses a number of attempts, which has no sign and no leading zero.
-fn attempts_of(digits: &str) -> Option<usize> {
-    if digits.starts_with('+') || digits.starts_with('0') {
-        return None;
+    match event {
+        "started" => Some(Event::TestStarted { name }),
+        "ok" => Some(test_end_of(value, time, name, TestResult::Ok)),
+        "failed" => Some(test_end_of(value, time, name, TestResult::Failed)),
+        "ignored" => Some(test_end_of(value, time, name, TestResult::Ignored)),
+        _ => Some(Event::Other),
     }
-    digits.parse().ok()
 }
 
-/// Splits a written name into the name of a test and the number of its attempts.
-fn name_of(written: &str) -> (&str, usize) {
-    if let Some((name, digits)) = written.rsplit_once('#')
-        && let Some(attempts) = attempts_of(digits)
-    {
-        return (name, attempts);
+/// Returns the result of a benchmark, which passed unless it failed.
+fn bench_result_of(value: &Value) -> TestResult {
+    match text_of(value, "event") {
+        Some("failed") => TestResult::Failed,
+        _ => TestResult::Ok,
     }
-    (written, 1)
 }
 
-/// Returns the event of an object.
-pub(crate) fn event_of(value: &Value) -> Option<Event<'_>> {
-    match text_of(value, "type")? {
-        "suite" => suite_event_of(value, text_of(value, "event")?),
-        "test" => {
-            let (name, attempts) = name_of(text_of(value, "name")?);
-            test_event_of(value, text_of(value, "event")?, name, attempts)
-        }
+/// Returns the event of an object of a type.
+fn typed_event_of<'a>(value: &'a Value, time: Option<u64>, kind: &str) -> Option<Event<'a>> {
+    match kind {
+        "report" => Some(Event::Other),
+        "suite" => suite_event_of(value, time, text_of(value, "event")?),
+        "test" => test_event_of(
+            value,
+            time,
+            text_of(value, "name")?,
+            text_of(value, "event")?,
+        ),
         "bench" => {
-            let (name, attempts) = name_of(text_of(value, "name")?);
-            Some(Event::TestEnded(end_of(
-                value,
-                name,
-                attempts,
-                TestResult::Passed,
-            )))
+            let name = text_of(value, "name")?;
+            Some(test_end_of(value, time, name, bench_result_of(value)))
         }
         _ => None,
     }
+}
+
+/// Returns the event of an object with a time.
+pub(crate) fn event_of(value: &Value, time: Option<u64>) -> Option<Event<'_>> {
+    typed_event_of(value, time, text_of(value, "type")?)
 }

@@ -7,8 +7,12 @@ use bstr::ByteSlice;
 use deodarsieve_cli::program_io::std_device::{StdSink, StdSource};
 use deodarsieve_cli::run_digest_engine::count::count;
 use deodarsieve_cli::run_digest_engine::extract::extract;
-use deodarsieve_cli::test_report_engine::report::report;
-use deodarsieve_cli::test_report_text::options::Options;
+use deodarsieve_cli::test_report_engine::report::Report;
+use deodarsieve_cli::test_report_forms::files::FileForms;
+use deodarsieve_cli::test_report_forms::html::HtmlForm;
+use deodarsieve_cli::test_report_forms::junit::JunitForm;
+use deodarsieve_cli::test_report_forms::options::Options;
+use deodarsieve_cli::test_report_forms::text::TextForm;
 use serde_json::Value;
 use std::hint::black_box;
 use std::rc::Rc;
@@ -16,6 +20,8 @@ use std::rc::Rc;
 const OPTIONS: Options = Options {
     limit: 4_096,
     raw: false,
+    color: false,
+    no_tests_pass: false,
 };
 
 /// The number of blocks of a log that a failed test writes.
@@ -74,16 +80,16 @@ fn name(number: usize) -> String {
     format!("module::tests::case_{number}")
 }
 
-/// Returns the lines of a run of `count` tests, all of which end with `event`, with what else `more`
-/// says of them.
-fn lines(event: &str, count: usize, more: impl Fn(usize) -> String) -> String {
-    let test = |number| {
-        let (name, more) = (name(number), more(number));
-        format!(
-            "{{ \"type\": \"test\", \"event\": \"started\", \"name\": \"{name}\" }}\n\
-             {{ \"type\": \"test\", \"name\": \"{name}\", \"event\": \"{event}\"{more} }}\n"
-        )
-    };
+/// Returns the two lines of a test that ends with `event`, with what else `more` says of it.
+fn test_lines(name: &str, event: &str, more: &str) -> String {
+    format!(
+        "{{ \"type\": \"test\", \"event\": \"started\", \"name\": \"{name}\" }}\n\
+         {{ \"type\": \"test\", \"name\": \"{name}\", \"event\": \"{event}\"{more} }}\n"
+    )
+}
+
+/// Returns the lines of a suite of `count` tests, with the lines of each test.
+fn suite_lines(event: &str, count: usize, test: impl Fn(usize) -> String) -> String {
     format!(
         "{{ \"type\": \"suite\", \"event\": \"started\", \"test_count\": {count} }}\n{}\
          {{ \"type\": \"suite\", \"event\": \"{event}\" }}\n",
@@ -91,16 +97,35 @@ fn lines(event: &str, count: usize, more: impl Fn(usize) -> String) -> String {
     )
 }
 
+/// Returns the lines of a run of `count` tests, all of which end with `event`, with what else `more`
+/// says of them.
+fn lines(event: &str, count: usize, more: impl Fn(usize) -> String) -> String {
+    suite_lines(event, count, |number| {
+        test_lines(&name(number), event, &more(number))
+    })
+}
+
 /// Returns the report of a run that the lines say.
-fn reported(lines: String, is_success: bool, expected: String) -> Work {
+fn reported(lines: String, expected: String) -> Work {
+    reported_with(FileForms::none, lines, expected)
+}
+
+/// Returns the report of a run that the lines say, with the texts of files.
+fn reported_with(files: fn() -> FileForms, lines: String, expected: String) -> Work {
     let lines: Rc<str> = lines.into();
     let read = Rc::clone(&lines);
     Work {
         call: Box::new(move || {
             let mut written = Vec::with_capacity(expected.len());
             let mut source = StdSource::new(black_box(lines.as_bytes()));
-            let result = report(&mut source, &mut StdSink::new(&mut written), OPTIONS);
-            assert_eq!(result, Ok(is_success));
+            let mut sink = StdSink::new(&mut written);
+            let mut report =
+                Report::with_files(TextForm::new(OPTIONS), files()).expect("the report begins");
+            report
+                .read_file(&mut source, &mut sink)
+                .expect("the run is read");
+            black_box(report.file_texts().expect("the files have texts"));
+            report.finish(&mut sink).expect("the report ends");
             assert!(written == expected.as_bytes());
         }),
         archived: None,
@@ -114,9 +139,11 @@ fn reported(lines: String, is_success: bool, expected: String) -> Work {
 /// Returns the report of a run whose tests pass.
 fn reported_passed(size: usize) -> Work {
     let count = share(size, 1_000_000);
-    let expected =
-        format!("tests {count} passed {count} failed 0 flaky 0 skipped 0\noutcome success\n");
-    reported(lines("ok", count, |_| String::new()), true, expected)
+    let expected = format!(
+        "------------\n     Summary {count} tests run: {count} passed (0 flaky), \
+         0 failed (0 timed out, 0 crashed), 0 skipped, 0 not run\noutcome success\n"
+    );
+    reported(lines("ok", count, |_| String::new()), expected)
 }
 
 /// Returns the report of a run whose tests write a log and panic.
@@ -129,17 +156,70 @@ fn reported_failed(size: usize) -> Work {
     let more = |number| format!(", \"stdout\": \"{log}{}\\nno room left\\n\"", head(number));
     let failure = |number| {
         format!(
-            "failed {}\n    {}\n    no room left\n",
+            "FAIL suite 1 {}\n    {}\n    no room left\n",
             name(number),
             head(number)
         )
     };
+    let listed = |number| {
+        format!(
+            "        FAIL suite 1 {}: panicked at src/pool.rs:41:9: no room left\n",
+            name(number)
+        )
+    };
     let expected = format!(
-        "{}suite 1: failed, {count} of {count} tests ran, {count} failed\n\
-         tests {count} passed 0 failed {count} flaky 0 skipped 0\noutcome failed\n",
-        (0..count).map(failure).collect::<String>()
+        "{}------------\n     Summary {count} tests run: 0 passed (0 flaky), \
+         {count} failed (0 timed out, 0 crashed), 0 skipped, 0 not run\n{}outcome failed\n",
+        (0..count).map(failure).collect::<String>(),
+        (0..count).map(listed).collect::<String>()
     );
-    reported(lines("failed", count, more), false, expected)
+    reported(lines("failed", count, more), expected)
+}
+
+/// The forms of the files that a run in CI writes.
+fn junit_and_html() -> FileForms {
+    FileForms {
+        junit: Some(JunitForm::new(OPTIONS)),
+        html: Some(HtmlForm::new(OPTIONS)),
+        markdown: None,
+    }
+}
+
+/// Returns the report of a run of which every hundredth test panics, with the texts of files.
+fn reported_mixed(size: usize, files: fn() -> FileForms) -> Work {
+    const HEAD: &str = "panicked at src/pool.rs:41:9:";
+    let count = share(size, 300_000);
+    let failed: Vec<usize> = (0..count).step_by(100).collect();
+    let test = |number| {
+        let name = name(number);
+        let stdout = format!(", \"stdout\": \"thread 'main' {HEAD}\\nno room left\\n\"");
+        match number % 100 {
+            0 => test_lines(&name, "failed", &stdout),
+            _ => test_lines(&name, "ok", ", \"exec_time\": 0.25"),
+        }
+    };
+    let failure = |number: &usize| {
+        let name = name(*number);
+        format!("FAIL suite 1 {name}\n    thread 'main' {HEAD}\n    no room left\n")
+    };
+    let listed = |number: &usize| {
+        format!(
+            "        FAIL suite 1 {}: {HEAD} no room left\n",
+            name(*number)
+        )
+    };
+    let slowest = |number| format!("        SLOW [   0.250s] suite 1 {}\n", name(number));
+    let (lost, passed) = (failed.len(), count - failed.len());
+    let expected = format!(
+        "{}------------\n     Summary [{:>4}.{:03}s] {count} tests run: {passed} passed (0 flaky), \
+         {lost} failed (0 timed out, 0 crashed), 0 skipped, 0 not run\n{}{}outcome failed\n",
+        failed.iter().map(failure).collect::<String>(),
+        passed / 4,
+        passed % 4 * 250,
+        failed.iter().map(listed).collect::<String>(),
+        (1..6).map(slowest).collect::<String>(),
+    );
+    reported_with(files, suite_lines("failed", count, test), expected)
 }
 
 /// Returns the rows of the engines.
@@ -154,5 +234,8 @@ pub fn rows() -> Vec<Row> {
         Row::new("engine-count", counted),
         Row::new("report-passed", reported_passed),
         Row::new("report-failed", reported_failed),
+        Row::new("report-mixed", |size| reported_mixed(size, FileForms::none))
+            .with_most_passes(1.3),
+        Row::new("report-files", |size| reported_mixed(size, junit_and_html)).with_most_passes(2.0),
     ]
 }

@@ -1,58 +1,85 @@
 // Made by tools/erase from crates/test_report_engine_tests/src/damage.rt. Do not edit.
 //! A run that is cut short, or of which a byte is damaged.
 
-use crate::test_report_engine_tests::devices::{OPTIONS, REPORT, RUN, reports};
+use crate::test_report_engine_tests::devices::{OPTIONS, RUN, report_of_run, reported, reports};
 use deodarsieve_cli::program_io::memory_device::{MemorySink, MemorySource};
-use deodarsieve_cli::test_report_engine::report::report;
+use deodarsieve_cli::test_report_forms::text::TextForm;
 
-/// What is reported of the lines of [`RUN`] before each of its lines, and of all of them.
-const REPORTS: [&str; 5] = [
-    "tests 0 passed 0 failed 0 flaky 0 skipped 0\noutcome no-tests-run\n",
-    "suite 1: ended early, no line says that it ended, 0 of 2 tests ran, 0 failed\n\
-     tests 0 passed 0 failed 0 flaky 0 skipped 0\noutcome cancelled\n",
-    "suite 1: ended early, no line says that it ended, 0 of 2 tests ran, 0 failed\n  \
-     began and never ended: a\n\
-     tests 0 passed 0 failed 0 flaky 0 skipped 0\noutcome cancelled\n",
-    "failed a\n    why\n\
-     suite 1: failed, ended early, no line says that it ended, 1 of 2 tests ran, 1 failed\n\
-     tests 1 passed 0 failed 1 flaky 0 skipped 0\noutcome failed\n",
-    REPORT,
+/// The report of no line.
+const NOTHING: &str = "------------\n     \
+     Summary 0 tests run: 0 passed (0 flaky), 0 failed (0 timed out, 0 crashed), 0 skipped, 0 not run\n\
+     outcome no-tests-run\n";
+
+/// The report of the first line of [`RUN`]: no test runs, and nothing says that the suite ended.
+const STARTED: &str = "suite 1 ended early\nsuite 1: 2 of 2 tests were not run\n------------\n     \
+     Summary 0 tests run: 0 passed (0 flaky), 0 failed (0 timed out, 0 crashed), 0 skipped, 2 not run\n\
+     outcome failed\n";
+
+/// The report of the first two lines of [`RUN`], before and after what was printed while the test ran.
+const CRASHED: [&str; 2] = [
+    "CRASH suite 1 a\n    its process ended before it did\n",
+    "suite 1: 1 of 2 tests were not run\n------------\n     \
+     Summary 1 tests run: 0 passed (0 flaky), 1 failed (0 timed out, 1 crashed), 0 skipped, 1 not run\n       \
+     CRASH suite 1 a: its process ended before it did\noutcome failed\n",
 ];
+
+/// The report of the first three lines of [`RUN`].
+const FAILED: &str = "FAIL suite 1 a\n    why\n\
+     suite 1 ended early\nsuite 1: 1 of 2 tests were not run\n------------\n     \
+     Summary 1 tests run: 0 passed (0 flaky), 1 failed (0 timed out, 0 crashed), 0 skipped, 1 not run\n        \
+     FAIL suite 1 a: why\noutcome failed\n";
+
+/// Returns the report of the first lines of [`RUN`], followed by a piece of the next line.
+fn report_of(lines: usize, piece: &str) -> String {
+    match lines {
+        0 => String::from(NOTHING),
+        1 => String::from(STARTED),
+        2 if piece.is_empty() => format!("{}{}", CRASHED[0], CRASHED[1]),
+        2 => format!("{}    {piece}\n{}", CRASHED[0], CRASHED[1]),
+        3 => String::from(FAILED),
+        _ => report_of_run(),
+    }
+}
 
 #[test]
 fn each_cut_of_a_run_has_its_report() -> Result<(), Box<dyn std::error::Error>> {
     // The cut at the end of a line is the run up to that line, with its line feed or without it.
     let mut before = String::new();
     for (number, line) in RUN.lines().enumerate() {
-        let report = REPORTS.get(number).unwrap_or(&"");
-        assert!(reports(before.as_bytes(), false, report), "line {number}");
-        let passed_over = format!("{report}lines passed over 1\n");
-        for len in 1..line.len() {
-            let cut = format!("{before}{}", line.get(..len).unwrap_or(""));
+        for len in 0..line.len() {
+            let piece = line.get(..len).unwrap_or("");
+            let cut = format!("{before}{piece}");
+            let report = report_of(number, piece);
             assert!(
-                reports(cut.as_bytes(), false, passed_over.as_str()),
+                reports(cut.as_bytes(), report.as_str()),
                 "line {number} up to {len}"
             );
         }
         before.push_str(line);
-        let report = REPORTS.get(number.saturating_add(1)).unwrap_or(&"");
-        assert!(reports(before.as_bytes(), false, report), "end {number}");
+        let report = report_of(number.saturating_add(1), "");
+        assert!(
+            reports(before.as_bytes(), report.as_str()),
+            "end of line {number}"
+        );
         before.push('\n');
     }
-    assert!(reports(RUN.as_bytes(), false, REPORT));
+    assert!(reports(RUN.as_bytes(), report_of_run().as_str()));
     Ok(())
 }
 
-/// Whether the input has a report that ends with a whole line.
+/// Returns true if the input has a report that ends with an outcome.
 fn has_report(input: &[u8]) -> bool {
     let mut buffer = [0; 5_000];
     let mut source = MemorySource::new(input, None);
     let mut sink = MemorySink::new(&mut buffer, None);
-    report(&mut source, &mut sink, OPTIONS).is_ok() && sink.written().ends_with(b"\n")
+    let end = reported(TextForm::new(OPTIONS), &mut source, &mut sink);
+    end.is_ok()
+        && (sink.written().ends_with(b"\noutcome failed\n")
+            || sink.written().ends_with(b"\noutcome cancelled\n"))
 }
 
 #[test]
-fn a_run_with_a_damaged_byte_has_a_report() -> Result<(), Box<dyn std::error::Error>> {
+fn a_run_with_a_damaged_byte_does_not_succeed() -> Result<(), Box<dyn std::error::Error>> {
     for byte in [0, b'\n', b'"', b'{', b'\\', b'9', 0x80, 0xff] {
         for at in 0..RUN.len() {
             let mut input = Vec::from(RUN.as_bytes());

@@ -1,113 +1,182 @@
-//! Reports of runs of megabytes, of a test with a megabyte of output, and of 2,000 suites.
+//! Reports of runs of megabytes, of a test with a megabyte of output, of 2,000 suites, and of 20,000 tests
+//! that run at once.
 
 use deodarsieve_cli::program_io::memory_device::{MemorySink, MemorySource};
-use deodarsieve_cli::test_report_engine::report::report;
-use deodarsieve_cli::test_report_text::options::Options;
+use deodarsieve_cli::test_report_engine::report::Report;
+use deodarsieve_cli::test_report_forms::options::Options;
+use deodarsieve_cli::test_report_forms::text::TextForm;
 use std::fmt::Write;
 
-/// The most bytes of a failed test's output that are shown.
+/// The greatest number of bytes that are shown of why a test failed.
 const LIMIT: usize = 4_096;
 
-/// Returns the report of a run with a failed test. It must have at most 100,000 bytes.
+/// Returns the report of a run. It must have at most a million bytes.
 fn reported(input: &str) -> String {
-    let options = Options {
+    let form = TextForm::new(Options {
         limit: LIMIT,
         raw: false,
-    };
-    let mut buffer = vec![0; 100_000];
+        color: false,
+        no_tests_pass: false,
+    });
+    let mut buffer = vec![0; 1_000_000];
     let mut source = MemorySource::new(input.as_bytes(), None);
     let mut sink = MemorySink::new(&mut buffer, None);
-    assert_eq!(report(&mut source, &mut sink, options), Ok(false));
+    let mut report = Report::new(form).expect("the report begins");
+    report
+        .read_file(&mut source, &mut sink)
+        .expect("the run is read");
+    report.finish(&mut sink).expect("the report ends");
     String::from_utf8(sink.written().to_vec()).expect("the report is UTF-8")
 }
 
-/// Returns the line that begins a suite of this many tests.
-fn suite_of(tests: usize) -> String {
-    format!("{{\"type\":\"suite\",\"event\":\"started\",\"test_count\":{tests}}}\n")
-}
-
-/// The line that ends a suite.
-const SUITE_END: &str = "{\"type\":\"suite\",\"event\":\"ok\"}\n";
-
-/// Returns the lines of a test that passed.
-fn passed(name: &str) -> String {
+/// Returns a summary of tests without times that all ran, none of which is flaky, timed out or crashed.
+fn summary(passed: usize, failed: usize) -> String {
+    let run = passed + failed;
     format!(
-        "{{\"type\":\"test\",\"event\":\"started\",\"name\":\"{name}\"}}\n\
-         {{\"type\":\"test\",\"event\":\"ok\",\"name\":\"{name}\"}}\n"
+        "------------\n     Summary {run} tests run: {passed} passed (0 flaky), \
+         {failed} failed (0 timed out, 0 crashed), 0 skipped, 0 not run\n"
     )
 }
 
-/// Returns the lines of a test that failed and wrote this to standard output.
+/// Returns the member of a suite's lines that names its binary, as nextest writes it.
+fn key_of(number: usize) -> String {
+    format!(",\"nextest\":{{\"crate\":\"c\",\"test_binary\":\"b{number}\",\"kind\":\"test\"}}")
+}
+
+/// Returns the line that starts a suite of this many tests, with more members.
+fn suite_of(tests: usize, more: &str) -> String {
+    format!("{{\"type\":\"suite\",\"event\":\"started\",\"test_count\":{tests}{more}}}\n")
+}
+
+/// Returns the line that ends a suite, with more members.
+fn suite_end(verdict: &str, more: &str) -> String {
+    format!("{{\"type\":\"suite\",\"event\":\"{verdict}\"{more}}}\n")
+}
+
+/// Returns the line that starts a test.
+fn started(name: &str) -> String {
+    format!("{{\"type\":\"test\",\"event\":\"started\",\"name\":\"{name}\"}}\n")
+}
+
+/// Returns the line that ends a test that passed.
+fn ok(name: &str) -> String {
+    format!("{{\"type\":\"test\",\"event\":\"ok\",\"name\":\"{name}\"}}\n")
+}
+
+/// Returns the line that ends a test that failed and wrote this to standard output.
 fn failed(name: &str, stdout: &str) -> String {
     let stdout = stdout.replace('\n', "\\n");
     format!(
-        "{{\"type\":\"test\",\"event\":\"started\",\"name\":\"{name}\"}}\n\
-         {{\"type\":\"test\",\"event\":\"failed\",\"name\":\"{name}\",\"stdout\":\"{stdout}\"}}\n"
+        "{{\"type\":\"test\",\"event\":\"failed\",\"name\":\"{name}\",\"stdout\":\"{stdout}\"}}\n"
     )
 }
 
 #[test]
-fn a_run_of_three_megabytes_is_reported() {
-    let (mut input, mut wanted) = (suite_of(25_000), String::new());
+fn a_run_of_three_megabytes() {
+    let (mut input, mut failures, mut list) = (suite_of(25_000, ""), String::new(), String::new());
     for number in 0..25_000 {
         let name = format!("pool::tests::case_{number}");
+        input += &started(&name);
         if number % 1_000 == 999 {
-            input += &failed(&name, "log\nthread 'a' panicked at b\nwhy\n");
-            wanted += &format!("failed {name}\n    thread 'a' panicked at b\n    why\n");
+            input += &failed(&name, "log\nthread 'a' panicked at b:1:2:\nwhy\n");
+            failures +=
+                &format!("FAIL suite 1 {name}\n    thread 'a' panicked at b:1:2:\n    why\n");
+            list += &format!("        FAIL suite 1 {name}: panicked at b:1:2: why\n");
         } else {
-            input += &passed(&name);
+            input += &ok(&name);
         }
     }
-    input += SUITE_END;
-    wanted += "suite 1: failed, 25000 of 25000 tests ran, 25 failed\n\
-        tests 25000 passed 24975 failed 25 flaky 0 skipped 0\noutcome failed\n";
+    input += &suite_end("failed", "");
     assert!(input.len() > 3_000_000);
+    let wanted = format!("{failures}{}{list}outcome failed\n", summary(24_975, 25));
     assert_eq!(reported(&input), wanted);
 }
 
-/// Returns the report of a suite of one test that failed, of whose reason the first bytes are shown.
+/// Returns the report of a test that failed with this reason, of which the first bytes are shown.
 fn report_of_one(reason: &str) -> String {
-    let mut text = String::from("failed a\n");
+    let mut text = String::from("FAIL suite 1 a\n");
     for line in reason[..reason.len().min(LIMIT)].lines() {
         writeln!(text, "    {line}").expect("a string takes all text");
     }
     if reason.len() > LIMIT {
-        let hidden = reason.len() - LIMIT;
-        writeln!(text, "  bytes not shown: {hidden}").expect("a string takes all text");
+        let more = reason.len() - LIMIT;
+        writeln!(text, "    ({more} more bytes)").expect("a string takes all text");
     }
-    text + "suite 1: failed, 1 of 1 tests ran, 1 failed\n\
-        tests 1 passed 0 failed 1 flaky 0 skipped 0\noutcome failed\n"
+    let list = "        FAIL suite 1 a: panicked at b:1:2: why\n";
+    format!("{text}{}{list}outcome failed\n", summary(0, 1))
 }
 
 #[test]
-fn a_test_with_a_megabyte_of_output_is_reported() {
+fn a_test_with_a_megabyte_of_output() {
     let line = "read 4096 bytes of a frame\n";
-    let message = "thread 'a' panicked at b\nwhy\n";
+    let message = "thread 'a' panicked at b:1:2:\nwhy\n";
     for (before, after) in [(0, 40_000), (20_000, 20_000), (40_000, 0)] {
         let reason = format!("{message}{}", line.repeat(after));
         let stdout = format!("{}{reason}", line.repeat(before));
         assert!(stdout.len() > 1_000_000);
-        let input = format!("{}{}{SUITE_END}", suite_of(1), failed("a", &stdout));
+        let input = [
+            suite_of(1, ""),
+            started("a"),
+            failed("a", &stdout),
+            suite_end("failed", ""),
+        ];
         let wanted = report_of_one(reason.trim_end());
-        assert_eq!(reported(&input), wanted, "{before} lines before the panic");
+        assert_eq!(
+            reported(&input.concat()),
+            wanted,
+            "{before} lines before the panic"
+        );
     }
 }
 
 #[test]
-fn two_thousand_suites_are_reported() {
-    let (mut input, mut failures, mut suites) = (String::new(), String::new(), String::new());
+fn two_thousand_suites_one_after_another() {
+    let (mut input, mut failures, mut list) = (String::new(), String::new(), String::new());
     for number in 1..=2_000 {
-        input += &suite_of(2);
-        input += &passed("adds");
+        input += &suite_of(2, "");
+        input += &started("adds");
+        input += &ok("adds");
+        input += &started("divides");
         if number % 20 == 0 {
-            input += &failed("divides", "thread 'a' panicked at b\n");
-            failures += "failed divides\n    thread 'a' panicked at b\n";
-            suites += &format!("suite {number}: failed, 2 of 2 tests ran, 1 failed\n");
+            input += &failed("divides", "thread 'a' panicked at b:1:2:\n");
+            input += &suite_end("failed", "");
+            failures +=
+                &format!("FAIL suite {number} divides\n    thread 'a' panicked at b:1:2:\n");
+            list += &format!("        FAIL suite {number} divides: panicked at b:1:2:\n");
         } else {
-            input += &passed("divides");
+            input += &ok("divides");
+            input += &suite_end("ok", "");
         }
-        input += SUITE_END;
     }
-    let totals = "tests 4000 passed 3900 failed 100 flaky 0 skipped 0\noutcome failed\n";
-    assert_eq!(reported(&input), format!("{failures}{suites}{totals}"));
+    let wanted = format!("{failures}{}{list}outcome failed\n", summary(3_900, 100));
+    assert_eq!(reported(&input), wanted);
+}
+
+#[test]
+fn two_thousand_suites_side_by_side() {
+    let all = || 0..2_000;
+    let name = |number| format!("c::b{number}$adds");
+    let input: [String; 4] = [
+        all().map(|number| suite_of(1, &key_of(number))).collect(),
+        all().map(|number| started(&name(number))).collect(),
+        all().rev().map(|number| ok(&name(number))).collect(),
+        all()
+            .map(|number| suite_end("ok", &key_of(number)))
+            .collect(),
+    ];
+    let wanted = format!("{}outcome success\n", summary(2_000, 0));
+    assert_eq!(reported(&input.concat()), wanted);
+}
+
+#[test]
+fn twenty_thousand_tests_at_once() {
+    let all = || (0..20_000).map(|number| format!("case_{number}"));
+    let input = [
+        suite_of(20_000, ""),
+        all().map(|name| started(&name)).collect(),
+        all().map(|name| ok(&name)).collect(),
+        suite_end("ok", ""),
+    ];
+    let wanted = format!("{}outcome success\n", summary(20_000, 0));
+    assert_eq!(reported(&input.concat()), wanted);
 }

@@ -1,5 +1,5 @@
 use Rattle.std.proofs.Common.{rules}
-use Rattle.run_digest_engine.proofs.Counting.{named}
+use Rattle.run_digest_engine.proofs.Readings.{named}
 use Rattle.run_digest_engine.proofs.count.count.Goals as goal
 
 pub returns-in_err-text-clause-bad_line : goal.returns-in_err-text-clause-bad_line

@@ -1,5 +1,4 @@
-use Rattle.std.proofs.Common.{◌≡◌, ap, ◌∙◌, rules, tests}
-use Rattle.run_digest_engine.specs.Counted.{stats_reports}
+use Rattle.std.proofs.Common.{◌≡◌, rules, tests}
 use Rattle.run_digest_engine.specs.Report.{is_success}
 use Rattle.run_digest_engine.proofs.Reports.{digest_made}
 use Rattle.run_digest_engine.proofs.count.digest.Goals as goal
@@ -9,5 +8,5 @@ returns-clause-digest c =
     let outcome = c.in_ok-text.outcome in
     let told : c.eq.result ≡ is_success outcome = search (rules, tests) in
     let highest = rw c.as_slice.ensures.value at c.in_ok-text.ensures.highest in
-    let text = c.in_ok-text.ensures.text ∙ ap (λ runs. stats_reports runs outcome) c.as_slice.ensures.value in
+    let text = rw c.as_slice.ensures.value at c.in_ok-text.ensures.text in
     digest_made _ c.in_ok-runs.runs.items _ _ outcome c.in_ok-runs.ensures.stats highest text told

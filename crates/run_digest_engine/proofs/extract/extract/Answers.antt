@@ -1,6 +1,30 @@
-use Rattle.std.proofs.Common.{rules}
-use Rattle.run_digest_engine.proofs.Extracting.{broken_off, written_alone}
+use Rattle.std.proofs.Common.{◌≡◌, ℕ, List, Bool, rules}
+use Rattle.std.specs.Prelude.{is_some, Option, Ok, Err, IfSome, IsErrAnd}
+use Rattle.std.specs.Io.KnownBytes.{Appends}
+use Rattle.std.specs.declared.result.Result.{Result}
+use Rattle.std.proofs.lemmas.Option.{IfSome_then}
+use Rattle.output_slice.specs.Extraction.{Extract}
+use Rattle.program_io.specs.Engine.{Answers}
+use Rattle.program_io.specs.Transfer.{AppendsStart}
+use Rattle.run_digest_engine.specs.ExtractAnswer.{IsExtractAnswer, IsExtracted, TellsEachExtract, extract_text}
+use Rattle.run_digest_engine.specs.Fault.{stage_of}
+use Rattle.run_digest_engine.specs.declared.fault.Fault.{Fault}
 use Rattle.run_digest_engine.proofs.extract.extract.Goals as goal
+
+-- what is said of each extraction of what was read is said of each of the input
+written_alone : (left old new : Option (List ℕ)) (read bytes text : List ℕ) (success : Bool) → IfSome left (λ all. read ≡ all) → bytes ≡ read
+    → ((found : Option Extract) → IsExtracted bytes found → (text ≡ extract_text found) × (success ≡ is_some found)) → Appends old new text
+    → IfSome left (λ input. TellsEachExtract success old new input)
+written_alone left old new read bytes text success is same only appended = IfSome_then left is (λ input whole. λ found extracted.
+    let told = only found (rw (same, whole) extracted) in (rw told.0 at appended, told.1))
+
+-- the write failed
+broken_off : (r : Result Bool Fault) (fault : Fault) (left old new : Option (List ℕ)) (read bytes text : List ℕ) (success : Bool)
+    → IsErrAnd r (λ e. e ≡ fault) → IfSome left (λ all. read ≡ all) → bytes ≡ read → IsExtractAnswer bytes text success → AppendsStart old new text
+    → IfSome left (λ input. Answers stage_of (IsExtractAnswer input) r old new)
+broken_off (Ok answer) fault left old new read bytes text success failed is same right begun = absurd failed
+broken_off (Err e) fault left old new read bytes text success failed is same right begun = IfSome_then left is (λ input whole. λ writing.
+    (text, success, rw (same, whole) at right, begun))
 
 pub returns-in_err-write_all-clause-answer : goal.returns-in_err-write_all-clause-answer
 returns-in_err-write_all-clause-answer g c =

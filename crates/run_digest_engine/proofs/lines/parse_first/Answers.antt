@@ -4,5 +4,4 @@ use Rattle.run_digest_engine.proofs.lines.parse_first.Goals as goal
 
 pub returns-in_default : goal.returns-in_default
 returns-in_default c =
-    let line = c.args.line.now in
-    reads_none _ _ (first_reads line) (λ start is. c.in_default.ensures.cases.0 (first_is_text line start is))
+    reads_none _ _ (first_reads c.args.line.now) (λ start is. c.in_default.ensures.cases.0 (first_is_text c.args.line.now start is))

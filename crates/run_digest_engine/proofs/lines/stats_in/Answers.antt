@@ -1,8 +1,6 @@
-use Rattle.std.proofs.Common.{List, refl, sym, ◌∙◌, subst, arith, inl}
-use Rattle.run_events_stats.specs.declared.stats.RunStats.{RunStats}
-use Rattle.run_digest_engine.specs.Counted.{AreCounted}
+use Rattle.std.proofs.Common.{refl, sym, ◌∙◌, arith, inl}
 use Rattle.run_digest_engine.specs.Reading.{texts_of}
-use Rattle.run_digest_engine.proofs.Counting.{first-bad, going-bad, going-end, going-entry, going-first, going-late, has_room, no_first}
+use Rattle.run_digest_engine.proofs.Readings.{first-bad, going-bad, going-end, going-entry, going-first, going-late, has_room, no_first}
 use Rattle.run_digest_engine.proofs.Entries.{entry_reads, no_entry}
 use Rattle.run_digest_engine.proofs.Exact.{none_spelled, reads_only}
 use Rattle.run_digest_engine.proofs.Starts.{first_reads}
@@ -15,9 +13,8 @@ returns-in_default-clause-refusal c =
 
 pub returns-in_default-parse_first-clause-refusal : goal.returns-in_default-parse_first-clause-refusal
 returns-in_default-parse_first-clause-refusal c =
-    let read = first_reads c.in-Some.first.now in
     no_first (texts_of c.args.bytes.now) c.in-Some.first.now c.next.new.self (sym c.lines-lines.ensures.value ∙ c.in-Some.ensures.steps)
-    (λ start. none_spelled _ _ start read (rw c.in_default-parse_first.is at c.parse_first.ensures))
+    (λ start. none_spelled _ _ start (first_reads c.in-Some.first.now) (rw c.in_default-parse_first.is at c.parse_first.ensures))
 
 pub loop-line-init : goal.loop-line-init
 loop-line-init c =
@@ -45,5 +42,4 @@ loop-line-preserved c =
 pub returns-clause-stats : goal.returns-clause-stats
 returns-clause-stats c =
     let none = (rw c.in_default-next.is at c.next-in-loop-line.ensures.steps).0 in
-    let P : List RunStats → Type 0 = AreCounted (texts_of c.args.bytes.now) in
-    subst P (sym c.in_ok-push.ensures.items) (going-end _ _ _ _ _ none c.loop-line.invariant)
+    rw c.in_ok-push.ensures.items (going-end _ _ _ _ _ none c.loop-line.invariant)

@@ -1,6 +1,6 @@
 use Rattle.std.proofs.Common.{length}
 use Rattle.run_digest_engine.specs.Reading.{texts_of}
-use Rattle.run_digest_engine.proofs.Counting.{Going}
+use Rattle.run_digest_engine.proofs.Readings.{Going}
 use Rattle.run_digest_engine.proofs.lines.stats_in.Given as goal
 
 -- the lines before this one were counted, and these are left

@@ -1,0 +1,100 @@
+//! The arguments of the program.
+
+use clap::{Arg, ArgAction, ArgMatches, Command, value_parser};
+use std::alloc::{AllocError, Global};
+use test_report_forms::options::Options;
+
+/// How many bytes of why a test failed are shown if `--limit` is absent.
+const LIMIT: &str = "4096";
+
+/// The values of `--format`.
+const FORMS: &[&str] = &["text", "github", "names", "junit", "html", "markdown"];
+
+/// The values of `--no-tests`.
+const ACTIONS: &[&str] = &["fail", "pass"];
+
+/// The values of `--color`.
+const COLORS: &[&str] = &["auto", "always", "never"];
+
+/// What `--help` says after the options.
+const AFTER_HELP: &str = "\
+Examples (with `set -o pipefail` a pipe also fails if the test command does):
+  cargo test --no-fail-fast -- -Z unstable-options --format json 2>&1 | test-report
+  cargo nextest run --message-format libtest-json 2>&1 | test-report
+  .. | test-report --format github                      annotations of a workflow on GitHub
+  .. | test-report --format names                       the names of failed tests, to run them again
+  .. | test-report --junit junit.xml                    the text, and a file for a build server
+  .. | test-report --html report.html                   the text, and a page for a browser
+  .. | test-report --markdown \"$GITHUB_STEP_SUMMARY\"    the text, and a summary on GitHub
+  test-report --format junit first.jsonl second.jsonl   two files, as one run
+
+Exit status:
+  0  the run succeeded
+  1  the run did not succeed: a test failed or did not run, or there was no test
+  2  an argument is invalid
+  3  reading or writing failed, or a number is too large to count";
+
+/// Returns the arguments that the program takes.
+pub(crate) fn command<'a>(alloc: Global) -> Result<Command<'a>, AllocError> {
+    let files = Arg::new(alloc, "file")
+        .value_name("FILE")
+        .num_args(0..)
+        .help("The JSON lines of the run, in one file or several; standard input if absent or `-`");
+    let limit = Arg::new(alloc, "limit")
+        .long("limit")
+        .value_name("BYTES")
+        .value_parser(value_parser!(usize))
+        .default_value(LIMIT)
+        .help("Show at most BYTES bytes of why a test failed");
+    let raw = Arg::new(alloc, "raw")
+        .long("raw")
+        .action(ArgAction::SetTrue)
+        .help("Print control characters as the tests wrote them, not as escapes");
+    let command = Command::new(alloc, "test-report")
+        .version("0.1.0")
+        .about("Reports which tests of a run failed, and why, from the JSON output of the run")
+        .arg(files)?
+        .arg(choice(alloc, "format", "FORM", FORMS).help("Write the report in this form"))?
+        .arg(file(alloc, "junit").help("Write JUnit's XML to FILE as well"))?
+        .arg(file(alloc, "html").help("Write a page for a browser to FILE as well"))?
+        .arg(file(alloc, "markdown").help(
+            "Append Markdown to FILE as well, such as $GITHUB_STEP_SUMMARY",
+        ))?
+        .arg(choice(alloc, "no-tests", "ACTION", ACTIONS).help(
+            "How the run ends if it has no tests",
+        ))?
+        .arg(choice(alloc, "color", "WHEN", COLORS).help("Colour the words for results"))?
+        .arg(limit)?
+        .arg(raw)?;
+    Ok(command.after_help(AFTER_HELP))
+}
+
+/// Returns an option that has one of several values, of which the first is the default.
+fn choice<'a>(alloc: Global, name: &'a str, value: &'a str, values: &'a [&'a str]) -> Arg<'a> {
+    let default = values.first().copied().unwrap_or("");
+    Arg::new(alloc, name)
+        .long(name)
+        .value_name(value)
+        .value_parser(values)
+        .default_value(default)
+}
+
+/// Returns an option that names a file.
+fn file<'a>(alloc: Global, name: &'a str) -> Arg<'a> {
+    Arg::new(alloc, name).long(name).value_name("FILE")
+}
+
+/// Returns the options of the report. `colors` is true if standard output is to be coloured unless an
+/// argument says otherwise.
+pub(crate) fn options_of(matches: &ArgMatches<'_>, colors: bool) -> Options {
+    Options {
+        limit: matches.get_one::<usize>("limit").unwrap_or(0),
+        raw: matches.get_flag("raw"),
+        color: match matches.get_str("color") {
+            Some("always") => true,
+            Some("never") => false,
+            _ => colors,
+        },
+        no_tests_pass: matches.get_str("no-tests") == Some("pass"),
+    }
+}

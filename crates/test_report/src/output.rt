@@ -1,0 +1,47 @@
+//! Standard output.
+
+use std::io::{self, ErrorKind, Write};
+
+/// A writer that remembers whether its reader has gone.
+#[derive(Drop)]
+pub(crate) struct Output<W> {
+    writer: W,
+    is_closed: bool,
+}
+
+impl<W: Write> Output<W> {
+    /// Returns a writer of which no call has failed.
+    pub(crate) fn new(writer: W) -> Output<W> {
+        Output {
+            writer,
+            is_closed: false,
+        }
+    }
+
+    /// Returns true if a call has failed since the reader of a pipe has gone.
+    pub(crate) fn is_closed(&self) -> bool {
+        self.is_closed
+    }
+
+    /// Remembers the error of a call.
+    fn noted(&mut self, error: io::Error) -> io::Error {
+        self.is_closed = self.is_closed || error.kind() == ErrorKind::BrokenPipe;
+        error
+    }
+}
+
+impl<W: Write> Write for Output<W> {
+    fn write(&mut self, buffer: &[u8]) -> io::Result<usize> {
+        match self.writer.write(buffer) {
+            Ok(n) => Ok(n),
+            Err(error) => Err(self.noted(error)),
+        }
+    }
+
+    fn flush(&mut self) -> io::Result<()> {
+        match self.writer.flush() {
+            Ok(()) => Ok(()),
+            Err(error) => Err(self.noted(error)),
+        }
+    }
+}

@@ -1,0 +1,125 @@
+//! The times of tests.
+
+ghost use Rattle.std.specs.Prelude.{◌≡◌, ◌<◌, ◌≤◌, ◌+◌, ◌*◌, ◌/◌, ◌^◌, ◌==◌, ℕ, MatchOption, length, IsTrue, ◌↔◌, not};
+ghost use Rattle.std.specs.Char.{is_ascii_digit};
+ghost use Rattle.std.specs.List.{list_all, position};
+ghost use Rattle.std.specs.Option.{SomeIff};
+ghost use Rattle.std.specs.Str.Parse.{digits_value};
+ghost use Rattle.test_report_events.specs.Time as time;
+
+use crate::plain::without_spaces;
+use bstr::ByteSlice;
+
+/// The greatest number of digits before the point of a time that is read.
+const MOST_DIGITS: usize = 9;
+
+/// The number of digits of a second that are kept.
+const KEPT_DIGITS: usize = 6;
+
+/// The number of microseconds in a second.
+const MICROSECONDS: u64 = 1_000_000;
+
+/// Returns the time that a line gives as the number after its last `"exec_time":`, in microseconds,
+/// rounded down. The number is one of seconds without exponent, with at most nine digits before the
+/// point.
+#[tactic(auto, using(crate::proofs::Times::time_after, crate::proofs::Times::no_time))]
+pub(crate) fn exec_time(line: &[u8]) -> Option<u64>
+    ensures { MatchOption result ((micros : ℕ) → ¬ time.GivesTime line.now micros) (time.GivesTime line.now) }
+{
+    let key = b"\"exec_time\":";
+    match line.rfind(key) {
+        Some(at) => microseconds(number_text(&line[at + key.len()..])),
+        None => None,
+    }
+}
+
+/// Returns the offset of the first byte that is not of a number.
+fn number_end(text: &[u8]) -> Option<usize>
+    ensures { result ≡ position (λ b. not (time.is_of_number b)) text.now }
+{
+    text.iter().position(|byte| !is_of_number(*byte))
+}
+
+/// Returns the number at the start of a text, after spaces.
+fn number_text(text: &[u8]) -> &[u8]
+    ensures { result.now ≡ time.number_text text.now }
+{
+    let number = without_spaces(text);
+    match number_end(number) {
+        Some(end) => &number[..end],
+        None => number,
+    }
+}
+
+/// Returns true for a byte that may be in a number.
+fn is_of_number(byte: u8) -> bool
+    ensures { result ≡ time.is_of_number byte }
+{
+    byte.is_ascii_digit() || matches!(byte, b'.' | b'-' | b'+' | b'e' | b'E')
+}
+
+/// Returns the offset of the point of a number.
+fn point_of(number: &[u8]) -> Option<usize>
+    ensures { result ≡ position (λ b. b == 46) number.now }
+{
+    number.iter().position(|byte| *byte == b'.')
+}
+
+/// Returns the digits before the point of a number, and those after it.
+fn parts_of(number: &[u8]) -> (&[u8], &[u8])
+    ensures whole { result.0.now ≡ time.whole_part number.now }
+    ensures fraction { result.1.now ≡ time.fraction_part number.now }
+{
+    match point_of(number) {
+        Some(at) => (&number[..at], &number[at + 1..]),
+        None => (number, &number[number.len()..]),
+    }
+}
+
+/// Returns true if all bytes are digits.
+pub(crate) fn are_digits(bytes: &[u8]) -> bool
+    ensures value { result ≡ list_all is_ascii_digit bytes.now }
+    ensures digits { IsTrue result ↔ time.AreDigits bytes.now }
+{
+    bytes.iter().all(|byte| byte.is_ascii_digit())
+}
+
+/// Parses a number of seconds.
+#[tactic(auto, using(crate::proofs::Values::value_short))]
+fn microseconds(number: &[u8]) -> Option<u64>
+    ensures { SomeIff result (time.IsSeconds number.now) (time.microseconds number.now) }
+{
+    let (whole, fraction) = parts_of(number);
+    if whole.is_empty() || whole.len() > MOST_DIGITS || !are_digits(whole) {
+        return None;
+    }
+    if fraction.is_empty() && whole.len() < number.len() || !are_digits(fraction) {
+        return None;
+    }
+    Some(digits_value(whole) * MICROSECONDS + fraction_value(fraction))
+}
+
+/// Returns the number that at most nine digits spell.
+#[tactic(auto, using(crate::proofs::Values::value_next))]
+fn digits_value(digits: &[u8]) -> u64
+    requires digits { time.AreDigits digits.now }
+    requires fits { digits_value 10 digits.now < 10 ^ 9 }
+    ensures { result ≡ digits_value 10 digits.now }
+{
+    let mut value: u64 = 0;
+    for digit in digits {
+        value = value * 10 + u64::from(*digit - b'0');
+    }
+    value
+}
+
+/// Returns the microseconds that the digits after a point spell.
+#[tactic(auto, using(crate::proofs::Values::fraction_bound, crate::proofs::Values::fraction_floor))]
+fn fraction_value(digits: &[u8]) -> u64
+    requires { time.AreDigits digits.now }
+    ensures value { result ≡ digits_value 10 digits.now * 1000000 / 10 ^ length digits.now }
+    ensures bound { result < 1000000 }
+{
+    let size = digits.len().min(KEPT_DIGITS);
+    digits_value(&digits[..size]) * 10_u64.pow((KEPT_DIGITS - size) as u32)
+}

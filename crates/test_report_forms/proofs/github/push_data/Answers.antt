@@ -1,0 +1,12 @@
+use Rattle.std.proofs.Common.{flat_map, sym, ap, ◌∙◌, map-id, string_bytes, ◌++◌}
+use Rattle.std.proofs.lemmas.Iterator.{YieldsList-from_chars}
+use Rattle.std.proofs.lemmas.Iterator.Consumers.{YieldsList-end}
+use Rattle.test_report_forms.specs.Github.{data_char}
+use Rattle.test_report_forms.proofs.github.push_data.Goals as goal
+
+pub returns : goal.returns
+returns c =
+    let end =
+    YieldsList-end (YieldsList-from_chars c.args.value.now c.utf8.value cc)
+    c.loop-c.yielded _ c.loop-c.yielded_by _ _ c.in-None.is c.next.ensures.steps in
+    c.loop-c.invariant ∙ ap (λ cs. string_bytes c.args.text.now ++ flat_map data_char cs) (sym (map-id c.loop-c.yielded) ∙ end.0)

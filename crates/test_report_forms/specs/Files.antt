@@ -1,0 +1,54 @@
+-- The forms that are written to files.
+use Rattle.std.specs.Prelude.{◌≡◌, ℕ, List, IfSome, Option, option_map}
+use Rattle.test_report_forms.specs.Collected.{Collects}
+use Rattle.test_report_forms.specs.Entry.{EntryView}
+use Rattle.test_report_forms.specs.Html.{Shows, html_of}
+use Rattle.test_report_forms.specs.Junit.{junit_state, junit_text, junit_tree, junit_view}
+use Rattle.test_report_forms.specs.Markdown.{markdown_of}
+use Rattle.test_report_forms.specs.declared.files.FileForms.{FileForms}
+use Rattle.test_report_forms.specs.declared.files.FileTexts.{FileTexts}
+use Rattle.test_report_forms.specs.declared.html.HtmlForm.{HtmlForm}
+use Rattle.test_report_forms.specs.declared.junit.JunitForm.{JunitForm}
+use Rattle.test_report_forms.specs.declared.markdown.MarkdownForm.{MarkdownForm}
+use Rattle.test_report_run.specs.Note.{text_view}
+use Rattle.test_report_run.specs.declared.note.RunEnd.{RunEnd}
+
+-- a form, if it is there, has taken these entries
+abbrev pub HasTaken : {F : Type 0} → (F → List EntryView → Type 0) → Option F → List EntryView → Type 0
+HasTaken knows form entries = IfSome form (λ f. knows f entries)
+
+-- what a form, if it is there, writes at the end of a run with these entries
+abbrev pub text_of : {F : Type 0} → (F → List EntryView → RunEnd → List ℕ) → Option F → List EntryView → RunEnd → Option (List ℕ)
+text_of last form entries end = option_map (λ f. last f entries end) form
+
+-- JUnit's form has taken these entries
+abbrev pub JunitKnows : JunitForm → List EntryView → Type 0
+JunitKnows form entries = junit_view form ≡ junit_state form.options entries
+
+-- what JUnit's form writes at the end
+abbrev pub junit_last : JunitForm → List EntryView → RunEnd → List ℕ
+junit_last form entries end = junit_text (junit_tree form.options entries end)
+
+-- what the form for a browser writes at the end
+abbrev pub html_last : HtmlForm → List EntryView → RunEnd → List ℕ
+html_last form entries end = html_of form.collected.limit entries end
+
+-- the form for a summary has taken these entries
+abbrev pub MarkdownKnows : MarkdownForm → List EntryView → Type 0
+MarkdownKnows form entries = Collects form.collected entries
+
+-- what the form for a summary writes at the end
+abbrev pub markdown_last : MarkdownForm → List EntryView → RunEnd → List ℕ
+markdown_last form entries end = markdown_of form.collected.limit entries end
+
+-- each form that is there has taken these entries
+pub record FilesKnow (forms : FileForms) (entries : List EntryView) : Type 0 where
+  pub junit : HasTaken JunitKnows forms.junit entries
+  pub html : HasTaken Shows forms.html entries
+  pub markdown : HasTaken MarkdownKnows forms.markdown entries
+
+-- each text is what its form writes at the end of a run with these entries, and is absent if its form is
+pub record FilesSay (forms : FileForms) (entries : List EntryView) (end : RunEnd) (texts : FileTexts) : Type 0 where
+  pub junit : text_view texts.junit ≡ text_of junit_last forms.junit entries end
+  pub html : text_view texts.html ≡ text_of html_last forms.html entries end
+  pub markdown : text_view texts.markdown ≡ text_of markdown_last forms.markdown entries end

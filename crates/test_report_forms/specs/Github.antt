@@ -1,0 +1,71 @@
+-- The form for the log of a workflow on GitHub.
+use Rattle.std.specs.Prelude.{ℕ, List, ◌++◌, ◌==◌, [], codes, if◌then◌else◌, Option}
+use Rattle.std.specs.Char.{encode_utf8}
+use Rattle.std.specs.List.{flat_map}
+use Rattle.std.specs.Option.{option_map_or}
+use Rattle.std.specs.Str.{chars}
+use Rattle.test_report_forms.specs.Entry.{EntryView, LinesDisagree, SuiteNotRun, SuiteOver, TestFailed, TestPassed, TestSkipped}
+use Rattle.test_report_forms.specs.Shown.{limited, shown_name}
+use Rattle.test_report_forms.specs.Title.{title}
+use Rattle.test_report_forms.specs.Why.{PlaceView, WhyView}
+use Rattle.test_report_forms.specs.Words.{disagreement_line, not_run_line, outcome_word, summary_line}
+use Rattle.test_report_run.specs.Note.{TestNoteView}
+use Rattle.test_report_run.specs.declared.note.RunEnd.{RunEnd}
+
+-- a character of a message
+abbrev pub data_char : ℕ → List ℕ
+data_char c = if c == 37 then codes "%25" else (if c == 13 then codes "%0D" else (if c == 10 then codes "%0A" else encode_utf8 c))
+
+-- a character of a property
+abbrev pub property_char : ℕ → List ℕ
+property_char c = if c == 58 then codes "%3A" else (if c == 44 then codes "%2C" else data_char c)
+
+-- a text as a message
+abbrev pub message : List ℕ → List ℕ
+message text = flat_map data_char (chars text)
+
+-- a text as a property
+abbrev pub property : List ℕ → List ℕ
+property text = flat_map property_char (chars text)
+
+-- the property of a column, if it is known
+unfoldable pub column_property : Option (List ℕ) → List ℕ
+column_property column = option_map_or (λ c. codes ",col=" ++ c) column []
+
+-- the properties of a place
+unfoldable pub place_properties : PlaceView → List ℕ
+place_properties p =
+    codes "file=" ++ (property (shown_name p.file) ++ (codes ",line=" ++ (p.line ++ (column_property p.column ++ codes ","))))
+
+-- the properties of a place, if it is known
+unfoldable pub properties : Option PlaceView → List ℕ
+properties place = option_map_or place_properties place []
+
+-- the title of a failed test
+unfoldable pub title_property : TestNoteView → List ℕ
+title_property t = codes "title=" ++ property (title t)
+
+-- the message that says why a test failed
+unfoldable pub why_message : ℕ → List ℕ → List ℕ
+why_message limit why = codes "::" ++ (message (limited why limit) ++ codes "\n")
+
+-- the annotation of a failed test
+unfoldable pub failed_command : ℕ → TestNoteView → WhyView → List ℕ
+failed_command limit t w = codes "::error " ++ (properties w.place ++ (title_property t ++ why_message limit w.text))
+
+-- an annotation without a place
+unfoldable pub error_command : List ℕ → List ℕ
+error_command text = codes "::error::" ++ (message text ++ codes "\n")
+
+-- what is written of an entry
+abbrev pub github_line : ℕ → EntryView → List ℕ
+github_line limit (TestFailed t f w) = failed_command limit t w
+github_line limit (LinesDisagree d) = error_command (disagreement_line d)
+github_line limit (SuiteNotRun suite n of) = error_command (not_run_line suite n of)
+github_line limit (TestPassed t) = []
+github_line limit (TestSkipped t) = []
+github_line limit (SuiteOver s) = []
+
+-- what is written at the end
+unfoldable pub github_last : RunEnd → List ℕ
+github_last end = codes "::notice::" ++ (summary_line end ++ (codes ", outcome " ++ (outcome_word end.outcome ++ codes "\n")))

@@ -1,0 +1,107 @@
+-- The words for results, outcomes, causes and numbers.
+use Rattle.std.specs.Prelude.{ℕ, List, Bool, ◌++◌, ◌∷◌, [], ◌-◌, codes, if◌then◌else◌, Option, Some, None}
+use Rattle.std.specs.Fmt.{decimal}
+use Rattle.std.specs.Option.{option_map_or}
+use Rattle.std.specs.Str.{bytes_eq}
+use Rattle.run_events_stats.specs.declared.outcome.run_outcome.RunOutcome.{RunOutcome}
+use Rattle.run_events_stats.specs.declared.outcome.run_outcome.RunOutcome.TheVariants as outcome
+use Rattle.test_report_events.specs.declared.event.TestResult.{TestResult}
+use Rattle.test_report_events.specs.declared.event.TestResult.TheVariants as ended
+use Rattle.test_report_forms.specs.Shown.{bracket, name_and_space, seconds, shown_name}
+use Rattle.test_report_run.specs.Note.{CargoSays, DisagreementView, EndsEarly, HasCrashed, HasFailed, HasNoEnd, HasTimedOut, IsFlaky, KindView, SaysOther, StartsOutside, StrayEnds, StraySuiteEnds}
+use Rattle.test_report_run.specs.declared.note.RunEnd.{RunEnd}
+use Rattle.test_report_run.specs.declared.note.SaidNumbers.{SaidNumbers}
+
+-- the word for a failed test
+abbrev pub failed_word : KindView → List ℕ
+failed_word HasFailed = codes "FAIL"
+failed_word HasTimedOut = codes "TIMEOUT"
+failed_word HasNoEnd = codes "FAIL"
+failed_word IsFlaky = codes "FAIL"
+failed_word (HasCrashed crash) = codes "CRASH"
+
+-- the colour of a word for a result: red for a failed test, and yellow for another
+abbrev pub color_of : List ℕ → List ℕ
+color_of word =
+    if bytes_eq word (codes "FAIL") then codes "1;31"
+    else (if bytes_eq word (codes "TIMEOUT") then codes "1;31" else (if bytes_eq word (codes "CRASH") then codes "1;31" else codes "1;33"))
+
+-- a word for a result, coloured if `color` is true
+unfoldable pub status_text : Bool → List ℕ → List ℕ
+status_text color word = if color then (27 ∷ codes "[") ++ (color_of word ++ (codes "m" ++ (word ++ (27 ∷ codes "[0m")))) else word
+
+-- the word for the outcome of a run
+abbrev pub outcome_word : RunOutcome → List ℕ
+outcome_word outcome.Success = codes "success"
+outcome_word outcome.NoTestsRun = codes "no-tests-run"
+outcome_word (outcome.Cancelled step) = codes "cancelled"
+outcome_word (outcome.Failed step) = codes "failed"
+
+-- the word for a verdict
+abbrev pub verdict_word : Bool → List ℕ
+verdict_word failed = if failed then codes "failed" else codes "ok"
+
+-- the word for the end of a test, as its line has it
+abbrev pub result_word : TestResult → List ℕ
+result_word ended.Ok = codes "ok"
+result_word ended.Failed = codes "failed"
+result_word ended.Ignored = codes "ignored"
+
+-- a number that the last line of a suite says
+abbrev pub said_number : List ℕ → Option ℕ → List ℕ
+said_number word number = option_map_or (λ n. codes ", " ++ (decimal n ++ word)) number []
+
+-- what the last line of a suite says
+unfoldable pub said_text : SaidNumbers → List ℕ
+said_text said =
+    codes ": its last line says " ++ (verdict_word said.failed_verdict
+    ++ (said_number (codes " passed") said.passed ++ said_number (codes " failed") said.failed))
+
+-- the numbers of the tests of that suite
+unfoldable pub its_tests : ℕ → ℕ → List ℕ
+its_tests passed failed = codes "; its tests " ++ (decimal passed ++ (codes " and " ++ decimal failed))
+
+-- the key of a suite and a verdict
+unfoldable pub key_and_verdict : Option (List ℕ) → Bool → List ℕ
+key_and_verdict key failed = name_and_space key ++ verdict_word failed
+
+-- the line of a disagreement
+unfoldable pub disagreement_line : DisagreementView → List ℕ
+disagreement_line (EndsEarly suite) = shown_name suite ++ codes " ended early"
+disagreement_line (SaysOther suite said passed failed) = shown_name suite ++ (said_text said ++ its_tests passed failed)
+disagreement_line (StrayEnds name how) = shown_name name ++ (codes " ended " ++ (result_word how ++ codes ", and had not started"))
+disagreement_line (StraySuiteEnds key failed) = codes "a suite ended that had not started: " ++ key_and_verdict key failed
+disagreement_line (StartsOutside n) = decimal n ++ codes " tests started outside of a suite"
+disagreement_line (CargoSays line) = codes "cargo: " ++ shown_name line
+
+-- the line of the tests of a suite that were not run
+unfoldable pub not_run_line : List ℕ → ℕ → ℕ → List ℕ
+not_run_line suite n of = shown_name suite ++ (codes ": " ++ (decimal n ++ (codes " of " ++ (decimal of ++ codes " tests were not run"))))
+
+-- how many tests ran, and how many passed
+unfoldable pub passed_numbers : RunEnd → List ℕ
+passed_numbers e =
+    decimal e.stats.finished_count ++ (codes " tests run: " ++ (decimal e.stats.passed ++ (codes " passed (" ++ (decimal e.stats.flaky
+    ++ codes " flaky), "))))
+
+-- how many tests failed
+unfoldable pub failed_numbers : RunEnd → List ℕ
+failed_numbers e =
+    decimal (e.stats.finished_count - e.stats.passed) ++ (codes " failed (" ++ (decimal e.stats.failed_timed_out
+    ++ (codes " timed out, " ++ (decimal e.crashed ++ codes " crashed), "))))
+
+-- how many tests were skipped, and how many were not run
+unfoldable pub other_numbers : RunEnd → List ℕ
+other_numbers e = decimal e.skipped ++ (codes " skipped, " ++ (decimal e.not_run ++ codes " not run"))
+
+-- the numbers of a run
+unfoldable pub run_numbers : RunEnd → List ℕ
+run_numbers e = passed_numbers e ++ (failed_numbers e ++ other_numbers e)
+
+-- the numbers of a run after its time in brackets
+unfoldable pub summary_line : RunEnd → List ℕ
+summary_line e = bracket e.time ++ run_numbers e
+
+-- the numbers of a run before its time in words
+unfoldable pub summary_sentence : RunEnd → List ℕ
+summary_sentence e = run_numbers e ++ option_map_or (λ micros. codes ", in " ++ (seconds micros ++ codes "s")) e.time []

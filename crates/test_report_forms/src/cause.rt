@@ -1,0 +1,134 @@
+//! The lines of disagreements, and of tests that were not run.
+
+ghost use Rattle.std.specs.Prelude.{◌≡◌, ◌++◌, OnOk, string_bytes};
+ghost use Rattle.test_report_forms.specs.Words.{disagreement_line, its_tests, not_run_line, result_word, said_number, said_text, key_and_verdict, verdict_word};
+ghost use Rattle.test_report_run.specs.Note.{disagreement_view, text_view};
+
+use crate::shown::{push_name, push_name_and_space};
+use std::alloc::AllocError;
+use std::fmt::Write;
+use test_report_events::event::TestResult;
+use test_report_run::note::{Disagreement, NotRun, SaidNumbers};
+
+/// Returns the word for a verdict.
+fn verdict(failed: bool) -> &'static str
+    ensures { result.now ≡ verdict_word failed }
+{
+    if failed { "failed" } else { "ok" }
+}
+
+/// Returns the word for the result of a test, as its line has it.
+fn result_word(result_of: TestResult) -> &'static str
+    ensures { result.now ≡ result_word result_of }
+{
+    match result_of {
+        TestResult::Ok => "ok",
+        TestResult::Failed => "failed",
+        TestResult::Ignored => "ignored",
+    }
+}
+
+/// Appends the line of a disagreement, without its line feed.
+#[tactic(auto, unfolding(crate::specs::Words::disagreement_line))]
+pub(crate) fn push_disagreement(
+    text: &mut String,
+    disagreement: &Disagreement,
+) -> Result<(), AllocError>
+    ensures { OnOk result (string_bytes text.new
+        ≡ string_bytes text.old ++ disagreement_line (disagreement_view disagreement.now)) }
+{
+    match disagreement {
+        Disagreement::EndedEarly { suite } => {
+            push_name(text, suite.as_str())?;
+            text.push_str(" ended early")
+        }
+        Disagreement::LastLine {
+            suite,
+            said,
+            passed,
+            failed,
+        } => {
+            push_name(text, suite.as_str())?;
+            push_said(text, said)?;
+            push_its_tests(text, *passed, *failed)
+        }
+        Disagreement::StrayEnd { name, result: end } => {
+            push_name(text, name.as_str())?;
+            let word = result_word(*end);
+            write!(text, " ended {word}, and had not started")
+        }
+        Disagreement::StraySuiteEnd {
+            key,
+            failed_verdict,
+        } => {
+            text.push_str("a suite ended that had not started: ")?;
+            push_key_and_verdict(text, key, *failed_verdict)
+        }
+        Disagreement::OutsideSuite { started } => {
+            let count = *started;
+            write!(text, "{count} tests started outside of a suite")
+        }
+        Disagreement::Cargo { line } => {
+            text.push_str("cargo: ")?;
+            push_name(text, line.as_str())
+        }
+    }
+}
+
+/// Appends what the last line of a suite says.
+#[tactic(auto, unfolding(crate::specs::Words::said_text))]
+fn push_said(text: &mut String, said: &SaidNumbers) -> Result<(), AllocError>
+    ensures { OnOk result (string_bytes text.new ≡ string_bytes text.old ++ said_text said.now) }
+{
+    text.push_str(": its last line says ")?;
+    text.push_str(verdict(said.failed_verdict))?;
+    push_said_number(text, said.passed, " passed")?;
+    push_said_number(text, said.failed, " failed")
+}
+
+/// Appends a number that the last line of a suite says, and the word for it.
+fn push_said_number(text: &mut String, number: Option<u128>, word: &str) -> Result<(), AllocError>
+    ensures { OnOk result (string_bytes text.new
+        ≡ string_bytes text.old ++ said_number word.now number) }
+{
+    match number {
+        Some(count) => {
+            write!(text, ", {count}")?;
+            text.push_str(word)
+        }
+        None => Ok(()),
+    }
+}
+
+/// Appends the numbers of the tests of a suite whose last line says other numbers.
+#[tactic(auto, unfolding(crate::specs::Words::its_tests))]
+fn push_its_tests(text: &mut String, passed: usize, failed: usize) -> Result<(), AllocError>
+    ensures { OnOk result (string_bytes text.new ≡ string_bytes text.old ++ its_tests passed failed) }
+{
+    write!(text, "; its tests {passed} and {failed}")
+}
+
+/// Appends the key of a suite and its verdict.
+#[tactic(auto, unfolding(crate::specs::Words::key_and_verdict))]
+fn push_key_and_verdict(
+    text: &mut String,
+    key: &Option<String>,
+    failed_verdict: bool,
+) -> Result<(), AllocError>
+    ensures { OnOk result (string_bytes text.new
+        ≡ string_bytes text.old ++ key_and_verdict (text_view key.now) failed_verdict) }
+{
+    push_name_and_space(text, key)?;
+    text.push_str(verdict(failed_verdict))
+}
+
+/// Appends the line of the tests of a suite that were not run, without its line feed.
+#[tactic(auto, unfolding(crate::specs::Words::not_run_line))]
+pub(crate) fn push_not_run(text: &mut String, not_run: &NotRun) -> Result<(), AllocError>
+    ensures { OnOk result (string_bytes text.new ≡ string_bytes text.old
+        ++ not_run_line (string_bytes not_run.now.suite) not_run.now.not_run not_run.now.initial_run_count) }
+{
+    push_name(text, not_run.suite.as_str())?;
+    let (count, initial) = (not_run.not_run, not_run.initial_run_count);
+    write!(text, ": {count} of {initial} tests were not run")
+}

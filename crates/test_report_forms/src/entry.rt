@@ -1,0 +1,64 @@
+//! The entries of a report.
+
+ghost use Rattle.std.specs.Prelude.{IfOk};
+ghost use Rattle.test_report_forms.specs.Entry.{IsEntryOf, entry_view};
+ghost use Rattle.test_report_run.specs.Note.{note_view};
+
+use crate::why::Why;
+use std::alloc::{AllocError, Global};
+use test_report_run::note::{
+    Disagreement, Failure, NotRun, Note, SuiteNote, TestNote, TestOutcome,
+};
+
+/// An entry of a report: what a note says, and why the test failed if the note is of a failed test.
+#[derive(Drop)]
+pub enum Entry<'a> {
+    /// A test passed.
+    Passed(&'a TestNote),
+
+    /// A test was skipped.
+    Skipped(&'a TestNote),
+
+    /// A test failed.
+    Failed {
+        /// The test.
+        test: &'a TestNote,
+
+        /// How it failed.
+        failure: &'a Failure,
+
+        /// Why it failed.
+        why: Why<'a>,
+    },
+
+    /// The lines of the run contradict each other.
+    Disagreement(&'a Disagreement),
+
+    /// Some tests of a suite were not run.
+    NotRun(&'a NotRun),
+
+    /// A suite is over.
+    Suite(&'a SuiteNote),
+}
+
+impl<'a> Entry<'a> {
+    /// Returns the entry of a note.
+    pub fn of(alloc: Global, note: &'a Note) -> Result<Entry<'a>, AllocError>
+        ensures { IfOk result (λ entry. IsEntryOf (note_view note.now) (entry_view entry)) }
+    {
+        match note {
+            Note::Test(test) => match &test.outcome {
+                TestOutcome::Passed => Ok(Entry::Passed(test)),
+                TestOutcome::Skipped => Ok(Entry::Skipped(test)),
+                TestOutcome::Failed(failure) => Ok(Entry::Failed {
+                    test,
+                    failure,
+                    why: Why::of(alloc, test, failure)?,
+                }),
+            },
+            Note::Disagreement(disagreement) => Ok(Entry::Disagreement(disagreement)),
+            Note::NotRun(not_run) => Ok(Entry::NotRun(not_run)),
+            Note::Suite(suite) => Ok(Entry::Suite(suite)),
+        }
+    }
+}

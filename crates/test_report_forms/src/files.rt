@@ -1,0 +1,115 @@
+//! The forms that are written to files, beside the form on standard output.
+
+ghost use Rattle.std.specs.Prelude.{◌≡◌, ◌++◌, ◌∷◌, [], List, IfOk, OnOk};
+ghost use Rattle.test_report_forms.specs.Entry.{EntryView, entry_view};
+ghost use Rattle.test_report_forms.specs.Files.{FilesKnow, FilesSay, HasTaken, text_of};
+ghost use Rattle.test_report_run.specs.Note.{text_view};
+ghost use Rattle.test_report_run.specs.declared.note.RunEnd.{RunEnd};
+ghost use Rattle.test_report_forms.specs.declared.files.FileTexts.{FileTexts};
+
+use crate::entry::Entry;
+use crate::form::Form;
+use crate::html::HtmlForm;
+use crate::junit::JunitForm;
+use crate::markdown::MarkdownForm;
+use std::alloc::{AllocError, Global};
+use test_report_run::note::RunEnd;
+
+/// The forms that are written to files at the end of a run. Each of them may be absent.
+#[derive(Drop)]
+pub struct FileForms {
+    /// The form for build servers.
+    pub junit: Option<JunitForm>,
+
+    /// The form for a browser.
+    pub html: Option<HtmlForm>,
+
+    /// The form for the summary of a workflow on GitHub.
+    pub markdown: Option<MarkdownForm>,
+}
+
+/// The texts of the files. A text is absent if its form is.
+#[derive(Drop)]
+pub struct FileTexts {
+    /// The text for build servers.
+    pub junit: Option<String>,
+
+    /// The page for a browser.
+    pub html: Option<String>,
+
+    /// The text for the summary of a workflow on GitHub.
+    pub markdown: Option<String>,
+}
+
+impl FileForms {
+    /// Returns no forms.
+    pub fn none() -> FileForms
+        ensures { FilesKnow result [] }
+    {
+        FileForms {
+            junit: None,
+            html: None,
+            markdown: None,
+        }
+    }
+
+    /// Takes an entry.
+    pub fn on_entry(&mut self, alloc: Global, entry: &Entry<'_>) -> Result<(), AllocError>
+        ensures knows { OnOk result ((entries : List EntryView)
+            → FilesKnow self.old entries → FilesKnow self.new (entries ++ entry_view entry.now ∷ [])) }
+        ensures same { OnOk result ((entries : List EntryView) (end : RunEnd) (texts : FileTexts)
+            → FilesSay self.new entries end texts → FilesSay self.old entries end texts) }
+    {
+        take_entry(alloc, &mut self.junit, entry)?;
+        take_entry(alloc, &mut self.html, entry)?;
+        take_entry(alloc, &mut self.markdown, entry)
+    }
+
+    /// Returns the texts for a run that ended so.
+    pub fn texts(&mut self, alloc: Global, end: &RunEnd) -> Result<FileTexts, AllocError>
+        ensures { IfOk result (λ texts. (entries : List EntryView)
+            → FilesKnow self.old entries → FilesSay self.old entries end.now texts) }
+    {
+        Ok(FileTexts {
+            junit: text_at_end(alloc, &mut self.junit, end)?,
+            html: text_at_end(alloc, &mut self.html, end)?,
+            markdown: text_at_end(alloc, &mut self.markdown, end)?,
+        })
+    }
+}
+
+/// Passes an entry to a form that writes nothing before the end.
+fn take_entry<F: Form>(
+    alloc: Global,
+    form: &mut Option<F>,
+    entry: &Entry<'_>,
+) -> Result<(), AllocError>
+    ensures knows { OnOk result ((entries : List EntryView)
+        → HasTaken F.Knows form.old entries → HasTaken F.Knows form.new (entries ++ entry_view entry.now ∷ [])) }
+    ensures same { OnOk result ((entries : List EntryView) (end : RunEnd)
+        → text_of F.last form.new entries end ≡ text_of F.last form.old entries end) }
+{
+    match form {
+        Some(form) => form.on_entry(alloc, entry, &mut String::new(alloc)),
+        None => Ok(()),
+    }
+}
+
+/// Returns the text of a form that wrote nothing before the end.
+fn text_at_end<F: Form>(
+    alloc: Global,
+    form: &mut Option<F>,
+    end: &RunEnd,
+) -> Result<Option<String>, AllocError>
+    ensures { IfOk result (λ text. (entries : List EntryView) → HasTaken F.Knows form.old entries
+        → text_view text ≡ text_of F.last form.old entries end.now) }
+{
+    match form {
+        Some(form) => {
+            let mut text = String::new(alloc);
+            form.on_end(alloc, end, &mut text)?;
+            Ok(Some(text))
+        }
+        None => Ok(None),
+    }
+}

@@ -1,0 +1,41 @@
+//! What a form is.
+
+ghost use Rattle.std.specs.Prelude.{◌≡◌, ◌++◌, ◌∷◌, [], ℕ, List, OnOk, string_bytes};
+ghost use Rattle.test_report_forms.specs.Entry.{EntryView, entry_view};
+ghost use Rattle.test_report_run.specs.declared.note.RunEnd.{RunEnd};
+
+use crate::entry::Entry;
+use std::alloc::{AllocError, Global};
+use test_report_run::note::RunEnd;
+
+/// A form of a report: what is written of each entry at once, and what is written at the end. A form keeps
+/// what it needs for the end.
+pub trait Form {
+    /// What is written of an entry as soon as it is known.
+    ghost line: { Self → EntryView → List ℕ };
+
+    /// What is written at the end of a run, of all its entries.
+    ghost last: { Self → List EntryView → RunEnd → List ℕ };
+
+    /// The form has taken these entries.
+    ghost Knows: { Self → List EntryView → Type 0 };
+
+    /// Takes an entry, and appends what is written of it at once.
+    fn on_entry(
+        &mut self,
+        alloc: Global,
+        entry: &Entry<'_>,
+        text: &mut String,
+    ) -> Result<(), AllocError>
+        ensures writes { OnOk result (string_bytes text.new
+            ≡ string_bytes text.old ++ line self.old (entry_view entry.now)) }
+        ensures knows { OnOk result ((entries : List EntryView)
+            → Knows self.old entries → Knows self.new (entries ++ entry_view entry.now ∷ [])) }
+        ensures same_line { OnOk result (line self.new ≡ line self.old) }
+        ensures same_last { OnOk result (last self.new ≡ last self.old) };
+
+    /// Appends what is written at the end of the run.
+    fn on_end(&mut self, alloc: Global, end: &RunEnd, text: &mut String) -> Result<(), AllocError>
+        ensures { OnOk result ((entries : List EntryView) → Knows self.old entries
+            → string_bytes text.new ≡ string_bytes text.old ++ last self.old entries end.now) };
+}

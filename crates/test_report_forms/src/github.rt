@@ -1,0 +1,220 @@
+//! The form for the log of a workflow on GitHub.
+
+ghost use Rattle.std.specs.Prelude.{◌≡◌, ◌++◌, [], OnOk, option_map, string_bytes};
+ghost use Rattle.test_report_forms.specs.Github.{column_property, data_char, error_command, failed_command, message, place_properties, properties, property, property_char, title_property, why_message};
+ghost use Rattle.test_report_forms.specs.Why.{place_view, why_view};
+ghost use Rattle.test_report_run.specs.Note.{test_view};
+
+use crate::cause::{push_disagreement, push_not_run};
+use crate::entry::Entry;
+use crate::form::Form;
+use crate::options::Options;
+use crate::place::Place;
+use crate::shown::{push_limited, push_name};
+use crate::summary::{outcome_text, push_summary};
+use crate::title::push_title;
+use crate::why::Why;
+use std::alloc::{AllocError, Global};
+use test_report_run::note::{RunEnd, TestNote};
+
+/// The form for the log of a workflow on GitHub: an annotation for each failed test, each disagreement and
+/// each suite whose tests were not all run, and at the end a notice with the summary. Every line is a
+/// command of this program, so no output of a test is ever read as a command.
+#[derive(Drop)]
+pub struct GithubForm {
+    limit: usize,
+}
+
+impl GithubForm {
+    /// Returns the form with the limit of the options.
+    pub fn new(options: Options) -> GithubForm
+        ensures nothing { ⟦<GithubForm as Form>⟧.Knows result [] }
+        ensures limit { result.limit ≡ options.limit }
+    {
+        GithubForm {
+            limit: options.limit,
+        }
+    }
+
+    /// Appends the annotation of a failed test.
+    #[tactic(auto, unfolding(crate::specs::Github::failed_command))]
+    fn push_failed(
+        &self,
+        alloc: Global,
+        test: &TestNote,
+        why: &Why<'_>,
+        text: &mut String,
+    ) -> Result<(), AllocError>
+        ensures { OnOk result (string_bytes text.new
+            ≡ string_bytes text.old ++ failed_command self.now.limit (test_view test.now) (why_view why.now)) }
+    {
+        text.push_str("::error ")?;
+        push_properties(alloc, text, &why.place)?;
+        push_title_property(alloc, text, test)?;
+        push_message(alloc, text, why.text.as_str(), self.limit)
+    }
+}
+
+/// Appends an annotation without a place.
+#[tactic(auto, unfolding(crate::specs::Github::error_command))]
+fn push_error(text: &mut String, message: &str) -> Result<(), AllocError>
+    ensures { OnOk result (string_bytes text.new ≡ string_bytes text.old ++ error_command message.now) }
+{
+    text.push_str("::error::")?;
+    push_data(text, message)?;
+    text.push('\n')
+}
+
+/// Appends the title of a failed test as a property.
+#[tactic(auto, unfolding(crate::specs::Github::title_property))]
+fn push_title_property(alloc: Global, text: &mut String, test: &TestNote) -> Result<(), AllocError>
+    ensures { OnOk result (string_bytes text.new
+        ≡ string_bytes text.old ++ title_property (test_view test.now)) }
+{
+    let mut title = String::new(alloc);
+    push_title(&mut title, test)?;
+    text.push_str("title=")?;
+    push_property(text, title.as_str())
+}
+
+/// Appends the message that says why a test failed.
+#[tactic(auto, unfolding(crate::specs::Github::why_message))]
+fn push_message(alloc: Global, text: &mut String, why: &str, limit: usize) -> Result<(), AllocError>
+    ensures { OnOk result (string_bytes text.new ≡ string_bytes text.old ++ why_message limit why.now) }
+{
+    let mut shown = String::new(alloc);
+    push_limited(&mut shown, why, limit)?;
+    text.push_str("::")?;
+    push_data(text, shown.as_str())?;
+    text.push('\n')
+}
+
+impl Form for GithubForm {
+    ghost use Rattle.test_report_forms.specs.Github.{github_last, github_line};
+
+    ghost line = { λ form entry. github_line form.limit entry };
+
+    ghost last = { λ form entries end. github_last end };
+
+    ghost Knows = { λ form entries. Unit {0} };
+
+    fn on_entry(
+        &mut self,
+        alloc: Global,
+        entry: &Entry<'_>,
+        text: &mut String,
+    ) -> Result<(), AllocError> {
+        let mut line = String::new(alloc);
+        match entry {
+            Entry::Passed(_) | Entry::Skipped(_) | Entry::Suite(_) => Ok(()),
+            Entry::Failed { test, why, .. } => self.push_failed(alloc, test, why, text),
+            Entry::Disagreement(disagreement) => {
+                push_disagreement(&mut line, disagreement)?;
+                push_error(text, line.as_str())
+            }
+            Entry::NotRun(not_run) => {
+                push_not_run(&mut line, not_run)?;
+                push_error(text, line.as_str())
+            }
+        }
+    }
+
+    #[tactic(auto, unfolding(crate::specs::Github::github_last))]
+    fn on_end(&mut self, _: Global, end: &RunEnd, text: &mut String) -> Result<(), AllocError> {
+        text.push_str("::notice::")?;
+        push_summary(text, end)?;
+        text.push_str(", outcome ")?;
+        text.push_str(outcome_text(end.outcome))?;
+        text.push('\n')
+    }
+}
+
+/// Appends the place of a failure as properties. Appends nothing without a place.
+#[tactic(auto, unfolding(crate::specs::Github::properties))]
+fn push_properties(
+    alloc: Global,
+    text: &mut String,
+    place: &Option<Place<'_>>,
+) -> Result<(), AllocError>
+    ensures { OnOk result (string_bytes text.new
+        ≡ string_bytes text.old ++ properties (option_map place_view place.now)) }
+{
+    match place {
+        Some(place) => push_place(alloc, text, place),
+        None => Ok(()),
+    }
+}
+
+/// Appends a place as properties.
+#[tactic(auto, unfolding(crate::specs::Github::place_properties))]
+fn push_place(alloc: Global, text: &mut String, place: &Place<'_>) -> Result<(), AllocError>
+    ensures { OnOk result (string_bytes text.new
+        ≡ string_bytes text.old ++ place_properties (place_view place.now)) }
+{
+    let mut file = String::new(alloc);
+    push_name(&mut file, place.file)?;
+    text.push_str("file=")?;
+    push_property(text, file.as_str())?;
+    text.push_str(",line=")?;
+    text.push_str(place.line)?;
+    push_column(text, place.column)?;
+    text.push(',')
+}
+
+/// Appends a column as a property. Appends nothing without a column.
+#[tactic(auto, unfolding(crate::specs::Github::column_property))]
+fn push_column(text: &mut String, column: Option<&str>) -> Result<(), AllocError>
+    ensures { OnOk result (string_bytes text.new
+        ≡ string_bytes text.old ++ column_property (option_map (λ c. c.now) column.entry)) }
+{
+    match column {
+        Some(column) => {
+            text.push_str(",col=")?;
+            text.push_str(column)
+        }
+        None => Ok(()),
+    }
+}
+
+/// Appends the message of a command.
+fn push_data(text: &mut String, value: &str) -> Result<(), AllocError>
+    ensures { OnOk result (string_bytes text.new ≡ string_bytes text.old ++ message value.now) }
+{
+    for c in value.chars() {
+        push_data_char(text, c)?;
+    }
+    Ok(())
+}
+
+/// Appends a character of a message.
+fn push_data_char(text: &mut String, c: char) -> Result<(), AllocError>
+    ensures { OnOk result (string_bytes text.new ≡ string_bytes text.old ++ data_char c) }
+{
+    match c {
+        '%' => text.push_str("%25"),
+        '\r' => text.push_str("%0D"),
+        '\n' => text.push_str("%0A"),
+        _ => text.push(c),
+    }
+}
+
+/// Appends a property of a command.
+fn push_property(text: &mut String, value: &str) -> Result<(), AllocError>
+    ensures { OnOk result (string_bytes text.new ≡ string_bytes text.old ++ property value.now) }
+{
+    for c in value.chars() {
+        push_property_char(text, c)?;
+    }
+    Ok(())
+}
+
+/// Appends a character of a property.
+fn push_property_char(text: &mut String, c: char) -> Result<(), AllocError>
+    ensures { OnOk result (string_bytes text.new ≡ string_bytes text.old ++ property_char c) }
+{
+    match c {
+        ':' => text.push_str("%3A"),
+        ',' => text.push_str("%2C"),
+        _ => push_data_char(text, c),
+    }
+}

@@ -1,0 +1,141 @@
+//! How text of the input is shown.
+
+ghost use Rattle.std.specs.Prelude.{◌≡◌, ◌≤◌, ◌++◌, OnOk, length, string_bytes, if◌then◌else◌};
+ghost use Rattle.std.specs.Char.{encode_utf8};
+ghost use Rattle.test_report_forms.specs.Shown as spec;
+ghost use Rattle.test_report_run.specs.Note.{text_view};
+
+use std::alloc::AllocError;
+use std::fmt::Write;
+
+/// Returns true for a character that is shown as an escape in every text: a control character other than
+/// a tab and a line feed, or one that turns the direction of writing.
+pub(crate) fn is_escaped(c: char) -> bool
+    ensures { result ≡ spec.is_escaped c }
+{
+    match c {
+        '\t' | '\n' => false,
+        '\u{61c}' | '\u{200e}' | '\u{200f}' => true,
+        '\u{202a}'..='\u{202e}' | '\u{2066}'..='\u{2069}' => true,
+        _ => c.is_control(),
+    }
+}
+
+/// Appends a character, as an escape such as `\u{1b}` if `escaped` is true.
+#[tactic(auto, unfolding(crate::specs::Shown::escape))]
+pub(crate) fn push_char(text: &mut String, c: char, escaped: bool) -> Result<(), AllocError>
+    ensures { OnOk result (string_bytes text.new
+        ≡ string_bytes text.old ++ (if escaped then spec.escape c else encode_utf8 c)) }
+{
+    if escaped {
+        let code = u32::from(c);
+        write!(text, "\\u{{{code:x}}}")
+    } else {
+        text.push(c)
+    }
+}
+
+/// Appends a name. All control characters are shown as escapes.
+pub(crate) fn push_name(text: &mut String, name: &str) -> Result<(), AllocError>
+    ensures { OnOk result (string_bytes text.new ≡ string_bytes text.old ++ spec.shown_name name.now) }
+{
+    for c in name.chars() {
+        push_char(text, c, c == '\t' || c == '\n' || is_escaped(c))?;
+    }
+    Ok(())
+}
+
+/// Appends a name and a space. Appends nothing without a name.
+#[tactic(auto, unfolding(crate::specs::Shown::name_and_space))]
+pub(crate) fn push_name_and_space(
+    text: &mut String,
+    name: &Option<String>,
+) -> Result<(), AllocError>
+    ensures { OnOk result (string_bytes text.new
+        ≡ string_bytes text.old ++ spec.name_and_space (text_view name.now)) }
+{
+    match name {
+        Some(name) => {
+            push_name(text, name.as_str())?;
+            text.push(' ')
+        }
+        None => Ok(()),
+    }
+}
+
+/// Appends a text. `raw` keeps its control characters.
+pub(crate) fn push_text(text: &mut String, shown: &str, raw: bool) -> Result<(), AllocError>
+    ensures { OnOk result (string_bytes text.new
+        ≡ string_bytes text.old ++ spec.shown_text raw shown.now) }
+{
+    for c in shown.chars() {
+        push_char(text, c, !raw && is_escaped(c))?;
+    }
+    Ok(())
+}
+
+/// Returns at most the first `limit` bytes of a text, cut at a character.
+pub(crate) fn front(shown: &str, limit: usize) -> &str
+    ensures value { result.now ≡ spec.front shown.now limit }
+    ensures within { length result.now ≤ length shown.now }
+{
+    &shown[..shown.floor_char_boundary(limit)]
+}
+
+/// Appends at most the first `limit` bytes of a text, and the number of bytes that are not shown on a line of
+/// its own.
+#[tactic(auto, unfolding(crate::specs::Shown::limited))]
+pub(crate) fn push_limited(text: &mut String, shown: &str, limit: usize) -> Result<(), AllocError>
+    ensures { OnOk result (string_bytes text.new
+        ≡ string_bytes text.old ++ spec.limited shown.now limit) }
+{
+    let first = front(shown, limit);
+    push_text(text, first, false)?;
+    push_more(text, shown.len() - first.len())
+}
+
+/// Appends the number of bytes that are not shown, on a line of its own. Appends nothing if there are none.
+fn push_more(text: &mut String, more: usize) -> Result<(), AllocError>
+    ensures { OnOk result (string_bytes text.new ≡ string_bytes text.old ++ spec.more_note more) }
+{
+    if more == 0 {
+        return Ok(());
+    }
+    write!(text, "\n({more} more bytes)")
+}
+
+/// Appends a text, each of its lines after four spaces.
+pub(crate) fn push_indented(text: &mut String, shown: &str, raw: bool) -> Result<(), AllocError>
+    ensures { OnOk result (string_bytes text.new
+        ≡ string_bytes text.old ++ spec.indented raw shown.now) }
+{
+    for line in shown.split('\n') {
+        text.push_str("    ")?;
+        push_text(text, line, raw)?;
+        text.push('\n')?;
+    }
+    Ok(())
+}
+
+/// Appends a time in seconds, with three digits after the point.
+#[tactic(auto, unfolding(crate::specs::Shown::seconds))]
+pub(crate) fn push_seconds(text: &mut String, micros: u64) -> Result<(), AllocError>
+    ensures { OnOk result (string_bytes text.new ≡ string_bytes text.old ++ spec.seconds micros) }
+{
+    let (seconds, millis) = (micros / 1_000_000, micros / 1_000 % 1_000);
+    write!(text, "{seconds}.{millis:03}")
+}
+
+/// Appends a time in brackets and a space, at least as wide as `[   0.004s] `. Appends nothing without a time.
+#[tactic(auto, unfolding(crate::specs::Shown::bracket))]
+pub(crate) fn push_bracket(text: &mut String, time: Option<u64>) -> Result<(), AllocError>
+    ensures { OnOk result (string_bytes text.new ≡ string_bytes text.old ++ spec.bracket time) }
+{
+    match time {
+        Some(micros) => {
+            let (seconds, millis) = (micros / 1_000_000, micros / 1_000 % 1_000);
+            write!(text, "[{seconds:>4}.{millis:03}s] ")
+        }
+        None => Ok(()),
+    }
+}

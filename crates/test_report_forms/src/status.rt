@@ -1,0 +1,51 @@
+//! The words for the results of tests, and their colours.
+
+ghost use Rattle.std.specs.Prelude.{◌≡◌, ◌++◌, OnOk, string_bytes};
+ghost use Rattle.test_report_forms.specs.Words as spec;
+ghost use Rattle.test_report_forms.specs.Words.{failed_word, status_text};
+ghost use Rattle.test_report_run.specs.Note.{kind_view};
+
+use crate::options::Options;
+use std::alloc::AllocError;
+use test_report_run::note::FailureKind;
+
+/// Returns the word for a failed test.
+pub(crate) fn failed_status(kind: &FailureKind) -> &'static str
+    ensures { result.now ≡ failed_word (kind_view kind.now) }
+{
+    match kind {
+        FailureKind::TimedOut => "TIMEOUT",
+        FailureKind::Crashed(_) => "CRASH",
+        FailureKind::Failed | FailureKind::WithoutEnd | FailureKind::Flaky => "FAIL",
+    }
+}
+
+/// Returns the colour of a word, as the parameters of an escape sequence.
+fn color_of(status: &str) -> &'static str
+    ensures { result.now ≡ spec.color_of status.now }
+{
+    match status {
+        "FAIL" | "TIMEOUT" | "CRASH" => "1;31",
+        _ => "1;33",
+    }
+}
+
+/// Appends a word, coloured if the options say so.
+#[tactic(auto, unfolding(crate::specs::Words::status_text))]
+pub(crate) fn push_status(
+    text: &mut String,
+    status: &str,
+    options: Options,
+) -> Result<(), AllocError>
+    ensures { OnOk result (string_bytes text.new
+        ≡ string_bytes text.old ++ status_text options.color status.now) }
+{
+    if !options.color {
+        return text.push_str(status);
+    }
+    text.push_str("\u{1b}[")?;
+    text.push_str(color_of(status))?;
+    text.push('m')?;
+    text.push_str(status)?;
+    text.push_str("\u{1b}[0m")
+}

@@ -1,0 +1,46 @@
+-- The open suites end early, and then the tests outside of a suite.
+use Rattle.std.proofs.Common.{◌≡◌, ◌∙◌, [], Global, List, None, Vec, ap, arith, map, map-id, sym}
+use Rattle.std.specs.List.{fold}
+use Rattle.std.proofs.lemmas.Iterator.Consumers.{YieldsList-end}
+use Rattle.std.proofs.lemmas.Iterator.Adapters.{YieldsList-from_vec}
+use Rattle.test_report_run.specs.Note.{note_view}
+use Rattle.test_report_run.specs.Run.{RunState, Step, ended_early, learned, run_state, step}
+use Rattle.test_report_run.specs.Suite.{SuiteState, outside_start, state_of}
+use Rattle.test_report_run.specs.declared.note.Note.{Note}
+use Rattle.test_report_run.specs.declared.suite.Suite.{Suite}
+use Rattle.test_report_run.proofs.Runs.{file-end}
+use Rattle.test_report_run.proofs.run.TestRun.end_file.Goals as goal
+
+pub returns-clause-tells : goal.returns-clause-tells
+returns-clause-tells c =
+    let r = run_state c.args.self.now in
+    let gives = c.into_iter-suite-iterator.ensures.into_iter_gives in
+    let given = c.replace-suite-items.result in
+    let end = YieldsList-end (YieldsList-from_vec given.items gives.0 (omega (arith, gives.1, given.ok))) c.loop-suite.yielded _ c.loop-suite.yielded_by
+    _ c.next.new.self c.in-None.is c.next.ensures.steps in
+    let all : c.loop-suite.yielded ≡ c.args.self.now.suites.items =
+    sym (map-id c.loop-suite.yielded) ∙ end.0 ∙ ap (λ (v : Vec Suite Global). v.items) c.replace-suite-items.ensures.value in
+    let suites = c.loop-suite.invariant ∙ ap (λ (xs : List Suite). fold ended_early (step (record r { suites = [] }) []) (map state_of xs)) all in
+    let outside : state_of c.replace-outside.new.dest ≡ outside_start = ap state_of c.replace-outside.ensures.after ∙ c.outside.ensures in
+    let end = file-end r _ _ _ _ (state_of c.replace-outside.result) suites (ap state_of c.replace-outside.ensures.value) (c.in_ok-end_early-2.ensures
+    ∙ ap (λ (o : SuiteState). ended_early (step (record (run_state c.loop-suite.self) { outside = o }) (map note_view c.loop-suite.notes.items))
+    (state_of c.replace-outside.result)) outside) in
+    ap (λ (t : Step). t.notes) end
+
+pub returns-clause-takes : goal.returns-clause-takes
+returns-clause-takes c =
+    let r = run_state c.args.self.now in
+    let gives = c.into_iter-suite-iterator.ensures.into_iter_gives in
+    let given = c.replace-suite-items.result in
+    let end = YieldsList-end (YieldsList-from_vec given.items gives.0 (omega (arith, gives.1, given.ok))) c.loop-suite.yielded _ c.loop-suite.yielded_by
+    _ c.next.new.self c.in-None.is c.next.ensures.steps in
+    let all : c.loop-suite.yielded ≡ c.args.self.now.suites.items =
+    sym (map-id c.loop-suite.yielded) ∙ end.0 ∙ ap (λ (v : Vec Suite Global). v.items) c.replace-suite-items.ensures.value in
+    let suites = c.loop-suite.invariant ∙ ap (λ (xs : List Suite). fold ended_early (step (record r { suites = [] }) []) (map state_of xs)) all in
+    let outside : state_of c.replace-outside.new.dest ≡ outside_start = ap state_of c.replace-outside.ensures.after ∙ c.outside.ensures in
+    let end = file-end r _ _ _ _ (state_of c.replace-outside.result) suites (ap state_of c.replace-outside.ensures.value) (c.in_ok-end_early-2.ensures
+    ∙ ap (λ (o : SuiteState). ended_early (step (record (run_state c.loop-suite.self) { outside = o }) (map note_view c.loop-suite.notes.items))
+    (state_of c.replace-outside.result)) outside) in
+    ap (λ (x : RunState). record x { heading = None; causes_at_file = x.causes; causes_at_cargo = x.causes })
+    (c.in_ok-learn.ensures ∙ ap (λ (notes : List Note). learned (run_state c.end_early-2.new.self) (map note_view notes)) c.deref.ensures.value
+    ∙ ap (λ (t : Step). learned t.run t.notes) end)

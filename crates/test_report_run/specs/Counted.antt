@@ -1,0 +1,29 @@
+-- How a test that finished counts.
+use Rattle.std.specs.Prelude.{ℕ, Bool, false, pos}
+use Rattle.run_events_levels.specs.TestView.{TestView}
+use Rattle.run_events_results.specs.declared.results.ExecutionResultDescription.{ExecutionResultDescription}
+use Rattle.run_events_results.specs.declared.results.ExecutionResultDescription.TheVariants as described
+use Rattle.run_events_results.specs.declared.results.FailureDescription.TheVariants as failure
+use Rattle.run_events_settings.specs.declared.config.FlakyResult.{FlakyResult}
+use Rattle.run_events_settings.specs.declared.config.FlakyResult.TheVariants as flaky
+use Rattle.run_events_settings.specs.declared.config.SlowTimeoutResult.TheVariants as slow
+use Rattle.test_report_run.specs.declared.counted.Finish.{Finish}
+use Rattle.test_report_run.specs.declared.counted.Finish.TheVariants.{Passed, FlakyFailed, Failed, TimedOut}
+
+-- the result of a test that finished so: a failure with the exit code of the harness
+abbrev pub result_of : Finish → ExecutionResultDescription
+result_of Passed = described.Pass
+result_of FlakyFailed = described.Pass
+result_of Failed = described.Fail (failure.ExitCode (pos 101)) false
+result_of TimedOut = described.Timeout slow.Fail
+
+-- how it counts if it is flaky
+abbrev pub flaky_result_of : Finish → FlakyResult
+flaky_result_of Passed = flaky.Pass
+flaky_result_of FlakyFailed = flaky.Fail
+flaky_result_of Failed = flaky.Pass
+flaky_result_of TimedOut = flaky.Pass
+
+-- what decides the counters of a test that finished so
+abbrev pub view_of_finish : Finish → ℕ → TestView
+view_of_finish how attempts = record { result = result_of how; attempts = attempts; is_slow = false; flaky_result = flaky_result_of how }

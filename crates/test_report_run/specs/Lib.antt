@@ -1,0 +1,13 @@
+pub mod Counted
+pub mod Ended
+pub mod LastLine
+pub mod Laws
+pub mod Note
+pub mod Over
+pub mod Prints
+pub mod Run
+pub mod Running
+pub mod Said
+pub mod Suite
+pub mod Totals
+pub mod Whole

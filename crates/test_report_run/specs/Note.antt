@@ -1,0 +1,149 @@
+-- What becomes known of a run.
+use Rattle.std.specs.Prelude.{ℕ, List, Bool, map, Option, Some, None, option_map, String, string_bytes}
+use Rattle.std.specs.declared.alloc.Global.{Global}
+use Rattle.run_events_stats.specs.declared.stats.RunStats.{RunStats}
+use Rattle.test_report_events.specs.declared.event.TestResult.{TestResult}
+use Rattle.test_report_run.specs.declared.note.Crash.{Crash}
+use Rattle.test_report_run.specs.declared.note.Disagreement.{Disagreement}
+use Rattle.test_report_run.specs.declared.note.Disagreement.TheVariants as disagreement
+use Rattle.test_report_run.specs.declared.note.Failure.{Failure}
+use Rattle.test_report_run.specs.declared.note.FailureKind.{FailureKind}
+use Rattle.test_report_run.specs.declared.note.FailureKind.TheVariants as kind
+use Rattle.test_report_run.specs.declared.note.Note.{Note}
+use Rattle.test_report_run.specs.declared.note.Note.TheVariants as note
+use Rattle.test_report_run.specs.declared.note.SaidNumbers.{SaidNumbers}
+use Rattle.test_report_run.specs.declared.note.SuiteNote.{SuiteNote}
+use Rattle.test_report_run.specs.declared.note.TestNote.{TestNote}
+use Rattle.test_report_run.specs.declared.note.TestOutcome.{TestOutcome}
+use Rattle.test_report_run.specs.declared.note.TestOutcome.TheVariants as outcome
+
+-- how a test crashed: how many tests ran, whether its suite has a key, and what may say why
+pub record CrashView : Type 0 where
+  pub running : ℕ
+  pub has_key : Bool
+  pub prints : List (List ℕ)
+
+-- the kind of a failure
+pub data KindView : Type 0 where
+  HasFailed : KindView
+  HasTimedOut : KindView
+  HasNoEnd : KindView
+  IsFlaky : KindView
+  HasCrashed : CrashView → KindView
+
+-- a failure: its kind, and the output, the message of the harness and its reason
+pub record FailureView : Type 0 where
+  pub kind : KindView
+  pub stdout : Option (List ℕ)
+  pub message : Option (List ℕ)
+  pub reason : Option (List ℕ)
+
+-- how a test counts
+pub data OutcomeView : Type 0 where
+  Passes : OutcomeView
+  IsSkipped : OutcomeView
+  Fails : FailureView → OutcomeView
+
+-- a test, and how it counts
+pub record TestNoteView : Type 0 where
+  pub suite : Option (List ℕ)
+  pub name : List ℕ
+  pub attempts : ℕ
+  pub time : Option ℕ
+  pub ended : ℕ
+  pub outcome : OutcomeView
+
+-- a contradiction between lines
+pub data DisagreementView : Type 0 where
+  EndsEarly : List ℕ → DisagreementView
+  SaysOther : List ℕ → SaidNumbers → ℕ → ℕ → DisagreementView
+  StrayEnds : List ℕ → TestResult → DisagreementView
+  StraySuiteEnds : Option (List ℕ) → Bool → DisagreementView
+  StartsOutside : ℕ → DisagreementView
+  CargoSays : List ℕ → DisagreementView
+
+-- a suite that is over
+pub record SuiteNoteView : Type 0 where
+  pub name : Option (List ℕ)
+  pub stats : RunStats
+  pub skipped : ℕ
+  pub not_run : ℕ
+  pub crashed : ℕ
+  pub time : Option ℕ
+
+-- what becomes known
+pub data NoteView : Type 0 where
+  TestIs : TestNoteView → NoteView
+  Disagrees : DisagreementView → NoteView
+  -- the name of a suite, how many of its tests were not run, and how many were to run
+  IsNotRun : List ℕ → ℕ → ℕ → NoteView
+  SuiteIs : SuiteNoteView → NoteView
+
+-- a text that may be absent
+abbrev pub text_view : Option (String Global) → Option (List ℕ)
+text_view text = option_map string_bytes text
+
+-- what a crash says
+abbrev pub crash_view : Crash → CrashView
+crash_view c = record { running = c.running; has_key = c.has_key; prints = map string_bytes c.prints.items }
+
+-- what the kind of a failure says
+abbrev pub kind_view : FailureKind → KindView
+kind_view kind.Failed = HasFailed
+kind_view kind.TimedOut = HasTimedOut
+kind_view kind.WithoutEnd = HasNoEnd
+kind_view kind.Flaky = IsFlaky
+kind_view (kind.Crashed crash) = HasCrashed (crash_view crash)
+
+-- what a failure says
+abbrev pub failure_view : Failure → FailureView
+failure_view f = record {
+  kind = kind_view f.kind;
+  stdout = text_view f.stdout;
+  message = text_view f.message;
+  reason = text_view f.reason;
+}
+
+-- what the outcome of a test says
+abbrev pub outcome_view : TestOutcome → OutcomeView
+outcome_view outcome.Passed = Passes
+outcome_view outcome.Skipped = IsSkipped
+outcome_view (outcome.Failed failure) = Fails (failure_view failure)
+
+-- what the note of a test says
+abbrev pub test_view : TestNote → TestNoteView
+test_view t = record {
+  suite = text_view t.suite;
+  name = string_bytes t.name;
+  attempts = t.attempts;
+  time = t.time;
+  ended = t.ended;
+  outcome = outcome_view t.outcome;
+}
+
+-- what a disagreement says
+abbrev pub disagreement_view : Disagreement → DisagreementView
+disagreement_view (disagreement.EndedEarly suite) = EndsEarly (string_bytes suite)
+disagreement_view (disagreement.LastLine suite said passed failed) = SaysOther (string_bytes suite) said passed failed
+disagreement_view (disagreement.StrayEnd name outcome) = StrayEnds (string_bytes name) outcome
+disagreement_view (disagreement.StraySuiteEnd key failed) = StraySuiteEnds (text_view key) failed
+disagreement_view (disagreement.OutsideSuite started) = StartsOutside started
+disagreement_view (disagreement.Cargo line) = CargoSays (string_bytes line)
+
+-- what the note of a suite says
+abbrev pub suite_view : SuiteNote → SuiteNoteView
+suite_view s = record {
+  name = text_view s.name;
+  stats = s.stats;
+  skipped = s.skipped;
+  not_run = s.not_run;
+  crashed = s.crashed;
+  time = s.time;
+}
+
+-- what becomes known by a note
+abbrev pub note_view : Note → NoteView
+note_view (note.Test test) = TestIs (test_view test)
+note_view (note.Disagreement d) = Disagrees (disagreement_view d)
+note_view (note.NotRun n) = IsNotRun (string_bytes n.suite) n.not_run n.initial_run_count
+note_view (note.Suite suite) = SuiteIs (suite_view suite)

@@ -1,0 +1,146 @@
+-- A suite that is over.
+use Rattle.std.specs.Prelude.{◌+◌, ◌-◌, ◌++◌, ◌==◌, ◌∷◌, ◌^◌, [], ℕ, zero, suc, List, Bool, true, false, drop, length, map, max, nat_lt, take, if◌then◌else◌, is_some, Option, Some, None, unwrap_or}
+use Rattle.std.specs.List.{fold}
+use Rattle.std.specs.Option.{option_map_or, option_or}
+use Rattle.run_events_stats.specs.Counters.{with_test}
+use Rattle.run_events_stats.specs.declared.stats.RunStats.{RunStats}
+use Rattle.test_report_run.specs.Counted.{view_of_finish}
+use Rattle.test_report_run.specs.LastLine.{explanation_of, is_contradicted}
+use Rattle.test_report_run.specs.Note.{CrashView, Disagrees, EndsEarly, FailureView, Fails, HasCrashed, HasNoEnd, IsFlaky, IsNotRun, IsSkipped, KindView, NoteView, OutcomeView, Passes, SaysOther, StartsOutside, SuiteIs}
+use Rattle.test_report_run.specs.Said.{numbers_of}
+use Rattle.test_report_run.specs.Suite.{FlakyView, OverView, SuiteState, failed_of, suite_name, tally_of, test_note}
+use Rattle.test_report_run.specs.declared.counted.Finish.TheVariants as finish
+use Rattle.test_report_run.specs.declared.last_line.Explanation.{Explanation}
+use Rattle.test_report_run.specs.declared.over.Rest.{Rest}
+
+-- a test without end is over
+abbrev pub over_of : List ℕ → OverView
+over_of name = record { name = name; attempts = 1; time = None; ended = 2 ^ 64 - 1 }
+
+-- a failure that no line reports
+abbrev pub bare_failure : KindView → FailureView
+bare_failure kind = record { kind = kind; stdout = None; message = None; reason = None }
+
+-- a test without end, of this name, fails so
+abbrev pub failed_note : SuiteState → KindView → List ℕ → NoteView
+failed_note s kind name = test_note s (over_of name) (Fails (bare_failure kind))
+
+-- tests without end, of these names, fail so
+abbrev pub failed_notes : SuiteState → KindView → List (List ℕ) → List NoteView
+failed_notes s kind names = map (failed_note s kind) names
+
+-- how a test crashed while this number of tests of the suite ran
+abbrev pub crash_of : SuiteState → ℕ → CrashView
+crash_of s running = record { running = running; has_key = is_some s.key; prints = s.prints.lines }
+
+-- the statistics with one more test that failed
+abbrev pub one_failed : RunStats → List ℕ → RunStats
+one_failed stats name = with_test stats (view_of_finish finish.Failed 1)
+
+-- the statistics with one more failed test for each of these names
+abbrev pub with_failed : RunStats → List (List ℕ) → RunStats
+with_failed stats names = fold one_failed stats names
+
+-- the suite with one more failure of that kind
+abbrev pub with_failure : SuiteState → SuiteState
+with_failure s = record s { stats = one_failed s.stats [] }
+
+-- how a flaky test counts: it passed, or it failed
+abbrev pub flaky_outcome : Bool → FlakyView → OutcomeView
+flaky_outcome false f = Passes
+flaky_outcome true f = Fails record { kind = IsFlaky; stdout = f.stdout; message = f.message; reason = None }
+
+-- what becomes known of a flaky test when its suite ends
+abbrev pub flaky_note : SuiteState → Bool → FlakyView → NoteView
+flaky_note s failed f = test_note s f.test (flaky_outcome failed f)
+
+-- what becomes known of all flaky tests of a suite
+abbrev pub flaky_notes : SuiteState → Bool → List NoteView
+flaky_notes s failed = map (flaky_note s failed) s.flaky
+
+-- the statistics with one more flaky test
+abbrev pub one_flaky : Bool → RunStats → FlakyView → RunStats
+one_flaky failed stats f = with_test stats (view_of_finish (if failed then finish.FlakyFailed else finish.Passed) f.test.attempts)
+
+-- the statistics with all these flaky tests
+abbrev pub with_all_flaky : Bool → RunStats → List FlakyView → RunStats
+with_all_flaky failed stats flaky = fold (one_flaky failed) stats flaky
+
+-- how many tests were to run
+abbrev pub initial_of : SuiteState → Rest → ℕ
+initial_of s rest =
+    option_map_or (λ count. max (count - rest.skipped) (s.stats.finished_count + rest.left)) s.test_count (s.stats.finished_count + rest.left)
+
+-- the numbers of a suite that is over: how many tests were skipped, how many are left, and the time
+abbrev pub number_notes : SuiteState → Rest → List NoteView
+number_notes s rest =
+    let initial = initial_of s rest in
+    let not_run = initial - s.stats.finished_count in
+    option_map_or (λ name. if nat_lt 0 not_run then IsNotRun name not_run initial ∷ [] else []) (suite_name s) []
+    ++ SuiteIs record { name = suite_name s; stats = s.stats; skipped = rest.skipped; not_run = not_run; crashed = s.crashed; time = rest.time } ∷ []
+
+-- a suite that ends early disagrees if none of its tests crashed, and so do tests that started outside of a suite
+abbrev pub early_disagreements : SuiteState → ℕ → List NoteView
+early_disagreements s crashed =
+    option_map_or (λ name. if crashed == 0 then Disagrees (EndsEarly name) ∷ [] else []) (suite_name s)
+    (if nat_lt 0 s.started then Disagrees (StartsOutside s.started) ∷ [] else [])
+
+-- a suite that ends early counts its running tests as crashed, and its flaky tests as passed
+abbrev pub early_state : SuiteState → List (List ℕ) → SuiteState
+early_state s names = record s {
+  stats = with_all_flaky false (with_failed s.stats names) s.flaky;
+  crashed = s.crashed + length names;
+  flaky = [];
+}
+
+-- what becomes known when a suite ends early while tests of these names run
+abbrev pub early_notes : SuiteState → List (List ℕ) → List NoteView
+early_notes s names =
+    failed_notes s (HasCrashed (crash_of s (length names))) names
+    ++ (flaky_notes s false
+    ++ (early_disagreements s (length names)
+    ++ number_notes (early_state s names) record { skipped = s.skipped; left = 0; time = s.time }))
+
+-- what the last line of a suite explains while this number of its tests run
+abbrev pub explained_of : SuiteState → ℕ → Explanation
+explained_of s left = explanation_of (tally_of s left) (numbers_of s.said) (unwrap_or s.said.ignored 0)
+
+-- the running tests that failed, by what the last line explains
+abbrev pub lost : Explanation → List (List ℕ) → List (List ℕ)
+lost e names = if e.others_failed then drop e.skipped names else []
+
+-- a suite that ends with its last line counts its running and its flaky tests as the line explains them
+abbrev pub last_state : SuiteState → Explanation → List (List ℕ) → SuiteState
+last_state s e names = record s {
+  stats = with_all_flaky e.flaky_failed (with_failed s.stats (lost e names)) s.flaky;
+  flaky = [];
+}
+
+-- a suite disagrees if its last line says other numbers than those of its tests
+abbrev pub last_disagreement : SuiteState → List NoteView
+last_disagreement s =
+    let said = numbers_of s.said in
+    option_map_or (λ name. if is_contradicted said s.stats.passed (failed_of s.stats)
+    then Disagrees (SaysOther name said s.stats.passed (failed_of s.stats)) ∷ [] else []) (suite_name s) []
+
+-- how many tests of such a suite were skipped, how many were not run, and the time that it took
+abbrev pub rest_of : SuiteState → Explanation → List (List ℕ) → Rest
+rest_of s e names = record {
+  skipped = s.skipped + e.skipped + e.nameless;
+  left = if e.others_failed then 0 else length (drop e.skipped names);
+  time = option_or s.said.time s.time;
+}
+
+-- a test without end, of this name, was skipped
+abbrev pub skipped_note : SuiteState → List ℕ → NoteView
+skipped_note s name = test_note s (over_of name) IsSkipped
+
+-- what becomes known when a suite ends with its last line while tests of these names run
+abbrev pub last_notes : SuiteState → List (List ℕ) → List NoteView
+last_notes s names =
+    let e = explained_of s (length names) in
+    failed_notes s HasNoEnd (lost e names)
+    ++ (flaky_notes s e.flaky_failed
+    ++ (map (skipped_note s) (take e.skipped names)
+    ++ (last_disagreement (last_state s e names)
+    ++ number_notes (last_state s e names) (rest_of s e names))))

@@ -1,0 +1,165 @@
+-- A suite of a run.
+use Rattle.std.specs.Prelude.{◌+◌, ◌-◌, ◌++◌, ◌==◌, ◌∷◌, [], ℕ, List, Bool, codes, false, is_none, length, map, not, take, if◌then◌else◌, Option, Some, None, option_and_then, option_map, string_bytes, unwrap_or}
+use Rattle.std.specs.Fmt.{decimal}
+use Rattle.std.specs.List.{position}
+use Rattle.std.specs.Option.{option_map_or, option_or}
+use Rattle.std.specs.Str.{bytes_eq}
+use Rattle.run_events_stats.specs.Counters.{counters_of, nothing_known, with_test}
+use Rattle.run_events_stats.specs.declared.stats.RunStats.{RunStats}
+use Rattle.test_report_events.specs.Event.{SuiteEndView}
+use Rattle.test_report_run.specs.Counted.{view_of_finish}
+use Rattle.test_report_run.specs.Note.{NoteView, OutcomeView, TestIs, text_view}
+use Rattle.test_report_run.specs.Prints.{PrintsView, no_prints, prints_view}
+use Rattle.test_report_run.specs.Said.{no_lines, sum_of, with_said}
+use Rattle.test_report_run.specs.declared.counted.Finish.{Finish}
+use Rattle.test_report_run.specs.declared.last_line.Tally.{Tally}
+use Rattle.test_report_run.specs.declared.said.Said.{Said}
+use Rattle.test_report_run.specs.declared.suite.FlakyTest.{FlakyTest}
+use Rattle.test_report_run.specs.declared.suite.OverTest.{OverTest}
+use Rattle.test_report_run.specs.declared.suite.Suite.{Suite}
+
+-- what is known of a test that is over, but how it counts
+pub record OverView : Type 0 where
+  pub name : List ℕ
+  pub attempts : ℕ
+  pub time : Option ℕ
+  pub ended : ℕ
+
+-- a flaky test that passed at last
+pub record FlakyView : Type 0 where
+  pub test : OverView
+  pub order : ℕ
+  pub stdout : Option (List ℕ)
+  pub message : Option (List ℕ)
+
+-- an open suite, or the tests of a file that start outside of a suite
+pub record SuiteState : Type 0 where
+  pub number : ℕ
+  pub key : Option (List ℕ)
+  pub heading : Option (List ℕ)
+  pub first_test : Option (List ℕ)
+  pub test_count : Option ℕ
+  pub started : ℕ
+  pub open_lines : ℕ
+  pub said : Said
+  pub stats : RunStats
+  pub crashed : ℕ
+  pub skipped : ℕ
+  pub flaky : List FlakyView
+  pub time : Option ℕ
+  pub prints : PrintsView
+
+-- what is known of a test that is over
+abbrev pub over_view : OverTest → OverView
+over_view t = record { name = string_bytes t.name; attempts = t.attempts; time = t.time; ended = t.ended }
+
+-- what is known of a flaky test
+abbrev pub flaky_view : FlakyTest → FlakyView
+flaky_view f = record { test = over_view f.test; order = f.order; stdout = text_view f.stdout; message = text_view f.message }
+
+-- what a suite keeps
+abbrev pub state_of : Suite → SuiteState
+state_of s = record {
+  number = s.number;
+  key = text_view s.key;
+  heading = text_view s.heading;
+  first_test = text_view s.first_test;
+  test_count = s.test_count;
+  started = s.started;
+  open_lines = s.open_lines;
+  said = s.said;
+  stats = s.stats;
+  crashed = s.crashed;
+  skipped = s.skipped;
+  flaky = map flaky_view s.flaky.items;
+  time = s.time;
+  prints = prints_view s.prints;
+}
+
+-- a suite of which one first line was read
+abbrev pub suite_start : ℕ → Option (List ℕ) → Option (List ℕ) → Option ℕ → SuiteState
+suite_start number key heading count = record {
+  number = number;
+  key = key;
+  heading = heading;
+  first_test = None;
+  test_count = count;
+  started = 0;
+  open_lines = 1;
+  said = no_lines;
+  stats = counters_of [] [] nothing_known;
+  crashed = 0;
+  skipped = 0;
+  flaky = [];
+  time = None;
+  prints = no_prints;
+}
+
+-- the tests of a file that start outside of a suite, before the first of them
+abbrev pub outside_start : SuiteState
+outside_start = suite_start 0 None None None
+
+-- the suite with one more first line
+abbrev pub joined : SuiteState → Option ℕ → SuiteState
+joined s count = record s { open_lines = s.open_lines + 1; test_count = sum_of s.test_count count }
+
+-- the suite with one more last line
+abbrev pub with_line : SuiteState → SuiteEndView → SuiteState
+with_line s e = record s { said = with_said s.said e; open_lines = s.open_lines - 1 }
+
+-- a test of this name is the first one of the suite, if there was none
+abbrev pub named : SuiteState → List ℕ → SuiteState
+named s name = record s { first_test = option_or s.first_test (Some name) }
+
+-- the suite after the start of a test
+abbrev pub with_start : SuiteState → List ℕ → SuiteState
+with_start s name = record (named s name) { started = s.started + 1 }
+
+-- the suite has this key, or no key
+abbrev pub has_key : Option (List ℕ) → SuiteState → Bool
+has_key None s = is_none s.key
+has_key (Some key) s = option_map_or (λ own. bytes_eq own key) s.key false
+
+-- the text before the first `$` of a name, if it has one
+abbrev pub before_dollar : List ℕ → Option (List ℕ)
+before_dollar name = option_map (λ i. take i name) (position (λ c. c == 36) name)
+
+-- the name of a suite: its key, or else the heading, or else what its first test says
+abbrev pub given_name : SuiteState → Option (List ℕ)
+given_name s = option_or s.key (option_or s.heading (option_and_then before_dollar s.first_test))
+
+-- the name of a suite for people: that name, or else its number. The tests outside of a suite have none
+abbrev pub suite_name : SuiteState → Option (List ℕ)
+suite_name s =
+    if s.number == 0 then None
+    else Some (unwrap_or (given_name s) (codes "suite " ++ decimal s.number))
+
+-- what becomes known of a test of the suite
+abbrev pub test_note : SuiteState → OverView → OutcomeView → NoteView
+test_note s t outcome = TestIs record {
+  suite = suite_name s;
+  name = t.name;
+  attempts = t.attempts;
+  time = t.time;
+  ended = t.ended;
+  outcome = outcome;
+}
+
+-- one more test finished
+abbrev pub with_finish : SuiteState → Finish → ℕ → SuiteState
+with_finish s how attempts = record s { stats = with_test s.stats (view_of_finish how attempts) }
+
+-- how many tests failed
+abbrev pub failed_of : RunStats → ℕ
+failed_of stats = stats.finished_count - stats.passed
+
+-- the tests of a suite of which `left` are running
+abbrev pub tally_of : SuiteState → ℕ → Tally
+tally_of s left = record {
+  test_count = s.test_count;
+  passed = s.stats.passed + length s.flaky;
+  flaky = length s.flaky;
+  failed = failed_of s.stats;
+  skipped = s.skipped;
+  left = left;
+}

@@ -1,0 +1,71 @@
+//! Counting a test that finished.
+
+ghost use Rattle.std.specs.Prelude.{◌≡◌, ◌↔◌, IsOk, OnErr, OnOk};
+ghost use Rattle.run_events_stats.specs.Counters.{TestCountersFit, with_test};
+ghost use Rattle.test_report_run.specs.Counted.{result_of, view_of_finish};
+
+use run_events_levels::view::FinishedTest;
+use run_events_results::results::{ExecutionResultDescription, FailureDescription};
+use run_events_settings::config::{FlakyResult, SlowTimeoutResult};
+use run_events_stats::stats::{CounterFull, RunStats};
+
+/// The exit code of Rust's test harness if a test failed.
+const HARNESS_FAILED: i32 = 101;
+
+/// How a test finished.
+#[derive(Clone, Copy, PartialEq, Eq)]
+pub(crate) enum Finish {
+    /// It passed, or is flaky and counts as passed.
+    Passed,
+
+    /// It is flaky, and counts as failed.
+    FlakyFailed,
+
+    /// It failed.
+    Failed,
+
+    /// It ran out of time.
+    TimedOut,
+}
+
+/// Describes the result of a test. The lines do not give the exit code of a failed test, so it is that
+/// of the harness.
+fn described(finish: Finish) -> ExecutionResultDescription
+    ensures { result ≡ result_of finish }
+{
+    match finish {
+        Finish::Passed | Finish::FlakyFailed => ExecutionResultDescription::Pass,
+        Finish::Failed => ExecutionResultDescription::Fail {
+            failure: FailureDescription::ExitCode {
+                code: HARNESS_FAILED,
+            },
+            leaked: false,
+        },
+        Finish::TimedOut => ExecutionResultDescription::Timeout {
+            result: SlowTimeoutResult::Fail,
+        },
+    }
+}
+
+/// Counts a test that finished.
+pub(crate) fn count(
+    stats: &mut RunStats,
+    finish: Finish,
+    attempts: usize,
+) -> Result<(), CounterFull>
+    ensures counts { OnOk result (stats.new ≡ with_test stats.old (view_of_finish finish attempts)) }
+    ensures room { IsOk result ↔ TestCountersFit (with_test stats.old (view_of_finish finish attempts)) }
+    ensures kept { OnErr result (stats.new ≡ stats.old) }
+{
+    let flaky_result = match finish {
+        Finish::FlakyFailed => FlakyResult::Fail,
+        Finish::Passed | Finish::Failed | Finish::TimedOut => FlakyResult::Pass,
+    };
+    let test = FinishedTest {
+        result: described(finish),
+        attempts,
+        is_slow: false,
+        flaky_result,
+    };
+    stats.try_on_test_view(&test.view())
+}

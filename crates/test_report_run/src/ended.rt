@@ -1,0 +1,167 @@
+//! The ends of the tests of a suite.
+
+ghost use Rattle.std.specs.Prelude.{◌≡◌, ◌++◌, [], IfOk, OnOk, map, option_map, vec_len, ◌≤◌};
+ghost use Rattle.test_report_events.specs.Event.{test_end_view};
+ghost use Rattle.test_report_events.specs.declared.event.TestResult.TheVariants as ended;
+ghost use Rattle.test_report_run.specs.Ended as spec;
+ghost use Rattle.test_report_run.specs.Note.{failure_view, note_view, text_view};
+ghost use Rattle.test_report_run.specs.Suite.{flaky_view, over_view, state_of};
+ghost use Rattle.std.specs.List.{position, position_or_len};
+
+use crate::counted::{Finish, count};
+use crate::error::{RunError, one_more};
+use crate::note::{Failure, FailureKind, Note, TestOutcome};
+use crate::said::time_sum;
+use crate::suite::{FlakyTest, OverTest, Suite};
+use std::alloc::{AllocError, Global};
+use test_report_events::event::{TestDetails, TestResult};
+
+/// The reason of the harness for a test that ran out of time.
+const TIME_LIMIT: &str = "time limit exceeded";
+
+/// Copies a text that may be absent.
+fn owned(alloc: Global, text: Option<&str>) -> Result<Option<String>, AllocError>
+    ensures { IfOk result (λ copy. text_view copy ≡ option_map (λ text. text.now) text.entry) }
+{
+    match text {
+        Some(text) => Ok(Some(String::from_str(alloc, text)?)),
+        None => Ok(None),
+    }
+}
+
+/// Returns the failure of a test whose line says that it failed.
+fn failure_of(alloc: Global, details: TestDetails<'_>) -> Result<Failure, AllocError>
+    ensures { IfOk result (λ failure.
+        failure_view failure ≡ spec.failure_of (test_end_view [] ended.Failed details.entry)) }
+{
+    Ok(Failure {
+        kind: match details.reason {
+            Some(TIME_LIMIT) => FailureKind::TimedOut,
+            _ => FailureKind::Failed,
+        },
+        stdout: owned(alloc, details.stdout)?,
+        message: owned(alloc, details.message)?,
+        reason: owned(alloc, details.reason)?,
+    })
+}
+
+/// Returns how a test finished whose line says that it failed.
+fn finish_of(details: TestDetails<'_>) -> Finish
+    ensures { result ≡ spec.finish_of (test_end_view [] ended.Failed details.entry) }
+{
+    match details.reason {
+        Some(TIME_LIMIT) => Finish::TimedOut,
+        _ => Finish::Failed,
+    }
+}
+
+impl Suite {
+    /// Takes the end of a test. `order` is the number of tests that started before it.
+    pub(crate) fn on_end(
+        &mut self,
+        alloc: Global,
+        test: OverTest,
+        order: usize,
+        end: TestResult,
+        details: TestDetails<'_>,
+        notes: &mut Vec<Note>,
+    ) -> Result<(), RunError>
+        ensures takes { OnOk result (state_of self.new ≡ spec.after_end (state_of self.old)
+            (over_view test) order (test_end_view [] end details.entry)) }
+        ensures tells { OnOk result (map note_view notes.new.items ≡ map note_view notes.old.items
+            ++ spec.end_notes (state_of self.old) (over_view test)
+            (test_end_view [] end details.entry)) }
+    {
+        if end == TestResult::Ignored {
+            self.skipped = one_more(self.skipped)?;
+            notes.push(self.note(alloc, test, TestOutcome::Skipped)?)?;
+            return Ok(());
+        }
+        self.time = time_sum(self.time, details.time)?;
+        if end == TestResult::Failed {
+            return self.on_failed(alloc, test, details, notes);
+        }
+        if test.attempts > 1 {
+            return self.on_flaky(alloc, test, order, details);
+        }
+        count(&mut self.stats, Finish::Passed, 1)?;
+        notes.push(self.note(alloc, test, TestOutcome::Passed)?)?;
+        Ok(())
+    }
+
+    /// Takes the end of a test that was not running.
+    pub(crate) fn on_stray_end(
+        &mut self,
+        alloc: Global,
+        test: OverTest,
+        end: TestResult,
+        details: TestDetails<'_>,
+        notes: &mut Vec<Note>,
+    ) -> Result<(), RunError>
+        ensures takes { OnOk result (state_of self.new ≡ spec.after_stray (state_of self.old)
+            (over_view test) (test_end_view [] end details.entry)) }
+        ensures tells { OnOk result (map note_view notes.new.items ≡ map note_view notes.old.items
+            ++ spec.stray_notes (state_of self.old) (over_view test)
+            (test_end_view [] end details.entry)) }
+    {
+        self.on_name(alloc, test.name.as_str())?;
+        self.on_end(alloc, test, 0, end, details, notes)
+    }
+
+    /// Takes the end of a test that failed.
+    fn on_failed(
+        &mut self,
+        alloc: Global,
+        test: OverTest,
+        details: TestDetails<'_>,
+        notes: &mut Vec<Note>,
+    ) -> Result<(), RunError>
+        ensures takes { OnOk result (state_of self.new ≡ spec.after_failed (state_of self.old)
+            (over_view test) (test_end_view [] ended.Failed details.entry)) }
+        ensures tells { OnOk result (map note_view notes.new.items ≡ map note_view notes.old.items
+            ++ spec.failed_note (state_of self.old) (over_view test)
+            (test_end_view [] ended.Failed details.entry)) }
+    {
+        let failure = failure_of(alloc, details)?;
+        count(&mut self.stats, finish_of(details), test.attempts)?;
+        notes.push(self.note(alloc, test, TestOutcome::Failed(failure))?)?;
+        Ok(())
+    }
+
+    /// Returns the position of the first flaky test that started after `order` tests.
+    fn later_flaky(&self, order: usize) -> Option<usize>
+        ensures { result ≡ position (λ f. spec.starts_later order (flaky_view f)) self.now.flaky.items }
+    {
+        self.flaky.iter().position(|other| other.order > order)
+    }
+
+    /// Returns the position of a flaky test among those that started before and after it.
+    fn flaky_place(&self, order: usize) -> usize
+        ensures place { result ≡ position_or_len (spec.starts_later order) (map flaky_view self.now.flaky.items) }
+        ensures fits { result ≤ vec_len self.now.flaky }
+    {
+        self.later_flaky(order).unwrap_or(self.flaky.len())
+    }
+
+    /// Keeps a flaky test until the suite is over, in the order in which such tests started.
+    fn on_flaky(
+        &mut self,
+        alloc: Global,
+        test: OverTest,
+        order: usize,
+        details: TestDetails<'_>,
+    ) -> Result<(), RunError>
+        ensures { OnOk result (state_of self.new ≡ spec.after_flaky (state_of self.old)
+            (over_view test) order (test_end_view [] ended.Ok details.entry)) }
+    {
+        let at = self.flaky_place(order);
+        let flaky = FlakyTest {
+            test,
+            order,
+            stdout: owned(alloc, details.stdout)?,
+            message: owned(alloc, details.message)?,
+        };
+        self.flaky.insert(at, flaky)?;
+        Ok(())
+    }
+}

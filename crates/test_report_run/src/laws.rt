@@ -1,0 +1,50 @@
+//! Laws of a run, for the proofs of callers. Each is a function that does nothing, and its contract is
+//! the law.
+
+ghost use Rattle.test_report_run.specs.Laws.{CargoFailureShows, CleanEndIsWhole, EarlyEndShows, FailedLineShows, FailedLinesAreTold, FailedVerdictShows, FailureIsTold, FailuresAreKnown, LastLineAgrees, NoFailureOfFileEnd, OneFailureOfLine, OutcomeMeans, StrayEndShows, SuitesAreSound, TotalsAreCounts};
+
+/// A line that says that a test failed makes one failed test known, which has the name, the time and
+/// the reason of the line. No other line does, nor the end of a file.
+pub fn one_failure_of_line()
+    ensures lines { OneFailureOfLine }
+    ensures file_ends { NoFailureOfFileEnd }
+    ensures told { FailureIsTold }
+{}
+
+/// The sums at the end of a run count the tests that became known.
+pub fn totals_are_counts()
+    ensures { TotalsAreCounts }
+{}
+
+/// The outcome of a run is `Success` or `NoTestsRun` if and only if no test failed, no lines disagree and
+/// all tests of suites were run. It is `Success` if and only if a test passed, too.
+pub fn outcome_means()
+    ensures { OutcomeMeans }
+{}
+
+/// Nothing is hidden: the last line of a suite agrees with its tests, or a disagreement becomes known. A
+/// suite that ends early, and a last line of no open suite that counts tests, show too.
+pub fn nothing_is_hidden()
+    ensures last_lines { LastLineAgrees }
+    ensures early_ends { EarlyEndShows }
+    ensures stray_ends { StrayEndShows }
+    ensures sound { SuitesAreSound }
+    ensures known { FailuresAreKnown }
+{}
+
+/// Each line of a whole run that says that a test failed makes a failed test known. If there is such a
+/// line, the outcome is a failure.
+pub fn failed_lines_show()
+    ensures told { FailedLinesAreTold }
+    ensures shown { FailedLineShows }
+{}
+
+/// A run with the outcome `Success` or `NoTestsRun` has no last line of a suite with a failed verdict. A
+/// suite whose last line makes nothing wrong known has skipped each test that has no end, and ran or
+/// skipped as many tests as it announced. A failure of cargo while no suite is open shows, unless a
+/// failed test or a disagreement before it shows.
+pub fn success_means()
+    ensures verdicts { FailedVerdictShows }
+    ensures whole { CleanEndIsWhole }
+    ensures cargo { CargoFailureShows }
+{}

@@ -1,0 +1,349 @@
+//! A suite that is over.
+
+ghost use Rattle.std.specs.Prelude.{◌≡◌, ◌++◌, ◌∷◌, [], ◌+◌, is_some, IfOk, OnOk, map, option_map, true, length, if◌then◌else◌, ◌≤◌};
+ghost use Rattle.std.specs.Option.{option_to_list};
+ghost use Rattle.run_events_stats.specs.Counters.{with_test};
+ghost use Rattle.test_report_run.specs.Counted.{view_of_finish};
+ghost use Rattle.test_report_run.specs.Note.{Disagrees, Fails, HasCrashed, HasNoEnd, crash_view, disagreement_view, kind_view, note_view};
+ghost use Rattle.test_report_run.specs.Over as spec;
+ghost use Rattle.test_report_run.specs.Running.{names_of, running_test_view};
+ghost use Rattle.test_report_run.specs.Suite.{flaky_view, over_view, state_of, test_note};
+ghost use Rattle.test_report_run.specs.declared.counted.Finish.TheVariants as finish;
+
+use crate::counted::{Finish, count};
+use crate::error::{RunError, one_more};
+use crate::last_line::{Explanation, disagrees, explained};
+use crate::note::{
+    Crash, Disagreement, Failure, FailureKind, NotRun, Note, SuiteNote, TestOutcome,
+};
+use crate::running::RunningTest;
+use crate::suite::{FlakyTest, OverTest, Suite};
+use std::alloc::{AllocError, Global};
+
+/// How many tests of a suite did not run, and the time that it took.
+#[derive(Clone, Copy)]
+pub(crate) struct Rest {
+    /// The number of skipped tests.
+    pub(crate) skipped: u128,
+
+    /// The number of tests that started, and of which no line says anything else.
+    pub(crate) left: usize,
+
+    /// The time in microseconds.
+    pub(crate) time: Option<u64>,
+}
+
+/// Returns what is known of a test without end.
+fn over(test: RunningTest) -> OverTest
+    ensures { over_view result ≡ spec.over_of (running_test_view test).name }
+{
+    OverTest {
+        name: test.name,
+        attempts: 1,
+        time: None,
+        ended: usize::MAX,
+    }
+}
+
+impl Suite {
+    /// Ends the suite early. `left` are its running tests, which crashed.
+    pub(crate) fn end_early(
+        mut self,
+        alloc: Global,
+        left: Vec<RunningTest>,
+        notes: &mut Vec<Note>,
+    ) -> Result<(), RunError>
+        ensures { OnOk result (map note_view notes.new.items ≡ map note_view notes.old.items
+            ++ spec.early_notes (state_of self) (names_of left.items)) }
+    {
+        let crashed = left.len();
+        self.crash_all(alloc, left, notes)?;
+        self.release_flaky(alloc, false, notes)?;
+        self.push_early_end(alloc, crashed, notes)?;
+        let rest = Rest {
+            skipped: self.skipped as u128,
+            left: 0,
+            time: self.time,
+        };
+        self.push_numbers(alloc, rest, notes)
+    }
+
+    /// Counts the tests that were running when the suite ended early as crashed.
+    fn crash_all(
+        &mut self,
+        alloc: Global,
+        tests: Vec<RunningTest>,
+        notes: &mut Vec<Note>,
+    ) -> Result<(), RunError>
+        ensures counts { OnOk result (state_of self.new ≡ record (state_of self.old) {
+          stats = spec.with_failed self.old.stats (names_of tests.items);
+          crashed = self.old.crashed + length tests.items;
+        }) }
+        ensures tells { OnOk result (map note_view notes.new.items ≡ map note_view notes.old.items
+            ++ spec.failed_notes (state_of self.old) (HasCrashed (spec.crash_of (state_of self.old) (length tests.items)))
+            (names_of tests.items)) }
+    {
+        let running = tests.len();
+        for test in tests {
+            let kind = FailureKind::Crashed(self.crash(alloc, running)?);
+            self.crashed = one_more(self.crashed)?;
+            self.fail(alloc, test, kind, notes)?;
+        }
+        Ok(())
+    }
+
+    /// Returns how a test crashed that ran beside others. `running` is their number.
+    fn crash(&self, alloc: Global, running: usize) -> Result<Crash, AllocError>
+        ensures { IfOk result (λ crash. crash_view crash ≡ spec.crash_of (state_of self.now) running) }
+    {
+        Ok(Crash {
+            running,
+            has_key: self.key.is_some(),
+            prints: self.prints.lines(alloc)?,
+        })
+    }
+
+    /// Counts a test without end as failed.
+    fn fail(
+        &mut self,
+        alloc: Global,
+        test: RunningTest,
+        kind: FailureKind,
+        notes: &mut Vec<Note>,
+    ) -> Result<(), RunError>
+        ensures counts { OnOk result (state_of self.new ≡ spec.with_failure (state_of self.old)) }
+        ensures tells { OnOk result (map note_view notes.new.items ≡ map note_view notes.old.items
+            ++ spec.failed_note (state_of self.old) (kind_view kind) (running_test_view test).name ∷ []) }
+    {
+        count(&mut self.stats, Finish::Failed, 1)?;
+        let failure = Failure {
+            kind,
+            stdout: None,
+            message: None,
+            reason: None,
+        };
+        notes.push(self.note(alloc, over(test), TestOutcome::Failed(failure))?)?;
+        Ok(())
+    }
+
+    /// Adds the disagreement of a suite that ends early, if there is one.
+    fn push_early_end(
+        &self,
+        alloc: Global,
+        crashed: usize,
+        notes: &mut Vec<Note>,
+    ) -> Result<(), RunError>
+        ensures { OnOk result (map note_view notes.new.items ≡ map note_view notes.old.items
+            ++ spec.early_disagreements (state_of self.now) crashed) }
+    {
+        match self.name(alloc)? {
+            Some(suite) if crashed == 0 => {
+                notes.push(Note::Disagreement(Disagreement::EndedEarly { suite }))?;
+            }
+            None if self.started > 0 => {
+                let started = self.started;
+                notes.push(Note::Disagreement(Disagreement::OutsideSuite { started }))?;
+            }
+            _ => {}
+        }
+        Ok(())
+    }
+
+    /// Counts the flaky tests, as failed or as passed.
+    fn release_flaky(
+        &mut self,
+        alloc: Global,
+        have_failed: bool,
+        notes: &mut Vec<Note>,
+    ) -> Result<(), RunError>
+        ensures counts { OnOk result (state_of self.new ≡ record (state_of self.old) {
+          stats = spec.with_all_flaky have_failed self.old.stats (state_of self.old).flaky;
+          flaky = [];
+        }) }
+        ensures tells { OnOk result (map note_view notes.new.items ≡ map note_view notes.old.items
+            ++ spec.flaky_notes (state_of self.old) have_failed) }
+    {
+        for flaky in std::mem::replace(&mut self.flaky, Vec::new(alloc)) {
+            if have_failed {
+                self.fail_flaky(alloc, flaky, notes)?;
+            } else {
+                count(&mut self.stats, Finish::Passed, flaky.test.attempts)?;
+                notes.push(self.note(alloc, flaky.test, TestOutcome::Passed)?)?;
+            }
+        }
+        Ok(())
+    }
+
+    /// Counts a flaky test as failed.
+    fn fail_flaky(
+        &mut self,
+        alloc: Global,
+        flaky: FlakyTest,
+        notes: &mut Vec<Note>,
+    ) -> Result<(), RunError>
+        ensures counts { OnOk result (state_of self.new ≡ record (state_of self.old) {
+          stats = spec.one_flaky true self.old.stats (flaky_view flaky);
+        }) }
+        ensures tells { OnOk result (map note_view notes.new.items ≡ map note_view notes.old.items
+            ++ spec.flaky_note (state_of self.old) true (flaky_view flaky) ∷ []) }
+    {
+        count(&mut self.stats, Finish::FlakyFailed, flaky.test.attempts)?;
+        let failure = Failure {
+            kind: FailureKind::Flaky,
+            stdout: flaky.stdout,
+            message: flaky.message,
+            reason: None,
+        };
+        notes.push(self.note(alloc, flaky.test, TestOutcome::Failed(failure))?)?;
+        Ok(())
+    }
+
+    /// Ends the suite by its last line. `left` are its running tests.
+    pub(crate) fn end(
+        mut self,
+        alloc: Global,
+        left: Vec<RunningTest>,
+        notes: &mut Vec<Note>,
+    ) -> Result<(), RunError>
+        ensures { OnOk result (map note_view notes.new.items ≡ map note_view notes.old.items
+            ++ spec.last_notes (state_of self) (names_of left.items)) }
+    {
+        let explained = self.explained(left.len())?;
+        let mut skipped = left;
+        let others = skipped.split_off(explained.skipped)?;
+        let left = self.fail_lost(alloc, explained.others_failed, others, notes)?;
+        self.release_flaky(alloc, explained.flaky_failed, notes)?;
+        self.skip_all(alloc, skipped, notes)?;
+        self.push_disagreement(alloc, notes)?;
+        let rest = Rest {
+            skipped: self.skipped as u128 + explained.skipped as u128 + explained.nameless,
+            left,
+            time: self.said.time.or(self.time),
+        };
+        self.push_numbers(alloc, rest, notes)
+    }
+
+    /// Returns what the last line explains of the tests. `left` of them are running.
+    fn explained(&self, left: usize) -> Result<Explanation, RunError>
+        ensures { IfOk result (λ explained. (explained ≡ spec.explained_of (state_of self.now) left) × (explained.skipped ≤ left)) }
+    {
+        let said = self.said.numbers()?;
+        let ignored = self.said.ignored.unwrap_or(0);
+        Ok(explained(self.tally(left)?, said, ignored))
+    }
+
+    /// Counts tests without end as failed if they have failed. Returns how many are left otherwise.
+    fn fail_lost(
+        &mut self,
+        alloc: Global,
+        have_failed: bool,
+        tests: Vec<RunningTest>,
+        notes: &mut Vec<Note>,
+    ) -> Result<usize, RunError>
+        ensures counts { OnOk result (state_of self.new ≡ record (state_of self.old) {
+          stats = spec.with_failed self.old.stats (if have_failed then names_of tests.items else []);
+        }) }
+        ensures tells { OnOk result (map note_view notes.new.items ≡ map note_view notes.old.items
+            ++ spec.failed_notes (state_of self.old) HasNoEnd (if have_failed then names_of tests.items else [])) }
+        ensures left { IfOk result (λ left. left ≡ (if have_failed then 0 else length tests.items)) }
+    {
+        if have_failed {
+            self.fail_all(alloc, tests, notes)?;
+            Ok(0)
+        } else {
+            Ok(tests.len())
+        }
+    }
+
+    /// Counts tests without end as failed.
+    fn fail_all(
+        &mut self,
+        alloc: Global,
+        tests: Vec<RunningTest>,
+        notes: &mut Vec<Note>,
+    ) -> Result<(), RunError>
+        ensures counts { OnOk result (state_of self.new ≡ record (state_of self.old) {
+          stats = spec.with_failed self.old.stats (names_of tests.items);
+        }) }
+        ensures tells { OnOk result (map note_view notes.new.items ≡ map note_view notes.old.items
+            ++ spec.failed_notes (state_of self.old) HasNoEnd (names_of tests.items)) }
+    {
+        for test in tests {
+            self.fail(alloc, test, FailureKind::WithoutEnd, notes)?;
+        }
+        Ok(())
+    }
+
+    /// Adds that tests without end were skipped.
+    fn skip_all(
+        &self,
+        alloc: Global,
+        tests: Vec<RunningTest>,
+        notes: &mut Vec<Note>,
+    ) -> Result<(), RunError>
+        ensures { OnOk result (map note_view notes.new.items ≡ map note_view notes.old.items
+            ++ map (spec.skipped_note (state_of self.now)) (names_of tests.items)) }
+    {
+        for test in tests {
+            notes.push(self.note(alloc, over(test), TestOutcome::Skipped)?)?;
+        }
+        Ok(())
+    }
+
+    /// Adds the disagreement of the last line with the tests, if there is one.
+    fn push_disagreement(&self, alloc: Global, notes: &mut Vec<Note>) -> Result<(), RunError>
+        ensures { OnOk result (map note_view notes.new.items ≡ map note_view notes.old.items
+            ++ spec.last_disagreement (state_of self.now)) }
+    {
+        let said = self.said.numbers()?;
+        let (passed, failed) = (self.stats.passed, self.failed());
+        let name = self.name(alloc)?;
+        if let (Some(suite), true) = (name, disagrees(said, passed, failed)) {
+            notes.push(Note::Disagreement(Disagreement::LastLine {
+                suite,
+                said,
+                passed,
+                failed,
+            }))?;
+        }
+        Ok(())
+    }
+
+    /// Adds how many tests of the suite were not run, and its numbers.
+    fn push_numbers(&self, alloc: Global, rest: Rest, notes: &mut Vec<Note>) -> Result<(), RunError>
+        ensures { OnOk result (map note_view notes.new.items ≡ map note_view notes.old.items
+            ++ spec.number_notes (state_of self.now) rest) }
+    {
+        let finished = self.stats.finished_count as u128;
+        let initial_run_count = self.initial_run_count(rest);
+        let not_run = initial_run_count - finished;
+        if let (Some(suite), true) = (self.name(alloc)?, not_run > 0) {
+            notes.push(Note::NotRun(NotRun {
+                suite,
+                not_run,
+                initial_run_count,
+            }))?;
+        }
+        notes.push(Note::Suite(SuiteNote {
+            name: self.name(alloc)?,
+            stats: self.stats,
+            skipped: rest.skipped,
+            not_run,
+            crashed: self.crashed,
+            time: rest.time,
+        }))?;
+        Ok(())
+    }
+
+    /// Returns the number of tests that were to run.
+    fn initial_run_count(&self, rest: Rest) -> u128
+        ensures value { result ≡ spec.initial_of (state_of self.now) rest }
+        ensures least { self.now.stats.finished_count ≤ result }
+    {
+        let least = self.stats.finished_count as u128 + rest.left as u128;
+        match self.test_count {
+            Some(test_count) => test_count.saturating_sub(rest.skipped).max(least),
+            None => least,
+        }
+    }
+}

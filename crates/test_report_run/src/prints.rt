@@ -1,0 +1,168 @@
+//! What a crash may have printed.
+
+ghost use Rattle.std.specs.Prelude.{◌≡◌, IfOk, OnOk, map, string_bytes, ◌++◌, ◌∷◌, []};
+ghost use Rattle.test_report_run.specs.Prints.{after_failure, after_line, cut, last_two, line_of, no_prints, printed_view, prints_view, with_print};
+
+use std::alloc::{AllocError, Global};
+
+/// The number of prints that are kept.
+const KEPT_PRINTS: usize = 3;
+
+/// The number of bytes of a print that are kept.
+const KEPT_BYTES: usize = 200;
+
+/// A line that is no event of a harness.
+#[derive(Clone, Copy)]
+pub(crate) enum Printed<'a> {
+    /// Any line, and the same line without colours and without spaces at the front.
+    Print { line: &'a str, plain: &'a str },
+
+    /// A heading of cargo.
+    Heading { line: &'a str },
+
+    /// A line in which cargo or nextest reports a failure.
+    CargoFailed { line: &'a str },
+}
+
+/// How far the lines have been read that say why a suite ended early.
+#[derive(Clone, Copy, PartialEq, Eq)]
+enum Stage {
+    /// Before the first heading or failure.
+    Open,
+
+    /// After the first failure, before the line `Caused by:`.
+    Failed,
+
+    /// Right after the line `Caused by:`.
+    CausedBy,
+
+    /// After a heading, a second failure, or the line after `Caused by:`.
+    Over,
+}
+
+/// The lines that may say why a suite ended early: of the prints since it started, up to the first
+/// heading or failure, the last three that are not blank, and after a failure the line after
+/// `Caused by:`.
+#[derive(Drop)]
+pub(crate) struct Prints {
+    lines: Vec<String>,
+    stage: Stage,
+}
+
+impl Prints {
+    /// Returns no lines.
+    pub(crate) fn new(alloc: Global) -> Prints
+        ensures { prints_view result ≡ no_prints }
+    {
+        Prints {
+            lines: Vec::new(alloc),
+            stage: Stage::Open,
+        }
+    }
+
+    /// Takes the next line.
+    pub(crate) fn on_line(&mut self, alloc: Global, printed: Printed<'_>) -> Result<(), AllocError>
+        ensures { OnOk result (prints_view self.new
+            ≡ after_line (prints_view self.old) (printed_view printed.entry)) }
+    {
+        match self.stage {
+            Stage::Open => self.on_print(alloc, printed),
+            Stage::Failed => {
+                self.stage = stage_after_failure(printed);
+                Ok(())
+            }
+            Stage::CausedBy => {
+                self.stage = Stage::Over;
+                self.push(alloc, text_of(printed))
+            }
+            Stage::Over => Ok(()),
+        }
+    }
+
+    /// Takes a line before the first heading or failure.
+    fn on_print(&mut self, alloc: Global, printed: Printed<'_>) -> Result<(), AllocError>
+        ensures { OnOk result (prints_view self.new
+            ≡ with_print (prints_view self.old) (printed_view printed.entry)) }
+    {
+        match printed {
+            Printed::Print { line, .. } if line.trim().is_empty() => Ok(()),
+            Printed::Print { line, .. } => {
+                self.make_room();
+                self.push(alloc, shortened(line))
+            }
+            Printed::Heading { .. } => {
+                self.stage = Stage::Over;
+                Ok(())
+            }
+            Printed::CargoFailed { .. } => {
+                self.stage = Stage::Failed;
+                Ok(())
+            }
+        }
+    }
+
+    /// Drops the first of three lines.
+    fn make_room(&mut self)
+        ensures { prints_view self.new ≡ record (prints_view self.old) {
+          lines = last_two (prints_view self.old).lines;
+        } }
+    {
+        if self.lines.len() >= KEPT_PRINTS {
+            self.lines.remove(0);
+        }
+    }
+
+    /// Keeps a line.
+    fn push(&mut self, alloc: Global, line: &str) -> Result<(), AllocError>
+        ensures { OnOk result (prints_view self.new ≡ record (prints_view self.old) {
+          lines = (prints_view self.old).lines ++ line.now ∷ [];
+        }) }
+    {
+        self.lines.push(String::from_str(alloc, line)?)?;
+        Ok(())
+    }
+
+    /// Returns a copy of the lines.
+    pub(crate) fn lines(&self, alloc: Global) -> Result<Vec<String>, AllocError>
+        ensures { IfOk result (λ lines.
+            map string_bytes lines.items ≡ (prints_view self.now).lines) }
+    {
+        let mut lines = Vec::new(alloc);
+        for line in &self.lines {
+            lines.push(line.clone()?)?;
+        }
+        Ok(lines)
+    }
+}
+
+/// Returns the stage after a line that comes after the first failure.
+fn stage_after_failure(printed: Printed<'_>) -> Stage
+    ensures { result ≡ after_failure (printed_view printed.entry) }
+{
+    match printed {
+        Printed::Print {
+            plain: "Caused by:",
+            ..
+        } => Stage::CausedBy,
+        Printed::Print { .. } => Stage::Failed,
+        Printed::Heading { .. } | Printed::CargoFailed { .. } => Stage::Over,
+    }
+}
+
+/// Returns a line as it is kept.
+fn text_of(printed: Printed<'_>) -> &str
+    ensures { result.now ≡ line_of (printed_view printed.entry) }
+{
+    match printed {
+        Printed::Print { line, .. } | Printed::Heading { line } | Printed::CargoFailed { line } => {
+            line
+        }
+    }
+}
+
+/// Returns at most [`KEPT_BYTES`] bytes of a line.
+fn shortened(line: &str) -> &str
+    ensures { result.now ≡ cut line.now }
+{
+    &line[..line.floor_char_boundary(KEPT_BYTES)]
+}

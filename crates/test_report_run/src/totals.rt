@@ -1,0 +1,90 @@
+//! The sums over all suites of a run.
+
+ghost use Rattle.std.specs.Prelude.{◌≡◌, ◌+◌, IfOk, OnOk};
+ghost use Rattle.test_report_run.specs.Note.{suite_view};
+ghost use Rattle.test_report_run.specs.Totals.{ending, no_suites, suite_outcome, with_suite};
+
+use crate::error::{RunError, one_more};
+use crate::note::{RunEnd, SuiteNote};
+use crate::said::time_sum;
+use run_events_stats::outcome::{RunFailureStep, RunOutcome};
+use run_events_stats::stats::RunStats;
+
+/// The sums over the suites that are over.
+#[derive(Clone, Copy)]
+pub(crate) struct Totals {
+    end: RunEnd,
+}
+
+impl Totals {
+    /// Returns the sums over no suites.
+    pub(crate) fn new() -> Totals
+        ensures { result.end ≡ no_suites }
+    {
+        Totals {
+            end: RunEnd {
+                stats: RunStats::default(),
+                skipped: 0,
+                not_run: 0,
+                crashed: 0,
+                time: None,
+                outcome: RunOutcome::NoTestsRun,
+            },
+        }
+    }
+
+    /// Adds a suite.
+    pub(crate) fn add(&mut self, suite: &SuiteNote) -> Result<(), RunError>
+        ensures { OnOk result (self.new.end ≡ with_suite self.old.end (suite_view suite.now)) }
+    {
+        self.end.stats.try_add(&suite.stats)?;
+        let crashed = self.end.crashed.checked_add(suite.crashed);
+        self.end.crashed = crashed.ok_or(RunError::CounterFull)?;
+        self.end.skipped = plus(self.end.skipped, suite.skipped)?;
+        self.end.not_run = plus(self.end.not_run, suite.not_run)?;
+        self.end.time = time_sum(self.end.time, suite.time)?;
+        self.end.outcome = self.end.outcome.combine(outcome_of(suite)?);
+        Ok(())
+    }
+
+    /// Returns the sums, and the outcome of a run in which so many lines disagree.
+    pub(crate) fn end(&self, disagreements: usize) -> RunEnd
+        ensures { result ≡ ending self.now.end disagreements }
+    {
+        let failed = RunOutcome::Failed {
+            step: RunFailureStep::Test,
+        };
+        let outcome = if disagreements == 0 {
+            self.end.outcome
+        } else {
+            failed
+        };
+        RunEnd {
+            outcome,
+            ..self.end
+        }
+    }
+}
+
+/// Returns the outcome of a suite. It depends on whether tests were not run, not on their number.
+fn outcome_of(suite: &SuiteNote) -> Result<RunOutcome, RunError>
+    ensures { IfOk result (λ outcome. outcome ≡ suite_outcome (suite_view suite.now)) }
+{
+    let finished = suite.stats.finished_count;
+    let stats = RunStats {
+        initial_run_count: if suite.not_run > 0 {
+            one_more(finished)?
+        } else {
+            finished
+        },
+        ..suite.stats
+    };
+    Ok(RunOutcome::from_final_stats(stats.summarize_final()))
+}
+
+/// Adds two numbers.
+fn plus(a: u128, b: u128) -> Result<u128, RunError>
+    ensures { IfOk result (λ sum. sum ≡ a + b) }
+{
+    a.checked_add(b).ok_or(RunError::CounterFull)
+}

@@ -1,4 +1,0 @@
-pub mod AfterLast
-pub mod LineLemmas
-pub mod RunningNames
-pub mod Steps

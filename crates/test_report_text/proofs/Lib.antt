@@ -1,2 +1,0 @@
-mod LastLines
-mod Texts

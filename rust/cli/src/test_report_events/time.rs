@@ -1,0 +1,89 @@
+// Made by tools/erase from crates/test_report_events/src/time.rt. Do not edit.
+//! The times of tests.
+
+use crate::test_report_events::plain::without_spaces;
+use bstr::ByteSlice;
+
+/// The greatest number of digits before the point of a time that is read.
+const MOST_DIGITS: usize = 9;
+
+/// The number of digits of a second that are kept.
+const KEPT_DIGITS: usize = 6;
+
+/// The number of microseconds in a second.
+const MICROSECONDS: u64 = 1_000_000;
+
+/// Returns the time that a line gives as the number after its last `"exec_time":`, in microseconds,
+/// rounded down. The number is one of seconds without exponent, with at most nine digits before the
+/// point.
+pub(crate) fn exec_time(line: &[u8]) -> Option<u64> {
+    let key = b"\"exec_time\":";
+    match line.rfind(key) {
+        Some(at) => microseconds(number_text(&line[at + key.len()..])),
+        None => None,
+    }
+}
+
+/// Returns the offset of the first byte that is not of a number.
+fn number_end(text: &[u8]) -> Option<usize> {
+    text.iter().position(|byte| !is_of_number(*byte))
+}
+
+/// Returns the number at the start of a text, after spaces.
+fn number_text(text: &[u8]) -> &[u8] {
+    let number = without_spaces(text);
+    match number_end(number) {
+        Some(end) => &number[..end],
+        None => number,
+    }
+}
+
+/// Returns true for a byte that may be in a number.
+fn is_of_number(byte: u8) -> bool {
+    byte.is_ascii_digit() || matches!(byte, b'.' | b'-' | b'+' | b'e' | b'E')
+}
+
+/// Returns the offset of the point of a number.
+fn point_of(number: &[u8]) -> Option<usize> {
+    number.iter().position(|byte| *byte == b'.')
+}
+
+/// Returns the digits before the point of a number, and those after it.
+fn parts_of(number: &[u8]) -> (&[u8], &[u8]) {
+    match point_of(number) {
+        Some(at) => (&number[..at], &number[at + 1..]),
+        None => (number, &number[number.len()..]),
+    }
+}
+
+/// Returns true if all bytes are digits.
+pub(crate) fn are_digits(bytes: &[u8]) -> bool {
+    bytes.iter().all(|byte| byte.is_ascii_digit())
+}
+
+/// Parses a number of seconds.
+fn microseconds(number: &[u8]) -> Option<u64> {
+    let (whole, fraction) = parts_of(number);
+    if whole.is_empty() || whole.len() > MOST_DIGITS || !are_digits(whole) {
+        return None;
+    }
+    if fraction.is_empty() && whole.len() < number.len() || !are_digits(fraction) {
+        return None;
+    }
+    Some(digits_value(whole) * MICROSECONDS + fraction_value(fraction))
+}
+
+/// Returns the number that at most nine digits spell.
+fn digits_value(digits: &[u8]) -> u64 {
+    let mut value: u64 = 0;
+    for digit in digits {
+        value = value * 10 + u64::from(*digit - b'0');
+    }
+    value
+}
+
+/// Returns the microseconds that the digits after a point spell.
+fn fraction_value(digits: &[u8]) -> u64 {
+    let size = digits.len().min(KEPT_DIGITS);
+    digits_value(&digits[..size]) * 10_u64.pow((KEPT_DIGITS - size) as u32)
+}

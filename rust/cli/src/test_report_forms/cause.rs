@@ -1,0 +1,96 @@
+// Made by tools/erase from crates/test_report_forms/src/cause.rt. Do not edit.
+//! The lines of disagreements, and of tests that were not run.
+
+use crate::test_report_events::event::TestResult;
+use crate::test_report_forms::shown::{push_name, push_name_and_space};
+use crate::test_report_run::note::{Disagreement, NotRun, SaidNumbers};
+
+/// Returns the word for a verdict.
+fn verdict(failed: bool) -> &'static str {
+    if failed { "failed" } else { "ok" }
+}
+
+/// Returns the word for the result of a test, as its line has it.
+fn result_word(result_of: TestResult) -> &'static str {
+    match result_of {
+        TestResult::Ok => "ok",
+        TestResult::Failed => "failed",
+        TestResult::Ignored => "ignored",
+    }
+}
+
+/// Appends the line of a disagreement, without its line feed.
+pub(crate) fn push_disagreement(text: &mut String, disagreement: &Disagreement) {
+    match disagreement {
+        Disagreement::EndedEarly { suite } => {
+            push_name(text, suite.as_str());
+            text.push_str(" ended early");
+        }
+        Disagreement::LastLine {
+            suite,
+            said,
+            passed,
+            failed,
+        } => {
+            push_name(text, suite.as_str());
+            push_said(text, said);
+            push_its_tests(text, *passed, *failed);
+        }
+        Disagreement::StrayEnd { name, result: end } => {
+            push_name(text, name.as_str());
+            let word = result_word(*end);
+            text.push_str(&format!(" ended {word}, and had not started"));
+        }
+        Disagreement::StraySuiteEnd {
+            key,
+            failed_verdict,
+        } => {
+            text.push_str("a suite ended that had not started: ");
+            push_key_and_verdict(text, key, *failed_verdict);
+        }
+        Disagreement::OutsideSuite { started } => {
+            let count = *started;
+            text.push_str(&format!("{count} tests started outside of a suite"));
+        }
+        Disagreement::Cargo { line } => {
+            text.push_str("cargo: ");
+            push_name(text, line.as_str());
+        }
+    }
+}
+
+/// Appends what the last line of a suite says.
+fn push_said(text: &mut String, said: &SaidNumbers) {
+    text.push_str(": its last line says ");
+    text.push_str(verdict(said.failed_verdict));
+    push_said_number(text, said.passed, " passed");
+    push_said_number(text, said.failed, " failed");
+}
+
+/// Appends a number that the last line of a suite says, and the word for it.
+fn push_said_number(text: &mut String, number: Option<u128>, word: &str) {
+    if let Some(count) = number {
+        {
+            text.push_str(&format!(", {count}"));
+            text.push_str(word);
+        }
+    }
+}
+
+/// Appends the numbers of the tests of a suite whose last line says other numbers.
+fn push_its_tests(text: &mut String, passed: usize, failed: usize) {
+    text.push_str(&format!("; its tests {passed} and {failed}"));
+}
+
+/// Appends the key of a suite and its verdict.
+fn push_key_and_verdict(text: &mut String, key: &Option<String>, failed_verdict: bool) {
+    push_name_and_space(text, key);
+    text.push_str(verdict(failed_verdict));
+}
+
+/// Appends the line of the tests of a suite that were not run, without its line feed.
+pub(crate) fn push_not_run(text: &mut String, not_run: &NotRun) {
+    push_name(text, not_run.suite.as_str());
+    let (count, initial) = (not_run.not_run, not_run.initial_run_count);
+    text.push_str(&format!(": {count} of {initial} tests were not run"));
+}

@@ -1,0 +1,53 @@
+// Made by tools/erase from crates/test_report_forms/src/lib.rt. Do not edit.
+//! The forms of a report: how what is known of a run is written.
+//!
+//! A form turns the entries of a report into text. Control characters of the input are shown as escapes,
+//! so a report cannot control the reader's terminal.
+//!
+//! A function that returns what the form for people writes of a note at once:
+//!
+//! ```
+//! use deodarsieve_cli::test_report_forms::entry::Entry;
+//! use deodarsieve_cli::test_report_forms::form::Form;
+//! use deodarsieve_cli::test_report_forms::options::Options;
+//! use deodarsieve_cli::test_report_forms::text::TextForm;
+//! use deodarsieve_cli::test_report_run::note::{Disagreement, Note};
+//!
+//! fn text_of_note(note: &Note, options: Options) -> String {
+//!     let entry = Entry::of(note);
+//!     let mut form = TextForm::new(options);
+//!     let mut text = String::new();
+//!     form.on_entry(&entry, &mut text);
+//!     text
+//! }
+//!
+//! let note = Note::Disagreement(Disagreement::OutsideSuite { started: 2 });
+//! let options = Options { limit: 4_096, raw: false, color: false, no_tests_pass: false };
+//! assert_eq!(text_of_note(&note, options), "2 tests started outside of a suite\n");
+//! ```
+
+mod cause;
+mod collected;
+mod element;
+pub mod entry;
+pub mod files;
+pub mod form;
+pub mod github;
+pub mod html;
+mod html_parts;
+pub mod junit;
+mod junit_suite;
+mod list;
+pub mod markdown;
+pub mod names;
+pub mod options;
+pub mod place;
+mod shown;
+mod slowest;
+mod status;
+mod style;
+mod summary;
+pub mod text;
+mod title;
+pub mod why;
+mod xml;

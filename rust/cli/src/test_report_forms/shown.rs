@@ -1,0 +1,93 @@
+// Made by tools/erase from crates/test_report_forms/src/shown.rt. Do not edit.
+//! How text of the input is shown.
+
+/// Returns true for a character that is shown as an escape in every text: a control character other than
+/// a tab and a line feed, or one that turns the direction of writing.
+pub(crate) fn is_escaped(c: char) -> bool {
+    match c {
+        '\t' | '\n' => false,
+        '\u{61c}' | '\u{200e}' | '\u{200f}' => true,
+        '\u{202a}'..='\u{202e}' | '\u{2066}'..='\u{2069}' => true,
+        _ => c.is_control(),
+    }
+}
+
+/// Appends a character, as an escape such as `\u{1b}` if `escaped` is true.
+pub(crate) fn push_char(text: &mut String, c: char, escaped: bool) {
+    if escaped {
+        let code = u32::from(c);
+        text.push_str(&format!("\\u{{{code:x}}}"));
+    } else {
+        text.push(c);
+    }
+}
+
+/// Appends a name. All control characters are shown as escapes.
+pub(crate) fn push_name(text: &mut String, name: &str) {
+    for c in name.chars() {
+        push_char(text, c, c == '\t' || c == '\n' || is_escaped(c));
+    }
+}
+
+/// Appends a name and a space. Appends nothing without a name.
+pub(crate) fn push_name_and_space(text: &mut String, name: &Option<String>) {
+    if let Some(name) = name {
+        {
+            push_name(text, name.as_str());
+            text.push(' ');
+        }
+    }
+}
+
+/// Appends a text. `raw` keeps its control characters.
+pub(crate) fn push_text(text: &mut String, shown: &str, raw: bool) {
+    for c in shown.chars() {
+        push_char(text, c, !raw && is_escaped(c));
+    }
+}
+
+/// Returns at most the first `limit` bytes of a text, cut at a character.
+pub(crate) fn front(shown: &str, limit: usize) -> &str {
+    &shown[..shown.floor_char_boundary(limit)]
+}
+
+/// Appends at most the first `limit` bytes of a text, and the number of bytes that are not shown on a line of
+/// its own.
+pub(crate) fn push_limited(text: &mut String, shown: &str, limit: usize) {
+    let first = front(shown, limit);
+    push_text(text, first, false);
+    push_more(text, shown.len() - first.len());
+}
+
+/// Appends the number of bytes that are not shown, on a line of its own. Appends nothing if there are none.
+fn push_more(text: &mut String, more: usize) {
+    if more == 0 {
+        return;
+    }
+    text.push_str(&format!("\n({more} more bytes)"));
+}
+
+/// Appends a text, each of its lines after four spaces.
+pub(crate) fn push_indented(text: &mut String, shown: &str, raw: bool) {
+    for line in shown.split('\n') {
+        text.push_str("    ");
+        push_text(text, line, raw);
+        text.push('\n');
+    }
+}
+
+/// Appends a time in seconds, with three digits after the point.
+pub(crate) fn push_seconds(text: &mut String, micros: u64) {
+    let (seconds, millis) = (micros / 1_000_000, micros / 1_000 % 1_000);
+    text.push_str(&format!("{seconds}.{millis:03}"));
+}
+
+/// Appends a time in brackets and a space, at least as wide as `[   0.004s] `. Appends nothing without a time.
+pub(crate) fn push_bracket(text: &mut String, time: Option<u64>) {
+    if let Some(micros) = time {
+        {
+            let (seconds, millis) = (micros / 1_000_000, micros / 1_000 % 1_000);
+            text.push_str(&format!("[{seconds:>4}.{millis:03}s] "));
+        }
+    }
+}

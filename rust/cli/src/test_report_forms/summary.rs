@@ -1,0 +1,63 @@
+// Made by tools/erase from crates/test_report_forms/src/summary.rt. Do not edit.
+//! The numbers of a run.
+
+use crate::test_report_forms::shown::{push_bracket, push_seconds};
+use crate::test_report_run::note::RunEnd;
+use deodarsieve::RunOutcome;
+
+/// Returns the words for an outcome.
+pub(crate) fn outcome_text(outcome: RunOutcome) -> &'static str {
+    match outcome {
+        RunOutcome::Success => "success",
+        RunOutcome::NoTestsRun => "no-tests-run",
+        RunOutcome::Cancelled { .. } => "cancelled",
+        RunOutcome::Failed { .. } => "failed",
+    }
+}
+
+/// Appends the summary of a run, with its time in brackets first.
+pub(crate) fn push_summary(text: &mut String, end: &RunEnd) {
+    push_bracket(text, end.time);
+    push_numbers(text, end);
+}
+
+/// Appends the summary of a run, with its time in words last.
+pub(crate) fn push_sentence(text: &mut String, end: &RunEnd) {
+    push_numbers(text, end);
+    if let Some(micros) = end.time {
+        text.push_str(", in ");
+        push_seconds(text, micros);
+        text.push('s');
+    }
+}
+
+/// Appends all numbers of a run.
+fn push_numbers(text: &mut String, end: &RunEnd) {
+    push_passed(text, end);
+    push_failed(text, end);
+    push_others(text, end);
+}
+
+/// Appends the numbers of the tests that were run and passed.
+fn push_passed(text: &mut String, end: &RunEnd) {
+    let stats = &end.stats;
+    let (finished, passed, flaky) = (stats.finished_count, stats.passed, stats.flaky);
+    text.push_str(&format!(
+        "{finished} tests run: {passed} passed ({flaky} flaky), "
+    ));
+}
+
+/// Appends the numbers of the tests that failed.
+fn push_failed(text: &mut String, end: &RunEnd) {
+    let failed = end.stats.finished_count.saturating_sub(end.stats.passed);
+    let (timed_out, crashed) = (end.stats.failed_timed_out, end.crashed);
+    text.push_str(&format!(
+        "{failed} failed ({timed_out} timed out, {crashed} crashed), "
+    ));
+}
+
+/// Appends the numbers of the tests that were not run.
+fn push_others(text: &mut String, end: &RunEnd) {
+    let (skipped, not_run) = (end.skipped, end.not_run);
+    text.push_str(&format!("{skipped} skipped, {not_run} not run"));
+}

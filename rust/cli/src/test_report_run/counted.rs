@@ -1,0 +1,62 @@
+// Made by tools/erase from crates/test_report_run/src/counted.rt. Do not edit.
+//! Counting a test that finished.
+
+use deodarsieve::{
+    CounterFull, ExecutionResultDescription, FailureDescription, FinishedTest, FlakyResult,
+    RunStats, SlowTimeoutResult,
+};
+
+/// The exit code of Rust's test harness if a test failed.
+const HARNESS_FAILED: i32 = 101;
+
+/// How a test finished.
+#[derive(Clone, Copy, PartialEq, Eq)]
+pub(crate) enum Finish {
+    /// It passed, or is flaky and counts as passed.
+    Passed,
+
+    /// It is flaky, and counts as failed.
+    FlakyFailed,
+
+    /// It failed.
+    Failed,
+
+    /// It ran out of time.
+    TimedOut,
+}
+
+/// Describes the result of a test. The lines do not give the exit code of a failed test, so it is that
+/// of the harness.
+fn described(finish: Finish) -> ExecutionResultDescription {
+    match finish {
+        Finish::Passed | Finish::FlakyFailed => ExecutionResultDescription::Pass,
+        Finish::Failed => ExecutionResultDescription::Fail {
+            failure: FailureDescription::ExitCode {
+                code: HARNESS_FAILED,
+            },
+            leaked: false,
+        },
+        Finish::TimedOut => ExecutionResultDescription::Timeout {
+            result: SlowTimeoutResult::Fail,
+        },
+    }
+}
+
+/// Counts a test that finished.
+pub(crate) fn count(
+    stats: &mut RunStats,
+    finish: Finish,
+    attempts: usize,
+) -> Result<(), CounterFull> {
+    let flaky_result = match finish {
+        Finish::FlakyFailed => FlakyResult::Fail,
+        Finish::Passed | Finish::Failed | Finish::TimedOut => FlakyResult::Pass,
+    };
+    let test = FinishedTest {
+        result: described(finish),
+        attempts,
+        is_slow: false,
+        flaky_result,
+    };
+    stats.try_on_test_view(&test.view())
+}

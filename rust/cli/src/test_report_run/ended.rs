@@ -1,0 +1,119 @@
+// Made by tools/erase from crates/test_report_run/src/ended.rt. Do not edit.
+//! The ends of the tests of a suite.
+
+use crate::test_report_events::event::{TestDetails, TestResult};
+use crate::test_report_run::counted::{Finish, count};
+use crate::test_report_run::error::{RunError, one_more};
+use crate::test_report_run::note::{Failure, FailureKind, Note, TestOutcome};
+use crate::test_report_run::said::time_sum;
+use crate::test_report_run::suite::{FlakyTest, OverTest, Suite};
+
+/// The reason of the harness for a test that ran out of time.
+const TIME_LIMIT: &str = "time limit exceeded";
+
+/// Copies a text that may be absent.
+fn owned(text: Option<&str>) -> Option<String> {
+    text.map(String::from)
+}
+
+/// Returns the failure of a test whose line says that it failed.
+fn failure_of(details: TestDetails<'_>) -> Failure {
+    Failure {
+        kind: match details.reason {
+            Some(TIME_LIMIT) => FailureKind::TimedOut,
+            _ => FailureKind::Failed,
+        },
+        stdout: owned(details.stdout),
+        message: owned(details.message),
+        reason: owned(details.reason),
+    }
+}
+
+/// Returns how a test finished whose line says that it failed.
+fn finish_of(details: TestDetails<'_>) -> Finish {
+    match details.reason {
+        Some(TIME_LIMIT) => Finish::TimedOut,
+        _ => Finish::Failed,
+    }
+}
+
+impl Suite {
+    /// Takes the end of a test. `order` is the number of tests that started before it.
+    pub(crate) fn on_end(
+        &mut self,
+        test: OverTest,
+        order: usize,
+        end: TestResult,
+        details: TestDetails<'_>,
+        notes: &mut Vec<Note>,
+    ) -> Result<(), RunError> {
+        if end == TestResult::Ignored {
+            self.skipped = one_more(self.skipped)?;
+            notes.push(self.note(test, TestOutcome::Skipped));
+            return Ok(());
+        }
+        self.time = time_sum(self.time, details.time)?;
+        if end == TestResult::Failed {
+            return self.on_failed(test, details, notes);
+        }
+        if test.attempts > 1 {
+            return self.on_flaky(test, order, details);
+        }
+        count(&mut self.stats, Finish::Passed, 1)?;
+        notes.push(self.note(test, TestOutcome::Passed));
+        Ok(())
+    }
+
+    /// Takes the end of a test that was not running.
+    pub(crate) fn on_stray_end(
+        &mut self,
+        test: OverTest,
+        end: TestResult,
+        details: TestDetails<'_>,
+        notes: &mut Vec<Note>,
+    ) -> Result<(), RunError> {
+        self.on_name(test.name.as_str());
+        self.on_end(test, 0, end, details, notes)
+    }
+
+    /// Takes the end of a test that failed.
+    fn on_failed(
+        &mut self,
+        test: OverTest,
+        details: TestDetails<'_>,
+        notes: &mut Vec<Note>,
+    ) -> Result<(), RunError> {
+        let failure = failure_of(details);
+        count(&mut self.stats, finish_of(details), test.attempts)?;
+        notes.push(self.note(test, TestOutcome::Failed(failure)));
+        Ok(())
+    }
+
+    /// Returns the position of the first flaky test that started after `order` tests.
+    fn later_flaky(&self, order: usize) -> Option<usize> {
+        self.flaky.iter().position(|other| other.order > order)
+    }
+
+    /// Returns the position of a flaky test among those that started before and after it.
+    fn flaky_place(&self, order: usize) -> usize {
+        self.later_flaky(order).unwrap_or(self.flaky.len())
+    }
+
+    /// Keeps a flaky test until the suite is over, in the order in which such tests started.
+    fn on_flaky(
+        &mut self,
+        test: OverTest,
+        order: usize,
+        details: TestDetails<'_>,
+    ) -> Result<(), RunError> {
+        let at = self.flaky_place(order);
+        let flaky = FlakyTest {
+            test,
+            order,
+            stdout: owned(details.stdout),
+            message: owned(details.message),
+        };
+        self.flaky.insert(at, flaky);
+        Ok(())
+    }
+}

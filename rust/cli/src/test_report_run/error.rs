@@ -1,0 +1,22 @@
+// Made by tools/erase from crates/test_report_run/src/error.rt. Do not edit.
+//! Why a run cannot be counted.
+
+use deodarsieve::CounterFull;
+
+/// Why a run cannot be counted.
+#[derive(Clone, Copy, Debug, PartialEq, Eq)]
+pub enum RunError {
+    /// A number does not fit its counter.
+    CounterFull,
+}
+
+impl From<CounterFull> for RunError {
+    fn from(_: CounterFull) -> RunError {
+        RunError::CounterFull
+    }
+}
+
+/// Increments a counter.
+pub(crate) fn one_more(count: usize) -> Result<usize, RunError> {
+    count.checked_add(1).ok_or(RunError::CounterFull)
+}

@@ -1,0 +1,244 @@
+// Made by tools/erase from crates/test_report_run/src/over.rt. Do not edit.
+//! A suite that is over.
+
+use crate::test_report_run::counted::{Finish, count};
+use crate::test_report_run::error::{RunError, one_more};
+use crate::test_report_run::last_line::{Explanation, disagrees, explained};
+use crate::test_report_run::note::{
+    Crash, Disagreement, Failure, FailureKind, NotRun, Note, SuiteNote, TestOutcome,
+};
+use crate::test_report_run::running::RunningTest;
+use crate::test_report_run::suite::{FlakyTest, OverTest, Suite};
+
+/// How many tests of a suite did not run, and the time that it took.
+#[derive(Clone, Copy)]
+pub(crate) struct Rest {
+    /// The number of skipped tests.
+    pub(crate) skipped: u128,
+
+    /// The number of tests that started, and of which no line says anything else.
+    pub(crate) left: usize,
+
+    /// The time in microseconds.
+    pub(crate) time: Option<u64>,
+}
+
+/// Returns what is known of a test without end.
+fn over(test: RunningTest) -> OverTest {
+    OverTest {
+        name: test.name,
+        attempts: 1,
+        time: None,
+        ended: usize::MAX,
+    }
+}
+
+impl Suite {
+    /// Ends the suite early. `left` are its running tests, which crashed.
+    pub(crate) fn end_early(
+        mut self,
+        left: Vec<RunningTest>,
+        notes: &mut Vec<Note>,
+    ) -> Result<(), RunError> {
+        let crashed = left.len();
+        self.crash_all(left, notes)?;
+        self.release_flaky(false, notes)?;
+        self.push_early_end(crashed, notes)?;
+        let rest = Rest {
+            skipped: self.skipped as u128,
+            left: 0,
+            time: self.time,
+        };
+        self.push_numbers(rest, notes)
+    }
+
+    /// Counts the tests that were running when the suite ended early as crashed.
+    fn crash_all(
+        &mut self,
+        tests: Vec<RunningTest>,
+        notes: &mut Vec<Note>,
+    ) -> Result<(), RunError> {
+        let running = tests.len();
+        for test in tests {
+            let kind = FailureKind::Crashed(self.crash(running));
+            self.crashed = one_more(self.crashed)?;
+            self.fail(test, kind, notes)?;
+        }
+        Ok(())
+    }
+
+    /// Returns how a test crashed that ran beside others. `running` is their number.
+    fn crash(&self, running: usize) -> Crash {
+        Crash {
+            running,
+            has_key: self.key.is_some(),
+            prints: self.prints.lines(),
+        }
+    }
+
+    /// Counts a test without end as failed.
+    fn fail(
+        &mut self,
+        test: RunningTest,
+        kind: FailureKind,
+        notes: &mut Vec<Note>,
+    ) -> Result<(), RunError> {
+        count(&mut self.stats, Finish::Failed, 1)?;
+        let failure = Failure {
+            kind,
+            stdout: None,
+            message: None,
+            reason: None,
+        };
+        notes.push(self.note(over(test), TestOutcome::Failed(failure)));
+        Ok(())
+    }
+
+    /// Adds the disagreement of a suite that ends early, if there is one.
+    fn push_early_end(&self, crashed: usize, notes: &mut Vec<Note>) -> Result<(), RunError> {
+        match self.name() {
+            Some(suite) if crashed == 0 => {
+                notes.push(Note::Disagreement(Disagreement::EndedEarly { suite }));
+            }
+            None if self.started > 0 => {
+                let started = self.started;
+                notes.push(Note::Disagreement(Disagreement::OutsideSuite { started }));
+            }
+            _ => {}
+        }
+        Ok(())
+    }
+
+    /// Counts the flaky tests, as failed or as passed.
+    fn release_flaky(&mut self, have_failed: bool, notes: &mut Vec<Note>) -> Result<(), RunError> {
+        for flaky in std::mem::take(&mut self.flaky) {
+            if have_failed {
+                self.fail_flaky(flaky, notes)?;
+            } else {
+                count(&mut self.stats, Finish::Passed, flaky.test.attempts)?;
+                notes.push(self.note(flaky.test, TestOutcome::Passed));
+            }
+        }
+        Ok(())
+    }
+
+    /// Counts a flaky test as failed.
+    fn fail_flaky(&mut self, flaky: FlakyTest, notes: &mut Vec<Note>) -> Result<(), RunError> {
+        count(&mut self.stats, Finish::FlakyFailed, flaky.test.attempts)?;
+        let failure = Failure {
+            kind: FailureKind::Flaky,
+            stdout: flaky.stdout,
+            message: flaky.message,
+            reason: None,
+        };
+        notes.push(self.note(flaky.test, TestOutcome::Failed(failure)));
+        Ok(())
+    }
+
+    /// Ends the suite by its last line. `left` are its running tests.
+    pub(crate) fn end(
+        mut self,
+        left: Vec<RunningTest>,
+        notes: &mut Vec<Note>,
+    ) -> Result<(), RunError> {
+        let explained = self.explained(left.len())?;
+        let mut skipped = left;
+        let others = skipped.split_off(explained.skipped);
+        let left = self.fail_lost(explained.others_failed, others, notes)?;
+        self.release_flaky(explained.flaky_failed, notes)?;
+        self.skip_all(skipped, notes)?;
+        self.push_disagreement(notes)?;
+        let rest = Rest {
+            skipped: self.skipped as u128 + explained.skipped as u128 + explained.nameless,
+            left,
+            time: self.said.time.or(self.time),
+        };
+        self.push_numbers(rest, notes)
+    }
+
+    /// Returns what the last line explains of the tests. `left` of them are running.
+    fn explained(&self, left: usize) -> Result<Explanation, RunError> {
+        let said = self.said.numbers()?;
+        let ignored = self.said.ignored.unwrap_or(0);
+        Ok(explained(self.tally(left)?, said, ignored))
+    }
+
+    /// Counts tests without end as failed if they have failed. Returns how many are left otherwise.
+    fn fail_lost(
+        &mut self,
+        have_failed: bool,
+        tests: Vec<RunningTest>,
+        notes: &mut Vec<Note>,
+    ) -> Result<usize, RunError> {
+        if have_failed {
+            self.fail_all(tests, notes)?;
+            Ok(0)
+        } else {
+            Ok(tests.len())
+        }
+    }
+
+    /// Counts tests without end as failed.
+    fn fail_all(&mut self, tests: Vec<RunningTest>, notes: &mut Vec<Note>) -> Result<(), RunError> {
+        for test in tests {
+            self.fail(test, FailureKind::WithoutEnd, notes)?;
+        }
+        Ok(())
+    }
+
+    /// Adds that tests without end were skipped.
+    fn skip_all(&self, tests: Vec<RunningTest>, notes: &mut Vec<Note>) -> Result<(), RunError> {
+        for test in tests {
+            notes.push(self.note(over(test), TestOutcome::Skipped));
+        }
+        Ok(())
+    }
+
+    /// Adds the disagreement of the last line with the tests, if there is one.
+    fn push_disagreement(&self, notes: &mut Vec<Note>) -> Result<(), RunError> {
+        let said = self.said.numbers()?;
+        let (passed, failed) = (self.stats.passed, self.failed());
+        let name = self.name();
+        if let (Some(suite), true) = (name, disagrees(said, passed, failed)) {
+            notes.push(Note::Disagreement(Disagreement::LastLine {
+                suite,
+                said,
+                passed,
+                failed,
+            }));
+        }
+        Ok(())
+    }
+
+    /// Adds how many tests of the suite were not run, and its numbers.
+    fn push_numbers(&self, rest: Rest, notes: &mut Vec<Note>) -> Result<(), RunError> {
+        let finished = self.stats.finished_count as u128;
+        let initial_run_count = self.initial_run_count(rest);
+        let not_run = initial_run_count - finished;
+        if let (Some(suite), true) = (self.name(), not_run > 0) {
+            notes.push(Note::NotRun(NotRun {
+                suite,
+                not_run,
+                initial_run_count,
+            }));
+        }
+        notes.push(Note::Suite(SuiteNote {
+            name: self.name(),
+            stats: self.stats,
+            skipped: rest.skipped,
+            not_run,
+            crashed: self.crashed,
+            time: rest.time,
+        }));
+        Ok(())
+    }
+
+    /// Returns the number of tests that were to run.
+    fn initial_run_count(&self, rest: Rest) -> u128 {
+        let least = self.stats.finished_count as u128 + rest.left as u128;
+        match self.test_count {
+            Some(test_count) => test_count.saturating_sub(rest.skipped).max(least),
+            None => least,
+        }
+    }
+}

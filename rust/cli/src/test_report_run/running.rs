@@ -1,0 +1,105 @@
+// Made by tools/erase from crates/test_report_run/src/running.rt. Do not edit.
+//! The tests that are running.
+
+use crate::test_report_run::error::{RunError, one_more};
+
+/// The greatest number of attempts that a written name may give.
+const MOST_ATTEMPTS: usize = 1_000;
+
+/// A test that is running.
+#[derive(Clone)]
+pub(crate) struct RunningTest {
+    /// The name of the test, as the line of its start gives it.
+    pub(crate) name: String,
+
+    /// The number of its suite.
+    pub(crate) suite: usize,
+
+    /// The number of tests that started before it.
+    pub(crate) order: usize,
+}
+
+/// The tests that are running, in the order in which they started.
+#[derive(Clone)]
+pub(crate) struct Running {
+    tests: Vec<RunningTest>,
+    started: usize,
+}
+
+impl Running {
+    /// Returns no tests.
+    pub(crate) fn new() -> Running {
+        Running {
+            tests: Vec::new(),
+            started: 0,
+        }
+    }
+
+    /// Adds a test that starts.
+    pub(crate) fn start(&mut self, name: &str, suite: usize) -> Result<(), RunError> {
+        let name = String::from(name);
+        let order = self.started;
+        self.tests.push(RunningTest { name, suite, order });
+        self.started = one_more(self.started)?;
+        Ok(())
+    }
+
+    /// Removes the test that ends with this written name, and returns it with the number of its
+    /// attempts. Returns `None` if no such test is running.
+    pub(crate) fn end(&mut self, written: &str) -> Option<(RunningTest, usize)> {
+        let (at, attempts) = self.place_of_end(written)?;
+        Some((self.tests.remove(at), attempts))
+    }
+
+    /// Returns the position of the test that ends with this written name, and the number of its attempts.
+    fn place_of_end(&self, written: &str) -> Option<(usize, usize)> {
+        if let Some(at) = self.position(written) {
+            return Some((at, 1));
+        }
+        let (name, attempts) = name_and_attempts(written)?;
+        let at = self.position(name)?;
+        Some((at, attempts))
+    }
+
+    /// Returns the position of the first test with a name.
+    fn position(&self, name: &str) -> Option<usize> {
+        self.tests
+            .iter()
+            .position(|test| test.name.as_str() == name)
+    }
+
+    /// Removes the tests of a suite, and returns them in the order in which they started.
+    pub(crate) fn take_suite(&mut self, suite: usize) -> Vec<RunningTest> {
+        let mut taken = Vec::new();
+        let mut kept = Vec::new();
+        for test in std::mem::take(&mut self.tests) {
+            if test.suite == suite {
+                taken.push(test);
+            } else {
+                kept.push(test);
+            }
+        }
+        self.tests = kept;
+        taken
+    }
+}
+
+/// Splits a written name into the name of a test and the number of its attempts.
+fn name_and_attempts(written: &str) -> Option<(&str, usize)> {
+    let (name, digits) = written.rsplit_once('#')?;
+    let attempts = number_of_attempts(digits)?;
+    Some((name, attempts))
+}
+
+/// Parses a number of attempts, which is from 2 to 1,000 and has neither a sign nor a leading zero.
+fn number_of_attempts(digits: &str) -> Option<usize> {
+    if digits.starts_with('+') || digits.starts_with('0') {
+        return None;
+    }
+    let attempts: usize = digits.parse().ok()?;
+    if (2..=MOST_ATTEMPTS).contains(&attempts) {
+        Some(attempts)
+    } else {
+        None
+    }
+}

@@ -1,0 +1,263 @@
+//! The forms of `test-report` that are written at the end, on standard output and to files.
+
+mod common;
+
+use common::run;
+use std::fs;
+use std::path::{Path, PathBuf};
+use std::process;
+
+/// A run in which a test passes, one is skipped, one fails with hostile text, one crashes, and one is not run.
+const RUN: &str = r#"
+{ "type": "suite", "event": "started", "test_count": 4 }
+{ "type": "test", "event": "started", "name": "adds" }
+{ "type": "test", "name": "adds", "event": "ok", "exec_time": 0.25 }
+{ "type": "test", "name": "waits", "event": "ignored" }
+{ "type": "test", "event": "started", "name": "a|b <c>" }
+{ "type": "test", "name": "a|b <c>", "event": "failed", "stdout": "Error: \"x\" & </pre>\u001b[1m\uffff\r\nand *more*\n" }
+{ "type": "suite", "event": "failed", "passed": 1, "failed": 1, "ignored": 1, "measured": 0, "exec_time": 0.5 }
+{ "type": "suite", "event": "started", "test_count": 1 }
+{ "type": "test", "event": "started", "name": "ends" }
+"#;
+
+/// The run in JUnit's XML.
+const JUNIT: &str = r#"<?xml version="1.0" encoding="UTF-8"?>
+<testsuites name="test-report" tests="5" failures="1" errors="2" time="0.500">
+<testsuite name="suite 1" tests="4" failures="1" errors="1" skipped="1" time="0.500">
+<testcase name="adds" classname="suite 1" time="0.250"></testcase>
+<testcase name="waits" classname="suite 1">
+<skipped/>
+</testcase>
+<testcase name="a|b &lt;c&gt;" classname="suite 1">
+<failure message="Error: &quot;x&quot; &amp; &lt;/pre&gt;\u{1b}[1m&#xFFFD;" type="test failure">Error: "x" &amp; &lt;/pre&gt;\u{1b}[1m&#xFFFD;
+and *more*</failure>
+<system-out>Error: "x" &amp; &lt;/pre&gt;\u{1b}[1m&#xFFFD;
+and *more*
+</system-out>
+</testcase>
+<testcase name="suite 1: 1 of 3 tests were not run" classname="test-report">
+<error message="suite 1: 1 of 3 tests were not run" type="not run"></error>
+</testcase>
+</testsuite>
+<testsuite name="suite 2" tests="1" failures="0" errors="1" skipped="0">
+<testcase name="ends" classname="suite 2">
+<error message="its process ended before it did" type="crashed">its process ended before it did</error>
+</testcase>
+</testsuite>
+</testsuites>
+"#;
+
+/// The run in Markdown.
+const MARKDOWN: &str = r#"## Test report: failed
+
+3 tests run: 1 passed (0 flaky), 2 failed (0 timed out, 1 crashed), 1 skipped, 1 not run, in 0.500s
+
+- suite 1&#58; 1 of 3 tests were not run
+
+| Result | Test | Time | Why |
+| --- | --- | ---: | --- |
+| FAIL | suite 1 a&#124;b &#60;c&#62; |  | Error&#58; &#34;x&#34; &#38; &#60;&#47;pre&#62;&#92;u&#123;1b&#125;&#91;1m&#xFFFF; |
+| CRASH | suite 2 ends |  | its process ended before it did |
+
+<details><summary>FAIL suite 1 a&#124;b &#60;c&#62;</summary>
+
+<pre>
+Error: "x" &amp; &lt;/pre&gt;\u{1b}[1m&#xFFFF;
+and *more*</pre>
+
+</details>
+
+<details><summary>CRASH suite 2 ends</summary>
+
+<pre>
+its process ended before it did</pre>
+
+</details>
+
+"#;
+
+/// Returns a text with the characters that are written as references in the expected texts above.
+fn with_characters(text: &str) -> String {
+    text.replace("&#xFFFD;", "\u{fffd}")
+        .replace("&#xFFFF;", "\u{ffff}")
+}
+
+/// Returns the standard output of the program with arguments on the run, and asserts its exit status.
+fn report(arguments: &[&str], input: &str, status: i32) -> String {
+    let output = run("test-report", arguments, input.as_bytes());
+    assert_eq!(String::from_utf8_lossy(&output.stderr), "", "{arguments:?}");
+    assert_eq!(output.status.code(), Some(status), "{arguments:?}");
+    String::from_utf8(output.stdout).expect("the text is UTF-8")
+}
+
+/// A folder that is removed at the end of a test.
+struct Folder(PathBuf);
+
+impl Folder {
+    /// Creates a folder for a test.
+    fn new(test: &str) -> Folder {
+        let name = format!("test-report-{}-{test}", process::id());
+        let path = std::env::temp_dir().join(name);
+        fs::create_dir(&path).expect("the folder is new");
+        Folder(path)
+    }
+
+    /// Returns the path of a file in the folder.
+    fn file(&self, name: &str) -> String {
+        self.0
+            .join(name)
+            .to_str()
+            .expect("the path is UTF-8")
+            .to_string()
+    }
+}
+
+impl Drop for Folder {
+    fn drop(&mut self) {
+        // A folder that is left over is in the way of nothing.
+        let _ = fs::remove_dir_all(&self.0);
+    }
+}
+
+#[test]
+fn junit() {
+    assert_eq!(
+        report(&["--format", "junit"], RUN, 1),
+        with_characters(JUNIT)
+    );
+}
+
+#[test]
+fn junit_of_no_tests() {
+    let text = report(&["--format", "junit"], "", 1);
+    assert!(
+        text.contains(r#"<error message="no test ran" type="no tests">"#),
+        "{text}"
+    );
+    assert!(
+        text.contains(r#"tests="1" failures="0" errors="1""#),
+        "{text}"
+    );
+    let text = report(&["--format", "junit", "--no-tests", "pass"], "", 0);
+    assert!(
+        text.contains(r#"tests="0" failures="0" errors="0""#),
+        "{text}"
+    );
+    assert!(!text.contains("<testcase"), "{text}");
+}
+
+#[test]
+fn markdown() {
+    assert_eq!(
+        report(&["--format", "markdown"], RUN, 1),
+        with_characters(MARKDOWN)
+    );
+}
+
+#[test]
+fn html_loads_nothing() {
+    let page = report(&["--format", "html"], RUN, 1);
+    assert!(
+        page.starts_with(
+            "<!DOCTYPE html>\n<html lang=\"en\">\n<head>\n<meta charset=\"utf-8\"/>\n"
+        )
+    );
+    assert!(page.contains("default-src 'none'; style-src 'unsafe-inline'"));
+    assert!(page.contains("<h1>Test report: <span class=\"word failed\">failed</span></h1>"));
+    assert!(page.contains("<li>suite 1: 1 of 3 tests were not run</li>"));
+    assert!(page.contains("<span>a|b &lt;c&gt;</span>"));
+    assert!(
+        page.contains("Error: \"x\" &amp; &lt;/pre&gt;\\u{1b}[1m\u{ffff}\nand *more*</code></pre>")
+    );
+    for absent in [
+        "<script", "<link", "<img", "src=", "href=", "url(", "@import", "http:", "https:",
+    ] {
+        assert!(!page.contains(absent), "{absent}");
+    }
+}
+
+#[test]
+fn html_style_sheet_has_no_references() {
+    let page = report(&["--format", "html"], RUN, 1);
+    let (_, rest) = page
+        .split_once("<style>")
+        .expect("the page has a style sheet");
+    let (style, _) = rest.split_once("</style>").expect("the style sheet ends");
+    assert!(!style.contains(['&', '<', '>']));
+}
+
+#[test]
+fn html_of_empty_names() {
+    let run = "{ \"type\": \"suite\", \"event\": \"started\", \"test_count\": 1 }
+{ \"type\": \"test\", \"event\": \"started\", \"name\": \"\" }
+";
+    let page = report(&["--format", "html"], run, 1);
+    assert!(
+        page.contains("<span class=\"suite\">suite 1</span> <span></span></h3>"),
+        "{page}"
+    );
+}
+
+#[test]
+fn files_are_written_as_well() {
+    let folder = Folder::new("files");
+    let (junit, html, markdown) = (
+        folder.file("a.xml"),
+        folder.file("b.html"),
+        folder.file("c.md"),
+    );
+    fs::write(&junit, "an older file that is longer than nothing").expect("the file is written");
+    fs::write(&markdown, "before\n").expect("the file is written");
+    let arguments = ["--junit", &junit, "--html", &html, "--markdown", &markdown];
+    let text = report(&arguments, RUN, 1);
+    assert_eq!(text, report(&[], RUN, 1));
+    let read = |path: &str| fs::read_to_string(Path::new(path)).expect("the file is there");
+    assert_eq!(read(&junit), with_characters(JUNIT));
+    assert_eq!(read(&html), report(&["--format", "html"], RUN, 1));
+    let appended = format!("before\n\n{}", with_characters(MARKDOWN));
+    assert_eq!(read(&markdown), appended);
+    assert_eq!(
+        fs::read_dir(&folder.0)
+            .expect("the folder is there")
+            .count(),
+        3
+    );
+}
+
+#[test]
+fn a_file_that_cannot_be_written() {
+    let folder = Folder::new("refused");
+    for option in ["--junit", "--html", "--markdown"] {
+        let path = folder.file("no/such/file");
+        let output = run("test-report", &[option, &path], RUN.as_bytes());
+        assert_eq!(output.status.code(), Some(3), "{option}");
+        let message = String::from_utf8_lossy(&output.stderr);
+        let start = format!("test-report: {path} cannot be written: ");
+        assert!(message.starts_with(&start), "{message}");
+        assert_eq!(output.stdout, report(&[], RUN, 1).as_bytes(), "{option}");
+    }
+}
+
+#[cfg(unix)]
+#[test]
+fn a_link_and_a_device_stay() {
+    let folder = Folder::new("links");
+    let (file, link) = (folder.file("report.xml"), folder.file("link.xml"));
+    fs::write(&file, "").expect("the file is written");
+    std::os::unix::fs::symlink(&file, &link).expect("the link is made");
+    report(&["--junit", &link, "--html", "/dev/null"], RUN, 1);
+    assert!(
+        fs::symlink_metadata(&link)
+            .expect("the link is there")
+            .is_symlink()
+    );
+    assert_eq!(
+        fs::read_to_string(&file).expect("the file is there"),
+        with_characters(JUNIT)
+    );
+    assert!(
+        !fs::metadata("/dev/null")
+            .expect("the device is there")
+            .is_file()
+    );
+}

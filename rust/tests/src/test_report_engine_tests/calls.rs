@@ -1,0 +1,142 @@
+// Made by tools/erase from crates/test_report_engine_tests/src/calls.rt. Do not edit.
+//! The calls below the report, each made once: lines, events, notes, entries and forms.
+
+use crate::test_report_engine_tests::devices::{OPTIONS, RUN, report_of_run};
+use deodarsieve::RunOutcome;
+use deodarsieve_cli::test_report_engine::fault::Fault;
+use deodarsieve_cli::test_report_events::event::{Event, SuiteKey};
+use deodarsieve_cli::test_report_events::line::Line;
+use deodarsieve_cli::test_report_forms::entry::Entry;
+use deodarsieve_cli::test_report_forms::files::FileForms;
+use deodarsieve_cli::test_report_forms::form::Form;
+use deodarsieve_cli::test_report_forms::text::TextForm;
+use deodarsieve_cli::test_report_run::note::Note;
+use deodarsieve_cli::test_report_run::run::TestRun;
+
+/// Appends what a form writes of notes. Files that have no form take them, too.
+fn push_notes<F: Form>(notes: &[Note], form: &mut F, text: &mut String) -> Result<(), Fault> {
+    let mut files = FileForms::none();
+    for note in notes {
+        let entry = Entry::of(note);
+        files.on_entry(&entry);
+        form.on_entry(&entry, text);
+    }
+    Ok(())
+}
+
+/// Returns the report of [`RUN`], made call by call.
+fn report_by_calls() -> Result<String, Fault> {
+    let mut run = TestRun::new();
+    let mut form = TextForm::new(OPTIONS);
+    let mut text = String::new();
+    for bytes in RUN.lines() {
+        let line = Line::read(bytes.as_bytes());
+        let notes = run.on_event(line.event())?;
+        push_notes(notes.as_slice(), &mut form, &mut text)?;
+    }
+    let notes = run.end_file()?;
+    push_notes(notes.as_slice(), &mut form, &mut text)?;
+    form.on_end(&run.end(), &mut text);
+    Ok(text)
+}
+
+#[test]
+fn calls_make_the_report() -> Result<(), Box<dyn std::error::Error>> {
+    let report = report_of_run();
+    let text = report_by_calls();
+    assert!(text.is_ok_and(|text| text.as_str() == report.as_str()));
+    Ok(())
+}
+
+#[test]
+fn a_run_without_lines_has_no_tests() {
+    let end = TestRun::new().end();
+    assert!(end.outcome == RunOutcome::NoTestsRun);
+    assert!((end.stats.passed, end.skipped, end.not_run, end.crashed) == (0, 0, 0, 0));
+    assert!(end.time.is_none());
+}
+
+#[test]
+fn files_that_are_absent_have_no_texts() -> Result<(), Box<dyn std::error::Error>> {
+    let end = TestRun::new().end();
+    let texts = FileForms::none().texts(&end);
+    assert!(texts.junit.is_none() && texts.html.is_none() && texts.markdown.is_none());
+    Ok(())
+}
+
+#[test]
+fn lines_are_events() -> Result<(), Box<dyn std::error::Error>> {
+    let rows: [(&str, Event<'_>); 6] = [
+        (
+            r#"{"type":"suite","event":"started","nextest":{"crate":"a","test_binary":"b","stress_index":2}}"#,
+            Event::SuiteStarted {
+                key: Some(SuiteKey {
+                    package: "a",
+                    binary: "b",
+                    stress_index: Some(2),
+                }),
+                test_count: None,
+            },
+        ),
+        (
+            r#"{"type":"test","event":"started","name":"c"}"#,
+            Event::TestStarted { name: "c" },
+        ),
+        (
+            r#"{"type":"test","event":"timeout","name":"c"}"#,
+            Event::Other,
+        ),
+        (
+            "     Running unittests src/lib.rs (target/debug/deps/a-0123456789abcdef)",
+            Event::Heading {
+                suite: "a (unittests src/lib.rs)",
+            },
+        ),
+        (
+            "   Doc-tests a",
+            Event::Heading {
+                suite: "a (doc tests)",
+            },
+        ),
+        (
+            " a print\r",
+            Event::Print {
+                line: " a print",
+                plain: "a print",
+            },
+        ),
+    ];
+    for (bytes, wanted) in rows {
+        let line = Line::read(bytes.as_bytes());
+        assert!(line.event() == wanted, "{bytes}");
+    }
+    Ok(())
+}
+
+#[test]
+fn keys_have_texts() -> Result<(), Box<dyn std::error::Error>> {
+    let plain = SuiteKey {
+        package: "a",
+        binary: "b",
+        stress_index: None,
+    };
+    let stress = SuiteKey {
+        stress_index: Some(1),
+        ..plain
+    };
+    assert!(format!("{plain} {stress}").as_str() == "a::b a::b@stress-1");
+    Ok(())
+}
+
+#[test]
+fn faults_have_texts_and_a_status() -> Result<(), Box<dyn std::error::Error>> {
+    for (fault, text) in [
+        (Fault::Read, "read failed"),
+        (Fault::Write, "write failed"),
+        (Fault::CounterFull, "a number does not fit its counter"),
+    ] {
+        let said = format!("{fault}");
+        assert!(fault.status() == 3 && said.as_str() == text, "{text}");
+    }
+    Ok(())
+}

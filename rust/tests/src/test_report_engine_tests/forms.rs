@@ -1,0 +1,149 @@
+// Made by tools/erase from crates/test_report_engine_tests/src/forms.rt. Do not edit.
+//! The report of a small run in each form, and several files that are one run.
+
+use crate::test_report_engine_tests::devices::{OPTIONS, RUN, report_of_run, reported};
+use deodarsieve::RunOutcome;
+use deodarsieve_cli::program_io::memory_device::{MemorySink, MemorySource};
+use deodarsieve_cli::test_report_engine::fault::Fault;
+use deodarsieve_cli::test_report_engine::report::Report;
+use deodarsieve_cli::test_report_forms::files::FileForms;
+use deodarsieve_cli::test_report_forms::form::Form;
+use deodarsieve_cli::test_report_forms::github::GithubForm;
+use deodarsieve_cli::test_report_forms::html::HtmlForm;
+use deodarsieve_cli::test_report_forms::junit::JunitForm;
+use deodarsieve_cli::test_report_forms::markdown::MarkdownForm;
+use deodarsieve_cli::test_report_forms::names::NamesForm;
+use deodarsieve_cli::test_report_forms::text::TextForm;
+
+/// The report as commands of a workflow on GitHub.
+const GITHUB: &str = "::error title=suite 1 a::why\n\
+     ::error::suite 1: 1 of 2 tests were not run\n\
+     ::notice::1 tests run: 0 passed (0 flaky), 1 failed (0 timed out, 0 crashed), 0 skipped, \
+     1 not run, outcome failed\n";
+
+/// The report in JUnit's XML.
+const JUNIT: &str = r#"<?xml version="1.0" encoding="UTF-8"?>
+<testsuites name="test-report" tests="2" failures="1" errors="1">
+<testsuite name="suite 1" tests="2" failures="1" errors="1" skipped="0">
+<testcase name="a" classname="suite 1">
+<failure message="why" type="test failure">why</failure>
+</testcase>
+<testcase name="suite 1: 1 of 2 tests were not run" classname="test-report">
+<error message="suite 1: 1 of 2 tests were not run" type="not run"></error>
+</testcase>
+</testsuite>
+</testsuites>
+"#;
+
+/// The report in Markdown.
+const MARKDOWN: &str = r#"## Test report: failed
+
+1 tests run: 0 passed (0 flaky), 1 failed (0 timed out, 0 crashed), 0 skipped, 1 not run
+
+- suite 1&#58; 1 of 2 tests were not run
+
+| Result | Test | Time | Why |
+| --- | --- | ---: | --- |
+| FAIL | suite 1 a |  | why |
+
+<details><summary>FAIL suite 1 a</summary>
+
+<pre>
+why</pre>
+
+</details>
+
+"#;
+
+/// How a page for a browser begins and ends.
+const PAGE: (&[u8], &[u8]) = (
+    b"<!DOCTYPE html>\n<html lang=\"en\">\n",
+    b"</body>\n</html>\n",
+);
+
+/// Returns true if the report of [`RUN`] in this form is this, and the run did not succeed.
+fn gives<F: Form>(form: F, text: &str) -> bool {
+    let mut buffer = [0; 2_000];
+    let mut source = MemorySource::new(RUN.as_bytes(), None);
+    let mut sink = MemorySink::new(&mut buffer, None);
+    let end = reported(form, &mut source, &mut sink);
+    end.is_ok_and(|end| end.outcome != RunOutcome::Success) && sink.written() == text.as_bytes()
+}
+
+/// Returns true if the report of [`RUN`] in this form begins and ends so.
+fn is_within<F: Form>(form: F, ends: (&[u8], &[u8])) -> bool {
+    let mut buffer = [0; 20_000];
+    let mut source = MemorySource::new(RUN.as_bytes(), None);
+    let mut sink = MemorySink::new(&mut buffer, None);
+    let end = reported(form, &mut source, &mut sink);
+    end.is_ok() && sink.written().starts_with(ends.0) && sink.written().ends_with(ends.1)
+}
+
+#[test]
+fn each_form_has_its_report() -> Result<(), Box<dyn std::error::Error>> {
+    assert!(gives(TextForm::new(OPTIONS), report_of_run().as_str()));
+    assert!(gives(NamesForm, "a\n"));
+    assert!(gives(GithubForm::new(OPTIONS), GITHUB));
+    assert!(gives(JunitForm::new(OPTIONS), JUNIT));
+    assert!(gives(MarkdownForm::new(OPTIONS), MARKDOWN));
+    assert!(is_within(HtmlForm::new(OPTIONS), PAGE));
+    Ok(())
+}
+
+/// Returns the forms of all files.
+fn all_files() -> FileForms {
+    FileForms {
+        junit: Some(JunitForm::new(OPTIONS)),
+        html: Some(HtmlForm::new(OPTIONS)),
+        markdown: Some(MarkdownForm::new(OPTIONS)),
+    }
+}
+
+/// Returns true if the report of [`RUN`] has these names on its sink, and each file its own form.
+fn has_files() -> Result<bool, Fault> {
+    let mut buffer = [0; 100];
+    let mut source = MemorySource::new(RUN.as_bytes(), None);
+    let mut sink = MemorySink::new(&mut buffer, None);
+    let mut report = Report::with_files(NamesForm, all_files())?;
+    report.read_file(&mut source, &mut sink)?;
+    let texts = report.file_texts()?;
+    let end = report.finish(&mut sink)?;
+    let page = match &texts.html {
+        Some(page) => page.as_bytes(),
+        None => b"",
+    };
+    Ok(sink.written() == b"a\n".as_slice()
+        && end.not_run == 1
+        && texts
+            .junit
+            .as_ref()
+            .is_some_and(|text| text.as_str() == JUNIT)
+        && texts
+            .markdown
+            .as_ref()
+            .is_some_and(|text| text.as_str() == MARKDOWN)
+        && page.starts_with(PAGE.0)
+        && page.ends_with(PAGE.1))
+}
+
+#[test]
+fn files_have_their_forms() {
+    assert!(has_files() == Ok(true));
+}
+
+/// Returns true if two files with [`RUN`] are a run of two suites. The first file has no last line.
+fn is_one_run() -> Result<bool, Fault> {
+    let mut buffer = [0; 100];
+    let mut sink = MemorySink::new(&mut buffer, None);
+    let mut report = Report::new(NamesForm)?;
+    let cut = RUN.rfind("{").and_then(|at| RUN.get(..at)).unwrap_or("");
+    report.read_file(&mut MemorySource::new(cut.as_bytes(), None), &mut sink)?;
+    report.read_file(&mut MemorySource::new(RUN.as_bytes(), None), &mut sink)?;
+    let end = report.finish(&mut sink)?;
+    Ok(sink.written() == b"a\na\n".as_slice() && end.stats.failed == 2 && end.not_run == 2)
+}
+
+#[test]
+fn several_files_are_one_run() {
+    assert!(is_one_run() == Ok(true));
+}

@@ -1,0 +1,173 @@
+//! Which suite a test belongs to, how tests count, and what lines contradict each other.
+
+use crate::{Case, OPTIONS, assert_reports, reported};
+use deodarsieve_cli::test_report_forms::names::NamesForm;
+use deodarsieve_cli::test_report_forms::text::TextForm;
+
+#[test]
+fn ends_without_a_start() {
+    assert_reports(&[
+        Case {
+            name: "a suite ends twice, and its test runs once more",
+            lines: r#"{"type":"suite","event":"started","test_count":1}
+{"type":"test","event":"started","name":"a"}
+{"type":"test","event":"ok","name":"a"}
+{"type":"suite","event":"ok"}
+{"type":"suite","event":"failed"}
+{"type":"test","event":"started","name":"a"}
+{"type":"test","event":"failed","name":"a"}
+"#,
+            notes: "a suite ended that had not started: failed\n\
+                FAIL a\n    no output was captured\n1 tests started outside of a suite\n",
+            summary: "2 tests run: 1 passed (0 flaky), 1 failed (0 timed out, 0 crashed), 0 skipped, 0 not run",
+            list: "        FAIL a: no output was captured\n",
+            outcome: "failed",
+        },
+        Case {
+            name: "a test starts before the first suite, and ends in it",
+            lines: r#"{"type":"suite","event":"ok"}
+{"type":"test","event":"started","name":"a"}
+{"type":"suite","event":"started","test_count":0}
+{"type":"test","event":"failed","name":"a"}
+{"type":"suite","event":"ok"}
+"#,
+            notes: "FAIL a\n    no output was captured\n1 tests started outside of a suite\n",
+            summary: "1 tests run: 0 passed (0 flaky), 1 failed (0 timed out, 0 crashed), 0 skipped, 0 not run",
+            list: "        FAIL a: no output was captured\n",
+            outcome: "failed",
+        },
+        Case {
+            name: "ends of tests that are not running",
+            lines: r#"{"type":"suite","event":"started","test_count":2}
+{"type":"test","event":"started","name":"a"}
+{"type":"test","event":"failed","name":"b"}
+{"type":"test","event":"timeout","name":"b"}
+{"type":"test","event":"timeout","name":"a"}
+{"type":"test","event":"ignored","name":"c"}
+{"type":"bench","name":"d","median":1,"deviation":0}
+{"type":"suite","event":"ok"}
+"#,
+            notes: "FAIL suite 1 b\n    no output was captured\nb ended failed, and had not started\n\
+                d ended ok, and had not started\n\
+                suite 1: its last line says ok; its tests 0 and 1\n\
+                suite 1: 1 of 2 tests were not run\n",
+            summary: "1 tests run: 0 passed (0 flaky), 1 failed (0 timed out, 0 crashed), 1 skipped, 1 not run",
+            list: "        FAIL suite 1 b: no output was captured\n",
+            outcome: "failed",
+        },
+    ]);
+}
+
+#[test]
+fn suites() {
+    assert_reports(&[
+        Case {
+            name: "a suite starts in another, whose tests are over",
+            lines: r#"{"type":"suite","event":"started","test_count":3}
+{"type":"test","event":"started","name":"b"}
+{"type":"test","event":"started","name":"Z"}
+{"type":"test","event":"started","name":"a"}
+{"type":"test","event":"ok","name":"Z"}
+{"type":"suite","event":"started","test_count":1}
+{"type":"test","event":"failed","name":"b"}
+{"type":"test","event":"started","name":"a"}
+{"type":"test","event":"ok","name":"a"}
+{"type":"suite","event":"ok"}
+"#,
+            notes: "CRASH suite 1 b\n    one of 2 tests that ran when its process ended\n\
+                CRASH suite 1 a\n    one of 2 tests that ran when its process ended\n\
+                FAIL suite 2 b\n    no output was captured\nb ended failed, and had not started\n\
+                suite 2: its last line says ok; its tests 1 and 1\n",
+            summary: "5 tests run: 2 passed (0 flaky), 3 failed (0 timed out, 2 crashed), 0 skipped, 0 not run",
+            list: "       CRASH suite 1 b: one of 2 tests that ran when its process ended\n       \
+                CRASH suite 1 a: one of 2 tests that ran when its process ended\n        \
+                FAIL suite 2 b: no output was captured\n",
+            outcome: "failed",
+        },
+        Case {
+            name: "more tests than announced, one of which runs twice",
+            lines: r#"{"type":"suite","event":"started","test_count":0}
+{"type":"test","event":"started","name":"a"}
+{"type":"test","event":"started","name":"a"}
+{"type":"test","event":"ok","name":"a"}
+{"type":"test","event":"ok","name":"a"}
+{"type":"test","event":"started","name":"b"}
+{"type":"test","event":"ignored","name":"b"}
+{"type":"suite","event":"ok"}
+"#,
+            notes: "",
+            summary: "2 tests run: 2 passed (0 flaky), 0 failed (0 timed out, 0 crashed), 1 skipped, 0 not run",
+            list: "",
+            outcome: "success",
+        },
+        Case {
+            name: "the largest numbers of tests",
+            lines: r#"{"type":"suite","event":"started","test_count":18446744073709551615}
+{"type":"suite","event":"ok"}
+{"type":"suite","event":"started","test_count":18446744073709551615}
+{"type":"suite","event":"ok"}
+"#,
+            notes: "suite 1: 18446744073709551615 of 18446744073709551615 tests were not run\n\
+                suite 2: 18446744073709551615 of 18446744073709551615 tests were not run\n",
+            summary: "0 tests run: 0 passed (0 flaky), 0 failed (0 timed out, 0 crashed), 0 skipped, \
+                36893488147419103230 not run",
+            list: "",
+            outcome: "cancelled",
+        },
+    ]);
+}
+
+#[test]
+fn last_lines() {
+    assert_reports(&[
+        Case {
+            name: "a benchmark fails, and the last line does not count it",
+            lines: r#"{"type":"suite","event":"started","test_count":1}
+{"type":"test","event":"started","name":"a"}
+{"type":"bench","event":"failed","name":"a","median":1,"deviation":0}
+{"type":"suite","event":"ok","passed":0,"measured":1,"failed":0}
+"#,
+            notes: "FAIL suite 1 a\n    no output was captured\n\
+                suite 1: its last line says ok, 1 passed, 0 failed; its tests 0 and 1\n",
+            summary: "1 tests run: 0 passed (0 flaky), 1 failed (0 timed out, 0 crashed), 0 skipped, 0 not run",
+            list: "        FAIL suite 1 a: no output was captured\n",
+            outcome: "failed",
+        },
+        Case {
+            name: "a failed test without an end comes before a flaky test that is set to fail",
+            lines: r#"{"type":"suite","event":"started","test_count":4}
+{"type":"test","event":"started","name":"flaky"}
+{"type":"test","event":"started","name":"lost"}
+{"type":"test","event":"started","name":"ignored"}
+{"type":"test","event":"ok","name":"flaky#2"}
+{"type":"test","event":"ignored","name":"ignored"}
+{"type":"suite","event":"failed","passed":0,"failed":2,"ignored":2,"measured":0}
+"#,
+            notes: "FAIL suite 1 lost\n    no line says how it ended\n\
+                FAIL suite 1 flaky (2 attempts)\n    flaky, and set to fail\n",
+            summary: "2 tests run: 0 passed (0 flaky), 2 failed (0 timed out, 0 crashed), 2 skipped, 0 not run",
+            list: "        FAIL suite 1 lost: no line says how it ended\n        \
+                FAIL suite 1 flaky: flaky, and set to fail\n",
+            outcome: "failed",
+        },
+    ]);
+}
+
+#[test]
+fn several_files() {
+    let first = "     Running unittests src/lib.rs (target/debug/deps/a-0123456789abcdef)\n\
+        {\"type\":\"suite\",\"event\":\"started\",\"test_count\":2}\n\
+        {\"type\":\"test\",\"event\":\"started\",\"name\":\"x\"}";
+    let second = "{\"type\":\"suite\",\"event\":\"started\",\"test_count\":1}\n\
+        {\"type\":\"test\",\"event\":\"started\",\"name\":\"x\"}\n\
+        {\"type\":\"test\",\"event\":\"ok\",\"name\":\"x\"}\n\
+        {\"type\":\"suite\",\"event\":\"ok\"}\nerror: test failed, to rerun pass `--lib`\n";
+    let wanted = "CRASH a (unittests src/lib.rs) x\n    its process ended before it did\n\
+        a (unittests src/lib.rs): 1 of 2 tests were not run\n\
+        cargo: error: test failed, to rerun pass `--lib`\n------------\n     \
+        Summary 2 tests run: 1 passed (0 flaky), 1 failed (0 timed out, 1 crashed), 0 skipped, 1 not run\n       \
+        CRASH a (unittests src/lib.rs) x: its process ended before it did\noutcome failed\n";
+    let (text, _) = reported(TextForm::new(OPTIONS), &[first, second]);
+    assert_eq!(text, wanted);
+    assert_eq!(reported(NamesForm, &[first, second]).0, "x\n");
+}

@@ -1,0 +1,170 @@
+//! Lines that no harness writes, or that a test writes in its place.
+
+use crate::{Case, assert_reports};
+
+/// The summary of a run without tests.
+const NOTHING: &str =
+    "0 tests run: 0 passed (0 flaky), 0 failed (0 timed out, 0 crashed), 0 skipped, 0 not run";
+
+#[test]
+fn lines_in_json() {
+    assert_reports(&[
+        Case {
+            name: "no line",
+            lines: "",
+            notes: "",
+            summary: NOTHING,
+            list: "",
+            outcome: "no-tests-run",
+        },
+        Case {
+            name: "of equal members the last counts",
+            lines: r#"{"type":"suite","event":"started","test_count":2,"test_count":1}
+{"type":"test","event":"started","name":"a","name":"b"}
+{"type":"test","event":"failed","event":"ok","name":"b"}
+{"type":"suite","event":"ok"}
+"#,
+            notes: "",
+            summary: "1 tests run: 1 passed (0 flaky), 0 failed (0 timed out, 0 crashed), 0 skipped, 0 not run",
+            list: "",
+            outcome: "success",
+        },
+        Case {
+            name: "text after an object, an array, a string, and of two objects the last",
+            lines: r#"{"type":"suite","event":"started","test_count":9} and more
+[{"type":"suite","event":"started","test_count":9}]
+"{ \"type\": \"suite\", \"event\": \"started\", \"test_count\": 9 }"
+{"type":"suite","event":"started","test_count":9}{"type":"suite","event":"started","test_count":0}
+"#,
+            notes: "suite 1 ended early\n",
+            summary: NOTHING,
+            list: "",
+            outcome: "failed",
+        },
+        Case {
+            name: "values of another type, and objects of another type",
+            lines: r#"{"type":"suite","event":"started","test_count":-1}
+{"type":"suite","event":"started","test_count":1.0}
+{"type":"suite","event":"started","test_count":"1"}
+{"type":"suite","event":"started","test_count":18446744073709551616}
+{"type":"suite","event":"started"}
+{"type":"suite","event":["started"],"test_count":1}
+{"type":"build","event":"started","test_count":1}
+{"type":"Suite","event":"started","test_count":1}
+{"event":"started","test_count":1}
+7
+null
+"#,
+            notes: "suite 1 ended early\nsuite 2 ended early\nsuite 3 ended early\n\
+                suite 4 ended early\nsuite 5 ended early\n",
+            summary: NOTHING,
+            list: "",
+            outcome: "failed",
+        },
+        Case {
+            name: "damaged JSON",
+            lines: r#"{"type":"suite","event":"started","test_count":1}
+{"type":"test","event":"started","name":"a"
+{"type":"test","event":"started","name":"a",}
+{"type":"test","event":"started","name":"\ud800"}
+{"type":"test","event":"started","name":'a'}
+{"type":"test","event":"started","name":"\u12"}
+{"type":"test","event":"started","name":"a","x":NaN}
+{"type":"test","event":"started","name":"\x"}
+"#,
+            notes: "suite 1 ended early\nsuite 1: 1 of 1 tests were not run\n",
+            summary: "0 tests run: 0 passed (0 flaky), 0 failed (0 timed out, 0 crashed), 0 skipped, 1 not run",
+            list: "",
+            outcome: "failed",
+        },
+        Case {
+            name: "empty lines, carriage returns, and no line feed at the end",
+            lines: "\n{\"type\":\"suite\",\"event\":\"started\",\"test_count\":1}\r\n\r\n  \n\
+                \t{ \"type\":\"test\",\"event\":\"started\",\"name\":\"a\"}\r\n\n\
+                {\"type\":\"test\",\"event\":\"ok\",\"name\":\"a\"}\r\n\
+                {\"type\":\"suite\",\"event\":\"ok\"}\r",
+            notes: "",
+            summary: "1 tests run: 1 passed (0 flaky), 0 failed (0 timed out, 0 crashed), 0 skipped, 0 not run",
+            list: "",
+            outcome: "success",
+        },
+    ]);
+}
+
+#[test]
+fn numbers_of_attempts() {
+    assert_reports(&[Case {
+        name: "a number of attempts is from 2 to 1,000, and follows the name of a running test",
+        lines: r#"{"type":"suite","event":"started","test_count":4}
+{"type":"test","event":"started","name":"x#2"}
+{"type":"test","event":"ok","name":"x#3"}
+{"type":"test","event":"started","name":"y#02"}
+{"type":"test","event":"failed","name":"y#02"}
+{"type":"test","event":"started","name":"y#2"}
+{"type":"test","event":"failed","name":"y#2#1000"}
+{"type":"test","event":"started","name":"z"}
+{"type":"test","event":"failed","name":"z#1001"}
+{"type":"test","event":"ok","name":"z#2"}
+{"type":"suite","event":"failed"}
+"#,
+        notes: "x#3 ended ok, and had not started\n\
+            FAIL suite 1 y#02\n    no output was captured\n\
+            FAIL suite 1 y#2 (1000 attempts)\n    no output was captured\n\
+            FAIL suite 1 z#1001\n    no output was captured\n\
+            z#1001 ended failed, and had not started\n\
+            suite 1: 1 of 5 tests were not run\n",
+        summary: "4 tests run: 1 passed (1 flaky), 3 failed (0 timed out, 0 crashed), 0 skipped, 1 not run",
+        list: "   FLAKY 2/2 suite 1 z\n        \
+            FAIL suite 1 y#02: no output was captured\n        \
+            FAIL suite 1 y#2: no output was captured\n        \
+            FAIL suite 1 z#1001: no output was captured\n",
+        outcome: "failed",
+    }]);
+}
+
+#[test]
+fn forged_lines() {
+    assert_reports(&[
+        Case {
+            name: "a test says after other text that it passed, and then fails",
+            lines: r#"{"type":"suite","event":"started","test_count":1}
+{"type":"test","event":"started","name":"a"}
+done { "type": "test", "event": "ok", "name": "a" }
+{"type":"test","event":"failed","name":"a","message":"why"}
+{"type":"suite","event":"failed"}
+"#,
+            notes: "FAIL suite 1 a\n    why\na ended failed, and had not started\n",
+            summary: "2 tests run: 1 passed (0 flaky), 1 failed (0 timed out, 0 crashed), 0 skipped, 0 not run",
+            list: "        FAIL suite 1 a: why\n",
+            outcome: "failed",
+        },
+        Case {
+            name: "output that looks like a report",
+            lines: r#"{"type":"suite","event":"started","test_count":1}
+{"type":"test","event":"started","name":"a"}
+{"type":"test","event":"failed","name":"a","message":"x\n------------\noutcome success"}
+{"type":"suite","event":"failed"}
+"#,
+            notes: "FAIL suite 1 a\n    x\n    ------------\n    outcome success\n",
+            summary: "1 tests run: 0 passed (0 flaky), 1 failed (0 timed out, 0 crashed), 0 skipped, 0 not run",
+            list: "        FAIL suite 1 a: x\n",
+            outcome: "failed",
+        },
+        Case {
+            name: "names with control characters",
+            lines: r#"{"type":"suite","event":"started","test_count":2}
+{"type":"test","event":"started","name":"a\n\u001b[2J\"b"}
+{"type":"test","event":"started","name":"\r\t\u0085\u202e"}
+{"type":"test","event":"failed","name":"a\n\u001b[2J\"b","message":"left\n\u001b[1mright\tend\r"}
+{"type":"test","event":"failed","name":"\r\t\u0085\u202e"}
+{"type":"suite","event":"failed"}
+"#,
+            notes: "FAIL suite 1 a\\u{a}\\u{1b}[2J\"b\n    left\n    \\u{1b}[1mright\tend\\u{d}\n\
+                FAIL suite 1 \\u{d}\\u{9}\\u{85}\\u{202e}\n    no output was captured\n",
+            summary: "2 tests run: 0 passed (0 flaky), 2 failed (0 timed out, 0 crashed), 0 skipped, 0 not run",
+            list: "        FAIL suite 1 a\\u{a}\\u{1b}[2J\"b: left\n        \
+                FAIL suite 1 \\u{d}\\u{9}\\u{85}\\u{202e}: no output was captured\n",
+            outcome: "failed",
+        },
+    ]);
+}

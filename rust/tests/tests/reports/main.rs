@@ -1,0 +1,70 @@
+//! Whole reports of small runs. The expected texts were written by hand from the definition of the report.
+
+mod counting;
+mod hostile;
+mod shown;
+
+use deodarsieve::RunOutcome;
+use deodarsieve_cli::program_io::memory_device::{MemorySink, MemorySource};
+use deodarsieve_cli::test_report_engine::report::Report;
+use deodarsieve_cli::test_report_forms::form::Form;
+use deodarsieve_cli::test_report_forms::options::Options;
+use deodarsieve_cli::test_report_forms::text::TextForm;
+
+/// The options of most reports.
+const OPTIONS: Options = Options {
+    limit: 4_096,
+    raw: false,
+    color: false,
+    no_tests_pass: false,
+};
+
+/// Returns the report of files in a form, and whether the run succeeded.
+fn reported<F: Form>(form: F, files: &[&str]) -> (String, bool) {
+    let mut buffer = vec![0; 50_000];
+    let mut sink = MemorySink::new(&mut buffer, None);
+    let mut report = Report::new(form).expect("the report begins");
+    for file in files {
+        let mut source = MemorySource::new(file.as_bytes(), None);
+        report
+            .read_file(&mut source, &mut sink)
+            .expect("the file is read");
+    }
+    let end = report.finish(&mut sink).expect("the report ends");
+    let text = String::from_utf8(sink.written().to_vec()).expect("the report is UTF-8");
+    (text, end.outcome == RunOutcome::Success)
+}
+
+/// A run, and the parts of its report.
+struct Case {
+    /// What the run shows.
+    name: &'static str,
+
+    /// Its lines.
+    lines: &'static str,
+
+    /// What is written before the rule.
+    notes: &'static str,
+
+    /// What the summary says.
+    summary: &'static str,
+
+    /// The list after the summary.
+    list: &'static str,
+
+    /// The outcome.
+    outcome: &'static str,
+}
+
+/// Asserts the report of each case.
+fn assert_reports(cases: &[Case]) {
+    for case in cases {
+        let (text, success) = reported(TextForm::new(OPTIONS), &[case.lines]);
+        let wanted = format!(
+            "{}------------\n     Summary {}\n{}outcome {}\n",
+            case.notes, case.summary, case.list, case.outcome
+        );
+        assert_eq!(text, wanted, "{}", case.name);
+        assert_eq!(success, case.outcome == "success", "{}", case.name);
+    }
+}

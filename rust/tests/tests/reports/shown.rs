@@ -1,0 +1,102 @@
+//! How much of why a test failed is shown, and how.
+
+use crate::{Case, OPTIONS, assert_reports, reported};
+use deodarsieve_cli::test_report_forms::options::Options;
+use deodarsieve_cli::test_report_forms::text::TextForm;
+
+/// A failed test, of which nine bytes say why: a character of two bytes, an escape and three letters after
+/// it, and a character of three bytes.
+const RUN: &str = r#"{"type":"suite","event":"started","test_count":1}
+{"type":"test","event":"started","name":"a"}
+{"type":"test","event":"failed","name":"a","message":"£\u001b[1m€"}
+{"type":"suite","event":"failed"}"#;
+
+#[test]
+fn a_limit_cuts_before_a_character() {
+    for (limit, raw, shown, more) in [
+        (2, false, "£", 7),
+        (3, false, "£\\u{1b}", 6),
+        (3, true, "£\u{1b}", 6),
+        (6, true, "£\u{1b}[1m", 3),
+        (8, false, "£\\u{1b}[1m", 3),
+        (9, false, "£\\u{1b}[1m€", 0),
+        (9, true, "£\u{1b}[1m€", 0),
+        (usize::MAX, true, "£\u{1b}[1m€", 0),
+    ] {
+        let options = Options {
+            limit,
+            raw,
+            ..OPTIONS
+        };
+        let rest = match more {
+            0 => String::new(),
+            more => format!("    ({more} more bytes)\n"),
+        };
+        let wanted = format!(
+            "FAIL suite 1 a\n    {shown}\n{rest}------------\n     \
+             Summary 1 tests run: 0 passed (0 flaky), 1 failed (0 timed out, 0 crashed), 0 skipped, 0 not run\n        \
+             FAIL suite 1 a: {shown}\noutcome failed\n"
+        );
+        let (text, _) = reported(TextForm::new(options), &[RUN]);
+        assert_eq!(text, wanted, "{options:?}");
+    }
+}
+
+#[test]
+fn colours_are_around_the_words_for_results() {
+    let options = Options {
+        color: true,
+        ..OPTIONS
+    };
+    let (text, _) = reported(TextForm::new(options), &[RUN]);
+    let plain = text.replace("\u{1b}[1;31mFAIL\u{1b}[0m", "FAIL");
+    assert_eq!(plain, reported(TextForm::new(OPTIONS), &[RUN]).0);
+    assert_ne!(plain, text);
+}
+
+#[test]
+fn reasons() {
+    assert_reports(&[
+        Case {
+            name: "a time limit and blank output; a reason and a message come before output",
+            lines: r#"{"type":"suite","event":"started","test_count":2}
+{"type":"test","event":"started","name":"a"}
+{"type":"test","event":"failed","name":"a","reason":"time limit exceeded","stdout":" \n\t\n","exec_time":2.5}
+{"type":"test","event":"started","name":"b"}
+{"type":"test","event":"failed","name":"b","reason":"other","stdout":"x\n","message":"why"}
+{"type":"suite","event":"failed"}
+"#,
+            notes: "TIMEOUT [   2.500s] suite 1 a\n    timed out after 2.500s\n\
+                FAIL suite 1 b\n    other\n    why\n",
+            summary: "[   2.500s] 2 tests run: 0 passed (0 flaky), 2 failed (1 timed out, 0 crashed), \
+                0 skipped, 0 not run",
+            list: "     TIMEOUT [   2.500s] suite 1 a: timed out after 2.500s\n        \
+                FAIL suite 1 b: other\n        SLOW [   2.500s] suite 1 a\n",
+            outcome: "failed",
+        },
+        Case {
+            name: "the last ten lines that are not blank",
+            lines: r#"{"type":"suite","event":"started","test_count":1}
+{"type":"test","event":"started","name":"a"}
+{"type":"test","event":"failed","name":"a","stdout":"1\n2\n3\n4\n5\n6\n7\n8\n\n10\n11\n12\n\n"}
+{"type":"suite","event":"failed"}
+"#,
+            notes: "FAIL suite 1 a\n    2\n    3\n    4\n    5\n    6\n    7\n    8\n    10\n    11\n    12\n",
+            summary: "1 tests run: 0 passed (0 flaky), 1 failed (0 timed out, 0 crashed), 0 skipped, 0 not run",
+            list: "        FAIL suite 1 a: 2\n",
+            outcome: "failed",
+        },
+        Case {
+            name: "a panic, and its short reason",
+            lines: r#"{"type":"suite","event":"started","test_count":1}
+{"type":"test","event":"started","name":"a"}
+{"type":"test","event":"failed","name":"a","stdout":"log\r\nthread 'a' (7) panicked at src/a.rs:1:2:\r\nwhy\r\nmore\n"}
+{"type":"suite","event":"failed"}
+"#,
+            notes: "FAIL suite 1 a\n    thread 'a' (7) panicked at src/a.rs:1:2:\n    why\n    more\n",
+            summary: "1 tests run: 0 passed (0 flaky), 1 failed (0 timed out, 0 crashed), 0 skipped, 0 not run",
+            list: "        FAIL suite 1 a: panicked at src/a.rs:1:2: why\n",
+            outcome: "failed",
+        },
+    ]);
+}
