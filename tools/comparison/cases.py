@@ -14,7 +14,19 @@ REPLAYED = {"count": "count", "digest-extract": "extract"}
 REFUSED = [
     ["--nothing"], ["-x"], ["--limit"], ["--limit", "many"], ["--limit=-1"], ["--limit", ""], ["--limit=+7"],
     ["--limit", "18446744073709551616"], ["--raw=yes"], ["--raw", "--raw"], ["--limit", "1", "--limit", "2"],
-    ["-", "-"], ["--lim", "7"], ["--limit", "0x10"], ["--limit", " 7"], ["--", "--raw"],
+    ["--lim", "7"], ["--limit", "0x10"], ["--limit", " 7"], ["--", "--raw"], ["--format"], ["--format", "xml"],
+    ["--format="], ["--format", "Text"], ["--format", "text", "--format", "text"], ["--no-tests", "warn"],
+    ["--no-tests"], ["--color", "yes"], ["--color=always", "--color=always"], ["--junit"], ["--html"],
+    ["--markdown"], ["--junit", "a", "--junit", "b"], ["--form", "text"],
+]
+FORMS = ["text", "github", "names", "junit", "html", "markdown"]
+LIMITS = [0, 1, 2, 10, 50, 68, 100, 1000, 4096, 2**64 - 1]
+
+# The choices of each option of `test-report`, and how often it is given. Files that it writes are compared.
+OPTIONS = [
+    (0.6, "format", FORMS), (0.5, "limit", LIMITS), (0.2, "no-tests", ["fail", "pass"]),
+    (0.2, "color", ["auto", "always", "never"]), (0.2, "junit", ["run.xml", "old.txt"]),
+    (0.2, "html", ["run.html", "old.txt"]), (0.2, "markdown", ["run.md", "old.txt"]),
 ]
 WORDS = [["frob"], ["count", "count"], ["extract", "count"], ["Count"], ["-"], [""], ["--nothing"], ["coun"],
          ["extract", ""], [b"caf\xe9"], ["count", b"\xff"]]
@@ -22,7 +34,10 @@ WORDS = [["frob"], ["count", "count"], ["extract", "count"], ["Count"], ["-"], [
 
 @dataclass
 class Case:
-    """One run of a program: `origin` says what its input is made from, `rule` what may differ."""
+    """One run of a program: `origin` says what its input is made from, `rule` what may differ.
+
+    `files` has the texts of the files in the folder where the program runs.
+    """
 
     program: str
     arguments: list
@@ -30,6 +45,7 @@ class Case:
     origin: str
     rule: str = "same"
     devices: dict = field(default_factory=dict)
+    files: dict = field(default_factory=dict)
 
 
 def examples(pattern):
@@ -52,18 +68,28 @@ def damaged_or_generated(rng, generate, stored):
     return f"{name}, damaged", damaged(rng, text, pool)
 
 
+def chosen_options(rng):
+    """Returns options of `test-report`, in any order."""
+    options = [["--raw"]] if rng.random() < 0.2 else []
+    for share, name, values in OPTIONS:
+        if rng.random() < share:
+            value = str(rng.choice(values))
+            options.append(rng.choice([[f"--{name}", value], [f"--{name}={value}"]]))
+    rng.shuffle(options)
+    return [word for option in options for word in option]
+
+
 def report_case(rng, stored):
-    """Returns a case of `test-report`, with any options that it takes."""
+    """Returns a case of `test-report`, with any options and files that it takes."""
     origin, text = damaged_or_generated(rng, reported_run, stored)
-    arguments = []
-    if rng.random() < 0.5:
-        limit = rng.choice([0, 1, 2, 10, 50, 68, 100, 1000, 4096, 2**64 - 1])
-        arguments += rng.choice([["--limit", str(limit)], [f"--limit={limit}"]])
+    options, paths = chosen_options(rng), rng.choice([[], [], [], [], ["-"], ["--", "-"]])
+    files = {"old.txt": rng.choice([b"", b"older text\n" * 2000])}
     if rng.random() < 0.3:
-        arguments.insert(rng.choice([0, len(arguments)]), "--raw")
-    if rng.random() < 0.3:
-        arguments += rng.choice([["-"], ["--", "-"]])
-    return Case("test-report", arguments, text, origin)
+        names = ["a.jsonl", "b.jsonl"]
+        files |= {name: damaged_or_generated(rng, reported_run, stored)[1] for name in names}
+        paths = [rng.choice([*names, "-"]) for _ in range(rng.randint(1, 4))]
+    arguments = options + paths if rng.random() < 0.7 or "--" in paths else paths + options
+    return Case("test-report", arguments, text, origin, files=files)
 
 
 def refused_case(rng, stored):
@@ -90,9 +116,9 @@ def case_of(seed, number, stored):
     return refused_case(rng, stored["report"])
 
 
-def fixed_cases():
-    """Returns the cases that are no matter of chance: devices that fail, and `--version`."""
-    report = [("test-report", []), ("test-report", ["-"])]
+def failing_devices():
+    """Yields the cases of devices that fail, and of files that cannot be read or written."""
+    report = [("test-report", ["--format", form]) for form in FORMS] + [("test-report", ["-"])]
     digest = [("run-digest", ["count"]), ("run-digest", ["extract"])]
     for program, arguments in report + digest:
         for devices in ({"stdin": "folder"}, {"stdout": "full"}, {"stdout": "closed"}):
@@ -100,9 +126,22 @@ def fixed_cases():
             yield Case(program, arguments, b"run 0 0 -\n", origin, rule="system", devices=devices)
     for path in ("no/such/file", "", "/"):
         yield Case("test-report", [path], b"", "a file that cannot be read", rule="system")
+        yield Case("test-report", ["-", path], b"", "a second file that cannot be read", rule="system")
+    for option in ("--junit", "--html", "--markdown"):
+        for path in ("no/such/file", "", "/", "/dev/full"):
+            yield Case("test-report", [option, path], b"", "a file that cannot be written", rule="system")
+        yield Case("test-report", [option, "/dev/null"], b"", "a device that is written")
     yield Case("test-report", ["--help"], b"", "help on a full device", "system", {"stdout": "full"})
+
+
+def fixed_cases():
+    """Yields the cases that are no matter of chance: failures, several files, and `--version`."""
+    yield from failing_devices()
     for flag in ("--version", "-V"):
         yield Case("test-report", [flag], b"", "version")
+    for name, text in examples("examples/test-report/*.jsonl"):
+        for form in FORMS:
+            yield Case("test-report", ["--format", form], text, f"{name} as {form}")
 
 
 def replayed_cases():

@@ -26,12 +26,23 @@ ATTEMPTS = [
     "", "", "", "", "", "", "#1", "#2", "#3", "#0", "#02", "#+2", "#", "#2#3", "#18446744073709551615",
     "#18446744073709551616", "#\u0662",
 ]
+KEYS = [
+    {"crate": "ledger", "test_binary": "ledger"}, {"crate": "ledger", "test_binary": "pays"},
+    {"crate": "ledger", "test_binary": "ledger", "stress_index": 0}, {"crate": "ledger"}, "ledger",
+]
 RESULTS_OF_TESTS = ["ok", "ok", "failed", "failed", "ignored"]
 MEMBERS = ["stdout", "stdout", "stdout", "message", "reason", "exec_time", "extra"]
 PRINTED = [
     "", "{}", "null", "[1]", "1", '"type"', "running 3 tests", '{"type":"test"}',
     '{ "type": "report" }', '{"type":"suite","event":"discovery"}',
     '{"type":"test","event":"ok","name":"ghost"}', "{", "[" * 200,
+    '{"type":"test","event":"failed","name":"ghost"}', '{"type":"suite","event":"failed","passed":1}',
+    "     Running unittests src/lib.rs (target/debug/deps/ledger-0123456789abcdef)",
+    "\u001b[1m\u001b[32m     Running\u001b[0m tests/pays.rs (target\\debug\\deps\\pays-fedcba9876543210.exe)",
+    "   Doc-tests ledger", "error: could not compile `ledger` (lib) due to 1 previous error",
+    "error: test failed, to rerun pass `-p ledger --lib`", "\u001b[31merror\u001b[0m: 2 targets failed:",
+    "error: 1 target failed:", "error: test run failed", "Caused by:",
+    "  process didn't exit successfully: `ledger` (signal: 6, SIGABRT: process abort signal)",
 ]
 
 
@@ -117,16 +128,34 @@ def merged(rng, tests):
     return events
 
 
+def last_line(rng, events):
+    """Returns the object of a suite's end, whose numbers are mostly those of its events."""
+    ended = [event["event"] for event in events if event.get("name") and event.get("event") in RESULTS_OF_TESTS]
+    names = {"passed": "ok", "failed": "failed", "ignored": "ignored"}
+    numbers = {name: ended.count(word) for name, word in names.items()} | {"measured": 0}
+    if rng.random() < 0.2:
+        numbers[rng.choice(list(numbers))] = rng.choice([0, 1, 2, 3, -1, 2.5, "1"])
+    if rng.random() < 0.1:
+        del numbers[rng.choice(list(numbers))]
+    verdict = "failed" if "failed" in ended else "ok"
+    if rng.random() < 0.1:
+        verdict = rng.choice(["ok", "failed"])
+    times = {"exec_time": rng.choice([0.5, 0, 1e-7, 31, 0.0000019])} if rng.random() < 0.5 else {}
+    return {"type": "suite", "event": verdict} | numbers | times
+
+
 def suite_events(rng):
     """Returns the objects of a suite, of which the first or the last may be absent."""
     results = rng.choice([["ok"], ["ok", "ok", "ok", "ignored"], RESULTS_OF_TESTS])
     tests = [test_events(rng, results) for _ in range(rng.randrange(8))]
     count = len(tests) if rng.random() < 0.8 else rng.randrange(12)
+    key = {"nextest": rng.choice(KEYS)} if rng.random() < 0.4 else {}
     events = merged(rng, tests)
+    end = last_line(rng, events)
     if rng.random() < 0.95:
-        events.insert(0, {"type": "suite", "event": "started", "test_count": count})
+        events.insert(0, {"type": "suite", "event": "started", "test_count": count} | key)
     if rng.random() < 0.9:
-        events.append({"type": "suite", "event": rng.choice(["ok", "failed"]), "passed": 0, "failed": 0})
+        events.append(end | key)
     return events
 
 
@@ -141,9 +170,10 @@ def event_line(rng, event):
 
 def reported_run(rng):
     """Returns an input of `test-report`."""
-    lines = []
-    for _ in range(rng.choice([0, 1, 1, 1, 2, 3])):
-        lines += [event_line(rng, event) for event in suite_events(rng)]
+    suites = [suite_events(rng) for _ in range(rng.choice([0, 1, 1, 1, 2, 3]))]
+    if rng.random() < 0.3:
+        suites = [merged(rng, suites)]
+    lines = [event_line(rng, event) for suite in suites for event in suite]
     for _ in range(rng.choice([0, 0, 1, 3])):
         lines.insert(rng.randrange(len(lines) + 1), rng.choice(PRINTED))
     line_feed = rng.choice(["\n", "\n", "\r\n"])

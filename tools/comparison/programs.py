@@ -2,7 +2,9 @@
 
 import os
 import subprocess
+import tempfile
 from dataclasses import dataclass
+from pathlib import Path
 
 from comparison.cases import TOP
 
@@ -11,11 +13,12 @@ SECONDS = 60
 
 @dataclass
 class Result:
-    """What a program did."""
+    """What a program did. `files` has the texts of the files in the folder where it ran."""
 
     stdout: bytes
     stderr: bytes
     status: int
+    files: dict
 
 
 def write_end_of_closed_pipe():
@@ -25,15 +28,13 @@ def write_end_of_closed_pipe():
     return write_end
 
 
-def standard_input(case, file):
-    """Returns a descriptor for the standard input of a case; `file` is an empty temporary file."""
+def standard_input(case, folder):
+    """Returns a descriptor for the standard input of a case, which is written to a file outside of `folder`."""
     if case.devices.get("stdin") == "folder":
         return os.open(TOP, os.O_RDONLY)
-    file.seek(0)
-    file.truncate()
-    file.write(case.text)
-    file.flush()
-    return os.open(file.name, os.O_RDONLY)
+    path = folder.with_suffix(".stdin")
+    path.write_bytes(case.text)
+    return os.open(path, os.O_RDONLY)
 
 
 def standard_output(case):
@@ -44,19 +45,30 @@ def standard_output(case):
     return write_end_of_closed_pipe() if state == "closed" else subprocess.PIPE
 
 
-def run(program, case, file):
-    """Runs a program on a case."""
-    stdin, stdout = standard_input(case, file), standard_output(case)
+def run(program, case):
+    """Runs a program on a case, in a folder of its own."""
+    with tempfile.TemporaryDirectory() as top:
+        folder = Path(top, "run")
+        folder.mkdir()
+        for name, text in case.files.items():
+            (folder / name).write_bytes(text)
+        ended = run_in(folder, program, case)
+        files = {path.name: path.read_bytes() for path in folder.iterdir()}
+    return Result(ended.stdout or b"", ended.stderr, ended.returncode, files)
+
+
+def run_in(folder, program, case):
+    """Runs a program on a case in a folder."""
+    stdin, stdout = standard_input(case, folder), standard_output(case)
     try:
-        ended = subprocess.run(
+        return subprocess.run(
             [program, *case.arguments], stdin=stdin, stdout=stdout, stderr=subprocess.PIPE, timeout=SECONDS,
-            check=False, close_fds=False,
+            check=False, close_fds=False, cwd=folder,
         )
     finally:
         os.close(stdin)
         if stdout != subprocess.PIPE:
             os.close(stdout)
-    return Result(ended.stdout or b"", ended.stderr, ended.returncode)
 
 
 def same_but_cause(proved, erased):
@@ -72,6 +84,12 @@ def differences(case, proved, erased):
         found.append(f"status {proved.status} and {erased.status}")
     if proved.stdout != erased.stdout:
         found.append(f"standard output {excerpts(proved.stdout, erased.stdout)}")
+    for name in sorted({*proved.files, *erased.files}):
+        texts = [result.files.get(name) for result in (proved, erased)]
+        if None in texts:
+            found.append(f"the file {name} is there only once")
+        elif texts[0] != texts[1]:
+            found.append(f"the file {name} {excerpts(*texts)}")
     same = {
         "same": proved.stderr == erased.stderr,
         "system": same_but_cause(proved.stderr, erased.stderr),

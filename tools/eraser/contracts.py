@@ -80,6 +80,8 @@ def _on_name(source, i):
     if word == "mod" and source.reads(after, "laws", ";"):
         first = source.before(i) if source.at(source.before(i)) == "pub" else i
         source.drop_item(first, source.after(i, 2))
+    elif source.reads(after, "::", "laws", "::") and source.at(source.before(i)) in (";", "{", "}"):
+        _on_law(source, i)
     elif word == "fn" and source.is_name(after):
         _on_signature(source, i)
     elif word == "Drop":
@@ -93,6 +95,14 @@ def _on_name(source, i):
             source.refuse(i, f"the macro {word}!")
         if word in RUNTIME_MACROS and source.at(source.after(i, 4)) == ";":
             source.drop(source.after(i, 3), source.after(i, 4))
+
+
+def _on_law(source, i):
+    """Drops the statement at `i` that calls a law, which does nothing."""
+    name = source.after(i, 4)
+    if not source.is_name(name) or not source.reads(source.after(name), "(", ")", ";"):
+        source.refuse(i, "a law that is not called as a statement")
+    source.drop_item(i, source.after(name, 3))
 
 
 def _on_signature(source, i):

@@ -9,7 +9,9 @@ SHORTER = (
     ("unwrap_or ( Vec :: new ( ) )", "unwrap_or_default()"),
     ("map_or ( false ,", "is_some_and("),
     (". as_ref ( ) . map ( | bytes | bytes . as_slice ( ) )", ".as_deref()"),
+    (". as_ref ( ) . map ( String :: as_str )", ".as_deref()"),
 )
+NO_LIST = (",", "Vec", "::", "new", "(", ")", ")")
 NEW_LIST = ("=", "Vec", "::", "new", "(", ")", ";")
 LEAVES = ("?", "return", "break", "continue")
 OPERATORS = (
@@ -27,8 +29,12 @@ def with_idioms(text, name):
             _question_mark(source, i)
         elif source.text[i] == "match":
             _match(source, i)
+        elif source.text[i] == "if":
+            _nested_if_let(source, i)
+            _range(source, i)
         else:
             _shorter_call(source, i)
+            _taken_list(source, i)
     for function in functions_of(source):
         if function.body:
             _for_loops(source, function)
@@ -62,6 +68,17 @@ def _shorter_call(source, i):
         words = long.split()
         if source.reads(i, *words):
             source.replace(i, source.after(i, len(words) - 1), short)
+
+
+def _taken_list(source, i):
+    """Takes `mem::replace(list, Vec::new())` to `mem::take(list)`."""
+    if not source.reads(i, "mem", "::", "replace", "("):
+        return
+    close = source.partner[source.after(i, 3)]
+    comma = source.before(close, len(NO_LIST) - 1)
+    if source.reads(comma, *NO_LIST):
+        source.replace(source.after(i, 2), source.after(i, 2), "take")
+        source.drop(comma, source.before(close))
 
 
 def _for_loops(source, function):
@@ -124,6 +141,28 @@ def _question_mark(source, i):
         source.replace(last + 1, source.after(word, 5), short)
 
 
+def _nested_if_let(source, i):
+    """Takes `if let` around nothing but another `if let` to one with `&&`, if neither has an `else`."""
+    if source.at(source.after(i)) != "let":
+        return
+    outer = source.find(source.after(i), "{")
+    first, close = source.after(outer), source.partner[outer]
+    if not source.reads(first, "if", "let") or source.at(source.after(close)) == "else":
+        return
+    inner = source.find(first, "{")
+    if source.after(source.partner[inner]) == close and not _has_comment(source, outer, inner):
+        source.replace(outer, first, "&&")
+        source.drop(close, close)
+
+
+def _range(source, i):
+    """Takes the condition `low <= x && x <= high` to `(low..=high).contains(&x)`."""
+    low, value, high = (source.after(i, count) for count in (1, 4, 10))
+    words = ("if", source.at(low), "<", "=", source.at(value), "&", "&", source.at(value), "<", "=", source.at(high), "{")
+    if source.is_name(value) and source.reads(i, *words):
+        source.replace(low, high, f"({source.at(low)}..={source.at(high)}).contains(&{source.at(value)})")
+
+
 def _match(source, i):
     """Takes a `match` with two arms to `ok`, `map` or `if let`, if it is one of those."""
     brace = source.find(source.after(i), "{")
@@ -169,20 +208,33 @@ def _two_arms(value, arms, is_postfix, leaves):
     `is_postfix` says whether a method can be called on `value`; `leaves`, whether an arm leaves its
     function or a loop.
     """
-    others = {pattern: text for pattern, text in arms.items() if pattern not in ("None", "Err(_)")}
+    others = {pattern: text for pattern, text in arms.items() if pattern not in ("None", "Err(_)", "_")}
     if len(others) != 1:
         return None
     pattern, text = next(iter(others.items()))
+    if arms.get("_") == "{}":
+        return f"if let {pattern} = {value} {text}" if text.startswith("{") else None
     if not pattern.startswith(("Some(", "Ok(")) or not pattern.endswith(")"):
         return None
     inner = pattern[pattern.index("(") + 1:-1]
     if arms.get("Err(_)") == "None" and text == f"Some({inner})" and is_postfix:
         return f"{value}.ok()"
-    if arms.get("None") == "None" and _is_some(text) and is_postfix:
-        return None if leaves else f"{value}.map(|{inner}| {text[5:-1]})"
+    if arms.get("None") == "None" and _is_some(text) and not leaves:
+        return _mapped(value, inner, text[5:-1], is_postfix)
+    if arms.get("None") == "None" and is_postfix and not leaves:
+        kept = re.fullmatch(r"\{ if ([^{}]+) \{ Some\((\w+)\) \} else \{ None \} \}", text)
+        return f"{value}.filter(|&{inner}| {kept[1]})" if kept and kept[2] == inner else None
     if arms.get("None") == "{}":
         return f"if let {pattern} = {value} {{ {text} }}"
     return _other_error(value, arms, inner, text) if is_postfix else None
+
+
+def _mapped(value, inner, text, is_postfix):
+    """Returns an optional value, or a reference to one, with `text` in place of the `inner` that it may have."""
+    place = value.removeprefix("&")
+    if re.fullmatch(r"&[a-z_]+(\.[a-z_]+)*", value):
+        return f"{place}.clone()" if text == f"{inner}.clone()" else f"{place}.as_ref().map({_closure(inner, text)})"
+    return f"{value}.map({_closure(inner, text)})" if is_postfix else None
 
 
 def _other_error(value, arms, inner, text):
@@ -195,6 +247,12 @@ def _other_error(value, arms, inner, text):
     if arm is None or text != (inner if arm[1] else f"Ok({inner})"):
         return None
     return f"{value}." + call.format(arm[2]) + ("?" if arm[1] else "")
+
+
+def _closure(name, text):
+    """Returns the closure from `name` to `text`: a function, if it calls just that."""
+    call = re.fullmatch(r"([\w:]+)\((\w+)\)", text)
+    return call[1] if call and call[2] == name else f"|{name}| {text}"
 
 
 def _is_some(text):

@@ -39,6 +39,7 @@ class Body:
         source, function = self.source, self.function
         parameters = source.between(function.open, function.close)
         names = {source.at(source.before(i, 2)) for i in parameters if source.text[i] == "Global"}
+        names.discard("_")
         for i in self._body():
             if source.reads(i, "let", "alloc", "=", "rt", ".", "alloc", "(", ")", ";"):
                 names.add("alloc")

@@ -194,21 +194,6 @@ pub struct ExecutionStatusesIter<'a, S: OutputSpec> {
         "    (from..end).find(|at| source.byte(*at) == b'\\'')\n",
     ),
     (
-        "test_report_events/src/members.rt",
-        """    if let Some((name, digits)) = written.rsplit_once('#') {
-        if let Some(attempts) = attempts_of(digits) {
-            return (name, attempts);
-        }
-    }
-""",
-        """    if let Some((name, digits)) = written.rsplit_once('#')
-        && let Some(attempts) = attempts_of(digits)
-    {
-        return (name, attempts);
-    }
-""",
-    ),
-    (
         "run_digest_engine/src/lines.rt",
         "let mut number = 2; while let Some(line) = lines.next() {",
         "for (number, line) in (2..).zip(lines) {",

@@ -9,12 +9,12 @@ PACKAGES = {
         "run_events_attempts", "run_events_stats", "run_events_stress", "run_events",
     ),
     "deodarsieve-cli": (
-        "program_io", "run_digest_engine", "test_report_events", "test_report_suite",
-        "test_report_text", "test_report_engine",
+        "program_io", "run_digest_engine", "test_report_events", "test_report_run",
+        "test_report_forms", "test_report_engine",
     ),
     "deodarsieve-c": ("deodarsieve",),
     "deodarsieve-tests": (
-        "fixtures", "run_digest_engine_tests", "test_report_engine_tests", "output_slice_tests",
+        "fixtures", "run_digest_engine_tests", "output_slice_tests", "test_report_engine_tests",
     ),
 }
 FOLDERS = {LAYER: "deodarsieve", "deodarsieve-cli": "cli", "deodarsieve-c": "c", "deodarsieve-tests": "tests"}
@@ -35,7 +35,7 @@ HANDLES = ("AllocGlobal", "Input", "Print", "Abort")
 
 # Calls of std and of other crates that return a Result in Rattle, and a plain value in Rust.
 PLAIN_CALLS = (
-    "push", "push_str", "insert", "extend_from_slice", "to_vec", "to_string", "String::from_str",
+    "push", "push_str", "insert", "replace", "split_off", "extend_from_slice", "to_vec", "to_string", "String::from_str",
     "String::from_utf8_lossy", "Vec::with_capacity", "Vec::from_slice", "Box::new",
     "Bytes::copy_from_slice", "BufReader::new", "hex::encode", "Value::try_from_str",
 )

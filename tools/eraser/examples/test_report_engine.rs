@@ -1,10 +1,15 @@
+use deodarsieve::RunOutcome;
 use deodarsieve_cli::program_io::memory_device::{MemorySink, MemorySource};
-use deodarsieve_cli::test_report_engine::report::report;
-use deodarsieve_cli::test_report_text::options::Options;
+use deodarsieve_cli::test_report_engine::report::Report;
+use deodarsieve_cli::test_report_forms::names::NamesForm;
 
-let lines = b"{ \"type\": \"suite\", \"event\": \"started\", \"test_count\": 0 }\n";
+let lines = b"{ \"type\": \"test\", \"name\": \"adds\", \"event\": \"failed\" }\n";
 let mut source = MemorySource::new(lines, None);
 let mut buffer = [0; 1_000];
 let mut sink = MemorySink::new(&mut buffer, None);
-let succeeded = report(&mut source, &mut sink, Options { limit: 4_096, raw: false });
-assert_eq!(succeeded, Ok(false));
+let mut report = Report::new(NamesForm)?;
+report.read_file(&mut source, &mut sink)?;
+let end = report.finish(&mut sink)?;
+assert!(end.outcome != RunOutcome::Success);
+assert_eq!(sink.written(), b"adds\n");
+# Ok::<(), deodarsieve_cli::test_report_engine::fault::Fault>(())

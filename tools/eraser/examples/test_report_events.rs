@@ -1,5 +1,13 @@
 use deodarsieve_cli::test_report_events::event::Event;
 use deodarsieve_cli::test_report_events::line::Line;
 
-let line = Line::read(br#"{ "type": "suite", "event": "started", "test_count": 2 }"#);
-assert_eq!(line.event(), Some(Event::SuiteStarted { test_count: 2 }));
+fn test_count_of(bytes: &[u8]) -> Option<u64> {
+    let line = Line::read(bytes);
+    match line.event() {
+        Event::SuiteStarted { test_count, .. } => test_count,
+        _ => None,
+    }
+}
+
+let line = br#"{ "type": "suite", "event": "started", "test_count": 10 }"#;
+assert_eq!(test_count_of(line), Some(10));

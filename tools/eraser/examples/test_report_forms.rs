@@ -1,0 +1,17 @@
+use deodarsieve_cli::test_report_forms::entry::Entry;
+use deodarsieve_cli::test_report_forms::form::Form;
+use deodarsieve_cli::test_report_forms::options::Options;
+use deodarsieve_cli::test_report_forms::text::TextForm;
+use deodarsieve_cli::test_report_run::note::{Disagreement, Note};
+
+fn text_of_note(note: &Note, options: Options) -> String {
+    let entry = Entry::of(note);
+    let mut form = TextForm::new(options);
+    let mut text = String::new();
+    form.on_entry(&entry, &mut text);
+    text
+}
+
+let note = Note::Disagreement(Disagreement::OutsideSuite { started: 2 });
+let options = Options { limit: 4_096, raw: false, color: false, no_tests_pass: false };
+assert_eq!(text_of_note(&note, options), "2 tests started outside of a suite\n");

@@ -1,0 +1,23 @@
+use deodarsieve_cli::test_report_events::line::Line;
+use deodarsieve_cli::test_report_run::error::RunError;
+use deodarsieve_cli::test_report_run::note::RunEnd;
+use deodarsieve_cli::test_report_run::run::TestRun;
+
+fn end_of_lines(lines: &[&[u8]]) -> Result<RunEnd, RunError> {
+    let mut run = TestRun::new();
+    for bytes in lines {
+        let line = Line::read(bytes);
+        run.on_event(line.event())?;
+    }
+    run.end_file()?;
+    Ok(run.end())
+}
+
+let end = end_of_lines(&[
+    br#"{ "type": "suite", "event": "started", "test_count": 1 }"#,
+    br#"{ "type": "test", "event": "started", "name": "adds" }"#,
+    br#"{ "type": "test", "name": "adds", "event": "ok" }"#,
+    br#"{ "type": "suite", "event": "ok", "passed": 1, "failed": 0 }"#,
+])?;
+assert_eq!(end.stats.passed, 1);
+# Ok::<(), RunError>(())

@@ -1,0 +1,1 @@
+"""What `tools/report-counts` is made of: events of lines, suites, the run, its report, and stored reports."""

@@ -1,0 +1,187 @@
+"""Reads the lines of a run and says of each which event it is."""
+
+import re
+from dataclasses import dataclass, field
+from typing import Dict, Optional
+
+from report_reading.json_values import Number, value_of
+
+NUMBERS = ("passed", "failed", "ignored", "measured")
+EVENT_HEADS = (b'{ "type"', b'{"type"')
+COLOUR = re.compile("\x1b\\[[0-9;:]*m")
+RUNNING = "Running "
+PROGRAM = re.compile(r"(.*)-[0-9a-fA-F]{16}(?:\.exe)?", re.DOTALL)
+DOC_TESTS = re.compile(r"Doc-tests ([^ ]+)", re.DOTALL)
+BUILD_FAILURES = ("error: could not compile ", "error: failed to run custom build command for ")
+STEP_FAILURES = ("error: test failed", "error: doctest failed", "error: bench failed")
+RUN_FAILURE = "error: test run failed"
+TARGETS_FAILED = re.compile(r"error: [0-9]+ targets? failed:")
+SECONDS = re.compile(r"([0-9]{1,9})(?:\.([0-9]+))?")
+
+
+@dataclass(frozen=True)
+class SuiteStart:
+    """A suite starts."""
+
+    key: Optional[str]
+    test_count: Optional[int]
+
+
+@dataclass(frozen=True)
+class SuiteEnd:
+    """A suite ends: `numbers` has those of its last line that are present, `time` is in microseconds."""
+
+    key: Optional[str]
+    verdict: str
+    numbers: Dict[str, int] = field(default_factory=dict)
+    time: Optional[int] = None
+
+
+@dataclass(frozen=True)
+class TestStart:
+    """A test starts."""
+
+    name: str
+
+
+@dataclass(frozen=True)
+class TestEnd:
+    """A test or a benchmark ends: `result` is `ok`, `failed` or `ignored`."""
+
+    name: str
+    result: str
+    reason: Optional[str] = None
+    time: Optional[int] = None
+
+
+@dataclass(frozen=True)
+class Heading:
+    """Cargo names the binary that it runs next."""
+
+    suite_name: str
+
+
+@dataclass(frozen=True)
+class CargoFailure:
+    """Cargo failed: `kind` is `build`, `step` or `run`."""
+
+    line: str
+    kind: str
+
+
+def member(said, name, kind):
+    """Returns a member of an object if it is of a type, or else None."""
+    value = said.get(name)
+    return value if isinstance(value, kind) else None
+
+
+def whole_number(said, name):
+    """Returns a member that is a whole number, or else None."""
+    value = member(said, name, Number)
+    return value.whole() if value else None
+
+
+def microseconds(said):
+    """Returns the time of an event, or None if it has none that can be read."""
+    value = member(said, "exec_time", Number)
+    found = SECONDS.fullmatch(value.text) if value else None
+    if not found:
+        return None
+    return int(found[1]) * 1_000_000 + int(((found[2] or "") + "000000")[:6])
+
+
+def key_of(said):
+    """Returns the key of a suite line, or None."""
+    names = member(said, "nextest", dict) or {}
+    crate, binary = member(names, "crate", str), member(names, "test_binary", str)
+    if crate is None or binary is None:
+        return None
+    stress = whole_number(names, "stress_index")
+    return f"{crate}::{binary}" + ("" if stress is None else f"@stress-{stress}")
+
+
+def suite_event(said, event):
+    """Returns the event of a suite line, or None."""
+    if event == "started":
+        return SuiteStart(key_of(said), whole_number(said, "test_count"))
+    if event not in ("ok", "failed"):
+        return None
+    numbers = {name: whole_number(said, name) for name in NUMBERS}
+    present = {name: count for name, count in numbers.items() if count is not None}
+    return SuiteEnd(key_of(said), event, present, microseconds(said))
+
+
+def test_event(said, event):
+    """Returns the event of a line of a test, or None."""
+    name = member(said, "name", str)
+    if name is None or event not in ("started", "ok", "failed", "ignored"):
+        return None
+    if event == "started":
+        return TestStart(name)
+    return TestEnd(name, event, member(said, "reason", str), microseconds(said))
+
+
+def event_of_object(said):
+    """Returns the event of a JSON value, or None if it changes nothing."""
+    if not isinstance(said, dict):
+        return None
+    kind, event = member(said, "type", str), member(said, "event", str)
+    if kind == "suite":
+        return suite_event(said, event)
+    if kind == "test":
+        return test_event(said, event)
+    if kind == "bench":
+        return test_event(said, "failed" if event == "failed" else "ok")
+    return None
+
+
+def heading_of(line):
+    """Returns the heading that a line is, or None."""
+    if line.startswith(RUNNING) and line.endswith(")"):
+        target, _, path = line[len(RUNNING) : -1].rpartition(" (")
+        program = PROGRAM.fullmatch(re.split(r"[/\\]", path)[-1])
+        return Heading(f"{program[1]} ({target})") if program and target else None
+    doc_tests = DOC_TESTS.fullmatch(line)
+    return Heading(f"{doc_tests[1]} (doc tests)") if doc_tests else None
+
+
+def failure_of(line):
+    """Returns cargo's failure that a line is, or None."""
+    if line.startswith(BUILD_FAILURES):
+        return CargoFailure(line, "build")
+    if line.startswith(RUN_FAILURE) or TARGETS_FAILED.fullmatch(line):
+        return CargoFailure(line, "run")
+    return CargoFailure(line, "step") if line.startswith(STEP_FAILURES) else None
+
+
+def event_of_print(line):
+    """Returns the heading or cargo's failure that a line is, or None."""
+    line = COLOUR.sub("", line).lstrip(" ")
+    line = line[:-1] if line.endswith("\r") else line
+    return heading_of(line) or failure_of(line)
+
+
+def json_of(line):
+    """Returns the JSON value of a line of bytes, or else that of its end. Raises ValueError if there is none."""
+    try:
+        return value_of(line.decode())
+    except ValueError:
+        at = max(line.rfind(head) for head in EVENT_HEADS)
+        if at < 1:
+            raise
+        return value_of(line[at:].decode())
+
+
+def event_of(line):
+    """Returns the event of a line of bytes, or None if it changes nothing."""
+    if b"{" in line:
+        try:
+            return event_of_object(json_of(line))
+        except ValueError:
+            pass
+    return event_of_print(line.decode("utf-8", "replace"))
+
+
+def events_of(data):
+    """Returns the events of a file's bytes, one after another."""
+    return filter(None, map(event_of, filter(None, data.split(b"\n"))))

@@ -1,0 +1,111 @@
+"""Compares stored reports of `test-report` with what their inputs say."""
+
+import difflib
+import re
+
+from report_reading.run import read
+from report_reading.suites import Test
+from report_reading.texts import flaky_line, heading, shown_text, shown_time, summary, names
+
+RULE = "------------"
+WHY = "    "
+LISTED = re.compile(r" *(?:FAIL|TIMEOUT|CRASH) (.*)")
+SLOW = re.compile(r" *SLOW (\[ *[0-9.]+s\] ).*")
+COLOR = re.compile("\x1b\\[[0-9;]*m")
+
+
+def side_file(path, suffix):
+    """Returns the file NAME.jsonl.SUFFIX, or else NAME.SUFFIX, beside the input of an example."""
+    beside = path.with_name(f"{path.name}.{suffix}")
+    return beside if beside.exists() else path.with_suffix(f".{suffix}")
+
+
+def stored(path, suffix):
+    """Returns the text of a file beside an example, or nothing if there is no such file."""
+    file = side_file(path, suffix)
+    return file.read_bytes().decode("utf-8", "replace") if file.exists() else ""
+
+
+def option(words, name, default):
+    """Returns the value of an option among the arguments of a program, or else its default."""
+    for word, following in zip(words, [*words[1:], ""]):
+        if word == name:
+            return following
+        if word.startswith(f"{name}="):
+            return word[len(name) + 1 :]
+    return default
+
+
+def plain(report, words):
+    """Returns a report as text without colours, and with escapes for the control characters of the input."""
+    if option(words, "--color", "auto") == "always":
+        report = COLOR.sub("", report)
+    return shown_text(report) if "--raw" in words else report
+
+
+def without_why(lines):
+    """Returns the lines except those that say why tests failed."""
+    return [line for line in lines if line and not line.startswith(WHY)]
+
+
+def expected_notes(run):
+    """Returns the lines of a text report before its rule, except those that say why tests failed."""
+    return [heading(note) if isinstance(note, Test) else note.line for note in run.notes]
+
+
+def differing(expected, found, what):
+    """Returns what differs between the lines of two reports."""
+    lines = difflib.unified_diff(expected, found, f"expected {what}", f"{what} found", lineterm="", n=0)
+    return [line for line in lines if not line.startswith("@@")]
+
+
+def list_differences(run, lines):
+    """Returns what differs in the list after the `Summary` line: reasons and slow tests' names are passed over."""
+    flaky = sorted(map(flaky_line, run.flaky_tests()))
+    found = sorted(line.lstrip(" ") for line in lines if line.lstrip(" ").startswith("FLAKY "))
+    listed = [line[1] for line in map(LISTED.fullmatch, lines) if line]
+    failed = [f"{shown_time(test.time)}{names(test)}" for test in run.failed_tests()]
+    begins = [whole[: len(begin)] for whole, begin in zip(listed, failed)] + listed[len(failed) :]
+    slow = [line[1] for line in map(SLOW.fullmatch, lines) if line]
+    return [
+        *differing(flaky, found, "flaky tests"),
+        *differing(failed, begins, "list of failed tests"),
+        *differing([shown_time(test.time) for test in run.slowest()], slow, "times of slow tests"),
+    ]
+
+
+def text_differences(run, report):
+    """Returns what differs between a report as text and the run that it is of."""
+    lines = report.split("\n")[:-1]
+    if RULE not in lines:
+        return ["the report has no summary"]
+    rule = len(lines) - 1 - lines[::-1].index(RULE)
+    return [
+        *differing(without_why(expected_notes(run)), without_why(lines[:rule]), "lines before the summary"),
+        *differing([summary(run.totals())], lines[rule + 1 : rule + 2], "summary"),
+        *list_differences(run, lines[rule + 2 : -1]),
+        *differing([f"outcome {run.outcome()}"], lines[-1:], "outcome"),
+    ]
+
+
+def differences(path):
+    """Returns what differs between the report of an example, its status, and its input."""
+    run = read([path])
+    words = stored(path, "args").splitlines()
+    status = run.status(option(words, "--no-tests", "fail"))
+    found = differing([str(status)], [stored(path, "status").strip() or "0"], "status")
+    form, report = option(words, "--format", "text"), stored(path, "stdout")
+    if form == "text":
+        found += text_differences(run, plain(report, words))
+    return found
+
+
+def check(folder):
+    """Compares all examples of a folder, prints what differs, and returns the exit status."""
+    passed = failed = 0
+    for path in sorted(folder.glob("*.jsonl")):
+        found = differences(path)
+        print("".join(f"{path}: {line}\n" for line in found), end="")
+        passed, failed = passed + (not found), failed + bool(found)
+    print(f"{passed} passed, {failed} failed")
+    return 1 if failed or not passed else 0

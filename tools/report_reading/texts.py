@@ -1,0 +1,91 @@
+"""How names, numbers and times are written."""
+
+import re
+
+ANYWHERE = "\x0b-\x1f\x7f-\x9f\u061c\u200e\u200f\u202a-\u202e\u2066-\u2069"
+HIDDEN_IN_NAMES = re.compile(f"[\x00-\x0a{ANYWHERE}]")
+HIDDEN_IN_TEXT = re.compile(f"[\x00-\x08{ANYWHERE}]")
+HEADS = {"failed": "FAIL", "timed out": "TIMEOUT", "crashed": "CRASH"}
+
+
+def escaped(found):
+    """Returns the escape of a character."""
+    return f"\\u{{{ord(found[0]):x}}}"
+
+
+def shown_name(name):
+    """Returns a name as reports show it, with escapes for control characters and bidirectional controls."""
+    return HIDDEN_IN_NAMES.sub(escaped, name)
+
+
+def shown_text(text):
+    """Returns a text as reports show it: with the same escapes, except of tabs and line feeds."""
+    return HIDDEN_IN_TEXT.sub(escaped, text)
+
+
+def shown_time(time):
+    """Returns the bracket of a time with a space after it, or nothing if there is no time."""
+    return "" if time is None else f"[{f'{time // 1_000_000}.{time // 1000 % 1000:03}':>8}s] "
+
+
+def names(test):
+    """Returns the names of a test's suite and of the test, as reports show them."""
+    suite = test.suite.name()
+    return ("" if suite is None else f"{shown_name(suite)} ") + shown_name(test.name())
+
+
+def heading(test):
+    """Returns the line at the head of a failed test."""
+    attempts = f" ({test.attempts} attempts)" if test.attempts > 1 else ""
+    return f"{HEADS[test.state]} {shown_time(test.time)}{names(test)}{attempts}"
+
+
+def summary(totals):
+    """Returns the `Summary` line of a run."""
+    return (
+        f"     Summary {shown_time(totals['time'])}{totals['run']} tests run:"
+        f" {totals['passed']} passed ({totals['flaky']} flaky),"
+        f" {totals['failed']} failed ({totals['timed_out']} timed out, {totals['crashed']} crashed),"
+        f" {totals['skipped']} skipped, {totals['not_run']} not run"
+    )
+
+
+def flaky_line(test):
+    """Returns the line of a flaky test that passed, without the spaces at the front."""
+    return f"FLAKY {test.attempts}/{test.attempts} {shown_time(test.time)}{names(test)}"
+
+
+def as_lines(run, no_tests):
+    """Returns what a run comes to, as lines."""
+    return [
+        summary(run.totals()),
+        f"outcome {run.outcome()}",
+        f"status {run.status(no_tests)}",
+        *(heading(test) for test in run.failed_tests()),
+        *(f"cause: {cause.line}" for cause in run.causes()),
+        *(flaky_line(test) for test in run.flaky_tests()),
+    ]
+
+
+def test_members(test):
+    """Returns what is known of a failed or flaky test, for JSON."""
+    return {
+        "suite": test.suite.name(),
+        "name": test.name(),
+        "written": test.written,
+        "state": test.state,
+        "attempts": test.attempts,
+        "time": test.time,
+    }
+
+
+def as_members(run, no_tests):
+    """Returns what a run comes to, for JSON. Names are as they were read, and lines as reports show them."""
+    return {
+        "totals": run.totals(),
+        "outcome": run.outcome(),
+        "status": run.status(no_tests),
+        "failed_tests": [test_members(test) for test in run.failed_tests()],
+        "causes": [cause.line for cause in run.causes()],
+        "flaky_tests": [test_members(test) for test in run.flaky_tests()],
+    }
