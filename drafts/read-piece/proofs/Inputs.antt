@@ -1,0 +1,276 @@
+-- What a state reads of an input.
+use Rattle.std.proofs.Common.{◌≡◌, ◌∙◌, ◌-◌, ◌<◌, ℕ, List, [], ◌∷◌, ◌++◌, Option, ap, append-nil, append_assoc, arith, drop, length, map, refl, subst, sym, take}
+use Rattle.std.specs.Prelude.{◌==◌, slice_index, true}
+use Rattle.test_report_events.proofs.Readings.{one-event-of-line}
+use Rattle.test_report_events.specs.Event.{EventView}
+use Rattle.test_report_events.specs.Line.{LineSays}
+use Rattle.test_report_forms.specs.Entry.{EntryView}
+use Rattle.test_report_run.specs.Note.{NoteView, note_view}
+use Rattle.test_report_run.specs.Run.{RunState, after, after_file, file_notes, notes_at, run_state}
+use Rattle.test_report_run.specs.declared.note.Note.{Note}
+use Rattle.test_report_run.specs.declared.note.RunEnd.{RunEnd}
+use Rattle.test_report_run.specs.declared.run.TestRun.{TestRun}
+use Rattle.test_report_engine.specs.Lines.{AreEventsOf, IsOneLine, with_feed}
+use Rattle.test_report_engine.specs.State.{AppendsLinesStart, LeadsTo, ReadsInput, ReadsLine, ReadsStart, WritesNotes}
+use Rattle.test_report_engine.specs.Report.{after_end, after_line, end_notes, line_notes, notes_of, notes_of_input, run_after, run_after_input, run_of}
+use Rattle.test_report_engine.specs.declared.state.State.{State}
+use Rattle.test_report_engine.proofs.Lines.{divided-at, events-cut, events-line, events-none, feedless-front, joined, one-events, with-feed, without-feed}
+use Rattle.test_report_engine.proofs.Notes.{starts-front, starts-none, starts-then, writes-from, writes-then}
+
+-- the notes of a line, and those of the rest of its input
+notes-line : (r : RunState) (e : EventView) (es : List EventView) → notes_of_input r (e ∷ es) ≡ line_notes r e ++ notes_of_input (after_line r e) es
+notes-line r e es = append_assoc (line_notes r e) (notes_of (after_line r e) es) (end_notes (run_after (after_line r e) es))
+
+-- a line that has begun, with its end and the rest
+line-rest : (begun end bytes rest : List ℕ) → bytes ≡ begun ++ end → with_feed bytes ++ rest ≡ begun ++ (with_feed end ++ rest)
+line-rest begun end bytes rest is = rw is (simp append_assoc)
+
+-- what a run makes known and becomes by a line, and by the end of an input
+line-tells : (run : TestRun) (event : EventView) (notes : List NoteView) → notes ≡ notes_at (run_state run) event → notes ≡ line_notes (run_of run) event
+unfolding run_of line_notes
+line-tells run event notes is = is
+
+line-runs : (old new : TestRun) (event : EventView) → run_state new ≡ after (run_state old) event → run_of new ≡ after_line (run_of old) event
+unfolding run_of after_line
+line-runs old new event is = is
+
+end-tells : (run : TestRun) (notes : List NoteView) → notes ≡ file_notes (run_state run) → notes ≡ end_notes (run_of run)
+unfolding run_of end_notes
+end-tells run notes is = is
+
+end-runs : (old new : TestRun) → run_state new ≡ after_file (run_state old) → run_of new ≡ after_end (run_of old)
+unfolding run_of after_end
+end-runs old new is = is
+
+-- a line of which a beginning is written
+pub line-start : (f : EntryView → List ℕ) (run : TestRun) (bytes : List ℕ) (event said : EventView) (slice items : List Note)
+    (b w : Option (List ℕ))
+    → LineSays bytes said → event ≡ said → map note_view items ≡ notes_at (run_state run) event → slice ≡ items → AppendsLinesStart f (map note_view slice) b w
+    → (e : EventView) → LineSays bytes e → AppendsLinesStart f (line_notes (run_of run) e) b w
+line-start f run bytes event said slice items b w says is tells same starts e other =
+    subst (λ ns. AppendsLinesStart f ns b w)
+    (ap (map note_view) same ∙ line-tells run event (map note_view items) tells
+    ∙ ap (line_notes (run_of run)) (is ∙ one-event-of-line bytes said e says other)) starts
+
+-- nothing is written of a line
+pub line-none : (f : EntryView → List ℕ) (r : RunState) (bytes : List ℕ) (b : Option (List ℕ)) (e : EventView) → LineSays bytes e
+    → AppendsLinesStart f (line_notes r e) b b
+line-none f r bytes b e says = starts-none f (line_notes r e) b
+
+-- the end of an input of which a beginning is written
+pub end-start : (f : EntryView → List ℕ) (run : TestRun) (slice items : List Note) (b w : Option (List ℕ))
+    → map note_view items ≡ file_notes (run_state run) → slice ≡ items → AppendsLinesStart f (map note_view slice) b w
+    → AppendsLinesStart f (end_notes (run_of run)) b w
+end-start f run slice items b w tells same starts =
+    subst (λ ns. AppendsLinesStart f ns b w) (ap (map note_view) same ∙ end-tells run (map note_view items) tells) starts
+
+-- nothing is read of an input
+pub input-none : {F : Type 0} (line : F → EntryView → List ℕ) (old : State F) (input : List ℕ) (b : Option (List ℕ)) → ReadsStart line old input b b
+input-none line old input b events are = starts-none (line old.form) (notes_of_input (run_of old.run) events) b
+
+-- a line of which a beginning is written
+pub input-line-start : {F : Type 0} (line : F → EntryView → List ℕ) (old : State F) (bytes rest : List ℕ) (b w : Option (List ℕ)) → IsOneLine bytes
+    → ((event : EventView) → LineSays bytes event → AppendsLinesStart (line old.form) (line_notes (run_of old.run) event) b w)
+    → ReadsStart line old (with_feed bytes ++ rest) b w
+input-line-start line old bytes rest b w one starts events are =
+    let first = events-cut bytes rest events one are in
+    let r : RunState = run_of old.run in
+    subst (λ ns. AppendsLinesStart (line old.form) ns b w)
+    (sym (ap (notes_of_input r) first.is ∙ notes-line r first.event first.others))
+    (starts-front (line old.form) (line_notes r first.event) (notes_of_input (after_line r first.event) first.others) b w (starts first.event first.says))
+
+-- the end of an input, of which a beginning is written
+pub input-end-start : {F : Type 0} (line : F → EntryView → List ℕ) (old : State F) (b w : Option (List ℕ))
+    → AppendsLinesStart (line old.form) (end_notes (run_of old.run)) b w → ReadsStart line old [] b w
+input-end-start line old b w starts events are =
+    subst (λ es. AppendsLinesStart (line old.form) (notes_of_input (run_of old.run) es) b w) (one-events [] [] events events-none are) starts
+
+-- a last line
+pub last-start : {F : Type 0} (line : F → EntryView → List ℕ) (old : State F) (bytes : List ℕ) (b w : Option (List ℕ)) → IsOneLine bytes → 0 < length bytes
+    → ReadsStart line old (with_feed bytes ++ []) b w → ReadsStart line old bytes b w
+last-start line old bytes b w one some starts events are = starts events (with-feed bytes events one some are)
+
+module _ {F : Type 0} (line : F → EntryView → List ℕ) (last : F → List EntryView → RunEnd → List ℕ) (Knows : F → List EntryView → Type 0) where
+  -- a line whose notes are written
+  pub line-read : (old new : State F) (run : TestRun) (bytes : List ℕ) (event said : EventView) (slice items : List Note) (b w : Option (List ℕ))
+      → LineSays bytes said → event ≡ said → map note_view items ≡ notes_at (run_state old.run) event → run_state run ≡ after (run_state old.run) event
+      → slice ≡ items → new.run ≡ run
+      → WritesNotes line last Knows (record { run = run; form = old.form; files = old.files }) new (map note_view slice) b w
+      → ReadsLine line last Knows old new bytes b w
+  line-read old new run bytes event said slice items b w says is tells takes same same_run writes = record {
+    event = event;
+    says = subst (LineSays bytes) (sym is) says;
+    run_is = ap run_of same_run ∙ line-runs old.run run event takes;
+    writes =
+        subst (λ ns. WritesNotes line last Knows old new ns b w) (ap (map note_view) same ∙ line-tells old.run event (map note_view items) tells)
+        (writes-from line last Knows old new run (map note_view slice) b w writes);
+  }
+
+  -- the end of an input
+  pub input-end : (old new : State F) (b w : Option (List ℕ)) → run_of new.run ≡ after_end (run_of old.run)
+      → WritesNotes line last Knows old new (end_notes (run_of old.run)) b w → ReadsInput line last Knows old new [] b w
+  input-end old new b w run_is writes = record { events = []; say = events-none; run_is = run_is; writes = writes }
+
+  -- the end of an input whose notes are written
+  pub end-read : (old new : State F) (run : TestRun) (slice items : List Note) (b w : Option (List ℕ)) → map note_view items ≡ file_notes (run_state old.run)
+      → run_state run ≡ after_file (run_state old.run) → slice ≡ items → new.run ≡ run
+      → WritesNotes line last Knows (record { run = run; form = old.form; files = old.files }) new (map note_view slice) b w
+      → ReadsInput line last Knows old new [] b w
+  end-read old new run slice items b w tells takes same same_run writes =
+      input-end old new b w (ap run_of same_run ∙ end-runs old.run run takes)
+      (subst (λ ns. WritesNotes line last Knows old new ns b w) (ap (map note_view) same ∙ end-tells old.run (map note_view items) tells)
+      (writes-from line last Knows old new run (map note_view slice) b w writes))
+
+  -- a line, and then the rest
+  pub input-line : (old mid new : State F) (bytes rest : List ℕ) (b m w : Option (List ℕ)) → IsOneLine bytes → ReadsLine line last Knows old mid bytes b m
+      → ReadsInput line last Knows mid new rest m w → ReadsInput line last Knows old new (with_feed bytes ++ rest) b w
+  input-line old mid new bytes rest b m w one first others =
+      let r : RunState = run_of old.run in
+      let e = first.event in
+      let es = others.events in
+      record {
+        events = e ∷ es;
+        say = events-line bytes rest e es one first.says others.say;
+        run_is = others.run_is ∙ ap (λ s. run_after_input s es) first.run_is;
+        writes =
+            subst (λ ns. WritesNotes line last Knows old new ns b w)
+            (ap (λ s. line_notes r e ++ notes_of_input s es) first.run_is ∙ sym (notes-line r e es))
+            (writes-then line last Knows old mid new (line_notes r e) (notes_of_input (run_of mid.run) es) b m w first.writes others.writes);
+      }
+
+  -- a line, and then a beginning of the rest
+  pub input-line-then : (old mid : State F) (bytes rest : List ℕ) (b m w : Option (List ℕ)) → IsOneLine bytes → ReadsLine line last Knows old mid bytes b m
+      → ReadsStart line mid rest m w → ReadsStart line old (with_feed bytes ++ rest) b w
+  input-line-then old mid bytes rest b m w one read starts events are =
+      let r : RunState = run_of old.run in
+      let first = events-cut bytes rest events one are in
+      let es = first.others in
+      let same : read.event ≡ first.event = one-event-of-line bytes read.event first.event read.says first.says in
+      let notes : line_notes r read.event ++ notes_of_input (run_of mid.run) es ≡ notes_of_input r events =
+      ap (λ s. line_notes r read.event ++ notes_of_input s es) read.run_is
+      ∙ ap (λ e. line_notes r e ++ notes_of_input (after_line r e) es) same ∙ sym (ap (notes_of_input r) first.is ∙ notes-line r first.event es) in
+      subst (λ ns. AppendsLinesStart (line old.form) ns b w) notes
+      (starts-then line last Knows old mid (line_notes r read.event) (notes_of_input (run_of mid.run) es) b m w read.writes (starts es first.say))
+
+  -- a last line
+  pub last-line : (old new : State F) (bytes : List ℕ) (b w : Option (List ℕ)) → IsOneLine bytes → 0 < length bytes
+      → ReadsInput line last Knows old new (with_feed bytes ++ []) b w → ReadsInput line last Knows old new bytes b w
+  last-line old new bytes b w one some read = record {
+    events = read.events;
+    say = without-feed bytes read.events one some read.say;
+    run_is = read.run_is;
+    writes = read.writes;
+  }
+
+  -- no bytes lead to the same state
+  pub leads-none : (old : State F) (begun : List ℕ) (b : Option (List ℕ)) → LeadsTo line last Knows old old begun begun [] b b
+  leads-none old begun b = record { reads = λ rest end w read. read; starts = λ rest w starts. starts }
+
+  -- bytes, and then others
+  pub leads-then : (old mid new : State F) (x y z p q : List ℕ) (b m w : Option (List ℕ)) → LeadsTo line last Knows old mid x y p b m
+      → LeadsTo line last Knows mid new y z q m w → LeadsTo line last Knows old new x z (p ++ q) b w
+  leads-then old mid new x y z p q b m w first second = record {
+    reads = λ rest end v read. subst (λ l. ReadsInput line last Knows old end (x ++ l) b v) (sym (append_assoc p q rest))
+        (first.reads (q ++ rest) end v (second.reads rest end v read));
+    starts = λ rest v starts. subst (λ l. ReadsStart line old (x ++ l) b v) (sym (append_assoc p q rest))
+        (first.starts (q ++ rest) v (second.starts rest v starts));
+  }
+
+  -- more of a line
+  pub leads-begun : (old : State F) (begun begun_then bytes : List ℕ) (b : Option (List ℕ)) → begun_then ≡ begun ++ bytes
+      → LeadsTo line last Knows old old begun begun_then bytes b b
+  leads-begun old begun begun_then bytes b is = record {
+    reads = λ rest end w read. subst (λ l. ReadsInput line last Knows old end l b w) (ap (λ x. x ++ rest) is ∙ append_assoc begun bytes rest) read;
+    starts = λ rest w starts. subst (λ l. ReadsStart line old l b w) (ap (λ x. x ++ rest) is ∙ append_assoc begun bytes rest) starts;
+  }
+
+  -- the end of a line
+  pub leads-line : (old new : State F) (begun begun_then end bytes : List ℕ) (b w : Option (List ℕ)) → bytes ≡ begun ++ end → begun_then ≡ [] → IsOneLine bytes
+      → ReadsLine line last Knows old new bytes b w → LeadsTo line last Knows old new begun begun_then (with_feed end) b w
+  leads-line old new begun begun_then end bytes b w is none one read = record {
+    reads = λ rest last_one v others. subst (λ l. ReadsInput line last Knows old last_one l b v) (line-rest begun end bytes rest is)
+        (input-line old new last_one bytes rest b w v one read (subst (λ l. ReadsInput line last Knows new last_one (l ++ rest) w v) none others));
+    starts = λ rest v starts. subst (λ l. ReadsStart line old l b v) (line-rest begun end bytes rest is)
+        (input-line-then old new bytes rest b w v one read (subst (λ l. ReadsStart line new (l ++ rest) w v) none starts));
+  }
+
+  -- what comes of the end of an input here comes of these bytes and the end there
+  pub record EndsAs (old new : State F) (bytes : List ℕ) (b w : Option (List ℕ)) : Type 0 where
+    pub reads : (end : State F) (v : Option (List ℕ)) → ReadsInput line last Knows new end [] w v → ReadsInput line last Knows old end bytes b v
+    pub starts : (v : Option (List ℕ)) → ReadsStart line new [] w v → ReadsStart line old bytes b v
+
+  ends-at : (old mid new : State F) (bytes : List ℕ) (b m w : Option (List ℕ)) → new ≡ mid → w ≡ m → EndsAs old mid bytes b m → EndsAs old new bytes b w
+  ends-at old mid new bytes b m w same there ends =
+      subst (λ s. EndsAs old s bytes b w) (sym same) (subst (EndsAs old mid bytes b) (sym there) ends)
+
+  -- bytes that are a last line
+  pub ends-line : (old mid new : State F) (bytes : List ℕ) (b m w : Option (List ℕ)) → IsOneLine bytes → 0 < length bytes
+      → ReadsLine line last Knows old mid bytes b m → new ≡ mid → w ≡ m → EndsAs old new bytes b w
+  ends-line old mid new bytes b m w one some read same there = ends-at old mid new bytes b m w same there (record {
+    reads = λ end v others. last-line old end bytes b v one some (input-line old mid end bytes [] b m v one read others);
+    starts = λ v starts. last-start line old bytes b v one some (input-line-then old mid bytes [] b m v one read starts);
+  })
+
+  -- no bytes
+  pub ends-none : (old new : State F) (bytes : List ℕ) (b w : Option (List ℕ)) → length bytes ≡ 0 → new ≡ old → w ≡ b → EndsAs old new bytes b w
+  ends-none old new [] b w none same there =
+      ends-at old old new [] b b w same there (record { reads = λ end v read. read; starts = λ v starts. starts })
+  ends-none old new (x ∷ xs) b w none same there = absurd (omega arith)
+
+  -- the bytes before a rest were taken
+  pub record TakesBytes (old new : State F) (begun begun_then bytes rest : List ℕ) (b w : Option (List ℕ)) : Type 0 where
+    pub done : List ℕ
+    pub are : bytes ≡ done ++ rest
+    pub leads : LeadsTo line last Knows old new begun begun_then done b w
+
+  -- no bytes
+  pub bytes-none : (old : State F) (begun bytes : List ℕ) (b : Option (List ℕ)) → TakesBytes old old begun begun bytes bytes b b
+  bytes-none old begun bytes b = record { done = []; are = refl; leads = leads-none old begun b }
+
+  -- one more line
+  pub bytes-line : (old mid new : State F) (x y z line_then bytes rest front back : List ℕ) (b m w : Option (List ℕ)) (at : ℕ)
+      → TakesBytes old mid x y bytes rest b m → IsOneLine y
+      → front ≡ take at rest → back ≡ drop at rest → at < length rest
+      → ((k : ℕ) → k < at → ¬ ((slice_index rest k == 10) ≡ true)) → (slice_index rest at == 10) ≡ true
+      → line_then ≡ y ++ front → z ≡ [] → ReadsLine line last Knows mid new line_then m w
+      → TakesBytes old new x z bytes (take (length back - 1) (drop 1 back)) b w
+  bytes-line old mid new x y z line_then bytes rest front back b m w at takes one is_front is_back within before feed is none read =
+      let line_one : IsOneLine line_then = subst IsOneLine (sym is) (joined y front one (feedless-front rest front at is_front within before)) in
+      let then : List ℕ = take (length back - 1) (drop 1 back) in
+      record {
+        done = takes.done ++ with_feed front;
+        are = takes.are ∙ ap (λ l. takes.done ++ l) (divided-at rest front back at is_front is_back within feed)
+            ∙ sym (append_assoc takes.done (with_feed front) then);
+        leads = leads-then old mid new x y z takes.done (with_feed front) b m w takes.leads (leads-line mid new y z front line_then m w is none line_one read);
+      }
+
+  -- the rest, which is a beginning of a line
+  pub bytes-rest : (old new : State F) (x y z bytes rest : List ℕ) (b w : Option (List ℕ)) → TakesBytes old new x y bytes rest b w → z ≡ y ++ rest
+      → LeadsTo line last Knows old new x z bytes b w
+  bytes-rest old new x y z bytes rest b w takes is =
+      subst (λ l. LeadsTo line last Knows old new x z l b w) (sym takes.are)
+      (leads-then old new new x y z takes.done rest b w w takes.leads (leads-begun new y z rest w is))
+
+  -- a beginning of what the next line makes known
+  pub bytes-starts : (old mid : State F) (x y bytes rest after : List ℕ) (b m w : Option (List ℕ)) → TakesBytes old mid x y bytes rest b m
+      → ReadsStart line mid (y ++ (rest ++ after)) m w → ReadsStart line old (x ++ (bytes ++ after)) b w
+  bytes-starts old mid x y bytes rest after b m w takes starts =
+      subst (λ l. ReadsStart line old (x ++ l) b w) (sym (ap (λ l. l ++ after) takes.are ∙ append_assoc takes.done rest after))
+      (takes.leads.starts (rest ++ after) w starts)
+
+  -- the next line, of which a beginning is written
+  pub bytes-line-start : (old mid : State F) (x y line_then bytes rest front back after : List ℕ) (b m w : Option (List ℕ)) (at : ℕ)
+      → TakesBytes old mid x y bytes rest b m → IsOneLine y
+      → front ≡ take at rest → back ≡ drop at rest → at < length rest
+      → ((k : ℕ) → k < at → ¬ ((slice_index rest k == 10) ≡ true)) → (slice_index rest at == 10) ≡ true
+      → line_then ≡ y ++ front
+      → ((event : EventView) → LineSays line_then event → AppendsLinesStart (line mid.form) (line_notes (run_of mid.run) event) m w)
+      → ReadsStart line old (x ++ (bytes ++ after)) b w
+  bytes-line-start old mid x y line_then bytes rest front back after b m w at takes one is_front is_back within before feed is starts =
+      let line_one : IsOneLine line_then = subst IsOneLine (sym is) (joined y front one (feedless-front rest front at is_front within before)) in
+      let then : List ℕ = take (length back - 1) (drop 1 back) in
+      let cut : rest ≡ with_feed front ++ then = divided-at rest front back at is_front is_back within feed in
+      let whole : with_feed line_then ++ (then ++ after) ≡ y ++ (rest ++ after) = line-rest y front line_then (then ++ after) is
+      ∙ ap (λ l. y ++ l) (sym (append_assoc (with_feed front) then after) ∙ ap (λ l. l ++ after) (sym cut)) in
+      bytes-starts old mid x y bytes rest after b m w takes
+      (subst (λ l. ReadsStart line mid l m w) whole (input-line-start line mid line_then (then ++ after) m w line_one starts))

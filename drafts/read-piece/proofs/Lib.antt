@@ -1,0 +1,5 @@
+pub mod Inputs
+pub mod Lines
+pub mod Lists
+pub mod Notes
+pub mod Reports

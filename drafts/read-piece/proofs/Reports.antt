@@ -1,0 +1,310 @@
+-- What a report has read and written of its inputs.
+use Rattle.std.proofs.Common.{◌≡◌, ◌∙◌, ℕ, List, [], ◌∷◌, ◌++◌, None, Some, IfSome, Option, ap, append-nil, append_assoc, refl, subst, sym, take}
+use Rattle.std.proofs.KnownBytes.{Appends-nil, Consumes-nil, Consumes-trans}
+use Rattle.std.proofs.lemmas.List.{append_cancel_left}
+use Rattle.std.proofs.lemmas.List.Concat.{flat_map-append}
+use Rattle.std.specs.Io.KnownBytes.{Appends, Consumes, IsAtEnd}
+use Rattle.std.specs.List.{AllZip, flat_map, fold}
+use Rattle.program_io.specs.Transfer.{AppendsStart}
+use Rattle.test_report_events.specs.Event.{EventView}
+use Rattle.test_report_forms.proofs.Entries.{one_entry}
+use Rattle.test_report_forms.specs.Entry.{EntryView, IsEntryOf}
+use Rattle.test_report_forms.specs.Files.{FilesKnow}
+use Rattle.test_report_forms.specs.declared.files.FileForms.{FileForms}
+use Rattle.test_report_run.specs.Note.{NoteView}
+use Rattle.test_report_run.specs.Run.{RunState, end_of, run_start, run_state}
+use Rattle.test_report_run.specs.declared.note.RunEnd.{RunEnd}
+use Rattle.test_report_run.specs.declared.run.TestRun.{TestRun}
+use Rattle.test_report_engine.specs.Lines.{AreEventsOf}
+use Rattle.test_report_engine.specs.Reading.{BreaksOff, BreaksOffEnd, FilesHaveRead, Finishes, HasRead, ReadsOneMore, ReadsPiece, ReadsRest, RestStarts}
+use Rattle.test_report_engine.specs.Report.{AreEntriesOf, AreLinesOf, IsReport, notes_of_input, notes_of_inputs, run_after_input, run_after_inputs, run_of}
+use Rattle.test_report_engine.specs.State.{LeadsTo, ReadsInput, ReadsStart}
+use Rattle.test_report_engine.specs.declared.report.Report.{Report}
+use Rattle.test_report_engine.proofs.Inputs.{input-none, leads-none, leads-then}
+use Rattle.test_report_engine.proofs.Lines.{one-events}
+use Rattle.test_report_engine.proofs.Lists.{zip-append, zip-one, zip-split}
+
+-- the run after inputs and one more, and what they make known
+inputs-run : (r : RunState) (es : List (List EventView)) (e : List EventView) → run_after_inputs r (es ++ e ∷ []) ≡ run_after_input (run_after_inputs r es) e
+inputs-run r [] e = refl
+inputs-run r (x ∷ es) e = inputs-run (run_after_input r x) es e
+
+inputs-notes : (r : RunState) (es : List (List EventView)) (e : List EventView)
+    → notes_of_inputs r (es ++ e ∷ []) ≡ notes_of_inputs r es ++ notes_of_input (run_after_inputs r es) e
+inputs-notes r [] e = append-nil (notes_of_input r e)
+inputs-notes r (x ∷ es) e =
+    ap (λ ns. notes_of_input r x ++ ns) (inputs-notes (run_after_input r x) es e)
+    ∙ sym (append_assoc (notes_of_input r x) (notes_of_inputs (run_after_input r x) es) (notes_of_input (run_after_inputs (run_after_input r x) es) e))
+
+-- inputs tell one list of events for each
+pub one-inputs : (inputs : List (List ℕ)) (a b : List (List EventView)) → AllZip AreEventsOf inputs a → AllZip AreEventsOf inputs b → a ≡ b
+one-inputs inputs a b p q = zip-one AreEventsOf one-events inputs a b p q
+
+-- inputs have at most one list of entries, and one run after them
+pub one-entries : (inputs : List (List ℕ)) (a b : List EntryView) (r s : RunState) → AreEntriesOf inputs a r → AreEntriesOf inputs b s → (a ≡ b) × (r ≡ s)
+one-entries inputs a b r s p q =
+    let same : p.events ≡ q.events = one-inputs inputs p.events q.events p.say q.say in (
+      zip-one IsEntryOf one_entry (notes_of_inputs run_start p.events) a b p.are
+          (subst (λ es. AllZip IsEntryOf (notes_of_inputs run_start es) b) (sym same) q.are),
+      p.run_is ∙ ap (run_after_inputs run_start) same ∙ sym q.run_is,
+    )
+
+-- the entries of inputs and of one more
+pub entries-more : (inputs : List (List ℕ)) (input : List ℕ) (entries more : List EntryView) (r s : RunState) (events : List EventView)
+    → AreEntriesOf inputs entries r → AreEventsOf input events → AllZip IsEntryOf (notes_of_input r events) more → s ≡ run_after_input r events
+    → AreEntriesOf (inputs ++ input ∷ []) (entries ++ more) s
+entries-more inputs input entries more r s events are say zip run_is =
+    let notes : notes_of_inputs run_start are.events ++ notes_of_input r events ≡ notes_of_inputs run_start (are.events ++ events ∷ []) =
+    ap (λ x. notes_of_inputs run_start are.events ++ notes_of_input x events) are.run_is ∙ sym (inputs-notes run_start are.events events) in
+    record {
+      events = are.events ++ events ∷ [];
+      say = zip-append AreEventsOf inputs (input ∷ []) are.events (events ∷ []) are.say (say, tt);
+      are =
+          subst (λ ns. AllZip IsEntryOf ns (entries ++ more)) notes
+          (zip-append IsEntryOf (notes_of_inputs run_start are.events) (notes_of_input r events) entries more are.are zip);
+      run_is = run_is ∙ ap (λ x. run_after_input x events) are.run_is ∙ sym (inputs-run run_start are.events events);
+    }
+
+-- the entries of inputs and of one more, where those of the inputs are known
+pub record OneMore (input : List ℕ) (known entries : List EntryView) (r : RunState) : Type 0 where
+  pub more : List EntryView
+  pub is : entries ≡ known ++ more
+  pub events : List EventView
+  pub say : AreEventsOf input events
+  pub are : AllZip IsEntryOf (notes_of_input r events) more
+
+more-at : (inputs : List (List ℕ)) (input : List ℕ) (known entries : List EntryView) (r : RunState) (front back : List (List EventView))
+    → AreEntriesOf inputs known r → AllZip AreEventsOf inputs front → AllZip AreEventsOf (input ∷ []) back
+    → AllZip IsEntryOf (notes_of_inputs run_start (front ++ back)) entries → OneMore input known entries r
+more-at inputs input known entries r front [] are say last zip = absurd last
+more-at inputs input known entries r front (e ∷ (x ∷ xs)) are say last zip = absurd last.1
+more-at inputs input known entries r front (e ∷ []) are say last zip =
+    let same : front ≡ are.events = one-inputs inputs front are.events say are.say in
+    let first : List NoteView = notes_of_inputs run_start are.events in
+    let notes : notes_of_inputs run_start (front ++ e ∷ []) ≡ first ++ notes_of_input r e =
+    inputs-notes run_start front e
+    ∙ ap (λ es. notes_of_inputs run_start es ++ notes_of_input (run_after_inputs run_start es) e) same
+    ∙ ap (λ x. first ++ notes_of_input x e) (sym are.run_is) in
+    let split = zip-split IsEntryOf first (notes_of_input r e) entries (subst (λ ns. AllZip IsEntryOf ns entries) notes zip) in
+    let fronts : split.front ≡ known = zip-one IsEntryOf one_entry first split.front known split.first are.are in
+    record {
+      more = split.back;
+      is = split.is ∙ ap (λ l. l ++ split.back) fronts;
+      events = e;
+      say = last.0;
+      are = split.second;
+    }
+
+pub one-more : (inputs : List (List ℕ)) (input : List ℕ) (known entries : List EntryView) (r s : RunState) → AreEntriesOf inputs known r
+    → AreEntriesOf (inputs ++ input ∷ []) entries s → OneMore input known entries r
+one-more inputs input known entries r s are all =
+    let split = zip-split AreEventsOf inputs (input ∷ []) all.events all.say in
+    more-at inputs input known entries r split.front split.back are split.first split.second
+    (subst (λ es. AllZip IsEntryOf (notes_of_inputs run_start es) entries) split.is all.are)
+
+-- inputs have at most one report, and one end of the run
+pub one-report : (line : EntryView → List ℕ) (last : List EntryView → RunEnd → List ℕ) (inputs : List (List ℕ)) (a b : List ℕ) (d e : RunEnd)
+    → IsReport line last inputs a d → IsReport line last inputs b e → (a ≡ b) × (d ≡ e)
+one-report line last inputs a b d e p q =
+    let one = one-entries inputs p.entries q.entries p.run q.run p.are q.are in
+    let end : d ≡ e = p.end_is ∙ ap end_of one.1 ∙ sym q.end_is in (
+      p.is ∙ ap (λ es. flat_map line es ++ last es d) one.0 ∙ ap (λ x. flat_map line q.entries ++ last q.entries x) end ∙ sym q.is,
+      end,
+    )
+
+-- no inputs have no entries
+pub entries-none : (run : TestRun) → run_state run ≡ run_start → AreEntriesOf [] [] (run_of run)
+unfolding run_of
+entries-none run is = record { events = []; say = tt; are = tt; run_is = is }
+
+end-known : (run : TestRun) (end : RunEnd) → end ≡ end_of (run_state run) → end ≡ end_of (run_of run)
+unfolding run_of
+end-known run end is = is
+
+module _ {F : Type 0} (line : F → EntryView → List ℕ) (last : F → List EntryView → RunEnd → List ℕ) (Knows : F → List EntryView → Type 0) where
+  -- a report read one more input
+  pub reads-more : (old new : Report F) (input : List ℕ) (b w : Option (List ℕ)) → ReadsRest line last Knows old new input b w
+      → ReadsOneMore line last Knows old new input b w
+  reads-more old new input b w rest form inputs written has =
+      let read = subst (λ l. ReadsInput line last Knows old.state new.state (l ++ input) b w) has.begun_is rest.reads in
+      let took = read.writes.1 in
+      let f : EntryView → List ℕ = line form in
+      let more : read.writes.0 ≡ flat_map f took.entries = took.is ∙ ap (λ g. flat_map g took.entries) has.line_is in (
+        read.writes.0,
+        record {
+          entries = has.entries ++ took.entries;
+          are =
+              entries-more inputs input has.entries took.entries (run_of old.state.run) (run_of new.state.run) read.events has.are read.say took.are read.run_is;
+          is = ap (λ x. x ++ read.writes.0) has.is ∙ ap (λ x. flat_map f has.entries ++ x) more ∙ sym (flat_map-append f has.entries took.entries);
+          knows = took.form.knows has.entries has.knows;
+          line_is = took.form.line_is ∙ has.line_is;
+          last_is = took.form.last_is ∙ has.last_is;
+          begun_is = rest.begun_is;
+        },
+        read.writes.2,
+      )
+
+  -- so did its forms of files
+  pub files-more : (old new : Report F) (input : List ℕ) (b w : Option (List ℕ)) → ReadsRest line last Knows old new input b w
+      → (files : FileForms) (inputs : List (List ℕ)) → FilesHaveRead files old inputs → FilesHaveRead files new (inputs ++ input ∷ [])
+  files-more old new input b w rest files inputs has =
+      let read = subst (λ l. ReadsInput line last Knows old.state new.state (l ++ input) b w) has.begun_is rest.reads in
+      let took = read.writes.1 in
+      record {
+        entries = has.entries ++ took.entries;
+        are =
+            entries-more inputs input has.entries took.entries (run_of old.state.run) (run_of new.state.run) read.events has.are read.say took.are read.run_is;
+        know = took.files.know has.entries has.know;
+        say = λ entries end texts say. has.say entries end texts (took.files.say entries end texts say);
+        begun_is = rest.begun_is;
+      }
+
+  -- a beginning of what one more input makes known
+  pub breaks-off : (old : Report F) (input : List ℕ) (b w : Option (List ℕ)) → RestStarts line old input b w → BreaksOff line last Knows old input b w
+  breaks-off old input b w starts form inputs written more has lines =
+      let f : EntryView → List ℕ = line form in
+      let one = one-more inputs input has.entries lines.entries (run_of old.state.run) lines.run has.are lines.are in
+      let whole : written ++ more ≡ written ++ flat_map f one.more =
+      lines.is ∙ ap (flat_map f) one.is ∙ flat_map-append f has.entries one.more ∙ ap (λ x. x ++ flat_map f one.more) (sym has.is) in
+      let is : flat_map (line old.state.form) one.more ≡ more =
+      ap (λ g. flat_map g one.more) has.line_is ∙ sym (append_cancel_left written more (flat_map f one.more) whole) in
+      let here : ReadsStart line old.state input b w = subst (λ l. ReadsStart line old.state (l ++ input) b w) has.begun_is starts in
+      subst (AppendsStart b w) is (here one.events one.say one.more one.are)
+
+  -- pieces of a source were taken
+  pub record ReadsPieces (old new : Report F) (at_first left b w : Option (List ℕ)) : Type 0 where
+    pub bytes : List ℕ
+    pub consumed : Consumes at_first left bytes
+    pub leads : LeadsTo line last Knows old.state new.state old.begun.items new.begun.items bytes b w
+
+  -- none
+  pub pieces-none : (old : Report F) (a b : Option (List ℕ)) → ReadsPieces old old a a b b
+  pieces-none old a b = record { bytes = []; consumed = Consumes-nil a; leads = leads-none line last Knows old.state old.begun.items b }
+
+  -- one more
+  pub pieces-more : (old mid new : Report F) (a m n b v w : Option (List ℕ)) → ReadsPieces old mid a m b v → ReadsPiece line last Knows mid new m n v w
+      → ReadsPieces old new a n b w
+  pieces-more old mid new a m n b v w pieces piece = record {
+    bytes = pieces.bytes ++ piece.bytes;
+    consumed = Consumes-trans a m n pieces.bytes piece.bytes pieces.consumed piece.consumed;
+    leads =
+        leads-then line last Knows old.state mid.state new.state old.begun.items mid.begun.items new.begun.items pieces.bytes piece.bytes b v w pieces.leads
+        piece.leads;
+  }
+
+  -- pieces, and the rest
+  pieces-rest : (old mid new : Report F) (a m b v w : Option (List ℕ)) → ReadsPieces old mid a m b v
+      → IfSome m (λ rest. ReadsRest line last Knows mid new rest v w) → IfSome a (λ input. ReadsRest line last Knows old new input b w)
+  pieces-rest old mid new None m b v w pieces rest = tt
+  pieces-rest old mid new (Some xs) None b v w pieces rest = absurd pieces.consumed
+  pieces-rest old mid new (Some xs) (Some ys) b v w pieces rest = record {
+    reads =
+        subst (λ l. ReadsInput line last Knows old.state new.state (old.begun.items ++ l) b w) (sym pieces.consumed)
+        (pieces.leads.reads ys new.state w rest.reads);
+    begun_is = rest.begun_is;
+  }
+
+  pub pieces-reads : (old mid new : Report F) (a m b v w : Option (List ℕ)) → ReadsPieces old mid a m b v
+      → IfSome m (λ rest. ReadsRest line last Knows mid new rest v w) → IfSome a (λ input. ReadsOneMore line last Knows old new input b w)
+  pieces-reads old mid new None m b v w pieces rest = tt
+  pieces-reads old mid new (Some xs) m b v w pieces rest = reads-more old new xs b w (pieces-rest old mid new (Some xs) m b v w pieces rest)
+
+  pub pieces-files : (old mid new : Report F) (a m b v w : Option (List ℕ)) → ReadsPieces old mid a m b v
+      → IfSome m (λ rest. ReadsRest line last Knows mid new rest v w)
+      → IfSome a (λ input. (files : FileForms) (inputs : List (List ℕ)) → FilesHaveRead files old inputs → FilesHaveRead files new (inputs ++ input ∷ []))
+  pieces-files old mid new None m b v w pieces rest = tt
+  pieces-files old mid new (Some xs) m b v w pieces rest = files-more old new xs b w (pieces-rest old mid new (Some xs) m b v w pieces rest)
+
+  -- pieces, and a beginning of what comes of the rest
+  pub pieces-break : (old mid : Report F) (a m b v w : Option (List ℕ)) → ReadsPieces old mid a m b v → IfSome m (λ rest. RestStarts line mid rest v w)
+      → IfSome a (λ input. BreaksOff line last Knows old input b w)
+  pieces-break old mid None m b v w pieces starts = tt
+  pieces-break old mid (Some xs) None b v w pieces starts = absurd pieces.consumed
+  pieces-break old mid (Some xs) (Some ys) b v w pieces starts =
+      breaks-off old xs b w (subst (λ l. ReadsStart line old.state (old.begun.items ++ l) b w) (sym pieces.consumed) (pieces.leads.starts ys w starts))
+
+  -- nothing comes of the rest
+  pub rest-none : (old : Report F) (a b : Option (List ℕ)) → IfSome a (λ rest. RestStarts line old rest b b)
+  rest-none old None b = tt
+  rest-none old (Some xs) b = input-none line old.state (old.begun.items ++ xs) b
+
+  -- a piece, of which a beginning is written
+  pub piece-starts : (old : Report F) (bytes : List ℕ) (a m b w : Option (List ℕ)) → Consumes a m bytes
+      → ((rest : List ℕ) → ReadsStart line old.state (old.begun.items ++ (bytes ++ rest)) b w) → IfSome a (λ rest. RestStarts line old rest b w)
+  piece-starts old bytes None m b w consumed starts = tt
+  piece-starts old bytes (Some xs) None b w consumed starts = absurd consumed
+  piece-starts old bytes (Some xs) (Some ys) b w consumed starts =
+      subst (λ l. ReadsStart line old.state (old.begun.items ++ l) b w) (sym consumed) (starts ys)
+
+  -- what is left where a read gives nothing at the end
+  at-end : (n : ℕ) (buffer xs : List ℕ) (m : Option (List ℕ)) → n ≡ 0 → Consumes (Some xs) m (take n buffer) → IsAtEnd m → xs ≡ []
+  at-end n buffer xs None none consumed end = absurd consumed
+  at-end n buffer xs (Some ys) none consumed end = consumed ∙ ap (λ k. take k buffer ++ ys) none ∙ end
+
+  -- the end of a file
+  pub end-reads : (old new : Report F) (n : ℕ) (buffer : List ℕ) (a m b w : Option (List ℕ)) → n ≡ 0 → Consumes a m (take n buffer) → IsAtEnd m
+      → ReadsInput line last Knows old.state new.state old.begun.items b w → new.begun.items ≡ [] → IfSome a (λ rest. ReadsRest line last Knows old new rest b w)
+  end-reads old new n buffer None m b w none consumed end read begun = tt
+  end-reads old new n buffer (Some xs) m b w none consumed end read begun =
+      let is : old.begun.items ≡ old.begun.items ++ xs = sym (append-nil old.begun.items) ∙ ap (λ l. old.begun.items ++ l) (sym (at-end n buffer xs m none consumed end)) in
+      record { reads = subst (λ l. ReadsInput line last Knows old.state new.state l b w) is read; begun_is = begun }
+
+  pub end-starts : (old : Report F) (n : ℕ) (buffer : List ℕ) (a m b w : Option (List ℕ)) → n ≡ 0 → Consumes a m (take n buffer) → IsAtEnd m
+      → ReadsStart line old.state old.begun.items b w → IfSome a (λ rest. RestStarts line old rest b w)
+  end-starts old n buffer None m b w none consumed end starts = tt
+  end-starts old n buffer (Some xs) m b w none consumed end starts =
+      let is : old.begun.items ≡ old.begun.items ++ xs = sym (append-nil old.begun.items) ∙ ap (λ l. old.begun.items ++ l) (sym (at-end n buffer xs m none consumed end)) in
+      subst (λ l. ReadsStart line old.state l b w) is starts
+
+  -- a report that has read nothing
+  pub read-none : (report : Report F) → run_state report.state.run ≡ run_start → report.begun.items ≡ [] → Knows report.state.form []
+      → HasRead line last Knows report.state.form report [] []
+  read-none report is begun knows = record {
+    entries = [];
+    are = entries-none report.state.run is;
+    is = refl;
+    knows = knows;
+    line_is = refl;
+    last_is = refl;
+    begun_is = begun;
+  }
+
+  pub files-read-none : (report : Report F) → run_state report.state.run ≡ run_start → report.begun.items ≡ [] → FilesKnow report.state.files []
+      → FilesHaveRead report.state.files report []
+  files-read-none report is begun know = record {
+    entries = [];
+    are = entries-none report.state.run is;
+    know = know;
+    say = λ entries end texts say. say;
+    begun_is = begun;
+  }
+
+  -- the end of a report
+  pub report-ends : (report : Report F) (end : RunEnd) (text : List ℕ) (b w : Option (List ℕ)) → end ≡ end_of (run_state report.state.run)
+      → ((entries : List EntryView) → Knows report.state.form entries → text ≡ last report.state.form entries end) → Appends b w text
+      → Finishes line last Knows report end b w
+  report-ends report end text b w end_is is appends form inputs written has = (
+    text,
+    record {
+      entries = has.entries;
+      run = run_of report.state.run;
+      are = has.are;
+      is = ap (λ x. x ++ text) has.is ∙ ap (λ x. flat_map (line form) has.entries ++ x) (is has.entries has.knows ∙ ap (λ f. f has.entries end) has.last_is);
+      end_is = end-known report.state.run end end_is;
+    },
+    appends,
+  )
+
+  -- nothing is written of the end
+  pub ends-off-none : (report : Report F) (b : Option (List ℕ)) → BreaksOffEnd line last Knows report b b
+  ends-off-none report b form inputs written more end has is = ([], more, refl, Appends-nil b)
+
+  -- a beginning of the end
+  pub ends-off : (report : Report F) (end : RunEnd) (text : List ℕ) (b w : Option (List ℕ)) → end ≡ end_of (run_state report.state.run)
+      → ((entries : List EntryView) → Knows report.state.form entries → text ≡ last report.state.form entries end) → AppendsStart b w text
+      → BreaksOffEnd line last Knows report b w
+  unfolding report-ends
+  ends-off report end text b w end_is is start form inputs written more d has other =
+      let mine = report-ends report end text None None end_is is tt form inputs written has in
+      let same = one-report (line form) (last form) inputs (written ++ text) (written ++ more) end d mine.1 other in
+      subst (AppendsStart b w) (append_cancel_left written text more same.0) start

@@ -1,0 +1,55 @@
+use Rattle.std.proofs.Common.{arith, length, ◌<◌, [], ap}
+use Rattle.std.proofs.lemmas.Result.{on_ok_weaker}
+use Rattle.test_report_engine.proofs.Inputs.{EndsAs, end-read, end-start, ends-line, ends-none, input-end-start, input-line-start, input-none, last-start}
+use Rattle.test_report_engine.proofs.Notes.{on_err, on_err_weaker}
+use Rattle.test_report_engine.proofs.state.State.end_file.Goals as goal
+use Rattle.test_report_engine.proofs.state.State.end_file.Goals.{then-not-is_empty+in_ok-on_line, else-not-is_empty}
+
+pub returns-in_err-on_line-clause-starts : goal.returns-in_err-on_line-clause-starts
+returns-in_err-on_line-clause-starts g c =
+    let some : 0 < length c.args.begun.now = grind arith in
+    on_err c.from_residual.result
+    (last-start g.F.Form.line c.args.self.now c.args.begun.now _ _ c.requires.one_line some
+    (input-line-start g.F.Form.line c.args.self.now c.args.begun.now [] _ _ c.requires.one_line c.in_err-on_line.ensures.starts))
+
+pub returns-in_err-notes-clause-starts : goal.returns-in_err-notes-clause-starts
+returns-in_err-notes-clause-starts g c =
+    let ends : EndsAs g.F.Form.line g.F.Form.last g.F.Form.Knows c.args.self.now c.if-not-is_empty.self c.args.begun.now (g.W.Sink.written c.args.sink.now)
+    (g.W.Sink.written c.if-not-is_empty.sink) =
+    elim c.if-not-is_empty.branch [
+      | then-not-is_empty+in_ok-on_line w ↦
+          ends-line g.F.Form.line g.F.Form.last g.F.Form.Knows _ w.on_line.new.self _ _ _ _ _ c.requires.one_line (grind arith) w.in_ok-on_line.ensures.reads w.self-is
+          (ap g.W.Sink.written w.sink-is)
+      | else-not-is_empty w ↦ ends-none g.F.Form.line g.F.Form.last g.F.Form.Knows _ _ _ _ _ (grind arith) w.self-is (ap g.W.Sink.written w.sink-is)
+    ] in
+    on_err c.from_residual-in_err-notes.result (ends.starts _ (input-none g.F.Form.line c.if-not-is_empty.self [] _))
+
+pub returns-clause-starts : goal.returns-clause-starts
+returns-clause-starts g c =
+    let ends : EndsAs g.F.Form.line g.F.Form.last g.F.Form.Knows c.args.self.now c.if-not-is_empty.self c.args.begun.now (g.W.Sink.written c.args.sink.now)
+    (g.W.Sink.written c.if-not-is_empty.sink) =
+    elim c.if-not-is_empty.branch [
+      | then-not-is_empty+in_ok-on_line w ↦
+          ends-line g.F.Form.line g.F.Form.last g.F.Form.Knows _ w.on_line.new.self _ _ _ _ _ c.requires.one_line (grind arith) w.in_ok-on_line.ensures.reads w.self-is
+          (ap g.W.Sink.written w.sink-is)
+      | else-not-is_empty w ↦ ends-none g.F.Form.line g.F.Form.last g.F.Form.Knows _ _ _ _ _ (grind arith) w.self-is (ap g.W.Sink.written w.sink-is)
+    ] in
+    on_err_weaker c.write.result
+    (λ starts. ends.starts _ (input-end-start g.F.Form.line c.if-not-is_empty.self _ _
+    (end-start _ c.if-not-is_empty.self.run _ _ _ _ c.in_ok-notes.ensures.tells c.as_slice.ensures.value starts)))
+    c.write.ensures.starts
+
+pub returns-clause-reads : goal.returns-clause-reads
+returns-clause-reads g c =
+    let ends : EndsAs g.F.Form.line g.F.Form.last g.F.Form.Knows c.args.self.now c.if-not-is_empty.self c.args.begun.now (g.W.Sink.written c.args.sink.now)
+    (g.W.Sink.written c.if-not-is_empty.sink) =
+    elim c.if-not-is_empty.branch [
+      | then-not-is_empty+in_ok-on_line w ↦
+          ends-line g.F.Form.line g.F.Form.last g.F.Form.Knows _ w.on_line.new.self _ _ _ _ _ c.requires.one_line (grind arith) w.in_ok-on_line.ensures.reads w.self-is
+          (ap g.W.Sink.written w.sink-is)
+      | else-not-is_empty w ↦ ends-none g.F.Form.line g.F.Form.last g.F.Form.Knows _ _ _ _ _ (grind arith) w.self-is (ap g.W.Sink.written w.sink-is)
+    ] in
+    on_ok_weaker c.write.result
+    (λ writes. ends.reads c.write.new.self _ (end-read g.F.Form.line g.F.Form.last g.F.Form.Knows c.if-not-is_empty.self c.write.new.self _ _ _ _ _
+    c.in_ok-notes.ensures.tells c.in_ok-notes.ensures.takes c.as_slice.ensures.value c.write.ensures.same_run writes))
+    c.write.ensures.writes

@@ -1,0 +1,49 @@
+use Rattle.std.proofs.Common.{◌∙◌, arith, rules, subst, sym}
+use Rattle.test_report_engine.proofs.Inputs.{bytes-line, bytes-line-start, bytes-rest, bytes-starts, input-none}
+use Rattle.test_report_engine.proofs.Lines.{empty-line, feedless, joined}
+use Rattle.test_report_engine.proofs.Notes.{on_err}
+use Rattle.test_report_engine.specs.Lines.{IsOneLine}
+use Rattle.test_report_engine.proofs.state.State.on_bytes.Goals as goal
+
+pub returns-in_err-extend_from_slice-clause-starts : goal.returns-in_err-extend_from_slice-clause-starts
+returns-in_err-extend_from_slice-clause-starts g c =
+    on_err c.from_residual.result
+    (λ after. bytes-starts g.F.Form.line g.F.Form.last g.F.Form.Knows c.args.self.now c.loop-at.self c.args.begun.now.items c.loop-at.begun.items c.args.bytes.now
+    c.loop-at.rest.now after _ _ _ c.loop-at.invariant.takes (input-none g.F.Form.line c.loop-at.self _ _))
+
+pub returns-in_err-on_line-clause-starts : goal.returns-in_err-on_line-clause-starts
+returns-in_err-on_line-clause-starts g c =
+    on_err c.from_residual-in_err-on_line.result
+    (λ after. bytes-line-start g.F.Form.line g.F.Form.last g.F.Form.Knows c.args.self.now c.loop-at.self c.args.begun.now.items c.loop-at.begun.items
+    c.as_slice.result.now c.args.bytes.now c.loop-at.rest.now _ _ after _ _ _ c.in-Some.at c.loop-at.invariant.takes c.loop-at.invariant.one_line
+    c.split_at.ensures.front c.split_at.ensures.back c.in-Some.ensures.0.high (λ k below. c.in-Some.ensures.0.before k (omega arith) below) c.in-Some.ensures.1
+    (c.as_slice.ensures.value ∙ c.in_ok-extend_from_slice.ensures.items) c.in_err-on_line.ensures.starts)
+
+pub loop-at-preserved : goal.loop-at-preserved
+loop-at-preserved g c = record {
+  works = search rules;
+  one_line = subst IsOneLine (sym c.clear.ensures.items) empty-line;
+  flushed = λ held. c.in_ok-on_line.ensures.flushed (c.loop-at.invariant.flushed held);
+  takes =
+      bytes-line g.F.Form.line g.F.Form.last g.F.Form.Knows c.args.self.now c.loop-at.self c.on_line.new.self c.args.begun.now.items c.loop-at.begun.items _
+      c.as_slice.result.now c.args.bytes.now c.loop-at.rest.now _ _ _ _ _ c.in-Some.at c.loop-at.invariant.takes c.loop-at.invariant.one_line
+      c.split_at.ensures.front c.split_at.ensures.back c.in-Some.ensures.0.high (λ k below. c.in-Some.ensures.0.before k (omega arith) below) c.in-Some.ensures.1
+      (c.as_slice.ensures.value ∙ c.in_ok-extend_from_slice.ensures.items) c.clear.ensures.items c.in_ok-on_line.ensures.reads;
+}
+
+pub returns-in_err-extend_from_slice-2-clause-starts : goal.returns-in_err-extend_from_slice-2-clause-starts
+returns-in_err-extend_from_slice-2-clause-starts g c =
+    on_err c.from_residual-in_err-extend_from_slice-2.result
+    (λ after. bytes-starts g.F.Form.line g.F.Form.last g.F.Form.Knows c.args.self.now c.loop-at.self c.args.begun.now.items c.loop-at.begun.items c.args.bytes.now
+    c.loop-at.rest.now after _ _ _ c.loop-at.invariant.takes (input-none g.F.Form.line c.loop-at.self _ _))
+
+pub returns-clause-one_line : goal.returns-clause-one_line
+returns-clause-one_line g c =
+    subst IsOneLine (sym c.in_ok-extend_from_slice-2.ensures.items)
+    (joined c.loop-at.begun.items c.loop-at.rest.now c.loop-at.invariant.one_line
+    (feedless c.loop-at.rest.now (λ k below. c.in_default.ensures k (omega arith) below)))
+
+pub returns-clause-leads : goal.returns-clause-leads
+returns-clause-leads g c =
+    bytes-rest g.F.Form.line g.F.Form.last g.F.Form.Knows c.args.self.now c.loop-at.self c.args.begun.now.items c.loop-at.begun.items _ c.args.bytes.now
+    c.loop-at.rest.now _ _ c.loop-at.invariant.takes c.in_ok-extend_from_slice-2.ensures.items

@@ -1,0 +1,82 @@
+-- The report of a run, which is told by the lines of inputs, one input after the other.
+use Rattle.std.specs.Prelude.{◌≡◌, ℕ, List, [], ◌∷◌, ◌++◌}
+use Rattle.std.specs.List.{AllZip, flat_map, fold}
+use Rattle.test_report_events.specs.Event.{EventView}
+use Rattle.test_report_forms.specs.Entry.{EntryView, IsEntryOf}
+use Rattle.test_report_forms.specs.Files.{FilesSay}
+use Rattle.test_report_forms.specs.declared.files.FileForms.{FileForms}
+use Rattle.test_report_forms.specs.declared.files.FileTexts.{FileTexts}
+use Rattle.test_report_run.specs.Note.{NoteView}
+use Rattle.test_report_run.specs.Run.{RunState, after, after_file, end_of, file_notes, notes_at, run_start, run_state}
+use Rattle.test_report_run.specs.declared.note.RunEnd.{RunEnd}
+use Rattle.test_report_run.specs.declared.run.TestRun.{TestRun}
+use Rattle.test_report_engine.specs.Lines.{AreEventsOf}
+
+-- A run, what a line and the end of an input make known, and the run after these. They do not unfold by themselves, since they are long.
+unfoldable pub run_of : TestRun → RunState
+run_of run = run_state run
+
+unfoldable pub line_notes : RunState → EventView → List NoteView
+line_notes run e = notes_at run e
+
+unfoldable pub after_line : RunState → EventView → RunState
+after_line run e = after run e
+
+unfoldable pub end_notes : RunState → List NoteView
+end_notes run = file_notes run
+
+unfoldable pub after_end : RunState → RunState
+after_end run = after_file run
+
+-- a run after lines that say these events, and what they make known
+abbrev pub run_after : RunState → List EventView → RunState
+run_after run events = fold after_line run events
+
+abbrev pub notes_of : RunState → List EventView → List NoteView
+notes_of run [] = []
+notes_of run (e ∷ es) = line_notes run e ++ notes_of (after_line run e) es
+
+-- a run after an input with these events, and what the input makes known, with its end
+abbrev pub run_after_input : RunState → List EventView → RunState
+run_after_input run events = after_end (run_after run events)
+
+abbrev pub notes_of_input : RunState → List EventView → List NoteView
+notes_of_input run events = notes_of run events ++ end_notes (run_after run events)
+
+-- a run after inputs, and what they make known
+abbrev pub run_after_inputs : RunState → List (List EventView) → RunState
+run_after_inputs run inputs = fold run_after_input run inputs
+
+abbrev pub notes_of_inputs : RunState → List (List EventView) → List NoteView
+notes_of_inputs run [] = []
+notes_of_inputs run (events ∷ inputs) = notes_of_input run events ++ notes_of_inputs (run_after_input run events) inputs
+
+-- these are the entries of a run that inputs tell, and the run after them
+pub record AreEntriesOf (inputs : List (List ℕ)) (entries : List EntryView) (run : RunState) : Type 0 where
+  pub events : List (List EventView)
+  pub say : AllZip AreEventsOf inputs events
+  pub are : AllZip IsEntryOf (notes_of_inputs run_start events) entries
+  pub run_is : run ≡ run_after_inputs run_start events
+
+-- this is written of inputs before the end of the report: of each entry its line
+pub record AreLinesOf (line : EntryView → List ℕ) (inputs : List (List ℕ)) (text : List ℕ) : Type 0 where
+  pub entries : List EntryView
+  pub run : RunState
+  pub are : AreEntriesOf inputs entries run
+  pub is : text ≡ flat_map line entries
+
+-- this is the report of inputs, and the end of the run: the line of each entry, and then the end of the report
+pub record IsReport (line : EntryView → List ℕ) (last : List EntryView → RunEnd → List ℕ) (inputs : List (List ℕ)) (text : List ℕ) (end : RunEnd)
+    : Type 0 where
+  pub entries : List EntryView
+  pub run : RunState
+  pub are : AreEntriesOf inputs entries run
+  pub is : text ≡ flat_map line entries ++ last entries end
+  pub end_is : end ≡ end_of run
+
+-- these are the texts of the files for inputs
+pub record AreTexts (files : FileForms) (inputs : List (List ℕ)) (texts : FileTexts) : Type 0 where
+  pub entries : List EntryView
+  pub run : RunState
+  pub are : AreEntriesOf inputs entries run
+  pub say : FilesSay files entries (end_of run) texts
