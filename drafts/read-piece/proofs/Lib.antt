@@ -1,5 +1,0 @@
-pub mod Inputs
-pub mod Lines
-pub mod Lists
-pub mod Notes
-pub mod Reports
