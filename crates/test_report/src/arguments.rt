@@ -69,7 +69,7 @@ pub(crate) fn command<'a>(alloc: Global) -> Result<Command<'a>, AllocError> {
     Ok(command.after_help(AFTER_HELP))
 }
 
-/// Returns an option that has one of several values, of which the first is the default.
+/// Returns an option that takes one of these values. The first is the default.
 fn choice<'a>(alloc: Global, name: &'a str, value: &'a str, values: &'a [&'a str]) -> Arg<'a> {
     let default = values.first().copied().unwrap_or("");
     Arg::new(alloc, name)

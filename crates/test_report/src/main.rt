@@ -200,7 +200,7 @@ fn has_colors(rt: &HostRuntime) -> bool {
 /// Does what the arguments ask for, and returns the exit status.
 fn run(rt: &HostRuntime) -> Result<u8, Fault> {
     let Some(words) = words_of(rt)? else {
-        let _ = eprintln!(rt; "test-report: a word is not UTF-8");
+        let _ = eprintln!(rt; "test-report: an argument is not UTF-8");
         return Ok(BAD_ARGUMENT);
     };
     match command(rt.alloc())?.try_get_matches_from(words.as_slice()) {

@@ -10,7 +10,7 @@ pub(crate) struct Output<W> {
 }
 
 impl<W: Write> Output<W> {
-    /// Returns a writer of which no call has failed.
+    /// Returns a writer that has not failed.
     pub(crate) fn new(writer: W) -> Output<W> {
         Output {
             writer,

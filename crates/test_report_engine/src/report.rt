@@ -1,4 +1,4 @@
-//! The report of a run, written while the run goes on.
+//! The report of a run, written during the run.
 
 ghost use Rattle.std.specs.Prelude.{◌≡◌, ◌≢◌, ◌↔◌, ◌⊎◌, ◌++◌, ◌∷◌, [], ℕ, true, false, List, Option, IfErr, IfOk, IfSome, OnOk, OnErr, IsErrOf, IsOk, map, string_bytes};
 ghost use Rattle.std.specs.Io.KnownBytes.{Appends, IsAtEnd};
@@ -38,7 +38,7 @@ pub struct Report<F: Form> {
 impl<F: Form + Drop> Report<F> {
     ghost use Rattle.test_report_engine.specs.Reading as reading;
 
-    /// Returns a report of which nothing is written.
+    /// Returns a report that has read and written nothing.
     pub fn new(alloc: Global, form: F) -> Result<Report<F>, Fault>
         ensures ok { IsOk result }
         ensures reads { IfOk result (λ report. F.Knows form []
@@ -47,7 +47,7 @@ impl<F: Form + Drop> Report<F> {
         Report::with_files(alloc, form, FileForms::none())
     }
 
-    /// Returns a report of which nothing is written, and which has texts for files at its end.
+    /// Returns a report that has read and written nothing, and that returns the texts of these files at its end.
     pub fn with_files(alloc: Global, form: F, files: FileForms) -> Result<Report<F>, Fault>
         ensures ok { IsOk result }
         ensures reads { IfOk result (λ report. F.Knows form []
@@ -150,7 +150,7 @@ impl<F: Form + Drop> Report<F> {
         Ok(end)
     }
 
-    /// Takes the next bytes of a file. `begun` is the beginning of the line that goes on.
+    /// Takes the next bytes of a file. `begun` is what was read of the current line.
     fn on_bytes<W: Sink>(
         &mut self,
         alloc: Global,

@@ -6,7 +6,7 @@ use test_report_engine::fault::Fault;
 
 #[test]
 fn each_read_that_fails_is_reported(rt: HostRuntime) -> Result<(), Fail> {
-    // Three reads of the bytes, of which the third has the run, and then the one that finds the end.
+    // The first three reads return bytes; the third ends with the run. The fourth finds the end.
     let input = format!(in rt.alloc(); "{:x>40000}\n{RUN}", "")?;
     let known = format!(in rt.alloc(); "{}{}", PARTS[0], PARTS[1])?;
     let report = report_of_run(rt.alloc())?;

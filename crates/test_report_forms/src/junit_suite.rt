@@ -26,7 +26,7 @@ pub(crate) enum CaseKind {
     Skipped,
 }
 
-/// A test case, and of which kind it is.
+/// A test case and its kind.
 #[derive(Drop)]
 pub(crate) struct Case {
     pub(crate) kind: CaseKind,

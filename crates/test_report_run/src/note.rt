@@ -56,7 +56,7 @@ pub enum TestOutcome {
     Failed(Failure),
 }
 
-/// A failure of a test: of which kind it is, and what is known about it.
+/// A failure of a test: its kind, and what is known about it.
 #[derive(Debug, Drop)]
 pub struct Failure {
     /// The kind of the failure.

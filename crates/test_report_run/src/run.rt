@@ -20,7 +20,7 @@ use crate::totals::Totals;
 use std::alloc::{AllocError, Global};
 use test_report_events::event::{CargoFailure, Event, SuiteEnd, SuiteKey, TestDetails, TestResult};
 
-/// A run of tests, of which some lines are read.
+/// A run of tests, up to the line that was read last.
 #[derive(Drop)]
 pub struct TestRun {
     /// The tests of the file that start outside of a suite.
@@ -44,7 +44,7 @@ pub struct TestRun {
 }
 
 impl TestRun {
-    /// Returns a run of which no line is read.
+    /// Returns a run that has read no line.
     pub fn new(alloc: Global) -> TestRun
         ensures { run_state result ≡ spec.run_start }
     {

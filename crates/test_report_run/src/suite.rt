@@ -91,7 +91,7 @@ pub(crate) struct Suite {
 }
 
 impl Suite {
-    /// Returns a suite of which one first line was read.
+    /// Returns a suite that has read one first line.
     pub(crate) fn new(
         alloc: Global,
         number: usize,
@@ -189,7 +189,7 @@ impl Suite {
     }
 
     /// Returns the name of the suite that its lines give: its key, or else the heading, or else what
-    /// stands before the first `$` of its first test.
+    /// comes before the first `$` of its first test.
     fn given_name(&self) -> Option<&str>
         ensures { option_map (λ name. name.now) result ≡ given_name (state_of self.now) }
     {
@@ -241,7 +241,7 @@ impl Suite {
         self.stats.finished_count.saturating_sub(self.stats.passed)
     }
 
-    /// Returns the numbers of tests of the suite, of which `left` are running.
+    /// Returns the numbers of tests of the suite. `left` tests are running.
     pub(crate) fn tally(&self, left: usize) -> Result<Tally, RunError>
         ensures { IfOk result (λ tally. tally ≡ tally_of (state_of self.now) left) }
     {

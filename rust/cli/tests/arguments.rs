@@ -162,7 +162,7 @@ fn arguments_that_are_not_utf8_are_refused() {
     let output = run("run-digest", &[not_utf8()], b"");
     assert_output(&output, b"", USAGE.as_bytes(), 2, "run-digest");
     let output = run("test-report", &[not_utf8()], b"");
-    let message = b"test-report: a word is not UTF-8\n";
+    let message = b"test-report: an argument is not UTF-8\n";
     assert_output(&output, b"", message, 2, "test-report");
 }
 

@@ -108,7 +108,7 @@ fn arguments() -> Result<Vec<String>, Failure> {
     env::args_os()
         .map(OsString::into_string)
         .collect::<Result<_, _>>()
-        .map_err(|_| Failure::new(BAD_ARGUMENT, "a word is not UTF-8"))
+        .map_err(|_| Failure::new(BAD_ARGUMENT, "an argument is not UTF-8"))
 }
 
 /// Returns the value of an option that has a default.

@@ -1,5 +1,5 @@
 // Made by tools/erase from crates/test_report_engine/src/report.rt. Do not edit.
-//! The report of a run, written while the run goes on.
+//! The report of a run, written during the run.
 
 use crate::program_io::device::{Sink, Source};
 use crate::program_io::transfer::write_all;
@@ -23,12 +23,12 @@ pub struct Report<F: Form> {
 }
 
 impl<F: Form> Report<F> {
-    /// Returns a report of which nothing is written.
+    /// Returns a report that has read and written nothing.
     pub fn new(form: F) -> Result<Report<F>, Fault> {
         Report::with_files(form, FileForms::none())
     }
 
-    /// Returns a report of which nothing is written, and which has texts for files at its end.
+    /// Returns a report that has read and written nothing, and that returns the texts of these files at its end.
     pub fn with_files(form: F, files: FileForms) -> Result<Report<F>, Fault> {
         Ok(Report {
             run: TestRun::new(),
@@ -82,7 +82,7 @@ impl<F: Form> Report<F> {
         Ok(end)
     }
 
-    /// Takes the next bytes of a file. `begun` is the beginning of the line that goes on.
+    /// Takes the next bytes of a file. `begun` is what was read of the current line.
     fn on_bytes<W: Sink>(
         &mut self,
         begun: &mut Vec<u8>,

@@ -20,7 +20,7 @@ pub(crate) enum CaseKind {
     Skipped,
 }
 
-/// A test case, and of which kind it is.
+/// A test case and its kind.
 #[derive(Clone)]
 pub(crate) struct Case {
     pub(crate) kind: CaseKind,

@@ -65,7 +65,7 @@ fn documented(name: &str) -> Option<Place<'_>> {
     })
 }
 
-/// Returns true for what stands between ` - ` and `(line` in the name of a documentation test.
+/// Returns true for the text between ` - ` and `(line` in the name of a documentation test.
 fn is_item(item: &str) -> bool {
     item.is_empty() || item.len() > 1 && item.ends_with(' ')
 }

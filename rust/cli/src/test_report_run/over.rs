@@ -16,7 +16,7 @@ pub(crate) struct Rest {
     /// The number of skipped tests.
     pub(crate) skipped: u128,
 
-    /// The number of tests that started, and of which no line says anything else.
+    /// The number of tests that started and have no other line.
     pub(crate) left: usize,
 
     /// The time in microseconds.

@@ -11,7 +11,7 @@ use crate::test_report_run::running::{Running, RunningTest};
 use crate::test_report_run::suite::{OverTest, Suite};
 use crate::test_report_run::totals::Totals;
 
-/// A run of tests, of which some lines are read.
+/// A run of tests, up to the line that was read last.
 #[derive(Clone)]
 pub struct TestRun {
     /// The tests of the file that start outside of a suite.
@@ -35,7 +35,7 @@ pub struct TestRun {
 }
 
 impl TestRun {
-    /// Returns a run of which no line is read.
+    /// Returns a run that has read no line.
     pub fn new() -> TestRun {
         TestRun {
             outside: Suite::outside(),

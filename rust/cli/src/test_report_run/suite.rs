@@ -85,7 +85,7 @@ pub(crate) struct Suite {
 }
 
 impl Suite {
-    /// Returns a suite of which one first line was read.
+    /// Returns a suite that has read one first line.
     pub(crate) fn new(
         number: usize,
         key: Option<String>,
@@ -161,7 +161,7 @@ impl Suite {
     }
 
     /// Returns the name of the suite that its lines give: its key, or else the heading, or else what
-    /// stands before the first `$` of its first test.
+    /// comes before the first `$` of its first test.
     fn given_name(&self) -> Option<&str> {
         if let Some(key) = &self.key {
             return Some(key.as_str());
@@ -199,7 +199,7 @@ impl Suite {
         self.stats.finished_count.saturating_sub(self.stats.passed)
     }
 
-    /// Returns the numbers of tests of the suite, of which `left` are running.
+    /// Returns the numbers of tests of the suite. `left` tests are running.
     pub(crate) fn tally(&self, left: usize) -> Result<Tally, RunError> {
         let flaky = self.flaky.len();
         let passed = self

@@ -6,7 +6,7 @@ use deodarsieve_cli::test_report_engine::fault::Fault;
 
 #[test]
 fn each_read_that_fails_is_reported() -> Result<(), Box<dyn std::error::Error>> {
-    // Three reads of the bytes, of which the third has the run, and then the one that finds the end.
+    // The first three reads return bytes; the third ends with the run. The fourth finds the end.
     let input = format!("{:x>40000}\n{RUN}", "");
     let known = format!("{}{}", PARTS[0], PARTS[1]);
     let report = report_of_run();
