@@ -10,7 +10,10 @@
 //! - the types of all events that reporters receive ([`TestEventKind`]).
 //!
 //! The names and the behaviour are those of the reporter of [nextest](https://nexte.st). The modules
-//! are at nextest's paths, and every name is at the root of the crate too.
+//! are at nextest's paths, and every name is at the root of the crate too. A few items are not
+//! nextest's, for runners that keep less: [`TestView`] counts a test without its attempts,
+//! [`FinishedTest`] owns the same parts, and [`RunOutcome::of_sub_runs`] decides the outcome of a
+//! repeated run.
 //!
 //! # Example
 //!
@@ -44,7 +47,8 @@
 //! - `serde_json`: [`SerializableError`] to and from JSON values.
 //! - `chrono`: [`Moment`] to and from `chrono::DateTime<chrono::FixedOffset>`.
 //!
-//! A feature only adds items. No type changes with a feature.
+//! A feature only adds items. No type changes with a feature. No feature adds serde's
+//! `Serialize` and `Deserialize`.
 //!
 //! # Panics
 //!
