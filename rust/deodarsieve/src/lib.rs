@@ -44,7 +44,7 @@
 //!
 //! - `std` (default): conversions from `std::process::ExitStatus` and `std::time::SystemTime`.
 //!   Without it the crate is `no_std` and needs `alloc`.
-//! - `serde_json`: [`SerializableError`] to and from JSON values.
+//! - `serde_json`: `to_value` and `from_value` of [`SerializableError`], to and from JSON values.
 //! - `chrono`: [`Moment`] to and from `chrono::DateTime<chrono::FixedOffset>`.
 //!
 //! A feature only adds items. No type changes with a feature. No feature adds serde's
