@@ -64,6 +64,8 @@ else
     cp "${built%.a\"}.so" "$prefix/lib/"
 fi
 template=$(<deodarsieve.pc.in)
-template=${template//@PREFIX@/"$prefix"}
+# pkg-config splits paths at spaces, except at those after a backslash.
+escaped=${prefix//' '/'\ '}
+template=${template//@PREFIX@/"$escaped"}
 template=${template//@VERSION@/"$version"}
 echo "${template//@STD_LIBS@/"$std_libs"}" >"$prefix/lib/pkgconfig/deodarsieve.pc"
