@@ -52,9 +52,9 @@
 //!
 //! # Panics
 //!
-//! A function that needs more than its types say panics if it does not get it, in release builds too.
-//! Its documentation has a section `Panics`, and the message names the function that tests the
-//! condition. Counters never wrap: [`RunStats::try_on_test_view`] returns an error if a counter is
+//! A function panics if a condition that its types do not express is false, in release builds too.
+//! The section `Panics` of its documentation has the condition, and the message names the function
+//! that tests it. Counters never wrap: [`RunStats::try_on_test_view`] returns an error if a counter is
 //! full, and [`RunStats::on_test_view`] panics.
 
 #![no_std]
