@@ -1,8 +1,8 @@
 /*
- * Makes one allocation fail in a program that this is loaded before: the one whose number
- * FAILED_ALLOCATION says, counted from 1. An allocation is one request for memory, by malloc or
- * realloc, as proved programs make them. Where there was an allocation of that number a line is
- * written to descriptor 3.
+ * Makes one allocation fail in a program that this library is loaded into: the one whose number,
+ * counted from 1, is in FAILED_ALLOCATION. An allocation is one request for memory, by malloc or
+ * realloc, as proved programs make them. If there was an allocation of that number, a line is written
+ * to descriptor 3.
  */
 #include <errno.h>
 #include <stdlib.h>
@@ -14,7 +14,7 @@ extern void *__libc_realloc(void *memory, size_t size);
 
 static unsigned long allocations;
 
-/* Counts one more allocation, and says whether it fails. */
+/* Counts an allocation, and returns 1 if it must fail. */
 static int fails(void) {
     const char *number = getenv("FAILED_ALLOCATION");
 

@@ -12,7 +12,7 @@ fn main() {
     let archive = folder.join(ARCHIVE);
     println!("cargo:rerun-if-changed={}", archive.display());
     println!("cargo:rustc-link-search=native={}", folder.display());
-    // With the modifier a missing archive fails where a program is linked, and not here, so that
+    // With the modifier, a missing archive is an error when a program is linked, and not here. So
     // `cargo check`, `cargo clippy` and `cargo doc` need no archive.
     println!("cargo:rustc-link-lib=static:-bundle=deodarsieve");
     if !archive.is_file() {
@@ -24,8 +24,8 @@ fn main() {
     }
 }
 
-/// Returns the folder of the archive: the one that the environment names, or else the one in which
-/// the repository's build leaves it.
+/// Returns the folder of the archive: the one that the environment names, or else the one that the
+/// repository's build writes.
 fn archive_folder() -> PathBuf {
     env::var_os("DEODARSIEVE_LIB_DIR").map_or_else(
         || Path::new(env!("CARGO_MANIFEST_DIR")).join("../../crates/deodarsieve/out"),

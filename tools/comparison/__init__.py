@@ -1,1 +1,1 @@
-"""What `tools/compare-programs` is made of: inputs, cases, and the comparison of two programs."""
+"""The modules of `tools/compare-programs`: inputs, cases, and the comparison of two programs."""

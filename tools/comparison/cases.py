@@ -9,7 +9,7 @@ from comparison.generated import counted_run, output, reported_run
 
 TOP = Path(__file__).resolve().parent.parent.parent
 
-# The kinds of stored cases that have an input of `run-digest`, and the word that they are run with.
+# The kinds of stored cases that have an input of `run-digest`, and the argument that they are run with.
 REPLAYED = {"count": "count", "digest-extract": "extract"}
 REFUSED = [
     ["--nothing"], ["-x"], ["--limit"], ["--limit", "many"], ["--limit=-1"], ["--limit", ""], ["--limit=+7"],
@@ -34,7 +34,7 @@ WORDS = [["frob"], ["count", "count"], ["extract", "count"], ["Count"], ["-"], [
 
 @dataclass
 class Case:
-    """One run of a program: `origin` says what its input is made from, `rule` what may differ.
+    """One run of a program: `origin` names the source of its input, and `rule` what may differ.
 
     `files` has the texts of the files in the folder where the program runs.
     """
@@ -135,7 +135,7 @@ def failing_devices():
 
 
 def fixed_cases():
-    """Yields the cases that are no matter of chance: failures, several files, and `--version`."""
+    """Yields the cases that are not generated: failures, several files, and `--version`."""
     yield from failing_devices()
     for flag in ("--version", "-V"):
         yield Case("test-report", [flag], b"", "version")

@@ -1,4 +1,4 @@
-"""Running a case with two programs, and what differs between them."""
+"""Runs a case with two programs, and returns the differences between their results."""
 
 import os
 import subprocess
@@ -13,7 +13,7 @@ SECONDS = 60
 
 @dataclass
 class Result:
-    """What a program did. `files` has the texts of the files in the folder where it ran."""
+    """The result of a program. `files` has the texts of the files in the folder in which it ran."""
 
     stdout: bytes
     stderr: bytes
@@ -38,7 +38,7 @@ def standard_input(case, folder):
 
 
 def standard_output(case):
-    """Returns the descriptor, or the constant for a pipe, that standard output of a case is."""
+    """Returns the descriptor for the standard output of a case, or the constant for a pipe."""
     state = case.devices.get("stdout")
     if state == "full":
         return os.open("/dev/full", os.O_WRONLY)
@@ -72,13 +72,13 @@ def run_in(folder, program, case):
 
 
 def same_but_cause(proved, erased):
-    """Whether a message is another one, except that it may also say the system's error."""
+    """Returns true if two messages are the same, except that the erased one may also have the system's error."""
     start = proved.removesuffix(b"\n")
     return proved == erased or (bool(start) and erased.startswith(start + b": ") and erased.count(b"\n") == 1)
 
 
 def differences(case, proved, erased):
-    """Returns what differs between the results of two programs, as far as the case's rule compares it."""
+    """Returns the differences between the results of two programs that the case's rule does not allow."""
     found = []
     if proved.status != erased.status:
         found.append(f"status {proved.status} and {erased.status}")
@@ -102,6 +102,6 @@ def differences(case, proved, erased):
 
 
 def excerpts(first, second):
-    """Returns the place at which two texts part, and how each goes on there."""
+    """Returns the position of the first difference of two texts, and the rest of each from there."""
     at = len(os.path.commonprefix([first, second]))
     return f"at byte {at}: {first[at:at + 60]!r} and {second[at:at + 60]!r}"

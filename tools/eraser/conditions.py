@@ -1,4 +1,4 @@
-"""What Rust checks in place of a `requires`: a table with a row for each public function that has one."""
+"""The checks that replace a `requires` in Rust: a table with a row for each public function that has one."""
 import textwrap
 
 from .functions import functions_of
@@ -9,7 +9,7 @@ class Assertion:
     """The condition is asserted at the head of the function."""
 
     def __init__(self, condition, message, panics):
-        """`panics` goes on after "Panics if"."""
+        """`panics` is the text after "Panics if"."""
         self.condition, self.message, self.panics = condition, message, panics
 
     def apply(self, source, function):
@@ -18,14 +18,14 @@ class Assertion:
 
 
 class Arm:
-    """An arm that is there already says why it is never reached."""
+    """The function already has an arm that is never reached, which gets a message."""
 
     def __init__(self, message, panics, function=None):
         """`function` is the private function of the same file that has the arm, if it is another one."""
         self.message, self.panics, self.function = message, panics, function
 
     def apply(self, source, function):
-        """Writes the sentence of the arm."""
+        """Writes the message of the arm."""
         if self.function:
             function = next((f for f in functions_of(source) if f.path == self.function), function)
         found = [i for i in source.between(*function.body) if source.reads(i, "unreachable", "!", "(", ")")]
@@ -35,10 +35,10 @@ class Arm:
 
 
 class Checked:
-    """An operation of the function is one that is checked."""
+    """An operation of the function is replaced by a checked one."""
 
     def __init__(self, old, new, panics):
-        """`old` is there once in the body, and `new` takes its place. `panics` is None if nothing panics."""
+        """`old` occurs once in the body, and `new` replaces it. `panics` is None if nothing panics."""
         self.old, self.new, self.panics = old, new, panics
 
     def apply(self, source, function):
@@ -63,7 +63,7 @@ class Elsewhere:
 
 FAILURES_FIT = "the failures do not fit `usize`: `failed_counts_fit` tests it"
 NOT_LOADED = "output was not loaded"
-NO_SUCCESS = "the status of a success has not succeeded: `is_consistent` tests it"
+NO_SUCCESS = "the attempt of a `Success` did not succeed: `is_consistent` tests it"
 UNCOUNTABLE = "no run reads 2^128 bytes"
 FAILED_DEVICE = "a device that has failed fails again, and that is the fault"
 
@@ -86,13 +86,13 @@ CONDITIONS = {
         "ExecutionDescription::status_level": Checked(
             "StatusLevel::of_success(&single_status.result).unwrap()",
             f'StatusLevel::of_success(&single_status.result).expect("{NO_SUCCESS}")',
-            "the status of a success has not succeeded.",
+            "the attempt of a `Success` did not succeed.",
         ),
         "ExecutionDescription::final_status_level": Checked(
             "FinalStatusLevel::of_success(&single_status.result, single_status.is_slow).unwrap()",
             "FinalStatusLevel::of_success(&single_status.result, single_status.is_slow)"
             f'.expect("{NO_SUCCESS}")',
-            "the status of a success has not succeeded and is not slow.",
+            "the attempt of a `Success` did not succeed and was not slow.",
         ),
     },
     "run_events_attempts/src/attempts/statuses.rt": {
@@ -147,7 +147,7 @@ CONDITIONS = {
     "run_events/src/unit_error.rt": {
         "UnitErrorDescription::new": Arm(
             f"{NOT_LOADED}: `can_describe` tests it",
-            "the output is searched and was not loaded.",
+            "the unit is a failed test and its output was not loaded.",
             function="extracted",
         ),
     },

@@ -75,7 +75,7 @@ def _ghost_end(source, i):
 
 
 def _on_name(source, i):
-    """Edits what begins with the name or keyword at `i`."""
+    """Edits the item, statement or expression that begins with the name or keyword at `i`."""
     word, after = source.text[i], source.after(i)
     if word == "mod" and source.reads(after, "laws", ";"):
         first = source.before(i) if source.at(source.before(i)) == "pub" else i

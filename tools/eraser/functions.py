@@ -70,7 +70,7 @@ class Function:
 
     @property
     def has_condition(self):
-        """Returns true if its caller owes something."""
+        """Returns true if it has a precondition."""
         return any(self.source.at(first) == "requires" for first, _ in self.clauses)
 
     @property

@@ -1,6 +1,6 @@
-"""What types have in Rust beside what their sources say: derives, attributes, names of methods."""
+"""Derives, attributes and method names that types have only in Rust."""
 
-# Derives that a type has in Rust beside those of its source: users compare these, or keep them in maps.
+# Derives that a type has in Rust in addition to those of its source: users compare these, or keep them in maps.
 EQUAL = ("PartialEq", "Eq")
 KEY = ("PartialEq", "Eq", "PartialOrd", "Ord", "Hash")
 ADDED_DERIVES = {
@@ -32,7 +32,7 @@ ADDED_DERIVES = {
     "UnitTerminateReason": EQUAL,
 }
 
-# Derives that a type has not: a source that is read is no value to copy, and a description has 72 bytes.
+# Derives that a type does not have: a source that is read must not be copied, and a description has 72 bytes.
 REMOVED_DERIVES = {"MemorySource": ("Copy",), "UnitErrorDescription": ("Copy",)}
 
 # Types that cannot be cloned, since they borrow what they write to exclusively.

@@ -1,1 +1,1 @@
-"""What `tools/report-counts` is made of: events of lines, suites, the run, its report, and stored reports."""
+"""The modules of `tools/report-counts`: events of lines, suites, the run, its report, and stored reports."""

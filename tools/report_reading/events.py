@@ -1,4 +1,4 @@
-"""Reads the lines of a run and says of each which event it is."""
+"""Reads the lines of a run, and returns the event of each."""
 
 import re
 from dataclasses import dataclass, field

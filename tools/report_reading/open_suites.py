@@ -1,4 +1,4 @@
-"""What is open while a file is read: its suites, and the tests that run."""
+"""The open suites and the running tests while a file is read."""
 
 import re
 from collections import defaultdict, deque

@@ -1,4 +1,4 @@
-"""The run that some files are of: its failed tests, the causes of its outcome, and its totals."""
+"""The run in some files: its failed tests, the causes of its outcome, and its totals."""
 
 from dataclasses import dataclass
 
@@ -18,7 +18,7 @@ class Cause:
 
 
 class Run:
-    """What files say. `notes` has the failed tests and the causes in the order of the report."""
+    """The run in the files that were read. `notes` has the failed tests and the causes in the order of the report."""
 
     def __init__(self):
         self.suites = []
@@ -46,7 +46,7 @@ class Run:
         self.end_file()
 
     def end_file(self):
-        """Closes what is open: the suites in the order of their first lines, then the part without suite."""
+        """Closes the open suites in the order of their first lines, then the part without suite."""
         for suite in self.now.all_open():
             self.close(suite, ended_early=True)
         if self.now.part.tests:
@@ -199,7 +199,7 @@ class Run:
 
 
 def last_line(suite):
-    """Returns what a suite's last line says, and what its tests say."""
+    """Returns the text of a disagreement: the numbers of a suite's last line, and those of its tests."""
     says = [suite.verdict]
     if suite.counted_passed() is not None:
         says.append(f"{suite.counted_passed()} passed")
@@ -210,7 +210,7 @@ def last_line(suite):
 
 
 def read(paths):
-    """Returns the run that the files are of, one after another."""
+    """Returns the run in the files, which are read one after another."""
     run = Run()
     for path in paths:
         with open(path, "rb") as file:

@@ -1,4 +1,4 @@
-"""Compares stored reports of `test-report` with what their inputs say."""
+"""Compares stored reports of `test-report` with the reading of their inputs."""
 
 import difflib
 import re
@@ -15,13 +15,13 @@ COLOR = re.compile("\x1b\\[[0-9;]*m")
 
 
 def side_file(path, suffix):
-    """Returns the file NAME.jsonl.SUFFIX, or else NAME.SUFFIX, beside the input of an example."""
+    """Returns the file NAME.jsonl.SUFFIX, or else NAME.SUFFIX, next to the input of an example."""
     beside = path.with_name(f"{path.name}.{suffix}")
     return beside if beside.exists() else path.with_suffix(f".{suffix}")
 
 
 def stored(path, suffix):
-    """Returns the text of a file beside an example, or nothing if there is no such file."""
+    """Returns the text of a file next to an example, or an empty text if there is no such file."""
     file = side_file(path, suffix)
     return file.read_bytes().decode("utf-8", "replace") if file.exists() else ""
 
@@ -44,23 +44,23 @@ def plain(report, words):
 
 
 def without_why(lines):
-    """Returns the lines except those that say why tests failed."""
+    """Returns the lines except those that explain failures."""
     return [line for line in lines if line and not line.startswith(WHY)]
 
 
 def expected_notes(run):
-    """Returns the lines of a text report before its rule, except those that say why tests failed."""
+    """Returns the lines of a text report before its rule, except those that explain failures."""
     return [heading(note) if isinstance(note, Test) else note.line for note in run.notes]
 
 
 def differing(expected, found, what):
-    """Returns what differs between the lines of two reports."""
+    """Returns the differences between the lines of two reports."""
     lines = difflib.unified_diff(expected, found, f"expected {what}", f"{what} found", lineterm="", n=0)
     return [line for line in lines if not line.startswith("@@")]
 
 
 def list_differences(run, lines):
-    """Returns what differs in the list after the `Summary` line: reasons and slow tests' names are passed over."""
+    """Returns the differences in the list after the `Summary` line, without reasons and names of slow tests."""
     flaky = sorted(map(flaky_line, run.flaky_tests()))
     found = sorted(line.lstrip(" ") for line in lines if line.lstrip(" ").startswith("FLAKY "))
     listed = [line[1] for line in map(LISTED.fullmatch, lines) if line]
@@ -75,7 +75,7 @@ def list_differences(run, lines):
 
 
 def text_differences(run, report):
-    """Returns what differs between a report as text and the run that it is of."""
+    """Returns the differences between a report as text and its run."""
     lines = report.split("\n")[:-1]
     if RULE not in lines:
         return ["the report has no summary"]
@@ -89,7 +89,7 @@ def text_differences(run, report):
 
 
 def differences(path):
-    """Returns what differs between the report of an example, its status, and its input."""
+    """Returns the differences between the report of an example, its status, and its input."""
     run = read([path])
     words = stored(path, "args").splitlines()
     status = run.status(option(words, "--no-tests", "fail"))
@@ -101,7 +101,7 @@ def differences(path):
 
 
 def check(folder):
-    """Compares all examples of a folder, prints what differs, and returns the exit status."""
+    """Compares all examples of a folder, prints the differences, and returns the exit status."""
     passed = failed = 0
     for path in sorted(folder.glob("*.jsonl")):
         found = differences(path)

@@ -1,4 +1,4 @@
-"""Suites with their tests, and what the last line of a suite explains."""
+"""Suites with their tests, and the failures that the last line of a suite explains."""
 
 from dataclasses import dataclass
 from typing import Optional

@@ -1,4 +1,4 @@
-"""How names, numbers and times are written."""
+"""The texts of names, numbers and times."""
 
 import re
 
@@ -56,7 +56,7 @@ def flaky_line(test):
 
 
 def as_lines(run, no_tests):
-    """Returns what a run comes to, as lines."""
+    """Returns the results of a run as lines."""
     return [
         summary(run.totals()),
         f"outcome {run.outcome()}",
@@ -68,7 +68,7 @@ def as_lines(run, no_tests):
 
 
 def test_members(test):
-    """Returns what is known of a failed or flaky test, for JSON."""
+    """Returns a failed or flaky test, for JSON."""
     return {
         "suite": test.suite.name(),
         "name": test.name(),
@@ -80,7 +80,7 @@ def test_members(test):
 
 
 def as_members(run, no_tests):
-    """Returns what a run comes to, for JSON. Names are as they were read, and lines as reports show them."""
+    """Returns the results of a run, for JSON. Names are as they were read, and lines as reports show them."""
     return {
         "totals": run.totals(),
         "outcome": run.outcome(),

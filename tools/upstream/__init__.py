@@ -1,1 +1,1 @@
-"""What `tools/upstream-tests` is made of: a scanner, items, test functions, and a package that runs them."""
+"""The modules of `tools/upstream-tests`: a scanner, items, test functions, and a package that runs them."""

@@ -1,4 +1,4 @@
-"""The package that runs test functions over the crate, and what cargo says of it."""
+"""The package that runs test functions over the crate, and the results that cargo reports."""
 
 import re
 import subprocess

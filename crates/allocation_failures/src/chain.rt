@@ -5,10 +5,10 @@ use run_events::chain::{FromValueError, SerializableError};
 use serde_json::Value;
 use std::alloc::{AllocError, Global};
 
-/// The text of the value that the error with message `m` and causes `a` and `b` is written as.
+/// The text of the value of the error with message `m` and causes `a` and `b`.
 const KNOWN: &str = r#"{"message":"m","causes":["a","b"]}"#;
 
-/// Texts of values that are no error, with why.
+/// Texts of values that are not errors, each with the reason.
 const OTHER: [(&str, FromValueError); 5] = [
     ("[]", FromValueError::NotAnObject),
     ("{}", FromValueError::MessageMissing),
@@ -23,7 +23,7 @@ const OTHER: [(&str, FromValueError); 5] = [
     ),
 ];
 
-/// The causes `a` and `b`.
+/// Returns the causes `a` and `b`.
 fn known_causes(alloc: Global) -> Result<Vec<String>, AllocError> {
     let mut causes = Vec::new(alloc);
     causes.push(String::from_str(alloc, "a")?)?;
@@ -31,13 +31,13 @@ fn known_causes(alloc: Global) -> Result<Vec<String>, AllocError> {
     Ok(causes)
 }
 
-/// The error with message `m` and these causes.
+/// Returns the error with message `m` and the causes `a` and `b`.
 fn known_error(alloc: Global) -> Result<SerializableError, AllocError> {
     let message = String::from_str(alloc, "m")?;
     SerializableError::from_message_and_causes(alloc, message, known_causes(alloc)?)
 }
 
-/// Whether an error is that one.
+/// Returns true if an error is [`known_error`].
 fn is_known(error: &SerializableError) -> bool {
     let Some(nearest) = error.source() else {
         return false;
@@ -51,7 +51,7 @@ fn is_known(error: &SerializableError) -> bool {
         && farthest.source().is_none()
 }
 
-/// The value of a text.
+/// Returns the value of a JSON text.
 fn value_of(alloc: Global, text: &str) -> Result<Value, AllocError> {
     Value::from_str(alloc, text).map_err(|_| AllocError)
 }

@@ -1,4 +1,4 @@
-//! What a child process left, described for reporters.
+//! The output of a child process, described for reporters.
 
 use crate::outcome::Outcome;
 use fixtures::{captured, error};
@@ -17,7 +17,7 @@ const END: ExecutionResult = ExecutionResult::Fail {
     leaked: true,
 };
 
-/// Two errors in reading from a process and in waiting for it.
+/// Returns two errors: one in reading from a process, and one in waiting for it.
 fn errors(alloc: Global) -> Result<Option<ErrorList<ChildError>>, AllocError> {
     let mut errors = Vec::new(alloc);
     errors.push(ChildError::Fd(ChildFdError::ReadStdout(error(alloc, "r")?)))?;
@@ -25,7 +25,7 @@ fn errors(alloc: Global) -> Result<Option<ErrorList<ChildError>>, AllocError> {
     Ok(ErrorList::new("tried", errors))
 }
 
-/// What a process left that a signal ended, with these errors.
+/// Returns the output of a process that a signal ended, with these errors.
 fn left_with(
     alloc: Global,
     errors: Option<ErrorList<ChildError>>,
@@ -41,18 +41,18 @@ fn left_with(
     })
 }
 
-/// What a process left that a signal ended, with two errors.
+/// Returns the output of a process that a signal ended, with two errors.
 fn left(alloc: Global) -> Result<ChildExecutionOutput, AllocError> {
     let errors = errors(alloc)?;
     left_with(alloc, errors)
 }
 
-/// The name of that signal.
+/// Returns the name of that signal.
 fn name(alloc: Global) -> Result<Option<String>, AllocError> {
     Ok(Some(String::from_str(alloc, "TERM")?))
 }
 
-/// What [`left`] makes, described.
+/// Returns the description of [`left`].
 pub(crate) fn described(
     alloc: Global,
 ) -> Result<ChildExecutionOutputDescription<LiveSpec>, AllocError> {
@@ -62,7 +62,7 @@ pub(crate) fn described(
     )
 }
 
-/// Whether output is that of [`left`].
+/// Returns true if the output is that of [`left`].
 fn is_left_output(output: &ChildOutputDescription) -> bool {
     match output {
         ChildOutputDescription::Split {
@@ -73,7 +73,7 @@ fn is_left_output(output: &ChildOutputDescription) -> bool {
     }
 }
 
-/// Whether the errors are those of [`left`], described.
+/// Returns true if the errors are the descriptions of those of [`left`].
 fn are_left_errors(errors: &ErrorList<ChildErrorDescription>) -> bool {
     let mut items = errors.iter();
     let (first, second, third) = (items.next(), items.next(), items.next());
@@ -87,7 +87,7 @@ fn are_left_errors(errors: &ErrorList<ChildErrorDescription>) -> bool {
     }
 }
 
-/// Whether this describes what [`left`] makes, with this end.
+/// Returns true if this is the description of [`left`] with this result.
 fn is_described(
     described: &ChildExecutionOutputDescription<LiveSpec>,
     end: &ExecutionResultDescription,
@@ -113,12 +113,12 @@ pub(crate) fn from_output(alloc: Global) -> Result<Outcome, AllocError> {
         }
         Err(refused) => refused,
     };
-    // What is handed back is what was handed in, so it is described in the same way.
+    // Output and name are returned unchanged, so their description is the same as at first.
     let again = ChildExecutionOutputDescription::from_output(alloc, refused.output, refused.name);
     Ok(Outcome::of_failure(again.is_ok_and(|described| is_described(&described, &end))))
 }
 
-/// Whether this describes a process that ended so, with the output of [`left`] and no errors.
+/// Returns true if this describes a process with this result, the output of [`left`] and no errors.
 fn is_described_without_errors(
     described: &ChildExecutionOutputDescription<LiveSpec>,
     end: &ExecutionResultDescription,
@@ -133,7 +133,7 @@ fn is_described_without_errors(
     }
 }
 
-/// Whether this describes a process that was not started, for the error `s`.
+/// Returns true if this describes a process that was not started because of the error `s`.
 fn is_not_started(described: &ChildExecutionOutputDescription<LiveSpec>) -> bool {
     match described {
         ChildExecutionOutputDescription::StartError(error) => error.source().message() == "s",

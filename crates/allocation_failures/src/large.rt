@@ -1,4 +1,4 @@
-//! Calls for values of many parts, to see that memory is found for these too.
+//! Calls with values of many parts, which must succeed too.
 
 use crate::outcome::Outcome;
 use run_events::chain::SerializableError;
@@ -10,14 +10,14 @@ use run_events::results::{ExecutionResult, UnitKind};
 use run_events::unit_error::{UnitError, UnitErrorDescription};
 use std::alloc::{AllocError, Global};
 
-/// The number of causes of a long error. A comparison, or a drop, that calls itself for each cause
-/// needs more stack than there is.
+/// The number of causes of a long error. If a comparison or a drop called itself for each cause,
+/// the stack would overflow.
 const CAUSES: u32 = 200_000;
 
 /// The number of errors of a unit.
 const ERRORS: u32 = 2_000;
 
-/// An error with this many causes, which all differ.
+/// Returns an error with this many causes, which all differ.
 fn error_with(alloc: Global, count: u32) -> Result<SerializableError, AllocError> {
     let mut causes = Vec::new(alloc);
     for number in 0..count {
@@ -27,7 +27,7 @@ fn error_with(alloc: Global, count: u32) -> Result<SerializableError, AllocError
     SerializableError::from_message_and_causes(alloc, message, causes)
 }
 
-/// Makes a long error, writes it as a value, and reads it from that.
+/// Makes a long error, writes it as a value, and reads it from the value.
 pub(crate) fn long_error(alloc: Global) -> Result<Outcome, AllocError> {
     let error = error_with(alloc, CAUSES)?;
     let longer = error_with(alloc, CAUSES + 1)?;
@@ -38,7 +38,7 @@ pub(crate) fn long_error(alloc: Global) -> Result<Outcome, AllocError> {
     })
 }
 
-/// The errors in reading standard output, whose causes are numbered from 0.
+/// Returns errors in reading standard output, whose causes are numbered from 0.
 fn read_errors(alloc: Global) -> Result<Option<ErrorList<ChildError>>, AllocError> {
     let mut errors = Vec::new(alloc);
     for number in 0..ERRORS {
@@ -49,7 +49,7 @@ fn read_errors(alloc: Global) -> Result<Option<ErrorList<ChildError>>, AllocErro
     Ok(ErrorList::new("reading", errors))
 }
 
-/// What a test left that passed, with these errors, described.
+/// Returns the description of the output of a test that passed, with these errors.
 fn described(alloc: Global) -> Result<ChildExecutionOutputDescription<LiveSpec>, AllocError> {
     let output = ChildOutput::Split(ChildSplitOutput {
         stdout: None,
@@ -63,7 +63,7 @@ fn described(alloc: Global) -> Result<ChildExecutionOutputDescription<LiveSpec>,
     ChildExecutionOutputDescription::from_output(alloc, left, None).map_err(|_| AllocError)
 }
 
-/// Whether a list has these errors, each at the place of its number.
+/// Returns true if a list has these errors in the order of their numbers.
 fn are_in_order(alloc: Global, list: Option<ErrorList<UnitError<'_>>>) -> Result<bool, AllocError> {
     let Some(list) = list else {
         return Ok(false);

@@ -1,14 +1,15 @@
-//! Makes calls that allocate, to see what they do where an allocation fails.
+//! Makes calls that allocate, to see what they do if an allocation fails.
 //!
 //! `allocation_failures all` makes each call once, and prints a line for each. `allocation_failures
-//! WORD` makes the call of one word, and prints one line: it allocates the word, then the arguments,
-//! then makes the call, and allocates nothing after a call that answers right. Only the calls for
-//! values of many parts, `long-error` and `many-errors`, allocate after it: they are made to see that
-//! memory is found, and not to fail. What came of a call is
+//! NAME` makes one call, and prints one line: it allocates the argument, then the values for the
+//! call, then makes the call. It allocates nothing after a call with the right result. Only
+//! `long-error` and `many-errors`, the calls with values of many parts, allocate after it: they
+//! test that such calls succeed, and not that they fail well. The line has the name of the call and
+//! its result:
 //!
 //! - `not reached`: an allocation failed before the call;
-//! - `out of memory`: the call answered so, and left what it was lent;
-//! - `right answer`: it answered what it has to;
+//! - `out of memory`: the call returned this error, and what it borrowed is unchanged;
+//! - `right answer`: the call returned the right result;
 //! - `wrong answer: WHAT`: anything else. The exit status is then 1.
 #![tactic(auto)]
 
@@ -25,7 +26,7 @@ mod outcome;
 mod stress;
 mod unit_errors;
 
-/// The words of the calls.
+/// The names of the calls.
 const WORDS: [&str; 13] = [
     "from-message-and-causes",
     "to-value",
@@ -42,7 +43,7 @@ const WORDS: [&str; 13] = [
     "many-errors",
 ];
 
-/// Makes the arguments of the call that a word names, then the call.
+/// Makes the arguments of the named call, then the call.
 fn outcome_of(alloc: Global, word: &str) -> Outcome {
     let outcome = match word {
         "from-message-and-causes" => chain::from_message_and_causes(alloc),
@@ -66,7 +67,7 @@ fn outcome_of(alloc: Global, word: &str) -> Outcome {
     }
 }
 
-/// Makes the call of each of these words and prints what came of it. Answers the exit status.
+/// Makes each of the named calls and prints its result. Returns the exit status.
 fn make<R: AllocGlobal + Print>(rt: &R, words: &[&str]) -> io::Result<ExitCode> {
     let mut status = ExitCode::SUCCESS;
     for word in words {

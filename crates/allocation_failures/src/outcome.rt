@@ -1,26 +1,26 @@
-//! What came of a call.
+//! The result of a call.
 
 use std::fmt;
 
-/// What came of a call.
+/// The result of a call.
 #[derive(Clone, Copy)]
 pub(crate) enum Outcome {
-    /// An allocation failed before it was made.
+    /// An allocation failed before the call.
     NotReached,
 
-    /// It answered what it has to.
+    /// The call returned the right result.
     RightAnswer,
 
-    /// It answered that memory ran out, and left what it was lent as it was.
+    /// The call returned the error that memory ran out, and what it borrowed is unchanged.
     OutOfMemory,
 
-    /// It did something else, which the text names.
+    /// Anything else, which the text names.
     Wrong(&'static str),
 }
 
 impl Outcome {
-    /// What came of a call that did not run out of memory: its answer is right, or it is wrong in
-    /// the way that the text names.
+    /// Returns the result of a call that did not run out of memory. If it is not right, `otherwise`
+    /// says what is wrong.
     pub(crate) fn of_answer(is_right: bool, otherwise: &'static str) -> Outcome {
         if is_right {
             Outcome::RightAnswer
@@ -29,7 +29,7 @@ impl Outcome {
         }
     }
 
-    /// What came of a call that ran out of memory: what it was lent is as it was, or it is changed.
+    /// Returns the result of a call that ran out of memory.
     pub(crate) fn of_failure(is_unchanged: bool) -> Outcome {
         if is_unchanged {
             Outcome::OutOfMemory

@@ -9,7 +9,7 @@ use std::alloc::{AllocError, Global};
 
 type Answer<'a> = Result<Option<ErrorList<UnitError<'a>>>, AllocError>;
 
-/// The kind of an error, by a letter.
+/// Returns the letter of an error's kind.
 fn letter(error: &UnitError<'_>) -> u8 {
     match error {
         UnitError::Start(_) => b's',
@@ -19,7 +19,7 @@ fn letter(error: &UnitError<'_>) -> u8 {
     }
 }
 
-/// Whether a list is of a test and has errors of these kinds.
+/// Returns true if a list is that of a test and has errors of these kinds.
 fn is_list_of(list: &ErrorList<UnitError<'_>>, letters: &[u8]) -> bool {
     list.description() == "executing test"
         && list.len() == letters.len()
@@ -29,7 +29,7 @@ fn is_list_of(list: &ErrorList<UnitError<'_>>, letters: &[u8]) -> bool {
             .all(|(error, kind)| letter(error) == *kind)
 }
 
-/// One of the three lists of errors.
+/// The kinds of errors in one of the three lists.
 #[derive(Clone, Copy)]
 pub(crate) enum ErrorKinds {
     All,
@@ -38,7 +38,7 @@ pub(crate) enum ErrorKinds {
 }
 
 impl ErrorKinds {
-    /// The list of these errors.
+    /// Returns the list of these errors.
     fn list<'a>(self, alloc: Global, errors: UnitErrorDescription<'a>) -> Answer<'a> {
         match self {
             ErrorKinds::All => errors.all_error_list(alloc),
@@ -47,7 +47,8 @@ impl ErrorKinds {
         }
     }
 
-    /// Which of them there are in a test that has an error of each kind but that of its start.
+    /// Returns the kinds of a list, for a test that has an error of each kind except one of its
+    /// start.
     fn letters(self) -> &'static [u8] {
         match self {
             ErrorKinds::All => b"ooat",
@@ -57,7 +58,7 @@ impl ErrorKinds {
     }
 }
 
-/// Whether the list of these errors of a unit, made once more, is right.
+/// Returns true if the list of these errors of a unit, made once more, is right.
 fn lists_again(alloc: Global, kinds: ErrorKinds, errors: UnitErrorDescription<'_>) -> bool {
     match kinds.list(alloc, errors) {
         Ok(Some(list)) => is_list_of(&list, kinds.letters()),
@@ -65,7 +66,7 @@ fn lists_again(alloc: Global, kinds: ErrorKinds, errors: UnitErrorDescription<'_
     }
 }
 
-/// One of the lists of a test that has an error of each kind but that of its start.
+/// Makes one of the lists of a test that has an error of each kind except one of its start.
 pub(crate) fn errors(alloc: Global, kinds: ErrorKinds) -> Result<Outcome, AllocError> {
     let output = described(alloc)?;
     if !UnitErrorDescription::can_describe(UnitKind::Test, &output) {
@@ -79,7 +80,7 @@ pub(crate) fn errors(alloc: Global, kinds: ErrorKinds) -> Result<Outcome, AllocE
     })
 }
 
-/// The three lists of a test that passed, which are empty.
+/// Makes the three lists of a test that passed, which are empty.
 pub(crate) fn no_errors(alloc: Global) -> Outcome {
     let output = ChildExecutionOutputDescription::Output {
         result: Some(ExecutionResultDescription::Pass),

@@ -1,13 +1,13 @@
--- What is wanted of a row.
+-- The limits of a row.
 use Rattle.std.specs.Prelude.{ℕ, ◌*◌, ◌-◌, ◌<◌, ◌≤◌, ◌⊎◌, MatchOption, ⊤}
 use Rattle.bench.specs.declared.report.Measured.{Measured}
 use Rattle.bench.specs.declared.timing.Times.{Times}
 
--- the time of the call without what stands beside it
+-- the time of the call without the time of the work that is not its own
 abbrev pub own_time : Times → ℕ
 own_time t = t.call - t.beside
 
--- that time is at most the wanted number of thousandths of a pass, where one is wanted
+-- the own time is at most the limit in thousandths of a pass, if there is a limit
 abbrev pub HasWantedRatio : Measured → Type 0
 HasWantedRatio m = MatchOption m.at_most ⊤ (λ most. 1_000 * own_time m.times ≤ most * m.times.pass)
 

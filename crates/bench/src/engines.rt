@@ -10,10 +10,10 @@ use run_digest_engine::count::count;
 use run_digest_engine::extract::extract;
 use std::alloc::{AllocError, Global};
 
-/// How many bytes a sink has room for.
+/// The number of bytes for which a sink has room.
 const ROOM: usize = 5_000;
 
-/// Which engine.
+/// An engine.
 #[derive(Clone, Copy, Debug, PartialEq, Eq)]
 pub(crate) enum Engine {
     Extract,
@@ -27,15 +27,15 @@ pub(crate) struct Digest {
     engine: Engine,
     input: Vec<u8>,
 
-    /// What it has to answer.
+    /// The answer that the engine must return.
     answer: bool,
 
-    /// What it has to write.
+    /// The text that the engine must write.
     text: Vec<u8>,
 }
 
 impl Digest {
-    /// The extraction from an output of this size.
+    /// Returns the extraction from an output of this size.
     pub(crate) fn of_output(
         alloc: Global,
         output: &Output,
@@ -64,7 +64,7 @@ impl Digest {
         })
     }
 
-    /// The counting of a run that so many pairs of lines say.
+    /// Returns the counting of a run with this number of pairs of tests.
     pub(crate) fn of_lines(alloc: Global, pairs: usize) -> Result<Self, AllocError> {
         let lines = b"test pass\ntest fail,fail slow\n";
         let tests = pairs.wrapping_mul(2);
@@ -81,7 +81,7 @@ impl Digest {
         })
     }
 
-    /// Whether the engine answers and writes what it has to.
+    /// Returns true if the engine returns the right answer and writes the right text.
     fn digests(&self) -> bool {
         let mut buffer = [0; ROOM];
         let mut source = MemorySource::new(self.input.as_slice(), None);
@@ -93,7 +93,7 @@ impl Digest {
         answer == Ok(self.answer) && sink.written() == self.text.as_slice()
     }
 
-    /// Whether the input can be read into memory, as an engine does before all else.
+    /// Returns true if the input can be read into memory, which is the first step of an engine.
     fn is_read(&self) -> bool {
         let mut bytes = Vec::new(self.alloc);
         let mut chunk = [0; 4096];

@@ -13,12 +13,13 @@ pub(crate) struct Extraction {
     bytes: Vec<u8>,
     is_stdout: bool,
 
-    /// Where the panic begins and ends that is to be found.
+    /// The start and the end of the panic that must be found.
     panic: Option<(usize, usize)>,
 }
 
 impl Extraction {
-    /// The extraction from an output of this size, which is standard output or else standard error.
+    /// Returns the extraction from an output of this size, which is standard output or standard
+    /// error.
     pub(crate) fn new(
         alloc: Global,
         output: &Output,
@@ -34,7 +35,7 @@ impl Extraction {
         })
     }
 
-    /// Whether the extraction finds what it has to.
+    /// Returns true if the extraction finds the right panic.
     fn finds_panic(&self) -> bool {
         let bytes = Some(self.bytes.as_slice());
         let found = if self.is_stdout {
@@ -63,7 +64,7 @@ impl Work for Extraction {
     }
 }
 
-/// One pass over the bytes of an input, of which none is 0.
+/// Reads the bytes of an input once, by a search for 0. Returns true if no byte is 0.
 pub(crate) fn reads_all(bytes: &[u8]) -> bool {
     bytes.find_byte(0).is_none()
 }

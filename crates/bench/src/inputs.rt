@@ -7,40 +7,41 @@ ghost use Rattle.std.proofs.Math.ListN.{replicate};
 use crate::size::Size;
 use std::alloc::{AllocError, Global};
 
-/// Where what is found in an output begins. It ends before the white space at the end of the output.
+/// The place where the panic in an output begins. It ends before the white space at the end of the
+/// output.
 #[derive(Clone, Copy, Debug, PartialEq, Eq)]
 pub(crate) enum Place {
-    /// There is nothing to be found.
+    /// There is no panic.
     Nowhere,
 
     /// At the front.
     Front,
 
-    /// At the last piece.
+    /// At the start of the last piece.
     LastPiece,
 
-    /// Behind all pieces.
+    /// After all pieces.
     End,
 }
 
-/// An output by its parts: a front, a piece over and over, and an end.
+/// An output in parts: a front, a repeated piece, and an end.
 #[derive(Clone, Copy)]
 pub(crate) struct Output {
     pub(crate) front: &'static [u8],
 
     pub(crate) piece: &'static [u8],
 
-    /// How many pieces there are, where the size is 64 megabytes.
+    /// The number of pieces if the size is 64 megabytes.
     pub(crate) count: u32,
 
     pub(crate) end: &'static [u8],
 
-    /// Where the panic begins that is in it.
+    /// The place where the panic in the output begins.
     pub(crate) panic_at: Place,
 }
 
 impl Output {
-    /// The output of this size.
+    /// Returns the output of this size.
     pub(crate) fn bytes(&self, alloc: Global, size: Size) -> Result<Vec<u8>, AllocError> {
         joined(
             alloc,
@@ -51,7 +52,7 @@ impl Output {
         )
     }
 
-    /// Where the panic of the output of this size begins and ends, if there is one.
+    /// Returns the start and the end of the panic in the output of this size, if there is one.
     pub(crate) fn panic_in(&self, bytes: &[u8]) -> Option<(usize, usize)> {
         let start = match self.panic_at {
             Place::Nowhere => return None,
@@ -67,7 +68,7 @@ impl Output {
     }
 }
 
-/// A front, so many times a piece, and an end.
+/// Returns a front, a piece `count` times, and an end.
 pub(crate) fn joined(
     alloc: Global,
     front: &[u8],

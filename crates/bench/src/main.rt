@@ -1,16 +1,17 @@
 //! Measures the speed of the library, on inputs that it makes itself.
 //!
-//! `bench MEGABYTES` prints for each row `NAME RATIO GROWTH VERDICT`, and last how many rows are as
-//! it is wanted. RATIO is the time of a call as a multiple of the time of one pass over its input:
-//! a search for a byte that is not there; for units and summaries one read of each, and for reports
-//! of test runs the reading of each line by `serde_json`. GROWTH is the time of the call as a multiple
-//! of its time at half the size; it is judged where the call takes a millisecond or more. A time is
-//! the least of 15. RATIO leaves out that an engine of `run-digest` reads its input.
+//! `bench MEGABYTES` prints a line `NAME RATIO GROWTH VERDICT` for each row, and at the end how
+//! many rows are within their limits. RATIO is the time of a call as a multiple of the time of one
+//! pass over its input: a search for a byte that does not occur. For units and summaries the pass
+//! is one read of each, and for reports of test runs `serde_json` reads each line. GROWTH is the
+//! time of the call as a multiple of its time at half the size. It is judged if the call takes a
+//! millisecond or more. Each time is the least of 15. RATIO does not include the time in which an
+//! engine of `run-digest` reads its input.
 //!
 //! `bench small` makes the same calls on small inputs, and prints `NAME ok` for each row.
 //!
-//! Each call must give the right answer: where one does not, `NAME wrong answer` is printed, and the
-//! exit status is 1, as it is where memory is refused. No ratio changes the status.
+//! Each call must return the right answer. If one does not, `NAME wrong answer` is printed and the
+//! exit status is 1. It is also 1 if memory is refused. No ratio changes the exit status.
 #![tactic(auto)]
 
 use crate::engines::Digest;
@@ -37,7 +38,7 @@ mod test_runs;
 mod timing;
 mod units;
 
-/// The times of what is measured, at a size and at half of it.
+/// Measures the times of a row, at a size and at half of it.
 fn times<R: AllocGlobal + Clock>(rt: &R, kind: &Kind, size: Size) -> Result<Times> {
     let alloc = rt.alloc();
     match kind {
@@ -82,7 +83,7 @@ fn times<R: AllocGlobal + Clock>(rt: &R, kind: &Kind, size: Size) -> Result<Time
     }
 }
 
-/// How many rows were measured, and with what.
+/// The numbers of rows that were measured, that were within their limits, and that had a wrong answer.
 #[derive(Clone, Copy, Debug, Default)]
 struct Tally {
     rows: usize,
@@ -90,7 +91,7 @@ struct Tally {
     wrong: usize,
 }
 
-/// Measures rows, and prints what comes of each, or only that its answers are right.
+/// Measures rows, and prints the result of each, or only that its answers are right.
 fn measure<R: AllocGlobal + Clock + Print>(
     rt: &R,
     rows: &[Row],
@@ -118,7 +119,7 @@ fn measure<R: AllocGlobal + Clock + Print>(
     Ok(())
 }
 
-/// Measures all rows, and says how many are as they are wanted. Answers whether all answers are
+/// Measures all rows, and prints how many are within their limits. Returns true if all answers are
 /// right.
 fn measure_all<R: AllocGlobal + Clock + Print>(rt: &R, size: Size) -> io::Result<bool> {
     let mut tally = Tally::default();
@@ -132,7 +133,7 @@ fn measure_all<R: AllocGlobal + Clock + Print>(rt: &R, size: Size) -> io::Result
     Ok(tally.wrong == 0)
 }
 
-/// The size that a word names: `small`, or a number of megabytes.
+/// Returns the size that an argument names: `small`, or a number of megabytes.
 fn named_size(word: &str) -> Option<Size> {
     if word == "small" {
         return Some(Size::SMALL);
@@ -140,7 +141,7 @@ fn named_size(word: &str) -> Option<Size> {
     Size::from_megabytes(word.parse().ok()?)
 }
 
-/// The size that the words after the program's name ask for.
+/// Returns the size that the command-line arguments name.
 fn asked_size<R: Env + AllocGlobal>(rt: &R) -> io::Result<Option<Size>> {
     let mut args = env::args(rt)?;
     let _program = args.next();

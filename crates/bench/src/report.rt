@@ -1,4 +1,4 @@
-//! What is said of a row.
+//! The result of a row.
 
 ghost use Rattle.std.specs.Prelude.{◌≡◌, ◌*◌, ◌/◌, ◌≤◌, ◌↔◌, IsTrue, max};
 ghost use Rattle.bench.specs.Wanted.{HasWantedGrowth, HasWantedRatio, own_time};
@@ -6,20 +6,21 @@ ghost use Rattle.bench.specs.Wanted.{HasWantedGrowth, HasWantedRatio, own_time};
 use crate::timing::Times;
 use std::fmt;
 
-/// The growth of a call of less time, in nanoseconds, is not judged.
+/// The growth of a call that takes less time than this, in nanoseconds, is not judged.
 const FLOOR: u64 = 1_000_000;
 
-/// The highest growth that is wanted from half the size to the whole, in thousandths.
+/// The highest growth from half the size to the whole size that is within the limit, in
+/// thousandths.
 const MOST_GROWTH: u64 = 2_200;
 
-/// How many thousandths of another a time is; of no time it is taken as of a nanosecond.
+/// Returns a time as a multiple of another, in thousandths. If the other is 0, it is taken as 1.
 fn in_thousandths(time: u64, other: u64) -> u128
     ensures { result ≡ 1_000 * time / max other 1 }
 {
     1_000 * u128::from(time) / u128::from(other.max(1))
 }
 
-/// Whether a time is at most so many thousandths of another.
+/// Returns true if a time is at most this many thousandths of another.
 fn is_at_most(time: u64, thousandths: u64, other: u64) -> bool
     ensures { IsTrue result ↔ (1_000 * time ≤ thousandths * other) }
 {
@@ -38,24 +39,25 @@ impl fmt::Display for Fraction {
     }
 }
 
-/// The times of a row, and the ratio that is wanted of it.
+/// The times of a row, and the limit of its ratio.
 #[derive(Clone, Copy, Debug, PartialEq, Eq)]
 pub(crate) struct Measured {
     pub(crate) times: Times,
 
-    /// In thousandths; with `None` growth alone is judged.
+    /// The highest ratio that is within the limit, in thousandths. If it is `None`, only the growth
+    /// is judged.
     pub(crate) at_most: Option<u64>,
 }
 
 impl Measured {
-    /// The time of the call, without what stands beside it.
+    /// Returns the time of the call without the time of the work that is not its own.
     fn own_time(&self) -> u64
         ensures { result ≡ own_time self.now.times }
     {
         self.times.call.saturating_sub(self.times.beside)
     }
 
-    /// Whether the ratio is as it is wanted.
+    /// Returns true if the ratio is within its limit.
     fn has_wanted_ratio(&self) -> bool
         ensures { IsTrue result ↔ HasWantedRatio self.now }
     {
@@ -65,14 +67,14 @@ impl Measured {
         }
     }
 
-    /// Whether the growth is as it is wanted, or cannot be judged.
+    /// Returns true if the growth is within its limit or is not judged.
     fn has_wanted_growth(&self) -> bool
         ensures { IsTrue result ↔ HasWantedGrowth self.now.times }
     {
         self.times.call < FLOOR || is_at_most(self.times.call, MOST_GROWTH, self.times.half_call)
     }
 
-    /// Whether both are as they are wanted.
+    /// Returns true if the ratio and the growth are within their limits.
     pub(crate) fn is_within(&self) -> bool
         ensures { IsTrue result ↔ (HasWantedRatio self.now × HasWantedGrowth self.now.times) }
     {
@@ -80,7 +82,7 @@ impl Measured {
     }
 }
 
-/// Ratio, growth, and whether both are as they are wanted.
+/// Writes the ratio, the growth, and whether both are within their limits.
 impl fmt::Display for Measured {
     fn fmt<W: fmt::Write>(&self, f: &mut fmt::Formatter<W>) -> fmt::Result {
         let ratio = Fraction(in_thousandths(self.own_time(), self.times.pass));

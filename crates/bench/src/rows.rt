@@ -1,10 +1,10 @@
-//! The rows: what is measured, and which ratio is wanted of it.
+//! The rows: the calls that are measured, with the limits of their ratios.
 
 use crate::inputs::{Output, Place};
 use crate::logs::{LOG, QUOTELESS_LOG};
 use crate::test_runs::Ending;
 
-/// What is measured.
+/// The call that is measured.
 #[derive(Clone, Copy)]
 pub(crate) enum Kind {
     /// The extraction from an output that is standard error.
@@ -25,17 +25,17 @@ pub(crate) enum Kind {
     /// The outcome of sub-runs.
     SubRuns,
 
-    /// The report of a test run whose tests end so.
+    /// The report of a test run whose tests all end in this way.
     Report(Ending),
 }
 
-/// A row: its name, the highest ratio that is wanted, in thousandths, or `None` where growth alone
-/// is judged, and what is measured.
+/// A row: its name, the highest ratio that is within the limit, in thousandths, and the call. With
+/// `None` only the growth is judged.
 pub(crate) type Row = (&'static str, Option<u64>, Kind);
 
 const PANIC: &[u8] = b"thread 'pool::tests::grows' panicked at src/pool.rs:41:9:\nno room left\n";
 
-/// Pieces with nothing before them and behind them, and no panic.
+/// Returns pieces without a front, an end and a panic.
 fn pieces(piece: &'static [u8], count: u32) -> Output {
     Output {
         front: b"",
@@ -46,8 +46,8 @@ fn pieces(piece: &'static [u8], count: u32) -> Output {
     }
 }
 
-/// The same before a line that holds what ends a head, and is none: without it no head is looked
-/// for.
+/// Adds a line at the end of an output that contains the end of a head but is not one. Without such
+/// a line the search does not look for heads.
 fn before_no_head(output: Output) -> Output {
     Output {
         end: b"the worker panicked at start\n",
@@ -55,7 +55,7 @@ fn before_no_head(output: Output) -> Output {
     }
 }
 
-/// The rows of ordinary output, of 64 megabytes where that is the size.
+/// The rows of ordinary output, which has 64 megabytes at that size.
 pub(crate) fn ordinary() -> [Row; 6] {
     let log = pieces(LOG, 100_000);
     let opening = Output {
@@ -82,7 +82,7 @@ pub(crate) fn ordinary() -> [Row; 6] {
     ]
 }
 
-/// The rows of output that is made to take long.
+/// The rows of output that is chosen to take long.
 pub(crate) fn adverse() -> [Row; 8] {
     let heads = Output {
         panic_at: Place::LastPiece,

@@ -1,8 +1,9 @@
-//! How large the inputs are.
+//! The sizes of the inputs.
 
 ghost use Rattle.std.specs.Prelude.{◌≡◌, ◌≤◌, ◌*◌, ◌/◌, ◌↔◌, IsSome, IfSome};
 
-/// How large the inputs are: the bytes of the largest ones. All else is in proportion to them.
+/// The size of the inputs: the number of bytes of the largest ones. All other inputs are in
+/// proportion.
 #[derive(Clone, Copy, Debug, PartialEq, Eq)]
 pub(crate) struct Size {
     bytes: u64,
@@ -12,10 +13,10 @@ pub(crate) struct Size {
 impl Size {
     ghost use Rattle.std.specs.Prelude.{◌≤◌};
 
-    /// Large enough to see whether the answers are right.
+    /// A size that is large enough to see whether the answers are right.
     pub(crate) const SMALL: Size = Size { bytes: 64_000 };
 
-    /// So many megabytes, of a million bytes each: 1 to 1,024.
+    /// Returns the size of this many megabytes of a million bytes each, from 1 to 1,024.
     pub(crate) fn from_megabytes(megabytes: u64) -> Option<Size>
         ensures few { IsSome result ↔ ((1 ≤ megabytes) × (megabytes ≤ 1_024)) }
         ensures bytes { IfSome result (λ s. s.bytes ≡ 1_000_000 * megabytes) }
@@ -28,7 +29,7 @@ impl Size {
         })
     }
 
-    /// Half of it.
+    /// Returns half of the size.
     pub(crate) fn half(self) -> Size
         ensures { result.bytes ≡ self.bytes / 2 }
     {
@@ -37,7 +38,7 @@ impl Size {
         }
     }
 
-    /// How many things an input of this size has, where one of 64 megabytes has so many.
+    /// Returns the number of things in an input of this size, given their number at 64 megabytes.
     pub(crate) fn share(self, at_64: u32) -> usize
         ensures { result ≡ self.bytes * at_64 / 64_000_000 }
     {

@@ -20,20 +20,20 @@ const OPTIONS: Options = Options {
     no_tests_pass: false,
 };
 
-/// How many blocks of a log a failed test writes, of 640 bytes each.
+/// The number of blocks of a log that a failed test writes, of 640 bytes each.
 const BLOCKS: usize = 80;
 
-/// How all tests of a run end.
+/// The way in which all tests of a run end.
 #[derive(Clone, Copy, Debug, PartialEq, Eq)]
 pub(crate) enum Ending {
     Passed,
 
-    /// With output that ends with a panic.
+    /// The tests fail, with output that ends with a panic.
     Failed,
 }
 
 impl Ending {
-    /// How many tests a run of this size has.
+    /// Returns the number of tests of a run of this size.
     fn count(self, size: Size) -> usize {
         match self {
             Ending::Passed => size.share(1_000_000),
@@ -41,7 +41,7 @@ impl Ending {
         }
     }
 
-    /// The event with which a test, or the suite, ends so.
+    /// Returns the event with which such a test, or the suite, ends.
     fn event(self) -> &'static str {
         match self {
             Ending::Passed => "ok",
@@ -55,18 +55,18 @@ impl Ending {
 pub(crate) struct TestRun {
     alloc: Global,
 
-    /// The lines that tell the run.
+    /// The lines of the run.
     lines: String,
 
-    /// What has to be written.
+    /// The report that must be written.
     text: String,
 
-    /// Where it is written: room for that, and for no more.
+    /// The room for the report, and for no more.
     room: Vec<u8>,
 }
 
 impl TestRun {
-    /// The run of this size whose tests end so.
+    /// Returns the run of this size whose tests end in this way.
     pub(crate) fn new(alloc: Global, ending: Ending, size: Size) -> Result<Self, AllocError> {
         let count = ending.count(size);
         let lines = lines_of(alloc, ending, count)?;
@@ -83,7 +83,7 @@ impl TestRun {
         })
     }
 
-    /// Writes the report, and returns true if it is what has to be written.
+    /// Writes the report, and returns true if it is the right one.
     fn reports(&mut self) -> Result<bool, Fault> {
         let mut source = MemorySource::new(self.lines.as_bytes(), None);
         let mut sink = MemorySink::new(self.room.as_mut_slice(), None);
@@ -94,7 +94,7 @@ impl TestRun {
         Ok(sink.written() == self.text.as_bytes())
     }
 
-    /// Whether each line is read as JSON.
+    /// Returns true if each line is JSON.
     fn is_json(&self) -> bool {
         for line in self.lines.as_bytes().lines() {
             if Value::from_slice(self.alloc, line).is_err() {
@@ -115,7 +115,7 @@ impl Work for TestRun {
     }
 }
 
-/// The lines of a run of so many tests that end so.
+/// Returns the lines of a run of `count` tests that end in this way.
 fn lines_of(alloc: Global, ending: Ending, count: usize) -> Result<String, AllocError> {
     let log = escaped_log(alloc)?;
     let event = ending.event();
@@ -133,7 +133,7 @@ fn lines_of(alloc: Global, ending: Ending, count: usize) -> Result<String, Alloc
     Ok(lines)
 }
 
-/// Appends the line with which the test of this number ends. One that failed wrote a log and
+/// Appends the line with which the test of this number ends. A failed test wrote a log and
 /// panicked.
 fn push_end(
     lines: &mut String,
@@ -155,7 +155,7 @@ fn push_end(
     lines.push_str(" }\n")
 }
 
-/// A log as it stands in a string of JSON.
+/// Returns a log as the content of a JSON string.
 fn escaped_log(alloc: Global) -> Result<String, AllocError> {
     let block = String::from_utf8_lossy(alloc, LOG)?;
     let mut log = String::new(alloc);
@@ -168,7 +168,7 @@ fn escaped_log(alloc: Global) -> Result<String, AllocError> {
     Ok(log)
 }
 
-/// The report of so many tests that passed.
+/// Returns the report of `count` tests that passed.
 fn passed_text(alloc: Global, count: usize) -> Result<String, AllocError> {
     format!(in alloc;
         "------------\n     Summary {count} tests run: {count} passed (0 flaky), \
@@ -176,7 +176,7 @@ fn passed_text(alloc: Global, count: usize) -> Result<String, AllocError> {
     )
 }
 
-/// The report of so many tests that failed.
+/// Returns the report of `count` tests that failed.
 fn failed_text(alloc: Global, count: usize) -> Result<String, AllocError> {
     let mut text = String::new(alloc);
     for number in 0..count {

@@ -1,4 +1,4 @@
-//! Times, as the least of several.
+//! Times, each the least of several.
 
 ghost use Rattle.std.specs.Prelude.{◌≤◌, ◌<◌, length, All, Contains};
 
@@ -9,13 +9,13 @@ use std::time::Instant;
 /// How often each step is timed.
 const ROUNDS: usize = 15;
 
-/// What is timed of a piece of work.
+/// The steps of a measurement.
 #[derive(Clone, Copy, Debug, PartialEq, Eq)]
 pub(crate) enum Step {
     /// The call.
     Call,
 
-    /// What the call also does, and what is not its own. The ratio is without its time.
+    /// Work that the call includes but that is not its own. The ratio does not include its time.
     Beside,
 
     /// One pass over the input of the call.
@@ -24,7 +24,7 @@ pub(crate) enum Step {
 
 /// A call with its input.
 pub(crate) trait Work {
-    /// Does the step, and answers whether what comes of it is right.
+    /// Does the step, and returns true if its result is right.
     fn run(&mut self, step: Step) -> bool;
 }
 
@@ -37,7 +37,7 @@ pub(crate) struct Times {
     pub(crate) half_call: u64,
 }
 
-/// The least of several times.
+/// Returns the least of several times.
 fn least(times: &[u64]) -> u64
     requires { 0 < length times.now }
     ensures one_of_them { Contains times.now result }
@@ -49,7 +49,7 @@ fn least(times: &[u64]) -> u64
     }
 }
 
-/// The time of a step in nanoseconds. What comes of it has to be right.
+/// Returns the time of a step in nanoseconds. It is an error if its result is wrong.
 fn time_of<R: Clock, W: Work>(rt: &R, work: &mut W, step: Step) -> Result<u64> {
     let start = Instant::now(rt)?;
     let is_right = work.run(step);
@@ -58,10 +58,11 @@ fn time_of<R: Clock, W: Work>(rt: &R, work: &mut W, step: Step) -> Result<u64> {
     Ok(u64::try_from(time.as_nanos()).unwrap_or(u64::MAX))
 }
 
-/// The least times of work, and of its call at half the size. All that comes of it has to be right.
+/// Returns the least times of the steps, and of the call at half the size. It is an error if a
+/// result is wrong.
 ///
-/// The steps take turns, so that a load of the machine is one of all steps, and none finds its
-/// input in a cache because it alone was read there last.
+/// The steps take turns. So a load of the machine slows all of them, and no step finds its input in
+/// a cache because it was the last one to read it.
 pub(crate) fn least_times<R: Clock, W: Work, H: Work>(
     rt: &R,
     work: &mut W,

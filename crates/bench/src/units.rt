@@ -1,4 +1,4 @@
-//! Finished tests and summaries of sub-runs, and how they are counted. Every second one failed.
+//! Finished tests and summaries of sub-runs, of which every second one failed, and their counting.
 
 use crate::timing::{Step, Work};
 use fixtures::{EXIT_ONE, PASS, finished_test};
@@ -9,7 +9,7 @@ use run_events::outcome::{FinalRunStats, RunFailureStep, RunOutcome, RunStatsFai
 use run_events::stats::{FinishedUnit, RunStart, RunStats};
 use std::alloc::{AllocError, Global};
 
-/// A run of which nothing is known but its units.
+/// The start of a run of which only the units are known.
 const START: RunStart = RunStart {
     initial_run_count: 0,
     setup_scripts_initial_count: 0,
@@ -24,7 +24,7 @@ const SUMMARIES: [FinalRunStats; 2] = [
     },
 ];
 
-/// So many pairs of a test that passed and one that failed.
+/// Returns pairs of a test that passed and one that failed.
 pub(crate) fn tests(
     alloc: Global,
     pairs: usize,
@@ -44,7 +44,7 @@ pub(crate) struct Counting<'a> {
 }
 
 impl<'a> Counting<'a> {
-    /// The counting of these tests, lent.
+    /// Returns the counting of these tests, which are borrowed.
     pub(crate) fn new(
         alloc: Global,
         tests: &'a [ExecutionStatuses<LiveSpec>],
@@ -56,7 +56,7 @@ impl<'a> Counting<'a> {
         Ok(Counting { units })
     }
 
-    /// How many last results are no success.
+    /// Returns the number of tests whose last attempt did not succeed.
     fn failed(&self) -> usize {
         self.units
             .iter()
@@ -94,7 +94,7 @@ pub(crate) struct SubRuns {
 }
 
 impl SubRuns {
-    /// The outcome of so many pairs of a success and a failure.
+    /// Returns the outcome of pairs of a success and a failure.
     pub(crate) fn new(alloc: Global, pairs: usize) -> Result<Self, AllocError> {
         let mut summaries = Vec::new(alloc);
         for _ in 0..pairs {
@@ -103,7 +103,7 @@ impl SubRuns {
         Ok(SubRuns { summaries })
     }
 
-    /// How many summaries are failures.
+    /// Returns the number of summaries that are failures.
     fn failed(&self) -> usize {
         self.summaries
             .iter()

@@ -1,4 +1,4 @@
--- The values of codes: a code is a position in the list of its enumeration, from 0.
+-- The values of codes. A code is a position in the list of its enumeration, counted from 0.
 use Rattle.std.specs.Prelude.{ℤ, List, [], ◌∷◌, Option, None, Some, false, true}
 use Rattle.run_events_levels.specs.declared.levels.FinalStatusLevel.{FinalStatusLevel}
 use Rattle.run_events_levels.specs.declared.levels.FinalStatusLevel.TheVariants as final
@@ -24,7 +24,8 @@ use Rattle.run_events_stats.specs.declared.outcome.finished.StressFinalRunStats.
 use Rattle.run_events_stats.specs.declared.outcome.run_outcome.RunOutcome.{RunOutcome}
 use Rattle.run_events_stats.specs.declared.outcome.run_outcome.RunOutcome.TheVariants as outcome
 
--- the results of an attempt, with this number if they have one; names and leaks of failures do not cross
+-- the results of an attempt, with this number if they have one; names of signals, messages of status codes and leaks of
+-- failures have no code
 abbrev pub results : ℤ → List ExecutionResultDescription
 results number =
     result.Pass
@@ -39,11 +40,11 @@ results number =
     ∷ result.Timeout slow.Fail
     ∷ []
 
--- how a flaky test counts
+-- the codes of how a flaky test counts
 abbrev pub flaky_results : List FlakyResult
 flaky_results = flaky.Pass ∷ flaky.Fail ∷ []
 
--- why a run is cancelled, if it is
+-- the codes of reasons to cancel a run
 abbrev pub reasons : List (Option CancelReason)
 reasons =
     None
@@ -58,27 +59,27 @@ reasons =
     ∷ Some reason.SecondSignal
     ∷ []
 
--- status levels
+-- the codes of status levels
 abbrev pub levels : List StatusLevel
 levels = level.None ∷ level.Fail ∷ level.Retry ∷ level.Slow ∷ level.Leak ∷ level.Pass ∷ level.Skip ∷ level.All ∷ []
 
--- final levels
+-- the codes of final levels
 abbrev pub final_levels : List FinalStatusLevel
 final_levels = final.None ∷ final.Fail ∷ final.Flaky ∷ final.Slow ∷ final.Skip ∷ final.Leak ∷ final.Pass ∷ final.All ∷ []
 
--- when output is displayed
+-- the codes of when output is displayed
 abbrev pub displays : List TestOutputDisplay
 displays = display.Immediate ∷ display.ImmediateFinal ∷ display.Final ∷ display.Never ∷ []
 
--- what is stored for the end of a run
+-- the codes of what is stored for the end of a run
 abbrev pub stores : List OutputStoreFinal
 stores = store.No ∷ store.Yes false ∷ store.Yes true ∷ []
 
--- the summaries of a repeated run
+-- the codes of summaries of a repeated run
 abbrev pub stress_finals : List StressFinalRunStats
 stress_finals = stress.NoTestsRun ∷ stress.Success ∷ stress.Cancelled ∷ stress.Failed ∷ []
 
--- the outcomes of a run
+-- the codes of outcomes of a run
 abbrev pub outcomes : List RunOutcome
 outcomes =
     outcome.NoTestsRun

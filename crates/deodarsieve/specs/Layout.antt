@@ -1,4 +1,4 @@
--- The values that the structs of C stand for, if all their codes name something.
+-- The values in the structs of C. A struct has no value if one of its codes is not in its table.
 use Rattle.std.specs.Prelude.{◌≡◌, ◌≢◌, ◌≤◌, ◌⊎◌, ◌+◌, ◌*◌, ◌-◌, ◌<◌, ◌^◌, ℕ, Bool, if◌then◌else◌, nat_lt, ◌==◌, List, [], ◌∷◌, length, slice_get, Option, None, Some, IsSomeAnd, option_and_then, option_map, unwrap_or}
 use Rattle.deodarsieve.specs.Codes.{displays, final_levels, flaky_results, levels, outcomes, reasons, results, stores}
 use Rattle.deodarsieve.specs.declared.layout.FfiDuration.{FfiDuration}
@@ -42,19 +42,19 @@ named values code = option_and_then (λ value. value) (slice_get values code)
 abbrev pub captured : Bool → List ℕ → Option (List ℕ)
 captured is_captured stream = if is_captured then Some stream else None
 
--- the slice that is written for what was found
+-- the struct for a part that was found, or for none
 abbrev pub slice_out : Option Extract → FfiSlice
 slice_out None = record { kind = 0; start = 0; length = 0 }
 slice_out (Some (panic_slice x)) = record { kind = 1; start = x.start; length = length x.bytes }
 slice_out (Some (error_slice x)) = record { kind = 2; start = x.start; length = length x.bytes }
 slice_out (Some (note_line x)) = record { kind = 3; start = x.start; length = length x.bytes }
 
--- nothing was found, or the part is not empty and lies within the stream that its kind names, which was captured
+-- no part was found, or the part is not empty and lies within the captured stream that its kind names
 abbrev pub LiesWithin : Option (List ℕ) → Option (List ℕ) → FfiSlice → Type 0
 LiesWithin out err s =
     (s.kind ≡ 0) ⊎ ((0 < s.length) × IsSomeAnd (if s.kind == 3 then out else err) (λ stream. s.start + s.length ≤ length stream))
 
--- a number of reads as it is written: the greatest number of 64 bits if it is above that
+-- a number of reads as it is written: at most 2^64 - 1
 abbrev pub reads_out : ℕ → ℕ
 reads_out reads = if nat_lt reads (2 ^ 64) then reads else 2 ^ 64 - 1
 
@@ -62,7 +62,7 @@ reads_out reads = if nat_lt reads (2 ^ 64) then reads else 2 ^ 64 - 1
 abbrev pub head_in : FfiHead → Option HeadSpan
 head_in h = if h.is_found then Some (record { start = h.start; stop = h.stop }) else None
 
--- what is displayed and stored of a finished test, read from what is written
+-- what is displayed and stored of a finished test, read from the struct that was written
 abbrev pub output_in : FfiOutput → Option OutputOnTestFinished
 output_in o = option_map (λ stored. record {
   write_status_line = o.write_status_line;
@@ -83,12 +83,12 @@ view_in v = option_and_then (λ ended. option_map (λ setting. record {
   flaky_result = setting;
 }) (slice_get flaky_results v.flaky_result)) (result_in v.result)
 
--- the levels that a reporter is set to
+-- the levels of the reporter
 abbrev pub own_levels_in : FfiFinishedTest → Option StatusLevels
 own_levels_in t = option_and_then (λ level. option_map (λ final. record { status_level = level; final_status_level = final })
     (slice_get final_levels t.final_status_level)) (slice_get levels t.status_level)
 
--- what a finished test asks for under those levels
+-- what the reporter shows of a finished test if the run is not cancelled
 abbrev pub asked_in : FfiFinishedTest → Option Asked
 asked_in t =
     option_and_then (λ own.
@@ -158,13 +158,13 @@ failed_in f = option_map (λ step. summary.Failed step) (kind_in f)
 abbrev pub final_in : FfiFinalStats → Option FinalRunStats
 final_in f = named (Some summary.NoTestsRun ∷ Some summary.Success ∷ cancelled_in f ∷ failed_in f ∷ []) f.kind
 
--- a member that its kind and its step do not have is 0
+-- members that the kind and the step do not have are 0
 pub record HasNoMore (f : FfiFinalStats) : Type 0 where
   pub reason : f.kind ≢ 2 → f.reason ≡ 0
   pub step : f.kind < 2 → f.step ≡ 0
   pub counts : (f.kind < 2) ⊎ (f.step ≡ 1) → (f.initial_run_count ≡ 0) × (f.not_run ≡ 0)
 
--- the outcome of a sub-run, or that no tests were run, which changes no outcome, if a code names nothing
+-- the outcome of a sub-run; if it has no value, `NoTestsRun`, which changes no outcome
 abbrev pub outcome_in : FfiFinalStats → RunOutcome
 outcome_in f = unwrap_or (option_map outcome_of (final_in f)) outcome.NoTestsRun
 
@@ -172,7 +172,7 @@ outcome_in f = unwrap_or (option_map outcome_of (final_in f)) outcome.NoTestsRun
 abbrev pub combined_in : ℕ → ℕ → Option RunOutcome
 combined_in a b = option_and_then (λ outcome. option_map (combined outcome) (slice_get outcomes b)) (slice_get outcomes a)
 
--- the summary of a repeated run, from how many of its sub-runs were counted as failed and the summary of the last one
+-- the summary of a repeated run, from the number of its sub-runs that were counted as failed and the summary of the last one
 abbrev pub stress_summary_in : ℕ → FinalRunStats → StressFinalRunStats
 stress_summary_in failed last = if nat_lt 0 failed then stress.Failed else last_summary last
 
@@ -186,25 +186,26 @@ pub record IsStepAlone (f : FfiFinalStats) : Type 0 where
 abbrev pub duration_in : FfiDuration → Option ℕ
 duration_in d = if nat_lt d.nanoseconds 1_000_000_000 then Some (d.seconds * 1_000_000_000 + d.nanoseconds) else None
 
--- what is left of a run that is repeated a number of times, of which some are done; none if the number is 0
+-- what remains of a run that is repeated a number of times, after the completed sub-runs; it has no value if that number is
+-- 0
 abbrev pub left_of_count : FfiStressProgress → Option (Option Left)
 left_of_count p = if p.total_count == 0 then None else Some (above_zero sub_runs (p.total_count - p.completed))
 
--- what is left of a run that is repeated for a time, of which this much has elapsed
+-- what remains of a run that is repeated for a time, of which `elapsed` nanoseconds have elapsed
 abbrev pub left_of_time : ℕ → FfiStressProgress → Option (Option Left)
 left_of_time elapsed p = option_map (λ total. above_zero nanos (total - elapsed)) (duration_in p.total)
 
--- what is left of a repeated run
+-- what remains of a repeated run
 abbrev pub left_after : FfiStressProgress → Option (Option Left)
 left_after p = option_and_then (λ elapsed.
     named (left_of_count p ∷ Some (Some endless) ∷ left_of_time elapsed p ∷ []) p.kind) (duration_in p.elapsed)
 
--- what is left of a repeated run, read from what is written
+-- what remains of a repeated run, read from the struct that was written
 abbrev pub left_in : FfiStressRemaining → Option (Option Left)
 left_in r = named (Some (Some (sub_runs r.count)) ∷ Some (Some endless)
     ∷ option_map (λ time. Some (nanos time)) (duration_in r.time) ∷ Some None ∷ []) r.kind
 
--- a member that its kind does not have is 0
+-- members that the kind does not have are 0
 pub record HasOnlyItsKind (r : FfiStressRemaining) : Type 0 where
   pub count : r.kind ≢ 0 → r.count ≡ 0
   pub time : r.kind ≢ 2 → (r.time.seconds ≡ 0) × (r.time.nanoseconds ≡ 0)

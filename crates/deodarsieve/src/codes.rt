@@ -1,4 +1,4 @@
-//! The codes of enumerations: from a code to its value, and back.
+//! The codes of enumerations, converted to values and back.
 
 ghost use Rattle.std.specs.Prelude.{◌≡◌, Some, false, slice_get};
 ghost use Rattle.deodarsieve.specs.Codes.{displays, final_levels, flaky_results, levels, outcomes, reasons, results, stores, stress_finals};
@@ -74,50 +74,50 @@ const OUTCOMES: [RunOutcome; 6] = [
     },
 ];
 
-/// Returns how a flaky test counts, or `None` if the code names nothing.
+/// Returns how a flaky test counts, or `None` if the code is not in the table.
 pub(crate) fn flaky_result(code: u32) -> Option<FlakyResult>
     ensures { result ≡ slice_get flaky_results code }
 {
     FLAKY_RESULTS.get(code as usize).copied()
 }
 
-/// Returns why a run is cancelled, if it is, or `None` if the code names nothing.
+/// Returns why a run is cancelled, if it is, or `None` if the code is not in the table.
 pub(crate) fn reason(code: u32) -> Option<Option<CancelReason>>
     ensures { result ≡ slice_get reasons code }
 {
     REASONS.get(code as usize).copied()
 }
 
-/// Returns the status level of a code, or `None` if the code names nothing.
+/// Returns the status level of a code, or `None` if the code is not in the table.
 pub(crate) fn level(code: u32) -> Option<StatusLevel>
     ensures { result ≡ slice_get levels code }
 {
     LEVELS.get(code as usize).copied()
 }
 
-/// Returns the final level of a code, or `None` if the code names nothing.
+/// Returns the final level of a code, or `None` if the code is not in the table.
 pub(crate) fn final_level(code: u32) -> Option<FinalStatusLevel>
     ensures { result ≡ slice_get final_levels code }
 {
     FINAL_LEVELS.get(code as usize).copied()
 }
 
-/// Returns when output is displayed, or `None` if the code names nothing.
+/// Returns when output is displayed, or `None` if the code is not in the table.
 pub(crate) fn display(code: u32) -> Option<TestOutputDisplay>
     ensures { result ≡ slice_get displays code }
 {
     DISPLAYS.get(code as usize).copied()
 }
 
-/// Returns the outcome of a code, or `None` if the code names nothing.
+/// Returns the outcome of a code, or `None` if the code is not in the table.
 pub(crate) fn outcome(code: u32) -> Option<RunOutcome>
     ensures { result ≡ slice_get outcomes code }
 {
     OUTCOMES.get(code as usize).copied()
 }
 
-/// Returns the result of an attempt from its code and its number, or `None` if the code names
-/// nothing.
+/// Returns the result of an attempt from its code and its number, or `None` if the code is not in
+/// the table.
 pub(crate) fn described(ended: FfiResult) -> Option<ExecutionResultDescription>
     ensures { result ≡ slice_get (results ended.number) ended.kind }
 {
@@ -166,7 +166,7 @@ fn failed(failure: FailureDescription) -> ExecutionResultDescription
     }
 }
 
-/// Returns the code of why a run is cancelled, if it is.
+/// Returns the code of a reason to cancel a run, or the code 0 for `None`.
 pub(crate) fn reason_code(reason: Option<CancelReason>) -> u32
     ensures { slice_get reasons result ≡ Some reason }
 {

@@ -1,4 +1,4 @@
-//! Levels, and what is shown of a finished test.
+//! The levels of finished tests, and what a reporter shows of them.
 
 ghost use Rattle.std.specs.Prelude.{◌≡◌, ◌≢◌, Some, option_and_then, option_map, slice_get};
 ghost use Rattle.deodarsieve.specs.Codes.{final_levels, levels};
@@ -52,7 +52,7 @@ pub extern "C" fn deodarsieve_finished_test_compute_output(
     values::give(answer, output_of(test).map(written_output))
 }
 
-/// Returns what is displayed and stored, or `None` if a code names nothing.
+/// Returns what is displayed and stored, or `None` if a code is not in its table.
 fn output_of(test: &FfiFinishedTest) -> Option<OutputOnTestFinished>
     ensures { result ≡ visibility_in test.now }
 {
@@ -90,7 +90,7 @@ pub extern "C" fn deodarsieve_result_is_success(ended: &FfiResult, answer: &mut 
     values::give(answer, is_success)
 }
 
-/// Writes whether an attempt failed by `SIGTERM` or with its job object.
+/// Writes whether an attempt failed by `SIGTERM` or by the end of its job object.
 #[unsafe(no_mangle)]
 pub extern "C" fn deodarsieve_result_is_termination_failure(
     ended: &FfiResult,

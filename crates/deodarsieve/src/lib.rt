@@ -1,11 +1,12 @@
-//! The layer's calls for C, and for any language that calls as C does.
+//! The functions of the layer for C, and for any language that can call C.
 //!
-//! The header `deodarsieve.h` declares every export and says what its caller owes. An export makes one
-//! call of the layer, if the arguments meet the call's conditions, and writes the result through a
-//! pointer. It returns a status of [`status`]. An enumeration crosses as a code.
+//! The header `deodarsieve.h` declares every function, with its result and its preconditions. A
+//! function makes one call of the layer if its arguments meet the preconditions of that call, and
+//! writes the result through a pointer. It returns a status of [`status`]. An enumeration is passed
+//! as a code.
 //!
-//! [`counters::deodarsieve_run_stats_failed_counts`] makes two calls, and the exports of [`version`]
-//! make none and return no status.
+//! [`counters::deodarsieve_run_stats_failed_counts`] makes two calls, and the functions of
+//! [`version`] make none and return no status.
 #![tactic(auto)]
 
 mod codes;

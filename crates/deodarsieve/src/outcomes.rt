@@ -29,7 +29,7 @@ pub extern "C" fn deodarsieve_run_stats_summarize(
 }
 
 /// Writes the code of a run's outcome, from the summaries of all its sub-runs: the highest of their
-/// outcomes, or that no tests were run if there is no sub-run.
+/// outcomes, or `NoTestsRun` if there is no sub-run.
 #[unsafe(no_mangle)]
 pub extern "C" fn deodarsieve_outcome_of_sub_runs(
     sub_runs: &[FfiFinalStats],
@@ -44,7 +44,7 @@ pub extern "C" fn deodarsieve_outcome_of_sub_runs(
     values::give(answer, outcome_of(sub_runs).map(codes::outcome_code))
 }
 
-/// Returns the highest outcome of all sub-runs, or `None` if a code names nothing.
+/// Returns the highest outcome of all sub-runs, or `None` if a code is not in its table.
 fn outcome_of(sub_runs: &[FfiFinalStats]) -> Option<RunOutcome>
     ensures named { IsSome result ↔ All (λ s. IsSome (final_in s)) sub_runs.now }
     ensures highest { IfSome result (IsHighest (map outcome_in sub_runs.now)) }
@@ -71,8 +71,8 @@ pub extern "C" fn deodarsieve_outcome_combine(outcome: u32, other: u32, answer: 
     values::give(answer, higher)
 }
 
-/// Writes the code of a repeated run's summary, from how many of its sub-runs failed and the summary
-/// of the last one.
+/// Writes the code of a repeated run's summary, from the number of its sub-runs that failed and the
+/// summary of the last one.
 #[unsafe(no_mangle)]
 pub extern "C" fn deodarsieve_final_stats_summarize_stress(
     last: &FfiFinalStats,

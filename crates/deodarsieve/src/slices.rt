@@ -15,7 +15,7 @@ use output_slice::{ByteSource, CountedBytes, TestOutputErrorSlice, last_panic_he
 use std::num::NonZero;
 
 /// Writes the part of a test's output that explains its failure: the last panic message in standard
-/// error, or else its first error message, or else the line of standard output which notes that a
+/// error, or else its first error message, or else the line of standard output that notes that a
 /// test did not panic. The bytes of a stream that was not captured are not read.
 #[unsafe(no_mangle)]
 pub extern "C" fn deodarsieve_slice_extract(
@@ -41,7 +41,7 @@ pub extern "C" fn deodarsieve_slice_extract(
     OK
 }
 
-/// Writes the first bytes of that part, at most `limit`. A limit of 0 names nothing.
+/// Writes the first bytes of that part, at most `limit`. For a limit of 0 it returns `BAD_CODE`.
 #[unsafe(no_mangle)]
 pub extern "C" fn deodarsieve_slice_extract_capped(
     is_out_captured: bool,
@@ -83,7 +83,7 @@ fn stream(is_captured: bool, bytes: &[u8]) -> Option<&[u8]>
     is_captured.then_some(bytes)
 }
 
-/// Returns the struct of C with what was found.
+/// Returns the struct of C for a part that was found, or for none.
 fn written_slice(found: Option<TestOutputErrorSlice<'_>>) -> FfiSlice
     ensures { result ≡ slice_out (option_map extract_of found.entry) }
 {
@@ -124,7 +124,7 @@ pub extern "C" fn deodarsieve_head_find_last(bytes: &[u8], answer: &mut FfiHead)
 }
 
 /// Searches a source for the last head, and returns it with the number of reads that the source has
-/// counted then.
+/// counted after the search.
 fn counted_head(source: &mut CountedBytes<'_>) -> FfiHead
     requires { source.old.1 + 8 * length source.old.0 + 8 < 2 ^ 128 }
     ensures last { IsLastTaken source.old.0 (head_in result) }

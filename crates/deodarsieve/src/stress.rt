@@ -1,4 +1,4 @@
-//! What is left of a repeated run.
+//! What remains of a repeated run.
 
 ghost use Rattle.std.specs.Prelude.{◌≡◌, ◌≢◌, ◌<◌, Option, Some, option_map};
 ghost use Rattle.std.specs.Duration.{as_nanos};
@@ -14,8 +14,8 @@ use run_events_stress::progress::{StressCount, StressProgress, StressRemaining};
 use std::num::NonZero;
 use std::time::Duration;
 
-/// Writes what is left of a repeated run. A count of 0 and a duration with 1,000,000,000 nanoseconds
-/// or more name nothing.
+/// Writes what remains of a repeated run. Returns `BAD_CODE` for a count of 0, and for a duration
+/// with 1,000,000,000 nanoseconds or more.
 #[unsafe(no_mangle)]
 pub extern "C" fn deodarsieve_stress_progress_remaining(
     progress: &FfiStressProgress,
@@ -30,7 +30,8 @@ pub extern "C" fn deodarsieve_stress_progress_remaining(
     values::give(answer, left)
 }
 
-/// Returns how far the run is, or `None` if a code or a number names nothing.
+/// Returns the progress of a run, or `None` if a code is not in its table or a number is not
+/// allowed.
 fn progress_of(progress: &FfiStressProgress) -> Option<StressProgress>
     ensures { option_map remaining_of result ≡ left_after progress.now }
 {
@@ -59,14 +60,14 @@ fn progress_of(progress: &FfiStressProgress) -> Option<StressProgress>
     }
 }
 
-/// Returns a duration, or `None` if its nanoseconds are a second or more.
+/// Returns a duration, or `None` if it has 1,000,000,000 nanoseconds or more.
 fn duration(given: FfiDuration) -> Option<Duration>
     ensures { option_map as_nanos result ≡ duration_in given }
 {
     (given.nanoseconds < 1_000_000_000).then(|| Duration::new(given.seconds, given.nanoseconds))
 }
 
-/// Returns the struct of C with what is left.
+/// Returns the struct of C for what remains.
 fn written_left(left: Option<StressRemaining>) -> FfiStressRemaining
     ensures value { left_in result ≡ Some (option_map left_of left) }
     ensures no_more { HasOnlyItsKind result }
@@ -77,7 +78,7 @@ fn written_left(left: Option<StressRemaining>) -> FfiStressRemaining
     }
 }
 
-/// Returns the struct of C with what is left, which is more than nothing.
+/// Returns the struct of C for what remains, which is not nothing.
 fn written_some(left: StressRemaining) -> FfiStressRemaining
     ensures value { left_in result ≡ Some (Some (left_of left)) }
     ensures no_more { HasOnlyItsKind result }
@@ -89,7 +90,7 @@ fn written_some(left: StressRemaining) -> FfiStressRemaining
     }
 }
 
-/// Returns the struct of C with what is left, which is no time.
+/// Returns the struct of C for what remains if it is not a time.
 fn left_without_time(kind: u32, count: u32) -> FfiStressRemaining
     ensures { result ≡ record {
       kind = kind;
@@ -107,7 +108,7 @@ fn left_without_time(kind: u32, count: u32) -> FfiStressRemaining
     }
 }
 
-/// Returns the struct of C with the time that is left.
+/// Returns the struct of C for the time that remains.
 fn written_time(time: NonZeroDuration) -> FfiStressRemaining
     ensures value { left_in result ≡ Some (Some (left_of (StressRemaining.Time time))) }
     ensures no_more { HasOnlyItsKind result }

@@ -1,4 +1,4 @@
-//! From structs of C to values of the layer, and back.
+//! Conversions of structs of C to values of the layer and back.
 
 ghost use Rattle.std.specs.Prelude.{◌≡◌, MatchOption, Some, option_map};
 ghost use Rattle.deodarsieve.specs.Layout.{HasNoMore, IsStepAlone, final_in, kind_in, stats_in, view_in};
@@ -11,7 +11,7 @@ use run_events_levels::view::FinishedTest;
 use run_events_stats::outcome::{FinalRunStats, RunStatsFailureKind};
 use run_events_stats::stats::RunStats;
 
-/// Writes a value if there is one, and returns the status of that.
+/// Writes the value if there is one, and returns the status: `OK` or `BAD_CODE`.
 pub(crate) fn give<T: Copy>(answer: &mut T, value: Option<T>) -> u32
     ensures { MatchOption value ((result ≡ BAD_CODE) × (answer.new ≡ answer.old))
         (λ given. (result ≡ OK) × (answer.new ≡ given)) }
@@ -25,7 +25,7 @@ pub(crate) fn give<T: Copy>(answer: &mut T, value: Option<T>) -> u32
     }
 }
 
-/// Returns the finished test, or `None` if a code names nothing.
+/// Returns the finished test, or `None` if a code is not in its table.
 pub(crate) fn finished_test(test: &FfiTestView) -> Option<FinishedTest>
     ensures { option_map finished_view result ≡ view_in test.now }
 {
@@ -37,7 +37,7 @@ pub(crate) fn finished_test(test: &FfiTestView) -> Option<FinishedTest>
     })
 }
 
-/// Returns the counters of a run, or `None` if the code of the reason names nothing.
+/// Returns the counters of a run, or `None` if the code of the reason is not in its table.
 pub(crate) fn run_stats(stats: &FfiRunStats) -> Option<RunStats>
     ensures { result ≡ stats_in stats.now }
 {
@@ -93,8 +93,8 @@ pub(crate) fn written_stats(stats: RunStats) -> FfiRunStats
     }
 }
 
-/// Returns the step of a failure or a cancellation with its numbers, or `None` if the code names
-/// nothing.
+/// Returns the step of a failure or a cancellation with its numbers, or `None` if the code is not
+/// in its table.
 fn failure_kind(stats: &FfiFinalStats) -> Option<RunStatsFailureKind>
     ensures { result ≡ kind_in stats.now }
 {
@@ -108,7 +108,7 @@ fn failure_kind(stats: &FfiFinalStats) -> Option<RunStatsFailureKind>
     }
 }
 
-/// Returns the summary of a finished run, or `None` if a code names nothing.
+/// Returns the summary of a finished run, or `None` if a code is not in its table.
 pub(crate) fn final_stats(stats: &FfiFinalStats) -> Option<FinalRunStats>
     ensures { result ≡ final_in stats.now }
 {
@@ -153,7 +153,7 @@ pub(crate) fn written_final(stats: FinalRunStats) -> FfiFinalStats
     }
 }
 
-/// Returns the struct of C with a step and its numbers, and with 0 in the other fields.
+/// Returns the struct of C for a step and its numbers, with 0 in the other fields.
 fn written_kind(kind: RunStatsFailureKind) -> FfiFinalStats
     ensures value { kind_in result ≡ Some kind }
     ensures no_more { IsStepAlone result }

@@ -1,8 +1,9 @@
-//! The version of the library, and that of its layouts.
+//! The version of the library, and the version of its layouts.
 
 ghost use Rattle.std.specs.Prelude.{◌≡◌};
 
-/// The version 0.1.0: 1,000,000 times its first number, 1,000 times its second, and its third.
+/// The version 0.1.0 as one number: 1,000,000 times the major version, 1,000 times the minor
+/// version, and the patch version.
 pub const VERSION: u32 = 1_000;
 
 /// Returns the version of the library.
@@ -13,7 +14,7 @@ pub extern "C" fn deodarsieve_version() -> u32
     VERSION
 }
 
-/// Does nothing: its name has the version of the structs and of the functions. A program of C refers
-/// to the name by its header, so a program that has the header of another version does not link.
+/// Does nothing. Its name has the version of the structs and of the functions. The header makes a
+/// program refer to this name, so a program with the header of another version does not link.
 #[unsafe(no_mangle)]
 pub extern "C" fn deodarsieve_layouts_1() {}

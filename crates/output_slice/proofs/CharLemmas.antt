@@ -1,4 +1,4 @@
--- The character that stands at a place, and digits one after the other.
+-- The character at an offset, and digits one after another.
 use Rattle.output_slice.proofs.Words.{set, get_or-set_other, get_or-set_same, true, ◌↔◌, ◌≡◌, ℕ, ◌+◌, ◌-◌, ◌<◌, ◌≤◌, min, List, [], ◌∷◌, ◌++◌, length, get_or, take, drop, sym, ap, ◌∙◌, arith, length-append, refl, append_assoc, append-nil, All, encode_utf8_all, Some, None, encode_utf8, IsUtf8, get_or-take, length-take-le, IsScalar, take-append-add, and_parts, front_from_reads, front_reads, encode_ascii, encode_same, length-encode, len_utf8_bounds, IsUtf8-append, IsUtf8-encode, IsUtf8-past_char, encodes-append, All-push, All-head, All-tail, part, decoded-encode, piece-bounds, decoded_by-cut, SpellsChar-decoded, IsCharAt, AreDigits, IsDigitRun, IsDigit}
 use Rattle.bstr.specs.Utf8.{Decoded, decoded}
 use Rattle.output_slice.proofs.OccursLemmas.{get_or-part, length-part, occurs-drop, occurs-both, drop-occurs}
@@ -10,7 +10,7 @@ part-front b rest at stop c scalar e high =
     let reads = front_reads 0 (part at stop b) (encode_utf8 c) rest e in
     grind (arith, get_or-part, length-part, length-encode, len_utf8_bounds, length-append, ap length e)
 
--- the first four bytes decode as all do
+-- the first four bytes are decoded in the same way as all bytes
 decoded-four : (xs ys : List ℕ) → length ys ≡ min (length xs) 4 → 0 < length xs
     → ((k : ℕ) → k < length ys → get_or ys k 0 ≡ get_or xs k 0) → decoded ys ≡ decoded xs
 decoded-four xs ys size some reads =
@@ -19,7 +19,7 @@ decoded-four xs ys size some reads =
     rw (reads 0 (omega arith)) (decoded_by-cut (length ys) (length xs) (byte xs 0) (byte xs 1) (byte xs 2) (byte xs 3) (byte ys 1) (byte ys 2) (byte ys 3)
     (omega arith) (omega arith) (omega arith) (λ h. reads 1 h) (λ h. reads 2 h) (λ h. reads 3 h))
 
--- a part that begins with a character is UTF-8 exactly where the rest is
+-- a part that begins with a character is UTF-8 if and only if the rest of it is
 pub utf8-char : (b : List ℕ) (at to c n : ℕ) → IsCharAt b at to c → n ≡ length (encode_utf8 c) → IsUtf8 (part at to b) ↔ IsUtf8 (part (at + n) to b)
 utf8-char b at to c n h size =
     let text = encode_utf8 c in
@@ -36,26 +36,26 @@ char-utf8 b at to low high h = by_chars h.0 h.1.0 h.1.1 where
   by_chars [] all e = absurd (omega (arith, ap length e, length-part b at to high))
   by_chars (c ∷ cs) all e = (c, part-front b (encode_utf8_all cs) at to c (and_parts _ _ all).0 (sym e) high)
 
--- at one place stands one character
+-- there is one character at an offset
 pub char-same : (b : List ℕ) (at to to' c c' : ℕ) → IsCharAt b at to c → IsCharAt b at to' c' → c ≡ c'
 char-same b at to to' c c' h k = (encode_same c c' _ _ (sym (occurs-drop b _ at h.stands) ∙ occurs-drop b _ at k.stands)).0
 
--- one byte alone is no character past ASCII
+-- one byte is not a character outside ASCII
 pub one-byte : (b : List ℕ) (at c : ℕ) → 128 ≤ get_or b at 0 → ¬ IsCharAt b at (at + 1) c
 one-byte b at c past h = grind (arith, encode_ascii, length-encode)
 
--- a buffer with one byte more
+-- a buffer with one more byte
 pub buffer-more : (b buffer : List ℕ) (at i v : ℕ) → i < length buffer → ((k : ℕ) → k < i → get_or buffer k 0 ≡ get_or b (at + k) 0) → v ≡ get_or b (at + i) 0
     → (k : ℕ) → k < i + 1 → get_or (set buffer i v) k 0 ≡ get_or b (at + k) 0
 buffer-more b buffer at i v inside reads is k low = grind (arith, get_or-set_other, get_or-set_same)
 
--- what the first bytes say, where the bytes before the last are no character
+-- the decoding of the first bytes, if the bytes before the last one are not a character
 module _ (b buffer : List ℕ) (at stop i : ℕ) (four : length buffer ≡ 4) (small : i < 4) (inside : at + i < stop) (high : stop ≤ length b)
     (reads : (k : ℕ) → k < i + 1 → get_or buffer k 0 ≡ get_or b (at + k) 0) where
   same : decoded (take (i + 1) buffer) ≡ decoded (part at (at + (i + 1)) b)
   same = grind (arith, decoded-four, get_or-part, get_or-take, length-part, length-take-le)
 
-  -- what is decoded from the bytes read so far is the character that stands there
+  -- the character decoded from the bytes so far is the character at that offset
   pub char-some : (c : ℕ) → ((x : ℕ) → ¬ IsCharAt b at (at + i) x) → (decoded (take (i + 1) buffer)).char ≡ Some c
       → IsCharAt b at stop c × (length (encode_utf8 c) ≡ (decoded (take (i + 1) buffer)).size) × (i + 1 ≡ length (encode_utf8 c))
   char-some c before found =
@@ -65,7 +65,7 @@ module _ (b buffer : List ℕ) (at stop i : ℕ) (four : length buffer ≡ 4) (s
       let long : i + 1 ≡ length (encode_utf8 c) = grind arith in
       grind arith
 
-  -- where nothing is decoded, no character ends there
+  -- if nothing is decoded, no character ends there
   pub char-none : (decoded (take (i + 1) buffer)).char ≡ None → (c : ℕ) → ¬ IsCharAt b at (at + (i + 1)) c
   char-none none c h =
       let rest = part at (at + (i + 1)) b in
@@ -74,7 +74,7 @@ module _ (b buffer : List ℕ) (at stop i : ℕ) (four : length buffer ≡ 4) (s
       let read = ap decoded begins ∙ decoded-encode c (drop (length (encode_utf8 c)) rest) h.scalar in
       absurd (cc (none, same, ap (λ (p : Decoded). p.char) read))
 
--- one more digit behind digits
+-- one more digit after digits
 pub digits-more : (b : List ℕ) (from at to c n : ℕ) → AreDigits b from at → IsCharAt b at to c → IsDigit c
     → n ≡ length (encode_utf8 c) → AreDigits b from (at + n)
 digits-more b from at to c n h k is size =
@@ -90,7 +90,7 @@ digits-more b from at to c n h k is size =
 abbrev Stops : List ℕ → Type 0
 Stops text = (c : ℕ) (rest : List ℕ) → IsScalar c → IsDigit c → text ≡ encode_utf8 c ++ rest → ⊥
 
--- text begins with one run of digits
+-- a text begins with one run of digits
 runs-same : (cs ds r q : List ℕ) → All (λ x. IsScalar x × IsDigit x) cs → All (λ x. IsScalar x × IsDigit x) ds
     → Stops r → Stops q → encode_utf8_all cs ++ r ≡ encode_utf8_all ds ++ q → cs ≡ ds
 runs-same [] [] r q ac ad nr nq e = refl
@@ -102,7 +102,7 @@ runs-same (c ∷ cs) (d ∷ ds) r q ac ad nr nq e =
     let later = runs-same cs ds r q (All-tail P c cs ac) (All-tail P d ds ad) nr nq heads.1 in
     cc (heads.0, later)
 
--- so a run of digits ends at one place
+-- so a run of digits has one end
 pub IsDigitRun-same : (b : List ℕ) (from to to' : ℕ) → IsDigitRun b from to → IsDigitRun b from to' → to ≡ to'
 IsDigitRun-same b from to to' h k =
     let same = runs-same h.digits.chars k.digits.chars _ _ h.digits.digits k.digits.digits

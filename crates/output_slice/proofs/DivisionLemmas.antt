@@ -10,11 +10,11 @@ use Rattle.output_slice.proofs.OccursLemmas.{reads, get_or-part, length-part, oc
 abbrev Ended : List ℕ → List ℕ → Type 0
 Ended line later = get_or line (length line - 1) 0 ≡ 10
 
--- a line is the only one of its bytes
+-- a line is the only line of its bytes
 pub line-alone : (l : List ℕ) → IsLine l → lines_of l ≡ l ∷ []
 line-alone l line = grind (arith, lines-one)
 
--- a division is what the function cuts the joined lines into
+-- a division is the result of the function for the joined lines
 lines-same : (ls : List (List ℕ)) → All IsLine ls → AllPairs Ended ls → ls ≡ lines_of (concat ls)
 lines-same [] each ends = sym lines-nil
 lines-same (l ∷ ls) each ends =
@@ -28,7 +28,7 @@ lines-same (l ∷ ls) each ends =
 pub AreLines-same : (b : List ℕ) (lines : List (List ℕ)) → AreLines b lines → lines ≡ lines_of b
 AreLines-same b lines h = lines-same lines h.each h.ends ∙ ap lines_of h.joined
 
--- the first line has no line feed before its last byte, which is one where bytes follow
+-- the first line has no line feed before its last byte, which is one if bytes follow
 first-line : (b : List ℕ) → ((k : ℕ) → k + 1 < line_len b → get_or b k 0 ≢ 10) × (line_len b < length b → get_or b (line_len b - 1) 0 ≡ 10)
 unfolding line_len
 first-line [] = (λ k low. absurd (omega arith), λ low. absurd (omega arith))
@@ -64,17 +64,17 @@ pub length-concat : (xs : List (List ℕ)) → length (concat xs) ≡ sum_by len
 length-concat [] = refl
 length-concat (x ∷ xs) = length-append x (concat xs) ∙ ap (λ n. length x + n) (length-concat xs) ∙ sym (sum_by-cons length x xs)
 
--- a text that stands in none of the joined bytes stands in no line
+-- a text that does not occur in the joined bytes occurs in no line
 none-in-lines : (t : List ℕ) (ls : List (List ℕ)) → ¬ Contains (concat ls) t → All (λ line. ¬ Contains line t) ls
 none-in-lines t [] none = All-nil _
 none-in-lines t (x ∷ xs) none = All-cons (λ line. ¬ Contains line t) x xs (λ h. none (h.0, grind (arith, reads, h.1)))
     (none-in-lines t xs (λ h. none (length x + h.0, grind (arith, reads, h.1))))
 
--- so it stands in no line of bytes that do not hold it
+-- so it occurs in no line of bytes in which it does not occur
 none-in : (t b : List ℕ) → ¬ Contains b t → All (λ line. ¬ Contains line t) (lines_of b)
 none-in t b none = none-in-lines t (lines_of b) (rw concat-lines_of none)
 
--- the line from a line start s up to a line end e, between the lines before it and those behind it
+-- the line from a line start s up to a line end e, between the lines before it and those after it
 lines-round : (b : List ℕ) (s e : ℕ) → s < e → e ≤ length b → IsLineStart b s → NoFeedBetween b s (e - 1) → IsLineEnd b s e
     → lines_of b ≡ lines_of (take s b) ++ part s e b ∷ lines_of (drop (e - s) (drop s b))
 lines-round b s e low high line quiet last =
@@ -103,7 +103,7 @@ module _ (b : List ℕ) (at s e : ℕ) (found : FindsNeedle b (codes "note: test
       let other = text-passes (λ x. not (x == 10)) b (codes "note: test did not panic as expected") at found.1 refl (e - 1) in
       grind (arith, nat_tests, found.1.fits)
 
-  -- the line round the first note is the note line
+  -- the line that contains the first note is the note line
   pub note-line : IsNoteLine b (Some (record { start = s; bytes = without_terminator (part s e b) }))
   note-line =
       let long = inside in

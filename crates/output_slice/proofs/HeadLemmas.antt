@@ -1,4 +1,4 @@
--- Tails and heads, and what the steps of the counted search find.
+-- Tails and heads, and the results of the steps of the counted search.
 use Rattle.output_slice.proofs.Words.{◌≡◌, ℕ, ◌+◌, ◌-◌, ◌<◌, ◌≤◌, ◌⊎◌, Bool, true, List, [], ◌∷◌, ◌++◌, length, get_or, refl, sym, ap, ◌∙◌, arith, inl, inr, length-append, append-nil, encode_utf8_all, codes, not, ◌==◌, ◌&&◌, All, Option, Some, None, IfSome, encode_utf8, list_all, IsScalar, inside_one, length-le-encodes, length-encode, len_utf8_bounds, All-head, All-tail, list_all-append, AllPass-from_list_all, list_all-from_AllPass, and_from, nat_tests, get_or_default, get_or_past, OccursAt, part, IsDigit, IsTail, IsName, IsHead, AreDigits, ArePlain, IsDigitRun, NoDigitAt, IsTailEnd, IsTextEnd, AgreesFor, ReadsUpTo, TextReads, IsNamedHeadEnd, IsOpened, IsOpenedHeadEnd, IsNextQuote, NoQuoteBetween}
 use Rattle.output_slice.proofs.CharLemmas.{IsDigitRun-same}
 use Rattle.output_slice.proofs.OccursLemmas.{get_or-part, length-part, occurs-front, occurs-back, occurs-both, occurs-part, part-occurs, agrees, agrees-passes, text-passes}
@@ -7,7 +7,7 @@ use Rattle.output_slice.proofs.OccursLemmas.{get_or-part, length-part, occurs-fr
 abbrev is_plain : ℕ → Bool
 is_plain x = not (x == 39) && not (x == 10)
 
--- no byte of a digit is one
+-- no byte of a digit is a quote or a line feed
 digit-plain : (c : ℕ) → IsDigit c → list_all is_plain (encode_utf8 c) ≡ true
 digit-plain c digit = list_all-from_AllPass is_plain (encode_utf8 c) (λ k d low.
     let inside = inside_one c [] (encode_utf8 c) k (sym (append-nil (encode_utf8 c))) low in
@@ -20,7 +20,7 @@ digits-plain (c ∷ cs) all =
     list_all-append is_plain (encode_utf8 c) (encode_utf8_all cs)
     ∙ and_from _ _ (digit-plain c (All-head P c cs all).1) (digits-plain cs (All-tail P c cs all))
 
--- where a tail stands there is neither
+-- no byte of a tail is one
 pub tail-plain : (b : List ℕ) (at e : ℕ) → e ≤ length b → IsTail (part at e b) → ArePlain b at e
 tail-plain b at e high h k low up =
     let plain : list_all is_plain (part at e b) ≡ true = elim h [
@@ -30,15 +30,15 @@ tail-plain b at e high h k low up =
     let test = AllPass-from_list_all is_plain (part at e b) plain (k - at) 0 (omega (arith, length-part b at e high)) in
     grind (arith, nat_tests, get_or-part)
 
--- nor in bytes that agree with such a text
+-- nor is a byte of bytes that agree with such a text
 agrees-plain : (b text : List ℕ) (at n : ℕ) → AgreesFor b text at n → list_all is_plain text ≡ true → ArePlain b at (at + n)
 agrees-plain b text at n h all k low high = grind (arith, nat_tests, agrees-passes is_plain b text at n h all k low high)
 
--- nor in two parts of bytes that have neither
+-- nor is a byte of two parts without them
 plain-join : (b : List ℕ) (i j k : ℕ) → ArePlain b i j → ArePlain b j k → ArePlain b i k
 plain-join b i j k h l = grind arith
 
--- a numbered tail by places
+-- a numbered tail by offsets
 pub record IsNumbered (b : List ℕ) (at e : ℕ) : Type 0 where
   pub close : ℕ
   pub opens : OccursAt b (codes " (") at
@@ -47,7 +47,7 @@ pub record IsNumbered (b : List ℕ) (at e : ℕ) : Type 0 where
   pub closes : OccursAt b (codes ") panicked at ") close
   pub ends : e ≡ close + 14
 
--- no digit begins with a `)`
+-- no digit begins with `)`
 NoDigitAt-paren : (b : List ℕ) (at : ℕ) → get_or b at 0 ≡ 41 → NoDigitAt b at
 NoDigitAt-paren b at is c h digit = grind (arith, length-encode, len_utf8_bounds, inside_one c [] (encode_utf8 c) 0 (sym (append-nil (encode_utf8 c))))
 
@@ -77,7 +77,7 @@ tail_cases b at e high h = elim h [
 apart : (b : List ℕ) (at : ℕ) → OccursAt b (codes " panicked at ") at → OccursAt b (codes " (") at → ⊥
 apart b at p q = omega (arith, p.reads 1 (omega arith), q.reads 1 (omega arith))
 
--- one place has one tail
+-- there is one tail at an offset
 pub tail-same : (b : List ℕ) (at e e' : ℕ) → e ≤ length b → e' ≤ length b → IsTail (part at e b) → IsTail (part at e' b) → e ≡ e'
 tail-same b at e e' high high' h k = elim (tail_cases b at e high h) [
   | inl p ↦ elim (tail_cases b at e' high' k) [ inl q ↦ p.1 ∙ sym q.1 | inr q ↦ absurd (apart b at p.0 q.opens) ]
@@ -87,14 +87,14 @@ tail-same b at e e' high high' h k = elim (tail_cases b at e high h) [
   ]
 ]
 
--- no tail stands where no digit stands between the parentheses
+-- there is no tail if there is no digit between the parentheses
 pub IsTailEnd-none : (b : List ℕ) (at close : ℕ) → OccursAt b (codes " (") at → IsDigitRun b (at + 2) close → close ≡ at + 2 → IsTailEnd b at None
 IsTailEnd-none b at close opens run is e high tail = elim (tail_cases b at e high tail) [
   | inl p ↦ apart b at p.0 opens
   | inr q ↦ omega (arith, q.some, IsDigitRun-same b (at + 2) close q.close run q.run)
 ]
 
--- how far a text is read that is found, or is not
+-- how far a text is read, whether it is found or not
 text-read : (b text : List ℕ) (at old new : ℕ) (found : Option ℕ) → TextReads b text at old new found → IsTextEnd b text at found
     → (k : ℕ) × AgreesFor b text at k × (new ≤ old + k + 1) × IfSome found (λ e. (e ≡ at + k) × (k ≡ length text) × (new ≤ old + k))
 text-read b text at old new found r f = grind (arith, agrees)
@@ -117,7 +117,7 @@ reads-up b text at from mid old new found all plain low some size few first r f 
       before = grind (arith, t.3);
     }
 
--- a plain tail in two parts: where it ends, and how far it is read
+-- a plain tail in two parts: its end, and how far it is read
 pub plain-end : (b : List ℕ) (at k old one two new : ℕ) (found : Option ℕ) → OccursAt b (codes " ") at
     → ¬ OccursAt b (codes "(") (at + 1) → one ≤ old + 1 → k < 1 → two ≤ one + k + 1
     → TextReads b (codes "panicked at ") (at + 1) two new found → IsTextEnd b (codes "panicked at ") (at + 1) found
@@ -136,7 +136,7 @@ plain-end b at k old one two new found space none few first few' r f =
           let whole = occurs-both b (codes " ") (codes "panicked at ") at space f.0 in
           (omega (arith, f.1, whole.fits), inl (occurs-part b (codes " panicked at ") at e whole (omega (arith, f.1))))
 
--- a numbered tail: where it ends, and how far it is read
+-- a numbered tail: its end, and how far it is read
 pub numbered-end : (b : List ℕ) (at close old mid mid' new : ℕ) (found : Option ℕ)
     → OccursAt b (codes " (") at → IsDigitRun b (at + 2) close → (close ≡ at + 2 → ⊥) → mid ≤ old + 2
     → mid' + (at + 2) ≤ mid + close + 4 → (get_or b close 0 < 128 → mid' + (at + 2) ≤ mid + close + 1)
@@ -166,21 +166,21 @@ numbered-end b at close old mid mid' new found opens run is few few' ascii r f =
           let part = occurs-part b _ at e (occurs-both b (codes " (") text at opens rest) (grind (arith, length-append)) in
           (omega (arith, h.1, h.0.fits), inr (encode_utf8_all d.chars, (d.chars, chars-some d.chars (omega arith), d.digits, refl), part))
 
--- a name has no quote, by places
+-- a name has no quote, by offsets
 pub name-quiet : (b : List ℕ) (i j : ℕ) → j ≤ length b → IsName (part i j b) → NoQuoteBetween b i j
 name-quiet b i j high h k low up = grind (arith, get_or-part, length-part, h.no_quote (k - i) 0)
 
--- a quote at or after the start is at or after the opening's
+-- a quote at or after the start of a head is at or after the quote before the name
 pub head-letters : (b : List ℕ) (s e q : ℕ) → IsHead b s e → s ≤ q → get_or b q 0 ≡ 39 → s + 7 ≤ q
 head-letters b s e q h low is =
     let word = occurs-front b (codes "thread ") (codes "'") s h.opening in
     grind (arith, nat_tests, text-passes (λ x. not (x == 39)) b (codes "thread ") s word refl q low)
 
--- a name is not empty, so the closing quote is behind the opening one
+-- a name is not empty, so the closing quote is after the opening one
 pub head-order : (b : List ℕ) (s e : ℕ) → (h : IsHead b s e) → (s + 8 < h.quote) × (h.quote < length b) × (h.quote + 1 < e)
 head-order b s e h = grind (arith, get_or_past, length-append, length-part)
 
--- one start has one head
+-- there is one head at a start
 pub head-same : (b : List ℕ) (s e e' : ℕ) → IsHead b s e → IsHead b s e' → e ≡ e'
 head-same b s e e' h k =
     let ho = head-order b s e h in
@@ -189,11 +189,11 @@ head-same b s e e' h k =
     let quotes : k.quote ≡ h.quote = grind (arith, name-quiet b (s + 8) k.quote (omega arith) k.name h.quote) in
     tail-same b (h.quote + 1) e e' h.ends k.ends h.tail (rw quotes at k.tail)
 
--- where no quote follows, the quote opens no head
+-- if no quote follows, no head has its name after this quote
 pub IsOpenedHeadEnd-none : (b : List ℕ) (place quote : ℕ) → IsNextQuote b (quote + 1) None → IsOpenedHeadEnd b place quote None
 IsOpenedHeadEnd-none b place quote h s e low here head = let order = head-order b s e head in let none = h head.quote in grind arith
 
--- a quote with another text before it opens no head
+-- if there is another text before the quote, no head has its name after it
 pub IsOpenedHeadEnd-closed : (b : List ℕ) (place quote : ℕ) → ¬ IsOpened b place quote → IsOpenedHeadEnd b place quote None
 IsOpenedHeadEnd-closed b place quote none s e low here head =
     let word = occurs-front b (codes "thread ") (codes "'") s head.opening in
@@ -202,7 +202,7 @@ IsOpenedHeadEnd-closed b place quote none s e low here head =
 
 module _ (b : List ℕ) (place quote close : ℕ) (opened : IsOpened b place quote) (is : get_or b quote 0 ≡ 39)
     (within : quote < length b) (closes : IsNextQuote b (quote + 1) (Some close)) where
-  -- a quote that opens has a head where one ends behind the next quote
+  -- after `thread '` there is a head if one ends after the next quote
   pub IsOpenedHeadEnd-opened : (found : Option ℕ) → IsNamedHeadEnd b quote close found → IsOpenedHeadEnd b place quote found
   IsOpenedHeadEnd-opened None h = λ s e start here head.
       let order = head-order b s e head in

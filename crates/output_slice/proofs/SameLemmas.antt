@@ -9,16 +9,16 @@ use Rattle.output_slice.proofs.TakenLemmas.{IsLastTaken-same, IsLastTaken-head}
 use Rattle.output_slice.proofs.TrimLemmas.{IsWidened-same}
 use Rattle.output_slice.proofs.OccursLemmas.{length-part, get_or-part}
 
--- an `E` stands at the place, or a `t`
+-- there is an `E` or a `t` at the offset
 abbrev IsLetterAt : List ℕ → ℕ → Type 0
 IsLetterAt b s = (get_or b s 0 ≡ 69) ⊎ (get_or b s 0 ≡ 116)
 
--- text that begins so is not blank
+-- a text that begins in this way is not blank
 not_blank : (cs bs : List ℕ) → IsLetterAt bs 0 → All (λ c. IsScalar c × IsTrue (is_whitespace c)) cs → bs ≡ encode_utf8_all cs → ⊥
 not_blank [] bs letter all e = elim (rw e at letter) [ inl one ↦ omega arith | inr two ↦ omega arith ]
 not_blank (c ∷ cs) bs letter all e = grind (arith, All-head, get_or_past, char_from_byte)
 
--- a trimmed slice that begins so is a part
+-- a trimmed slice that begins in this way is a part
 trimmed-part : (b : List ℕ) (x : Slice) → IsTrimmedSlice b x → IsLetterAt b x.start → IsPart b x
 trimmed-part b x h letter =
     let here : IsLetterAt (drop x.start b) 0 = grind (arith, get_or-drop) in
@@ -26,7 +26,7 @@ trimmed-part b x h letter =
     let longer : x.start < h.0 = grind arith in
     grind (arith, get_or-part, length-part)
 
--- a widened start has an `E` or the `t` of the head
+-- there is an `E`, or the `t` of the head, at a widened start
 widened-letter : (b : List ℕ) (s e t : ℕ) → IsHead b s e → IsWidened b s t → IsLetterAt b t
 widened-letter b s e t head wide = grind (arith, get_or-take, length-take)
 
@@ -38,22 +38,22 @@ IsPanicSlice-part b x p = trimmed-part b x p.3 (widened-letter b p.0.start p.0.s
 pub IsErrorSlice-part : (b : List ℕ) (x : Slice) → IsErrorSlice b (Some x) → IsPart b x
 IsErrorSlice-part b x p = trimmed-part b x p.1 (inl (let first = p.0.1.1.reads 0 in grind arith))
 
--- a note line is a part: without its end it lacks two bytes at most
+-- a note line is a part: without its end it is at most two bytes shorter
 pub IsNoteLine-part : (b : List ℕ) (x : Slice) → IsNoteLine b (Some x) → IsPart b x
 IsNoteLine-part b x p =
     grind (arith, nat_tests, concat-append, get_or-append, get_or-append-add, get_or-take, length-append, length-concat, length-take-le, length-take)
 
--- what holds of each slice holds of what is found
+-- a fact of each slice is a fact of the slice that is found
 pub found-part : (Is : List ℕ → Option Slice → Type 0) → ((b : List ℕ) (x : Slice) → Is b (Some x) → IsPart b x)
     → (b : List ℕ) (found : Option ByteSubslice) → Is b (option_map slice_of found) → IfSome found (λ x. IsPart b (slice_of x))
 found-part Is part b found p = grind (arith, part)
 
--- what holds of the slice of each stream's bytes holds of a stream's
+-- a fact of the slice of each stream's bytes is a fact of the slice of a stream
 OfStream-part : (Is : List ℕ → Option Slice → Type 0) → ((b : List ℕ) (x : Slice) → Is b (Some x) → IsPart b x)
     → (stream : Option (List ℕ)) (x : Slice) → OfStream Is stream (Some x) → IsPartOf stream x
 OfStream-part Is part stream x p = grind (arith, part)
 
--- what is extracted lies in its parent
+-- an extraction lies in its stream
 pub IsExtract-part : (out err : Option (List ℕ)) (found : Option TestOutputErrorSlice)
     → IsExtract out err (option_map extract_of found) → IfSome found (λ x. LiesIn out err (extract_of x))
 IsExtract-part out err None p = tt
@@ -61,17 +61,17 @@ IsExtract-part out err (Some (PanicMessage x)) p = OfStream-part IsPanicSlice Is
 IsExtract-part out err (Some (ErrorStr x)) p = OfStream-part IsErrorSlice IsErrorSlice-part err (slice_of x) p.1
 IsExtract-part out err (Some (ShouldPanic x)) p = OfStream-part IsNoteLine IsNoteLine-part out (slice_of x) p.2
 
--- there is one first place
+-- there is one first offset
 IsFirst-same : (P : ℕ → Type 0) (i j : ℕ) (x y : Option ℕ) → IsFirst P i j x → IsFirst P i j y → x ≡ y
 IsFirst-same P i j x y g h = grind arith
 
--- trimming gives one slice
+-- trimming has one result
 IsTrimmedSlice-same : (b : List ℕ) (x y : Slice) → x.start ≡ y.start → IsTrimmedSlice b x → IsTrimmedSlice b y → x ≡ y
 IsTrimmedSlice-same b x y p g h =
     let ends : g.0 ≡ h.0 = same_Some g.0 h.0 (IsFirst-same _ _ _ (Some g.0) (Some h.0) (subst (λ s. IsTrimmed b s g.0) p g.1) h.1) in
     grind arith
 
--- what is found is the only one, if two slices are the same and `None` excludes each slice
+-- a slice that is found is the only one, if two slices are the same and `None` excludes each slice
 only-one : (Is : Option Slice → Type 0) → ((x y : Slice) → Is (Some x) → Is (Some y) → x ≡ y) → ((x : Slice) → Is None → Is (Some x) → ⊥)
     → (f g : Option Slice) → Is f → Is g → f ≡ g
 only-one Is same apart None None p q = refl
@@ -106,7 +106,7 @@ first-same P (z ∷ zs) (w ∷ ws) x y us vs e none one p q =
     let rest = first-same P zs ws x y us vs tails (All-tail (λ v. ¬ P v) z zs none) (All-tail (λ v. ¬ P v) w ws one) p q in
     (cc, rest.1)
 
--- where P holds for none, it holds for no first one
+-- if P holds for no element, there is no first one for which it holds
 none-first : (P : List ℕ → Type 0) (all xs : List (List ℕ)) (x : List ℕ) (us : List (List ℕ)) → all ≡ xs ++ x ∷ us → All (λ z. ¬ P z) all → P x → ⊥
 none-first P all xs x us e none p =
     let among = Contains-append_right xs (x ∷ us) x (0, omega arith, refl) in
@@ -125,7 +125,7 @@ IsNoteLine-same b = only-one (IsNoteLine b) same
           let first = first-same IsNote p.2.0 q.2.0 p.2.1 q.2.1 p.2.2 q.2.2 whole p.2.4 q.2.4 p.2.5 q.2.5 in
           grind arith
 
--- what holds of each stream's bytes holds of a stream
+-- a fact of each stream's bytes is a fact of a stream
 OfStream-same : (Is : List ℕ → Option Slice → Type 0) → ((b : List ℕ) (f g : Option Slice) → Is b f → Is b g → f ≡ g)
     → (stream : Option (List ℕ)) (f g : Option Slice) → OfStream Is stream f → OfStream Is stream g → f ≡ g
 OfStream-same Is same stream f g p q = grind (arith, same)

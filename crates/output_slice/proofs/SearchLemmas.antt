@@ -3,21 +3,21 @@ use Rattle.output_slice.proofs.Words.{◌≡◌, ℕ, min, ◌+◌, ◌-◌, ◌
 use Rattle.output_slice.proofs.HeadLemmas.{IsOpenedHeadEnd-none, head-letters}
 use Rattle.output_slice.proofs.TakenLemmas.{IsTaken-from_leftmost, Leftmost, leftmost-before}
 
--- with those taken from `place` on they are those of all bytes
+-- the heads so far, and the heads that are taken from `place` on, are those of all bytes
 abbrev pub Settled : List ℕ → ℕ → List HeadSpan → Type 0
 Settled b place taken = (rest : List HeadSpan) → Leftmost b place rest → Leftmost b 0 (taken ++ rest)
 
--- no head that starts at the place or after it starts before the next quote's word
+-- no head that starts at or after the offset starts before the `thread ` of the next quote
 starts-late : (b : List ℕ) (place q s e : ℕ) → NoQuoteBetween b place q → place ≤ s → IsHead b s e → q ≤ s + 7
 starts-late b place q s e quiet late head = grind arith
 
--- a quote that opens no head
+-- a quote after which no head has its name
 pub settled-none : (b : List ℕ) (place q : ℕ) (taken : List HeadSpan) → Settled b place taken → place ≤ q → get_or b q 0 ≡ 39
     → NoQuoteBetween b place q → ((s e : ℕ) → place ≤ s → s + 7 ≡ q → ¬ IsHead b s e) → Settled b (q + 1) taken
 settled-none b place q taken h low is quiet none rest r = h rest (leftmost-before b place (q + 1) rest (omega arith) (λ s e from head.
     grind (arith, starts-late b place q s e quiet from head, head-letters b s e q head, none s e from)) r)
 
--- a quote that opens a head
+-- a quote after which a head has its name
 pub settled-head : (b : List ℕ) (place q : ℕ) (taken : List HeadSpan) (x : HeadSpan) → Settled b place taken → NoQuoteBetween b place q
     → place ≤ x.start → x.start + 7 ≡ q → IsHead b x.start x.stop → Settled b x.stop (taken ++ x ∷ [])
 settled-head b place q taken x h quiet new here head rest r = rw append_assoc (h (x ∷ rest)
@@ -28,28 +28,28 @@ pub settled-done : (b : List ℕ) (place : ℕ) (taken : List HeadSpan) → Sett
 settled-done b place taken h quiet = IsTaken-from_leftmost b taken (rw append-nil at (h [] (λ s e low head.
     omega (arith, starts-late b place (length b) s e quiet low head, head.opening.fits))))
 
--- the reads so far, the next quote q, and a place before which no quote follows q
+-- the reads so far, the next quote q, and an offset after q before which there is no other quote
 pub record WithReads (b : List ℕ) (old new place q : ℕ) : Type 0 where
   pub seen : ℕ
   pub low : q < seen
   pub high : seen ≤ length b
   pub plain : ArePlain b (q + 1) seen
-  -- the reads of the tail behind q
+  -- the reads of the tail after q
   pub tail : ℕ
   pub far : tail + (q + 1) ≤ seen + 5
   pub near : tail + 2 * (q + 1) ≤ 2 * seen + 2
-  -- three reads for each byte up to q pay for all but that tail, and for what the word before q may take
+  -- three reads for each byte up to q are enough for all but that tail, and for the reads before q
   pub paid : new ≤ old + (3 * (q + 1) + tail)
   pub paid_one : place + 7 ≤ q → new + 1 ≤ old + (3 * (q + 1) + tail)
   pub paid_word : place + 7 ≤ q → IsLineStart b (q - 7) → new + 8 ≤ old + (3 * (q + 1) + tail)
   -- each byte up to q was read
   pub all : old + (q + 1) ≤ new
 
--- the reads where there is a next quote, and where there is none
+-- the reads if there is a next quote, and if there is none
 abbrev NextReads : List ℕ → ℕ → ℕ → ℕ → Option ℕ → Type 0
 NextReads b old new place next = MatchOption next ((new ≤ old + (3 * length b + 8)) × (old + length b ≤ new)) (λ q. WithReads b old new place q)
 
--- after one to three reads for each byte up to the place, the next quote was looked for from there
+-- the next quote was searched for from the offset on, after one to three reads for each byte before it
 next-reads : (b : List ℕ) (old mid new place : ℕ) (next : Option ℕ) → place ≤ length b → old + place ≤ mid → mid ≤ old + 3 * place
     → IsNextQuote b place next → QuoteReads b place mid new next → NextReads b old new place next
 next-reads b old mid new place next within all paid is reads = grind arith
@@ -69,7 +69,7 @@ pub searched-first : (b : List ℕ) (old new : ℕ) (next : Option ℕ) → IsNe
     → QuoteReads b 0 old new next → Searched b old new 0 next None
 searched-first b old new next is fits reads = grind arith
 
--- a step at a quote that opens no head
+-- a step at a quote after which no head has its name
 pub searched-none : (b : List ℕ) (old new scanned tested place q : ℕ) (close : Option ℕ) (last : Option HeadSpan)
     → Searched b old new place (Some q) last → IsNextQuote b (q + 1) close → IfSome close (λ c. c + 1 < 2 ^ 64)
     → QuoteReads b (q + 1) new scanned close → IsOpenedHeadEnd b place q None → (scanned < tested → place + 7 ≤ q)
@@ -84,7 +84,7 @@ searched-none b old new scanned tested place q close last h is fits reads none o
   within = omega (arith, h.is_next.0.high);
   reads = by_close close is reads more all;
 } where
-  -- the reads behind them: of a tail, or of one that is whole and of a name
+  -- the reads after them: of a tail, or of a whole tail and a name
   behind : (name at last : ℕ) → FewReads name at last (scanned + 8) tested → at ≤ last → (tail : ℕ) × (tail + at ≤ last + 5) × (tail + 2 * at ≤ 2 * last + 2)
       × (tested ≤ scanned + 8 + tail + (name - 4))
   behind name at last (inl f) low = (tested - (scanned + 8), omega arith, omega arith, omega arith)
@@ -95,7 +95,7 @@ searched-none b old new scanned tested place q close last h is fits reads none o
   by_close None i r m a = (omega (arith, h.reads.paid, h.reads.high, h.reads.far), omega (arith, h.reads.all))
   by_close (Some c) i r m a =
       let w : WithReads b old new place q = h.reads in
-      -- the reads before the quote are paid: none, one, or all eight
+      -- the reads before the quote are accounted for: none, one, or all eight
       let before : new + min (tested - scanned) 8 ≤ old + (3 * (q + 1) + w.tail) = grind arith in
       let read = behind _ _ _ m.few (omega (arith, m.low)) in
       let seen : w.seen ≤ c = grind (arith, w.plain c) in record {
@@ -112,7 +112,7 @@ searched-none b old new scanned tested place q close last h is fits reads none o
         all = omega (arith, w.all, a.0);
       }
 
--- a step at a quote that opens a head
+-- a step at a quote after which a head has its name
 pub searched-found : (b : List ℕ) (old new scanned tested ended place q e : ℕ) (close next : Option ℕ) (last : Option HeadSpan)
     → Searched b old new place (Some q) last → IsNextQuote b (q + 1) close → QuoteReads b (q + 1) new scanned close
     → IsOpenedHeadEnd b place q (Some e) → HeadReads b q scanned tested close (Some e)

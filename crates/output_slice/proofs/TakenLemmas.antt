@@ -7,36 +7,36 @@ use Rattle.output_slice.proofs.HeadLemmas.{head-order, head-same}
 use Rattle.unicode.specs.Perl.{is_digit_char}
 use Rattle.output_slice.proofs.OccursLemmas.{occurs-part, part-occurs}
 
--- the taken heads that start at `from` or after it
+-- the taken heads that start at or after `from`
 record TakenFrom (b : List ℕ) (from : ℕ) (taken : List HeadSpan) : Type 0 where
   heads : All (λ h. IsHead b h.start h.stop) taken
   rising : AllPairs (λ g h. g.start < h.start) taken
   low : All (λ h. from ≤ h.start) taken
   rule : (h : HeadSpan) → from ≤ h.start → IsHead b h.start h.stop → (Contains taken h ↔ All (λ g. g.start < h.start → g.stop ≤ h.start) taken)
 
--- what a list with one more in front has
+-- the members of a list with one more head at its front
 contains-cases : (x y : HeadSpan) (xs : List HeadSpan) → Contains (x ∷ xs) y → (x ≡ y) ⊎ Contains xs y
 contains-cases x y xs h = grind arith
 
--- x is the first head that starts at `from` or after it
+-- x is the first head that starts at or after `from`
 pub record IsFirstHead (b : List ℕ) (from : ℕ) (x : HeadSpan) : Type 0 where
   pub head : IsHead b x.start x.stop
   pub low : from ≤ x.start
   pub least : (s e : ℕ) → from ≤ s → IsHead b s e → x.start ≤ s
 
--- leftmost first: the list has the first head from `from` on, then the first from its stop on, until there is none
+-- leftmost first: the list has the first head from `from` on, then the first from its end on, until there is none
 abbrev pub Leftmost : List ℕ → ℕ → List HeadSpan → Type 0
 Leftmost b from [] = (s e : ℕ) → from ≤ s → ¬ IsHead b s e
 Leftmost b from (x ∷ xs) = IsFirstHead b from x × Leftmost b x.stop xs
 
--- heads that start between two places do not matter where there are none
+-- if no head starts between two offsets, they have the same taken heads
 pub leftmost-before : (b : List ℕ) (place later : ℕ) (xs : List HeadSpan) → place ≤ later
     → ((s e : ℕ) → place ≤ s → IsHead b s e → later ≤ s) → Leftmost b later xs → Leftmost b place xs
 leftmost-before b place later [] order none h = λ s e low head. h s e (none s e low head) head
 leftmost-before b place later (x ∷ xs) order none h =
     (record { head = h.0.head; low = omega (arith, h.0.low); least = λ s e low head. h.0.least s e (none s e low head) head }, h.1)
 
--- those that are taken leftmost first are the taken ones
+-- the heads that are taken leftmost first are the taken heads
 module _ (b : List ℕ) (from : ℕ) (x : HeadSpan) (xs : List HeadSpan) (first : IsFirstHead b from x) (h : TakenFrom b x.stop xs) where
   more-starts : All (λ g. x.start < g.start) xs
   more-starts = λ k d l. let order = head-order b x.start x.stop first.head in omega (arith, h.low k d l)
@@ -79,7 +79,7 @@ IsTaken-from_leftmost b xs h =
     let t = taken-leftmost b 0 xs h in
     record { heads = t.heads; rising = t.rising; rule = λ y head. t.rule y (omega arith) head }
 
--- two lists by the rule have the same heads
+-- two lists that follow the rule have the same heads
 same-heads : (n : ℕ) (b : List ℕ) (xs ys : List HeadSpan) → IsTaken b xs → IsTaken b ys → (h : HeadSpan) → h.start < n → Contains xs h → Contains ys h
 same-heads zero b xs ys p q h low among = absurd (omega arith)
 same-heads (suc n) b xs ys p q h low among =
@@ -88,7 +88,7 @@ same-heads (suc n) b xs ys p q h low among =
     let earlier = same-heads n b ys xs q p (get_or ys k d) (omega arith) (Contains-get_or ys k d l) in
     All-contains (λ g. g.start < h.start → g.stop ≤ h.start) xs (get_or ys k d) ((p.rule h head).0 among) earlier before)
 
--- lists by rising start with the same heads are the same
+-- lists in the order of starts with the same heads are the same
 abbrev Rising : List HeadSpan → Type 0
 Rising = AllPairs (λ g h. g.start < h.start)
 
@@ -129,22 +129,22 @@ IsLastTaken-head b h l =
     let within = slice_get_within l.0 (length l.0 - 1) h (sym l.2) in
     rw (get_or_from_slice_get l.0 (length l.0 - 1) h h (sym l.2)) at (l.1.heads (length l.0 - 1) h within)
 
--- what is the last of one list by the rule is the last of each
+-- the last head of one list that follows the rule is the last of each
 pub IsLastTaken-only : (b : List ℕ) (found : Option HeadSpan) (taken : List HeadSpan) → IsLastTaken b found → IsTaken b taken → found ≡ last_of taken
 IsLastTaken-only b found taken last is = last.2 ∙ ap last_of (IsTaken-same b last.0 taken last.1 is)
 
--- there is a last taken head exactly where there is a head
+-- there is a last taken head if and only if there is a head
 pub IsLastTaken-some : (b : List ℕ) (found : Option HeadSpan) → IsLastTaken b found → IsSome found ↔ ((s : ℕ) × (e : ℕ) × IsHead b s e)
 IsLastTaken-some b (Some h) last = (λ some. (h.start, h.stop, IsLastTaken-head b h last), λ head. refl)
 IsLastTaken-some b None ([], is, none) =
     (λ some. absurd (cc), λ head. absurd (omega (arith, ((is.rule (record { start = head.0; stop = head.1 }) head.2).1 (All-nil _)).1)))
 IsLastTaken-some b None (x ∷ xs, is, none) = absurd (cc (slice_get-get_or (x ∷ xs) (length (x ∷ xs) - 1) x (omega arith)))
 
--- where there is no head, none is taken
+-- if there is no head, none is taken
 pub IsLastTaken-none : (b : List ℕ) → ((s e : ℕ) → ¬ IsHead b s e) → IsLastTaken b None
 IsLastTaken-none b none = ([], IsTaken-from_leftmost b [] (λ s e low. none s e), refl)
 
--- what holds, or does not
+-- a fact that holds, or does not
 abbrev Known : Type 0 → Type 0
 Known P = P ⊎ ¬ P
 
@@ -157,17 +157,17 @@ mapped to from k = grind (arith, to, from, k)
 both : {P Q : Type 0} → Known P → Known Q → Known (P × Q)
 both p q = grind (arith, p, q)
 
--- the first of so many places for which something holds
+-- the first of n offsets for which something holds
 first : (P : ℕ → Type 0) → ((i : ℕ) → Known (P i)) → (size at : ℕ)
     → ((i : ℕ) × (at ≤ i) × P i × ((j : ℕ) → at ≤ j → j < i → ¬ P j)) ⊎ ((i : ℕ) → at ≤ i → i < at + size → ¬ P i)
 first P known zero at = inr (λ i low high h. omega arith)
 first P known (suc n) at = let here = known at in let rest = first P known n (at + 1) in grind (arith, here, rest)
 
--- whether there is a place for which it holds
+-- whether there is an offset for which it holds
 some : (P : ℕ → Type 0) → ((i : ℕ) → Known (P i)) → (size : ℕ) → ((i : ℕ) → P i → i < size) → Known ((i : ℕ) × P i)
 some P known size below = let one = first P known size 0 in grind (arith, one, below)
 
--- whether two texts are one
+-- whether two texts are the same
 same-known : (xs ys : List ℕ) → Known (xs ≡ ys)
 same-known xs ys = decided _ (bytes_eq-Decides xs ys)
 
@@ -200,7 +200,7 @@ tail-known text =
       the_number : (n : List ℕ) → text ≡ codes " (" ++ (n ++ codes ") panicked at ") → n ≡ part 2 (length text - 14) text
       the_number n is = sym (rw is (take_at n (codes ") panicked at ") _ (omega (arith, length-append n (codes ") panicked at ")))))
 
--- whether a text stands at a place, and a part is a name
+-- whether a text is at an offset, and whether a part is a name
 occurs-known : (b xs : List ℕ) (at : ℕ) → 0 < length xs → Known (OccursAt b xs at)
 occurs-known b xs at some =
     let same = same-known (part at (at + length xs) b) xs in
@@ -214,7 +214,7 @@ name-known text =
       other : ℕ → Bool
       other x = not (x == 39)
 
--- whether a head stands at a place, and where it ends
+-- whether there is a head at an offset, and its end
 head-known : (b : List ℕ) (s e : ℕ) → Known (IsHead b s e)
 head-known b s e =
     let opening = occurs-known b (codes "thread '") s (omega arith) in
@@ -225,7 +225,7 @@ head-known b s e =
       Quote : ℕ → Type 0
       Quote q = IsName (part (s + 8) q b) × ((get_or b q 0 ≡ 39) × IsTail (part (q + 1) e b))
 
--- the taken heads from a place on, by the number of bytes left
+-- the taken heads from an offset on, by the number of bytes left
 heads-from : (size : ℕ) (b : List ℕ) (from : ℕ) → length b < from + size → (xs : List HeadSpan) × Leftmost b from xs
 heads-from zero b from done = ([], λ s e low head. omega (arith, head.ends, head-order b s e head))
 heads-from (suc n) b from done = elim

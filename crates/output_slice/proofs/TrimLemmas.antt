@@ -1,4 +1,4 @@
--- Where a panic slice begins, and what is left when white space is trimmed at the end.
+-- The start of a panic slice, and the bytes that remain when white space at the end is trimmed.
 use Rattle.output_slice.proofs.Words.{◌≡◌, ℕ, zero, suc, ◌+◌, ◌-◌, ◌<◌, ◌≤◌, ◌⊎◌, true, List, [], ◌∷◌, ◌++◌, length, get_or, take, drop, refl, sym, ap, ◌∙◌, arith, inl, inr, length-drop, drop-drop, get_or-drop, drop_at, length-take, codes, Some, get_or-take, All, Option, None, IsTrue, encode_utf8, encode_utf8_all, length-append, IsScalar, is_whitespace, cases_Bool, nat_tests, encode_ascii, len_utf8_bounds, length-encode, IsCharBoundary-start, IsUtf8-encode, get_or-append, All-cons, All-head, All-tail, All-nil, take-append-drop, take-append-le, decoded-encode, SpellsChar-decoded, piece-bounds, pieces-append, pieces-nil, pieces-step, StartsClean, OccursAt, IsLast, part, IsBlank, IsBreak, IsTrimmedSlice, IsErrorLine, IsWidened, AreBreaks, AreSpaces, IsSpace}
 use Rattle.bstr.specs.Bytes.{is_in, not_in}
 use Rattle.bstr.specs.Trim.{kept_end, trim_end_by}
@@ -11,11 +11,11 @@ line-start b s j h = grind (arith, get_or-take, length-take, h.begins.reads 0)
 
 module _ (b : List ℕ) (s stop : ℕ) (low : stop ≤ s) (high : s ≤ length b) (breaks : AreBreaks b stop s)
     (text : 0 < stop → ¬ IsBreak (get_or b (stop - 1) 0)) where
-  -- where the last line before begins with `Error:`
+  -- the last line before begins with `Error:`
   pub widened-some : (at : ℕ) → IsLast (λ k. get_or b k 0 ≡ 10) 0 stop (Some at) → OccursAt (part at stop b) (codes "\nError:") 0 → IsWidened b s (at + 1)
   widened-some at last starts = grind (arith, low, reads)
 
-  -- where it begins with something else
+  -- it begins with something else
   pub widened-other : (at : ℕ) → IsLast (λ k. get_or b k 0 ≡ 10) 0 stop (Some at) → ¬ OccursAt (part at stop b) (codes "\nError:") 0 → IsWidened b s s
   widened-other at last none = inr (no_line, refl) where
     no_line : (j : ℕ) → ¬ IsErrorLine b s j
@@ -35,7 +35,7 @@ IsWidened-same b s t u (inr none) (inr other) = none.1 ∙ sym other.1
 abbrev IsWhite : ℕ → Type 0
 IsWhite c = IsScalar c × IsTrue (is_whitespace c)
 
--- text is blank that begins with such a character, and is blank behind it
+-- a text is blank if it begins with such a character and is blank after it
 blank-more : (bs : List ℕ) → IsTrue (is_whitespace (or_replacement (decoded bs).char)) → IsBlank (drop (decoded bs).size bs) → IsBlank bs
 blank-more bs white h = by_char (decoded bs).char refl white where
   by_char : (o : Option ℕ) → (decoded bs).char ≡ o → IsTrue (is_whitespace (or_replacement o)) → IsBlank bs
@@ -44,11 +44,11 @@ blank-more bs white h = by_char (decoded bs).char refl white where
       let spelled = SpellsChar-decoded bs c is in
       (c ∷ h.0, All-cons IsWhite c h.0 (spelled.scalar, white) h.1, spelled.bytes ∙ ap (λ text. encode_utf8 c ++ text) h.2)
 
--- where the part ends that a trim of pieces keeps, the first of which stands at `off`; `end` where it keeps none
+-- the end of the part that a trim of pieces keeps, the first of which is at `off`; `end` if it keeps none
 abbrev kept_of : ℕ → ℕ → List Decoded → ℕ
 kept_of end off ps = kept_end is_whitespace end (spans_from off ps)
 
--- that is a place behind which the bytes are blank, or `end` where all of them are
+-- the rest of the bytes after that offset is blank; it is `end` if all of them are
 kept : (f : ℕ) (bs : List ℕ) (off end : ℕ) → length bs ≤ f → (k : ℕ) × (k ≤ length bs) × IsBlank (drop k bs)
     × (((0 < k) × (kept_of end off (pieces bs) ≡ off + k)) ⊎ ((k ≡ 0) × (kept_of end off (pieces bs) ≡ end)))
 unfolding spans_from kept_end
@@ -73,7 +73,7 @@ kept (suc f) (x ∷ xs) off end short =
           (p.size + h.0, omega (arith, h.1), rw drop-drop at h.2, inl (omega arith, grind (arith, h.3)))
     ])
 
--- a trim keeps no more than there is
+-- a trim keeps no more bytes than there are
 kept-within : (xs : List ℕ) → kept_of 0 0 (pieces xs) ≤ length xs
 kept-within xs = grind (arith, kept (length xs) xs 0 0)
 
@@ -89,7 +89,7 @@ blank-kept (c ∷ cs) all end off =
     rw (pieces-step (text ++ encode_utf8_all cs) some, decoded-encode c (encode_utf8_all cs) first.0, drop_at text (encode_utf8_all cs) (length text) refl)
     (rw (first.1, kept_end) rest)
 
--- pieces that keep nothing more do so behind others too
+-- pieces that keep nothing more do so after other pieces too
 pieces-kept : (ps qs : List Decoded) → ((end off : ℕ) → kept_of end off qs ≡ end) → (end off : ℕ) → kept_of end off (ps ++ qs) ≡ kept_of end off ps
 unfolding spans_from kept_end
 pieces-kept [] qs h end off = h end off
@@ -106,11 +106,11 @@ kept-before xs ys (cs, all, is) =
           let start = (IsCharBoundary-start (encode_utf8 c) (IsUtf8-encode c (All-head IsWhite c cs all).0)).1 in
           grind (arith, nat_tests, length-encode, get_or-append, len_utf8_bounds)
 
--- the bytes from s on, up to n and from there on
+-- the bytes from s up to n, and those after n
 split-at : (b : List ℕ) (s n : ℕ) → s ≤ n → drop s b ≡ part s n b ++ drop n b
 split-at b s n low = let both = take-append-drop (n - s) (drop s b) in grind (arith, drop-drop)
 
--- the trim leaves the trimmed slice
+-- a trim keeps the trimmed slice
 pub IsTrimmedSlice-trim_end : (b : List ℕ) (s : ℕ) → s ≤ length b → IsTrimmedSlice b (record { start = s; bytes = trim_end_by is_whitespace (drop s b) })
 IsTrimmedSlice-trim_end b s low =
     let size = length-drop s b in
@@ -121,7 +121,7 @@ IsTrimmedSlice-trim_end b s low =
     omega (arith, rw (← split-at b s i from) at same, kept-within (part s i b), length-take (i - s) (drop s b))) (rw drop-drop at h.2) in
     (s + h.0, end, ap (λ k. take k (drop s b)) (omega arith))
 
--- a byte that a search for what is no white space of ASCII passes over is such white space
+-- a byte that a search for a byte other than ASCII white space skips is ASCII white space
 pub space-behind : (b : List ℕ) (from k : ℕ) → from ≤ k
     → ¬ (not_in (9 ∷ 10 ∷ 11 ∷ 12 ∷ 13 ∷ 32 ∷ []) (get_or (drop from b) (k - from) 0) ≡ true) → IsSpace (get_or b k 0)
 unfolding is_in
@@ -135,7 +135,7 @@ spaces-blank (y ∷ ys) h =
     let rest = spaces-blank ys (λ k low. h (suc k) (omega arith)) in
     (y ∷ rest.0, All-cons IsWhite y rest.0 white.0 rest.1, rw (encode_ascii y white.1) (ap (λ text. y ∷ text) rest.2))
 
--- so the trim without them leaves the trimmed slice
+-- so a trim without them keeps the trimmed slice
 pub IsTrimmedSlice-front : (b : List ℕ) (s n : ℕ) → s ≤ n → n ≤ length b → AreSpaces b n (length b)
     → IsTrimmedSlice b (record { start = s; bytes = trim_end_by is_whitespace (part s n b) })
 IsTrimmedSlice-front b s n low high spaces =

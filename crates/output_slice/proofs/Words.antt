@@ -1,4 +1,4 @@
--- The names of std, of bstr and of specs/ that most proofs cite, passed on from one place. Declares nothing.
+-- The names of `std`, of `bstr` and of `specs/` that most proofs cite, in one place. Declares nothing.
 pub use Rattle.std.proofs.Common.{All, AllPairs, Bool, Bor, Contains, Decides, IfSome, IsSome, IsTrue, IsUtf8, List, MatchOption, None, Option, Some, [], add-zero, ap, append-nil, append_assoc, arith, chars, codes, drop, drop-drop, drop_at, encode_utf8, encode_utf8_all, eq-eqb, ext_get_or, get_or, get_or-append-add, get_or-drop, get_or-set_other, get_or-set_same, get_or-take, inl, inr, length, length-append, length-drop, length-take, length-take-le, map, max, min, nat_le, not, option_map, refl, set, subst, suc, sum_by, sym, take, take-append-drop, take_all, take_at, true, unwrap_or, zero, ℕ, ◌&&◌, ◌*◌, ◌++◌, ◌+◌, ◌-◌, ◌<◌, ◌==◌, ◌^◌, ◌||◌, ◌↔◌, ◌∙◌, ◌∷◌, ◌≡◌, ◌≢◌, ◌≤◌, ◌⊎◌}
 pub use Rattle.bstr.proofs.lemmas.EncodeLemmas.{decoded-encode}
 pub use Rattle.bstr.proofs.lemmas.PieceLemmas.{StartsClean, decoded_by-cut, piece-bounds, pieces-append, pieces-nil, pieces-step}

@@ -1,4 +1,4 @@
--- The grammar of a head: the front of a panic message, at a line start. Places count bytes from 0.
+-- The grammar of a head, which is the front of a panic message at a line start. Offsets count bytes from 0.
 use Rattle.std.specs.Prelude.{◌≡◌, ◌≢◌, ℕ, ◌+◌, ◌-◌, ◌<◌, ◌≤◌, ◌⊎◌, List, ◌++◌, length, slice_index, codes, IsTrue, All}
 use Rattle.std.specs.Char.{IsScalar}
 use Rattle.std.specs.Str.{IsUtf8, encode_utf8_all}
@@ -6,11 +6,11 @@ use Rattle.bstr.specs.Text.{part}
 use Rattle.bstr.specs.Find.{OccursAt}
 use Rattle.unicode.specs.Perl.{is_digit_char}
 
--- The place s is 0, or a line feed stands before it.
+-- The offset s is 0, or the byte before it is a line feed.
 abbrev pub IsLineStart : List ℕ → ℕ → Type 0
 IsLineStart b s = 0 < s → slice_index b (s - 1) ≡ 10
 
--- The character is one of `0` to `9`, or lies past ASCII and is a decimal digit of Unicode.
+-- The character is one of `0` to `9`, or a decimal digit of Unicode outside ASCII.
 abbrev pub IsDigit : ℕ → Type 0
 IsDigit c = ((48 ≤ c) × (c ≤ 57)) ⊎ ((128 ≤ c) × IsTrue (is_digit_char c))
 
@@ -24,12 +24,12 @@ pub record IsName (text : List ℕ) : Type 0 where
 abbrev pub IsNumber : List ℕ → Type 0
 IsNumber text = (cs : List ℕ) × (0 < length cs) × All (λ c. IsScalar c × IsDigit c) cs × (text ≡ encode_utf8_all cs)
 
--- The text is ` panicked at `, perhaps with a number in parentheses before it.
+-- The text is ` panicked at `, or a number in parentheses and then ` panicked at `.
 abbrev pub IsTail : List ℕ → Type 0
 IsTail text = (text ≡ codes " panicked at ")
     ⊎ ((number : List ℕ) × IsNumber number × (text ≡ codes " (" ++ (number ++ codes ") panicked at ")))
 
--- From s to e stands `thread '` at a line start, then a name, a quote and a tail.
+-- The bytes from s up to e are a head: `thread '` at a line start, then a name, a quote and a tail.
 pub record IsHead (b : List ℕ) (s e : ℕ) : Type 0 where
   pub line_start : IsLineStart b s
   pub opening : OccursAt b (codes "thread '") s

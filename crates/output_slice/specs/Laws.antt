@@ -10,24 +10,24 @@ use Rattle.output_slice.specs.Cut.{IsCut, head_behind}
 use Rattle.output_slice.specs.Lines.{AreLines}
 use Rattle.output_slice.specs.Extraction.{Extract, IsExtract}
 
--- Heads that begin at one place end at one place.
+-- Two heads that begin at the same offset end at the same offset.
 abbrev pub HeadsHaveOneEnd : Type 0
 HeadsHaveOneEnd = (b : List ℕ) (s e f : ℕ) → IsHead b s e → IsHead b s f → e ≡ f
 
--- All bytes have a list of taken heads, and only one.
+-- Any bytes have exactly one list of taken heads.
 abbrev pub TakenHeadsExist : Type 0
 TakenHeadsExist = (b : List ℕ) → (taken : List HeadSpan) × IsTaken b taken × ((other : List HeadSpan) → IsTaken b other → other ≡ taken)
 
--- The taken heads of the whole are those before a cut, then those behind it.
+-- The taken heads of all bytes are the taken heads before a cut, and then those after it.
 abbrev pub TakenHeadsDivide : Type 0
 TakenHeadsDivide = (b : List ℕ) (c : ℕ) (before behind : List HeadSpan) → IsCut b c → IsTaken (take c b) before → IsTaken (drop c b) behind
     → IsTaken b (before ++ map (head_behind c) behind)
 
--- All bytes divide into lines, and in one way only.
+-- Any bytes divide into lines in exactly one way.
 abbrev pub LinesExist : Type 0
 LinesExist = (b : List ℕ) → (lines : List (List ℕ)) × AreLines b lines × ((other : List (List ℕ)) → AreLines b other → other ≡ lines)
 
--- The lines that the function of `bstr` cuts bytes into are the lines of those bytes.
+-- The lines into which the function of `bstr` cuts bytes are the lines of those bytes.
 abbrev pub LinesAreCut : Type 0
 LinesAreCut = (b : List ℕ) → AreLines b (lines_of b)
 

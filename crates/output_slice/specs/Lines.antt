@@ -7,7 +7,7 @@ pub record IsLine (line : List ℕ) : Type 0 where
   pub some : 0 < length line
   pub feed : (k : ℕ) → slice_index line k ≡ 10 → k + 1 ≡ length line
 
--- The lines join to b, and each with another behind it ends with a line feed.
+-- The lines join to b, and every line except the last ends with a line feed.
 pub record AreLines (b : List ℕ) (lines : List (List ℕ)) : Type 0 where
   pub joined : concat lines ≡ b
   pub each : All IsLine lines

@@ -1,4 +1,4 @@
--- What the steps of the counted search find, and how far they read.
+-- The results of the steps of the counted search, and their numbers of reads.
 use Rattle.std.specs.Prelude.{codes, ◌≡◌, ◌≢◌, ℕ, ◌+◌, ◌-◌, ◌*◌, ◌<◌, ◌≤◌, ◌⊎◌, List, length, slice_index, All, Option, MatchOption, IfSome}
 use Rattle.std.specs.Char.{encode_utf8, IsScalar}
 use Rattle.std.specs.Str.{encode_utf8_all}
@@ -7,19 +7,19 @@ use Rattle.bstr.specs.Find.{OccursAt, IsFirst}
 use Rattle.output_slice.specs.Head.{IsDigit, IsLineStart, IsName, IsTail, IsHead}
 use Rattle.output_slice.specs.Slices.{IsBreak}
 
--- The byte x stands nowhere in b from i up to j.
+-- The byte x is not in b from i up to j.
 abbrev pub NoByteBetween : ℕ → List ℕ → ℕ → ℕ → Type 0
 NoByteBetween x b i j = (k : ℕ) → i ≤ k → k < j → slice_index b k ≢ x
 
--- No line feed does.
+-- There is no line feed in b from i up to j.
 abbrev pub NoFeedBetween : List ℕ → ℕ → ℕ → Type 0
 NoFeedBetween = NoByteBetween 10
 
--- No quote does.
+-- There is no quote in b from i up to j.
 abbrev pub NoQuoteBetween : List ℕ → ℕ → ℕ → Type 0
 NoQuoteBetween = NoByteBetween 39
 
--- Neither does.
+-- There is no quote and no line feed in b from i up to j.
 abbrev pub ArePlain : List ℕ → ℕ → ℕ → Type 0
 ArePlain b i j = (k : ℕ) → i ≤ k → k < j → (slice_index b k ≢ 39) × (slice_index b k ≢ 10)
 
@@ -27,90 +27,91 @@ ArePlain b i j = (k : ℕ) → i ≤ k → k < j → (slice_index b k ≢ 39) ×
 abbrev pub AreBreaks : List ℕ → ℕ → ℕ → Type 0
 AreBreaks b i j = (k : ℕ) → i ≤ k → k < j → IsBreak (slice_index b k)
 
--- The byte is white space of ASCII.
+-- The byte is ASCII white space.
 abbrev pub IsSpace : ℕ → Type 0
 IsSpace x = ((9 ≤ x) × (x ≤ 13)) ⊎ (x ≡ 32)
 
--- Each byte of b from i up to j is white space of ASCII.
+-- Each byte of b from i up to j is ASCII white space.
 abbrev pub AreSpaces : List ℕ → ℕ → ℕ → Type 0
 AreSpaces b i j = (k : ℕ) → i ≤ k → k < j → IsSpace (slice_index b k)
 
--- The line of `at` ends at `end`: behind a line feed that is not before `at`, or with the bytes.
+-- `end` is after a line feed that is not before `at`, or is the end of the bytes.
 abbrev pub IsLineEnd : List ℕ → ℕ → ℕ → Type 0
 IsLineEnd b at end = end < length b → (at < end) × (slice_index b (end - 1) ≡ 10)
 
--- What is found is the first place at or after `from` where a quote stands.
+-- `found` is the first offset of a quote at or after `from`.
 abbrev pub IsNextQuote : List ℕ → ℕ → Option ℕ → Type 0
 IsNextQuote b from found = IsFirst (λ k. slice_index b k ≡ 39) from (length b) found
 
--- One read for each byte from `from` up to the quote that is found and for the quote, or up to the end.
+-- One read for each byte from `from` on, up to and including the quote that is found, or up to the end.
 abbrev pub QuoteReads : List ℕ → ℕ → ℕ → ℕ → Option ℕ → Type 0
 QuoteReads b from old new found = MatchOption found (new + from ≡ old + length b) (λ q. new + from ≡ old + (q + 1))
 
--- The count did not fall, and what was found ends behind bytes that were each read, from `from` on.
+-- The count did not fall. If an end was found, each byte from `from` up to it was read.
 abbrev pub ReadsAll : ℕ → ℕ → ℕ → Option ℕ → Type 0
 ReadsAll from old new found = (old ≤ new) × IfSome found (λ e. old + e ≤ new + from)
 
--- `thread ` stands before the quote at a line start that is not before `place`.
+-- `thread ` is right before the quote, at a line start that is not before `place`.
 abbrev pub IsOpened : List ℕ → ℕ → ℕ → Type 0
 IsOpened b place quote = (place + 7 ≤ quote) × IsLineStart b (quote - 7) × OccursAt b (codes "thread ") (quote - 7)
 
--- The first k bytes of text stand in b at `at`.
+-- The first k bytes of the text are in b at `at`.
 pub record AgreesFor (b text : List ℕ) (at k : ℕ) : Type 0 where
   pub short : k ≤ length text
   pub reads : (j : ℕ) → j < k → slice_index b (at + j) ≡ slice_index text j
   pub fits : at + k ≤ length b
 
--- What is found is where the text ends that stands in b at `at`, and none where it does not stand there.
+-- `found` is the end of the text in b if the text is at `at`, and otherwise `None`.
 abbrev pub IsTextEnd : List ℕ → List ℕ → ℕ → Option ℕ → Type 0
 IsTextEnd b text at found = MatchOption found (¬ OccursAt b text at) (λ e. OccursAt b text at × (e ≡ at + length text))
 
--- One read for each byte of the text, up to the first that differs.
+-- At most one read for each byte of the text, up to and including the first that differs.
 abbrev pub TextReads : List ℕ → List ℕ → ℕ → ℕ → ℕ → Option ℕ → Type 0
 TextReads b text at old new found = MatchOption found
     ((k : ℕ) × (k < length text) × AgreesFor b text at k × (new ≤ old + k + 1))
     (λ e. new ≤ old + length text)
 
--- The character c stands in b at `at` and ends by `stop`.
+-- The character c is in b at `at` and ends at or before `stop`.
 pub record IsCharAt (b : List ℕ) (at stop c : ℕ) : Type 0 where
   pub scalar : IsScalar c
   pub stands : OccursAt b (encode_utf8 c) at
   pub ends : at + length (encode_utf8 c) ≤ stop
 
--- What is found is the character that stands in b at `at` and ends by `stop`, and how many bytes it has.
+-- `found` is the character in b at `at` that ends at or before `stop`, with its size in bytes.
 abbrev pub IsSizedChar : List ℕ → ℕ → ℕ → Option (ℕ × ℕ) → Type 0
 IsSizedChar b at stop found = MatchOption found ((c : ℕ) → ¬ IsCharAt b at stop c)
     (λ r. IsCharAt b at stop r.0 × (r.1 ≡ length (encode_utf8 r.0)) × (0 < r.1))
 
--- One read for each byte of the character that is found, or up to `stop`.
+-- One read for each byte of the character that is found. If none is found, at most one read for each byte up to `stop`.
 abbrev pub CharReads : ℕ → ℕ → ℕ → ℕ → Option (ℕ × ℕ) → Type 0
 CharReads at stop old new found = MatchOption found ((old ≤ new) × (new + at ≤ old + stop)) (λ r. new ≡ old + r.1)
 
--- Where an ASCII byte stands at `to`, it is read once, and each byte before it from `from` on.
+-- If the byte at `to` is ASCII, it and the bytes before it from `from` on are read at most once each.
 abbrev pub ReadsAsciiEnd : List ℕ → ℕ → ℕ → ℕ → ℕ → Type 0
 ReadsAsciiEnd b from to old new = slice_index b to < 128 → new + from ≤ old + to + 1
 
--- No digit stands in b at `at`.
+-- There is no digit in b at `at`.
 abbrev pub NoDigitAt : List ℕ → ℕ → Type 0
 NoDigitAt b at = (c : ℕ) → IsCharAt b at (length b) c → IsDigit c → ⊥
 
--- From `from` to `to` stand digits, perhaps none.
+-- The bytes from `from` to `to` are zero or more digits.
 pub record AreDigits (b : List ℕ) (from to : ℕ) : Type 0 where
   pub chars : List ℕ
   pub digits : All (λ c. IsScalar c × IsDigit c) chars
   pub stands : OccursAt b (encode_utf8_all chars) from
   pub ends : to ≡ from + length (encode_utf8_all chars)
 
--- From `from` to `to` stand digits, and at `to` none.
+-- The bytes from `from` to `to` are zero or more digits, and there is no digit at `to`.
 pub record IsDigitRun (b : List ℕ) (from to : ℕ) : Type 0 where
   pub digits : AreDigits b from to
   pub stops : NoDigitAt b to
 
--- What is found is where the tail that stands at `at` ends, and none where no tail stands there.
+-- `found` is the end of the tail that begins at `at`, or `None` if no tail begins there.
 abbrev pub IsTailEnd : List ℕ → ℕ → Option ℕ → Type 0
 IsTailEnd b at found = MatchOption found ((e : ℕ) → e ≤ length b → ¬ IsTail (part at e b)) (λ e. (e ≤ length b) × IsTail (part at e b))
 
--- The reads of a tail went up to a place on the line of `at`, before which there is no quote, and not past what was found.
+-- The reads of a tail went up to an offset on the line of `at`, and not past the end that was found. There is no quote
+-- before that offset.
 pub record ReadsUpTo (b : List ℕ) (at old new : ℕ) (found : Option ℕ) : Type 0 where
   pub last : ℕ
   pub low : at ≤ last
@@ -120,24 +121,26 @@ pub record ReadsUpTo (b : List ℕ) (at old new : ℕ) (found : Option ℕ) : Ty
   pub near : new + 2 * at ≤ old + 2 * last + 2
   pub before : IfSome found (λ e. (last ≤ e) × (at + 13 ≤ last) × (new + at ≤ old + last + 1))
 
--- Few reads: of a tail from `at` up to `last` that may not be whole, or of one that is whole and of a name of this size.
+-- Few reads: those of a tail from `at` up to `last` that may be incomplete, or those of a whole tail and of a name of this
+-- size.
 abbrev pub FewReads : ℕ → ℕ → ℕ → ℕ → ℕ → Type 0
 FewReads name at last old new = ((new + at ≤ old + last + 5) × (new + 2 * at ≤ old + 2 * last + 2))
     ⊎ ((at + 13 ≤ last) × (new + at ≤ old + last + name + 1))
 
--- What is found is where the head ends whose name stands between the quotes at `quote` and `close`.
+-- `found` is the end of the head whose name is between the quotes at `quote` and `close`.
 abbrev pub IsNamedHeadEnd : List ℕ → ℕ → ℕ → Option ℕ → Type 0
 IsNamedHeadEnd b quote close found = MatchOption found
     ((e : ℕ) → e ≤ length b → IsName (part (quote + 1) close b) → ¬ IsTail (part (close + 1) e b))
     (λ e. (e ≤ length b) × IsName (part (quote + 1) close b) × IsTail (part (close + 1) e b))
 
--- What is found is where the head ends that the quote opens, at `place` or after it.
+-- `found` is the end of the head whose name begins after `quote`, if the head starts at or after `place`.
 abbrev pub IsOpenedHeadEnd : List ℕ → ℕ → ℕ → Option ℕ → Type 0
 IsOpenedHeadEnd b place quote found = MatchOption found
     ((s e : ℕ) → place ≤ s → s + 7 ≡ quote → ¬ IsHead b s e)
     (λ e. (place + 7 ≤ quote) × IsHead b (quote - 7) e)
 
--- The reads went up to a place on the line of `close`, before which there is no quote behind `close`, and not past what was found.
+-- The reads went up to an offset on the line of `close`, and not past the end that was found. There is no quote between
+-- `close` and that offset.
 pub record HeadReadsTo (b : List ℕ) (quote old new close : ℕ) (found : Option ℕ) : Type 0 where
   pub last : ℕ
   pub low : close < last
@@ -146,6 +149,6 @@ pub record HeadReadsTo (b : List ℕ) (quote old new close : ℕ) (found : Optio
   pub few : FewReads (close - (quote + 1)) (close + 1) last old new
   pub before : IfSome found (λ e. (last ≤ e) × (close + 14 ≤ last))
 
--- The same beside eight reads before the quote, where there is a next quote, and no read at all where there is none.
+-- The same with eight more reads before the quote if there is a next quote, and no read if there is none.
 abbrev pub HeadReads : List ℕ → ℕ → ℕ → ℕ → Option ℕ → Option ℕ → Type 0
 HeadReads b quote old new close found = MatchOption close (new ≡ old) (λ c. HeadReadsTo b quote (old + 8) new c found)

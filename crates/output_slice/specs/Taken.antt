@@ -3,8 +3,8 @@ use Rattle.std.specs.Prelude.{◌≡◌, ℕ, ◌-◌, ◌<◌, ◌≤◌, ◌�
 use Rattle.output_slice.specs.declared.panic_head.HeadSpan.{HeadSpan}
 use Rattle.output_slice.specs.Head.{IsHead}
 
--- The list has heads alone, by rising start, and has a head exactly where each head of the list that starts before it has
--- ended when it starts.
+-- The list has only heads, in the order of their starts. A head is in the list if and only if no head of the list that
+-- starts before it ends after its start.
 pub record IsTaken (b : List ℕ) (taken : List HeadSpan) : Type 0 where
   pub heads : All (λ h. IsHead b h.start h.stop) taken
   pub rising : AllPairs (λ g h. g.start < h.start) taken
@@ -15,6 +15,6 @@ pub record IsTaken (b : List ℕ) (taken : List HeadSpan) : Type 0 where
 abbrev pub last_of : List HeadSpan → Option HeadSpan
 last_of taken = slice_get taken (length taken - 1)
 
--- What is found is the last taken head, and none where none is taken.
+-- `found` is the last taken head, or `None` if no head is taken.
 abbrev pub IsLastTaken : List ℕ → Option HeadSpan → Type 0
 IsLastTaken b found = (taken : List HeadSpan) × IsTaken b taken × (found ≡ last_of taken)

@@ -11,7 +11,7 @@ pub trait ByteSource {
     // The bytes.
     ghost bytes: { Self → List ℕ };
 
-    // How many reads there were.
+    // The number of reads so far.
     ghost count: { Self → ℕ };
 
     /// Returns the number of bytes. This does not count as a read.

@@ -33,7 +33,7 @@ impl<'a> TestOutputErrorSlice<'a> {
         ensures value { IsExtract (option_copied stdout.entry) (option_copied stderr.entry)
             (option_map extract_of result) }
 
-        // Whatever is the extraction equals the result, so `None` says that there is none.
+        // Every extraction equals the result, so `None` means that there is none.
         ensures only { (found : Option Extract)
             → IsExtract (option_copied stdout.entry) (option_copied stderr.entry) found
             → found ≡ option_map extract_of result }
@@ -64,7 +64,7 @@ impl<'a> TestOutputErrorSlice<'a> {
         ensures value { IsCappedExtract (non_zero_usize_get limit) (option_copied stdout.entry)
             (option_copied stderr.entry) (option_map extract_of result) }
 
-        // Whatever is the capped extraction equals the result.
+        // Every capped extraction equals the result.
         ensures only { (found : Option Extract)
             → IsCappedExtract (non_zero_usize_get limit) (option_copied stdout.entry)
             (option_copied stderr.entry) found → found ≡ option_map extract_of result }
@@ -135,8 +135,8 @@ pub fn heuristic_error_str(stderr: &[u8]) -> Option<ByteSubslice<'_>>
 
 /// Returns the error slice, given that no error marker begins at or after `end`.
 ///
-/// `heuristic_extract` has looked for the markers of the error and of the note in one pass, and
-/// passes on what it knows of the end.
+/// `heuristic_extract` searches for the markers of the error and of the note in one pass, and
+/// passes the offset at or after which there is none.
 fn error_str_before(stderr: &[u8], end: usize) -> Option<ByteSubslice<'_>>
     requires { IsQuietFrom stderr.now (codes "\nError: ") end }
     ensures { IsErrorSlice stderr.now (option_map slice_of result) }
@@ -145,8 +145,8 @@ fn error_str_before(stderr: &[u8], end: usize) -> Option<ByteSubslice<'_>>
     Some(trimmed(stderr, start))
 }
 
-/// Returns the offset of the first line that begins with `Error: `, given that no error marker begins
-/// at or after `end`.
+/// Returns the offset of the first line that begins with `Error: `, given that no error marker
+/// begins at or after `end`.
 fn error_start(stderr: &[u8], end: usize) -> Option<usize>
     requires { IsQuietFrom stderr.now (codes "\nError: ") end }
     ensures { IsFirst (IsErrorStart stderr.now) 0 (length stderr.now + 1) result }
@@ -214,7 +214,7 @@ fn widened(stderr: &[u8], start: usize) -> usize
     }
 }
 
-/// Returns the offset of the first of the line breaks that end at `start`.
+/// Returns the offset of the first of the line breaks right before `start`.
 fn breaks_start(stderr: &[u8], start: usize) -> usize
     requires { start ≤ length stderr.now }
     ensures within { result ≤ start }
@@ -241,7 +241,7 @@ fn trimmed(stderr: &[u8], start: usize) -> ByteSubslice<'_>
     }
 }
 
-/// Returns the offset of the ASCII white space that ends the bytes, at least `start`.
+/// Returns the offset of the ASCII white space at the end of the bytes, which is at least `start`.
 fn spaces_start(bytes: &[u8], start: usize) -> usize
     requires { start ≤ length bytes.now }
     ensures low { start ≤ result }

@@ -3,33 +3,33 @@
 
 ghost use Rattle.output_slice.specs.Laws.{HeadsHaveOneEnd, TakenHeadsExist, TakenHeadsDivide, LinesExist, LinesAreCut, OneExtraction, LossyTextIsExact};
 
-/// Heads that begin at one place end at one place.
+/// Two heads that begin at the same offset end at the same offset.
 pub fn heads_have_one_end()
     ensures { HeadsHaveOneEnd }
 {}
 
-/// All bytes have a list of taken heads, and only one.
+/// Any bytes have exactly one list of taken heads.
 pub fn taken_heads_exist()
     ensures { TakenHeadsExist }
 {}
 
 /// At a line start that no head crosses, the taken heads divide into those before it and those
-/// behind it.
+/// after it.
 pub fn taken_heads_divide()
     ensures { TakenHeadsDivide }
 {}
 
-/// All bytes divide into lines, and in one way only.
+/// Any bytes divide into lines in exactly one way.
 pub fn lines_exist()
     ensures { LinesExist }
 {}
 
-/// The lines that the function of `bstr` cuts bytes into are the lines of those bytes.
+/// The lines into which the function of `bstr` cuts bytes are the lines of those bytes.
 pub fn lines_are_cut()
     ensures { LinesAreCut }
 {}
 
-/// Two streams have one extraction only, and it may be that there is none.
+/// Two streams have at most one extraction.
 pub fn one_extraction()
     ensures { OneExtraction }
 {}

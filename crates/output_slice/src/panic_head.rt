@@ -40,7 +40,7 @@ pub fn last_panic_head<S: ByteSource>(source: &mut S) -> Option<HeadSpan>
         → result ≡ last_of taken }
     ensures found { IsSome result ↔ ((s : ℕ) × (e : ℕ) × IsHead (S.bytes source.old) s e) }
 
-    // The reads, for a source of n bytes: at most 8n + 8, and, said tighter, from n to 3n + 8.
+    // The reads for a source of n bytes: at most 8n + 8, and more tightly from n to 3n + 8.
     ensures reads { S.count source.new
         ≤ S.count source.old + (8 * length (S.bytes source.old) + 8) }
     ensures few { S.count source.new ≤ S.count source.old + (3 * length (S.bytes source.old) + 8) }

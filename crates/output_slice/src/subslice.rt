@@ -9,7 +9,7 @@ use bstr::ByteSlice;
 use std::fmt;
 use std::num::NonZero;
 
-/// A part of some bytes, and where it begins in them.
+/// A part of some bytes, and its offset in them.
 #[derive(Clone, Copy)]
 pub struct ByteSubslice<'a> {
     /// The bytes of the part.
@@ -47,7 +47,7 @@ pub enum TestOutputErrorSlice<'a> {
         stderr_subslice: ByteSubslice<'a>,
     },
 
-    /// The line that says that a test with `should_panic` did not panic.
+    /// The line which notes that a test with `should_panic` did not panic.
     ShouldPanic {
         /// A part of standard output.
         stdout_subslice: ByteSubslice<'a>,

@@ -1,9 +1,9 @@
-//! What was met in a set of inputs.
+//! The numbers of inputs of a set, by their kinds.
 
 use crate::trial::{Reads, Trial};
 use std::io;
 
-/// How many inputs of each kind were met, and the reads that exceed those of all others.
+/// The numbers of inputs of each kind, and the reads that exceed those of all other inputs.
 #[derive(Clone, Copy)]
 pub(crate) struct Met {
     inputs: u64,
@@ -18,7 +18,7 @@ pub(crate) struct Met {
 }
 
 impl Met {
-    /// No input was met.
+    /// The numbers before any input.
     pub(crate) const NONE: Met = Met {
         inputs: 0,
         no_head: 0,
@@ -31,8 +31,8 @@ impl Met {
         most_reads: Reads::NONE,
     };
 
-    /// Tries the bytes of the trial and counts them. Prints them, in hex, where the searches do not
-    /// agree.
+    /// Tries the bytes of the trial and counts them. Prints them in hexadecimal if the searches do
+    /// not agree.
     pub(crate) fn count<R: AllocGlobal + Print>(
         &mut self,
         rt: &R,
@@ -62,12 +62,13 @@ impl Met {
         Ok(())
     }
 
-    /// Counts an input that cannot be tried among those on which the searches do not agree.
+    /// Counts an input that cannot be tried as one on which the searches do not agree.
     pub(crate) fn count_untried(&mut self) {
         count_if(&mut self.disagreeing, true);
     }
 
-    /// Prints what was met in the set of this name. Answers whether the searches agree on all.
+    /// Prints the numbers of the set with this name. Returns true if the searches agree on all
+    /// inputs.
     pub(crate) fn print<R: Print>(&self, rt: &R, name: &str) -> io::Result<bool> {
         let Met {
             inputs,
@@ -94,7 +95,7 @@ impl Met {
     }
 }
 
-/// Counts one more where this holds.
+/// Raises a counter by 1 if `holds`.
 fn count_if(counter: &mut u64, holds: bool) {
     *counter = counter.wrapping_add(u64::from(holds));
 }

@@ -3,13 +3,13 @@
 use output_slice::subslice::{ByteSubslice, TestOutputErrorSlice};
 use std::io;
 
-/// An error of which the text is malformed.
+/// An error whose text is not UTF-8.
 const ERROR: &[u8] = b"Error: \xc3\xa9 \xff\xe2\x80";
 
 /// A note between two lines.
 const NOTE: &[u8] = b"a\r\nnote: test did not panic as expected\r\nb";
 
-/// Prints where a part stands in its stream, from its start to its end.
+/// Prints the start and the length of a part of a stream.
 fn print_part<R: Print>(rt: &R, stream: &str, found: Option<ByteSubslice<'_>>) -> io::Result<()> {
     match found {
         Some(part) => println!(rt; "  {stream}: {}, {} bytes", part.start, part.slice.len()),
@@ -17,7 +17,7 @@ fn print_part<R: Print>(rt: &R, stream: &str, found: Option<ByteSubslice<'_>>) -
     }
 }
 
-/// Prints the text of what is extracted, and its part of each stream.
+/// Prints the text of what was found, and its part of each stream.
 fn print_parts<R: Print>(rt: &R, found: TestOutputErrorSlice<'_>) -> io::Result<()> {
     println!(rt; "parts of {found}")?;
     print_part(rt, "standard error", found.stderr_subslice())?;
@@ -25,7 +25,7 @@ fn print_parts<R: Print>(rt: &R, found: TestOutputErrorSlice<'_>) -> io::Result<
     print_part(rt, "combined", found.combined_subslice())
 }
 
-/// Prints the parts of what is extracted of each stream.
+/// Prints the parts that are found in each stream.
 pub(crate) fn parts_of_each_stream<R: Print>(rt: &R) -> io::Result<()> {
     for (stdout, stderr) in [(None, Some(ERROR)), (Some(NOTE), None)] {
         match TestOutputErrorSlice::heuristic_extract(stdout, stderr) {

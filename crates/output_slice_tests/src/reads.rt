@@ -4,7 +4,7 @@ use output_slice::byte_source::{ByteSource, CountedBytes};
 use output_slice::panic_head::last_panic_head;
 use std::io;
 
-/// Reads one byte twice, and prints it and how many reads are counted.
+/// Reads one byte twice, and prints it and the number of counted reads.
 pub(crate) fn counted_reads<R: Print>(rt: &R) -> io::Result<()> {
     let mut source = CountedBytes::new(b"a'");
     let before = source.reads();
@@ -16,8 +16,8 @@ pub(crate) fn counted_reads<R: Print>(rt: &R) -> io::Result<()> {
     println!(rt; "  reads: {before}, {}", source.reads())
 }
 
-/// Outputs whose reads are counted by hand in `stdout`: without a byte, without a quote, with a quote
-/// that opens no head, with a head, and with one of a number.
+/// Outputs whose reads are counted by hand in `stdout`: no bytes, no quote, a quote that begins no
+/// name, a head, and a head with a number.
 const OUTPUTS: [&str; 5] = [
     "",
     "no head",
@@ -26,7 +26,7 @@ const OUTPUTS: [&str; 5] = [
     "thread 'a' (7) panicked at b",
 ];
 
-/// Searches each of the outputs for the last head, and prints how many reads are counted.
+/// Searches each of the outputs for the last head, and prints the number of counted reads.
 pub(crate) fn reads_of_searches<R: Print>(rt: &R) -> io::Result<()> {
     println!(rt; "reads of searches")?;
     for output in &OUTPUTS {

@@ -7,7 +7,7 @@ use std::alloc::AllocError;
 use std::str;
 use unicode::properties::GeneralCategory;
 
-/// Where `text` ends, if it stands at `at`.
+/// Returns the end of `text` if it is at `at`.
 fn end_of(bytes: &[u8], at: usize, text: &[u8]) -> Option<usize>
     ensures { IfSome result (λ e. e ≤ length bytes.now) }
 {
@@ -22,7 +22,8 @@ fn end_of(bytes: &[u8], at: usize, text: &[u8]) -> Option<usize>
     Some(at + text.len())
 }
 
-/// Whether bytes are one or more digits: `0` to `9`, or characters past ASCII of the category Nd.
+/// Returns true if the bytes are one or more digits: `0` to `9`, or characters outside ASCII of the
+/// category Nd.
 fn is_number(bytes: &[u8]) -> bool {
     match str::from_utf8(bytes) {
         Err(_) => false,
@@ -38,7 +39,7 @@ fn is_digit(c: char) -> bool {
     }
 }
 
-/// Where the tail ends that stands at `at`.
+/// Returns the end of the tail that begins at `at`.
 fn tail_end(bytes: &[u8], at: usize) -> Option<usize> {
     if let Some(stop) = end_of(bytes, at, b" panicked at ") {
         return Some(stop);
@@ -57,12 +58,12 @@ fn tail_end(bytes: &[u8], at: usize) -> Option<usize> {
     None
 }
 
-/// Whether bytes are a name: text that is not empty.
+/// Returns true if the bytes are a name: UTF-8 that is not empty.
 fn is_name(bytes: &[u8]) -> bool {
     !bytes.is_empty() && str::from_utf8(bytes).is_ok()
 }
 
-/// Where the head ends that begins at `start`.
+/// Returns the end of the head that begins at `start`.
 fn head_end(bytes: &[u8], start: usize) -> Option<usize>
     requires { start < length bytes.now }
 {
@@ -83,7 +84,7 @@ fn head_end(bytes: &[u8], start: usize) -> Option<usize>
     None
 }
 
-/// All heads, by start.
+/// Lists all heads in the order of their starts.
 pub(crate) fn list_heads(bytes: &[u8], heads: &mut Vec<HeadSpan>) -> Result<(), AllocError> {
     heads.clear();
     for start in 0..bytes.len() {
@@ -94,7 +95,8 @@ pub(crate) fn list_heads(bytes: &[u8], heads: &mut Vec<HeadSpan>) -> Result<(), 
     Ok(())
 }
 
-/// Those of the heads, listed by start, at whose start each of them that starts before has ended.
+/// Lists the taken ones of the heads, which are in the order of their starts. A head is taken if no
+/// taken head that starts before it ends after its start.
 pub(crate) fn list_taken(heads: &[HeadSpan], taken: &mut Vec<HeadSpan>) -> Result<(), AllocError> {
     taken.clear();
     for head in heads {
@@ -105,7 +107,8 @@ pub(crate) fn list_taken(heads: &[HeadSpan], taken: &mut Vec<HeadSpan>) -> Resul
     Ok(())
 }
 
-/// The start of the slice of the head that `front` stands before: each division of it is tried.
+/// Returns the start of the panic slice whose head begins after `front`. Every division of `front`
+/// is tried.
 pub(crate) fn widened(front: &[u8]) -> usize {
     for at in 0..front.len() {
         if let Some(from) = end_of(front, at, b"\nError:") {
@@ -119,7 +122,8 @@ pub(crate) fn widened(front: &[u8]) -> usize {
     front.len()
 }
 
-/// Whether one line goes on from `from` to `stop`, and line ends alone stand behind it.
+/// Returns true if the bytes from `from` to `stop` have no line feed and do not end with a carriage
+/// return, and only line breaks follow them.
 fn is_error_line(front: &[u8], from: usize, stop: usize) -> bool {
     let (Some(line), Some(ends)) = (front.get(from..stop), front.get(stop..)) else {
         return false;

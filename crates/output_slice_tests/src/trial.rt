@@ -7,7 +7,7 @@ use output_slice::last_head::last_head;
 use output_slice::panic_head::{HeadSpan, last_panic_head};
 use std::alloc::{AllocError, Global};
 
-/// How many reads a search made, and of how many bytes.
+/// The number of reads of a search, and the number of bytes of its input.
 #[derive(Clone, Copy)]
 pub(crate) struct Reads {
     pub(crate) count: u128,
@@ -15,15 +15,16 @@ pub(crate) struct Reads {
 }
 
 impl Reads {
-    /// No reads of no bytes: all others exceed these.
+    /// No reads of no bytes. Any other reads exceed these.
     pub(crate) const NONE: Reads = Reads { count: 0, bytes: 0 };
 
-    /// Whether (count - 8) / bytes is greater here than there: the products are compared.
+    /// Returns true if (count - 8) / bytes is greater than that of `other`. The products are
+    /// compared.
     pub(crate) fn exceed(self, other: Reads) -> bool {
         self.beside(other) > other.beside(self)
     }
 
-    /// `count * other.bytes + 8 * bytes`, which is exact below 2^60 bytes.
+    /// Returns `count * other.bytes + 8 * bytes`, which is exact below 2^60 bytes.
     fn beside(self, other: Reads) -> u128 {
         self.count
             .saturating_mul(other.bytes as u128)
@@ -31,7 +32,7 @@ impl Reads {
     }
 }
 
-/// Room for one input and its heads, used again for the next.
+/// One input and its heads. The memory is used again for the next input.
 #[derive(Drop)]
 pub(crate) struct Trial {
     pub(crate) bytes: Vec<u8>,
@@ -60,8 +61,9 @@ impl Trial {
         list_taken(self.heads.as_slice(), &mut self.taken)
     }
 
-    /// The reads of the counted search, if all searches find what the slow functions do: the last
-    /// taken head, found in at most three reads a byte and eight more, and where its slice begins.
+    /// Returns the reads of the counted search if all searches have the results of the slow
+    /// functions: the last taken head, and the start of its slice. The reads must be at most three
+    /// for each byte, and eight more.
     pub(crate) fn reads(&self) -> Option<Reads> {
         let bytes = self.bytes.as_slice();
         let last = self.taken.last().copied();
@@ -83,23 +85,23 @@ impl Trial {
         }
     }
 
-    /// Where the slice of the last taken head begins.
+    /// Returns the start of the slice of the last taken head.
     fn slice_start(&self) -> Option<usize> {
         let head = self.taken.last()?;
         self.bytes.get(..head.start).map(widened)
     }
 
-    /// Whether the slice of the last taken head begins before it.
+    /// Returns true if the slice of the last taken head begins before the head.
     pub(crate) fn is_widened(&self) -> bool {
         self.slice_start() != self.taken.last().map(|head| head.start)
     }
 
-    /// Whether a head begins within another one.
+    /// Returns true if a head begins within another one.
     pub(crate) fn overlaps(&self) -> bool {
         self.heads.len() > self.taken.len()
     }
 
-    /// Whether a line feed stands in a head.
+    /// Returns true if a head contains a line feed.
     pub(crate) fn crosses_line(&self) -> bool {
         self.heads.iter().any(|head| {
             let text = self.bytes.get(head.start..head.stop);

@@ -5,7 +5,7 @@ use Rattle.std.specs.Io.KnownBytes.{Appends}
 use Rattle.std.proofs.KnownBytes.{Appends-trans}
 use Rattle.std.proofs.lemmas.List.{take-append-drop}
 
--- known bytes have grown by the text but for its rest
+-- the known bytes have grown by the text without its rest
 pub record Writing (old new : Option (List ℕ)) (text rest : List ℕ) : Type 0 where
   pub start : List ℕ
   pub divided : text ≡ start ++ rest

@@ -1,9 +1,9 @@
--- What the fault of a device is to the caller of a program.
+-- The texts of the faults of devices.
 use Rattle.std.specs.Prelude.{ℕ, List, codes}
 use Rattle.program_io.specs.declared.fault.DeviceFault.{DeviceFault}
 use Rattle.program_io.specs.declared.fault.DeviceFault.TheVariants.{Read, Write, OutOfMemory}
 
--- the line that tells of a fault
+-- the displayed text of a fault
 abbrev pub fault_text : DeviceFault → List ℕ
 fault_text Read = codes "read failed"
 fault_text Write = codes "write failed"

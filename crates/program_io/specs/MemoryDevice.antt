@@ -1,13 +1,13 @@
--- Devices over memory, which fail at a call that was chosen.
+-- Devices over memory, which fail at a chosen call.
 use Rattle.std.specs.Prelude.{◌-◌, ℕ, Bool, List, Option, length, take}
 use Rattle.program_io.specs.declared.memory_device.MemorySource.{MemorySource}
 use Rattle.program_io.specs.declared.memory_device.MemorySink.{MemorySink}
 
--- the bytes that a source has left
+-- the bytes that are left in a source
 abbrev pub left_of : MemorySource → List ℕ
 left_of s = s.bytes.now
 
--- how many reads come before the one that fails, if one does
+-- the number of reads before the one that fails, or `None` if none does
 abbrev pub reads_left : MemorySource → Option ℕ
 reads_left s = s.calls_left
 
@@ -19,11 +19,11 @@ source_failed s = s.failed
 abbrev pub written_of : MemorySink → List ℕ
 written_of s = take s.len s.buffer.now
 
--- how many bytes it has room for
+-- the number of bytes for which a sink has room
 abbrev pub room_of : MemorySink → ℕ
 room_of s = length s.buffer.now - s.len
 
--- how many writes and flushes come before the one that fails, if one does
+-- the number of writes and flushes before the one that fails, or `None` if none does
 abbrev pub calls_left : MemorySink → Option ℕ
 calls_left s = s.calls_left
 

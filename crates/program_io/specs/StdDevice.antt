@@ -1,4 +1,4 @@
--- Readers and writers of std as devices.
+-- Readers and writers of `std` as devices.
 use Rattle.std.specs.Prelude.{Bool}
 use Rattle.program_io.specs.declared.std_device.StdSource.{StdSource}
 use Rattle.program_io.specs.declared.std_device.StdSink.{StdSink}

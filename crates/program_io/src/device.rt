@@ -1,4 +1,4 @@
-//! Sources that bytes are read from, and sinks that they are written to.
+//! Sources, from which bytes are read, and sinks, to which bytes are written.
 
 ghost use Rattle.std.specs.Prelude.{◌≡◌, ◌<◌, ◌≤◌, ℕ, Bool, true, false, List, Option, IfOk, OnOk, OnErr, length, take};
 ghost use Rattle.std.specs.Io.KnownBytes.{Appends, Consumes, IsAtEnd, Keeps};
@@ -9,7 +9,7 @@ pub struct DeviceFailed;
 
 /// Bytes that can be read.
 pub trait Source {
-    // The bytes left, where the source tells them.
+    // The bytes that are left, if the source knows them.
     ghost left: { Self → Option (List ℕ) };
 
     // Whether a read has failed.
@@ -19,8 +19,8 @@ pub trait Source {
     fn has_failed(&self) -> bool
         ensures { result ≡ failed self.now };
 
-    /// Reads some bytes into the front of `buffer`, and returns how many. The result is 0 only at the
-    /// end.
+    /// Reads some bytes into the front of `buffer`, and returns their number, which is 0 only at
+    /// the end of the source.
     ///
     /// `buffer` must not be empty. After [`DeviceFailed`] the source has failed, and it is not known
     /// which bytes are left.
@@ -36,13 +36,14 @@ pub trait Source {
 
 /// Somewhere to write bytes.
 pub trait Sink {
-    // The bytes written, where the sink tells them.
+    // The bytes that were written, if the sink knows them.
     ghost written: { Self → Option (List ℕ) };
 
     // Whether a write or a flush has failed.
     ghost failed: { Self → Bool };
 
-    // Whether all that was written is on its way: the last write or flush was a flush that succeeded.
+    // Whether all bytes that were written have been passed on: the last write or flush was a flush
+    // that succeeded.
     ghost flushed: { Self → Bool };
 
     /// Returns true if a write or a flush has failed.

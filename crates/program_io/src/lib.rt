@@ -1,5 +1,5 @@
-//! Sources and sinks of bytes for programs: what they promise, devices over memory and over `std`, and
-//! how all of a source is read and all of a text written.
+//! Sources and sinks of bytes for programs: the traits, devices over memory and over `std`, and calls
+//! that read all of a source and write all of a text.
 //!
 //! A function that copies all bytes of a source to a sink:
 //!

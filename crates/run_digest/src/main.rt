@@ -1,5 +1,5 @@
-//! `run-digest`: counts a run of tests that its standard input says, or extracts from it, as a
-//! test's output, the part that says why the test failed.
+//! `run-digest`: counts the run of tests that standard input describes, or finds the part of a
+//! test's output, on standard input, that explains the failure of the test.
 #![tactic(auto)]
 
 use program_io::std_device::{StdSink, StdSource};

@@ -1,4 +1,4 @@
--- A line after line 1, read by its words.
+-- A line after line 1, read from its words.
 use Rattle.std.proofs.Common.{◌≡◌, ℕ, ◌+◌, ◌<◌, ◌≤◌, List, [], ◌∷◌, ◌++◌, true, false, length, map, not, refl, ap, sym, ◌∙◌, arith, inl, inr, length-append, Bool, subst, cond}
 use Rattle.std.specs.Prelude.{◌==◌, Some, None, Option, codes, option_and_then, option_map}
 use Rattle.std.specs.List.{join_with_byte, list_all, slice_split}
@@ -42,12 +42,12 @@ last_of-end : (r : ExecutionResultDescription) (earlier : List ResultWord) (last
 last_of-end r [] last = refl
 last_of-end r (n ∷ ns) last = last_of-end (result_named n) ns last
 
--- some results have a last one
+-- a list of results that is not empty has a last one
 parted : (n : ResultWord) (ns : List ResultWord) → (earlier : List ResultWord) × (last : ResultWord) × (n ∷ ns ≡ earlier ++ last ∷ [])
 parted n [] = ([], n, refl)
 parted n (m ∷ ns) = let rest = parted m ns in (n ∷ rest.0, rest.1, ap (λ xs. n ∷ xs) rest.2)
 
--- words of results are read, where there are not too many
+-- the words of results are read, if there are not too many
 words_read : (ns : List ResultWord) (last : ExecutionResultDescription) (count : ℕ) → count + length ns ≤ 100
     → results_from (map word_of ns) last count ≡ Some (last_of last ns, count + length ns)
 unfolding results_from
@@ -76,7 +76,7 @@ results_inverse (word ∷ words) last count found few e =
           ))
     ]
 
--- the list is of one to a hundred results; this is the last, and so many they are
+-- the list is one to a hundred results; this is the last one, and this is their number
 abbrev pub SpellsResults : List ℕ → ExecutionResultDescription × ℕ → Type 0
 SpellsResults list found =
     (earlier : List ResultWord) × (last : ResultWord) × (length earlier < 100)
@@ -86,7 +86,7 @@ words_pass : (ns : List ResultWord) → Pass is_letter (map word_of ns)
 words_pass [] = tt
 words_pass (n ∷ ns) = (word_passes n, words_pass ns)
 
--- and has no space
+-- and it has no space
 pub list_passes : (ns : List ResultWord) → list_all is_plain (join_with_byte 44 (map word_of ns)) ≡ true
 list_passes ns =
     let plain = weaker_words is_letter is_plain (λ b e. (and_parts (is_plain b) (not (b == 44)) e).0) (map word_of ns) (words_pass ns) in
@@ -130,7 +130,7 @@ results_read list = reads-by (SpellsResults list) (results_of list) all only
                   ∙ rw last_of-end (ap (λ k. (result_named end.1, k)) (omega (arith, count))),
             )
 
--- line is a spelling of this entry
+-- the line is a spelling of this entry
 abbrev pub SpellsEntry : List ℕ → EntryView → Type 0
 SpellsEntry line (UnitEntry unit) = SpellsUnit line unit
 SpellsEntry line (SubRunEntry start) = SpellsStart (codes "sub-run") line start
@@ -148,7 +148,7 @@ flags_joined list slow fails = grind (arith, append-nil)
 flags_pass : (slow fails : Bool) → Pass is_plain (flag_list slow fails)
 flags_pass slow fails = grind arith
 
--- the setting that a flag means
+-- the setting of a flag
 abbrev setting_by : Bool → FlakyResult
 setting_by fails = cond fails setting.Fail setting.Pass
 
@@ -160,7 +160,7 @@ flags_spelled : (slow fails : Bool) → flags_of (flag_list slow fails) ≡ Some
 unfolding flags_of
 flags_spelled slow fails = grind arith
 
--- words that are read as flags are their words
+-- words that are read as flags are the words of those flags
 flags_inverse : (words : List (List ℕ)) (f : Bool × FlakyResult) → flags_of words ≡ Some f → SpellsFlags words f
 unfolding flags_of
 flags_inverse [] f e = (false, false, refl, cc)
@@ -174,11 +174,11 @@ flags_inverse (a ∷ b ∷ []) f e =
     (true, true, grind (arith, slow, fails), grind (arith, slow, fails))
 flags_inverse (a ∷ b ∷ c ∷ words) f e = absurd cc
 
--- the flags that words spell are read
+-- the words of flags are read
 flags_read : (words : List (List ℕ)) → Reads (SpellsFlags words) (flags_of words)
 flags_read words = reads-by (SpellsFlags words) (flags_of words) (λ f s. ap flags_of s.2 ∙ flags_spelled s.0 s.1 ∙ ap Some (sym s.3)) (flags_inverse words)
 
--- what stands behind the first word of an entry's line
+-- the words after the first one of an entry's line
 abbrev Behind : EntryView → List (List ℕ) → Type 0
 Behind (SubRunEntry start) words = Fields words start
 Behind (UnitEntry (ScriptUnit r)) words = (n : ResultWord) × (words ≡ word_of n ∷ []) × (r ≡ result_named n)
@@ -186,13 +186,13 @@ Behind (UnitEntry (TestUnit t)) words =
     (earlier : List ResultWord) × (last : ResultWord) × (slow : Bool) × (fails : Bool) × (length earlier < 100)
     × (words ≡ join_with_byte 44 (map word_of (earlier ++ last ∷ [])) ∷ flag_list slow fails) × (TestUnit t ≡ unit_said (TestLine earlier last slow fails))
 
--- that word
+-- the first word of an entry's line
 abbrev keyword_of : EntryView → List ℕ
 keyword_of (SubRunEntry start) = codes "sub-run"
 keyword_of (UnitEntry (ScriptUnit r)) = codes "script"
 keyword_of (UnitEntry (TestUnit t)) = codes "test"
 
--- a script's result, behind the first word
+-- the result of a script, after the first word
 script_read : (words : List (List ℕ)) → Reads (λ r. Behind (UnitEntry (ScriptUnit r)) words) (script_of_words words)
 unfolding script_of_words result_of
 script_read (word ∷ []) =
@@ -200,7 +200,7 @@ script_read (word ∷ []) =
     (table_reads word_of result_words word result_found) (λ r s. (s.0, cc (s.1), s.2)) (λ n is. (n, ap (λ w. w ∷ []) is, refl))
 script_read _ = λ r s. absurd (let many = s.1 in cc)
 
--- a test's results and flags
+-- the results and the flags of a test
 test_read : (words : List (List ℕ)) → Reads (λ t. Behind (UnitEntry (TestUnit t)) words) (test_of_words words)
 unfolding test_of_words
 test_read [] = λ t s. absurd (let none = s.5 in cc)
@@ -223,7 +223,7 @@ test_read (list ∷ flags) =
 abbrev EntryWords : List (List ℕ) → EntryView → Type 0
 EntryWords words entry = (behind : List (List ℕ)) × (words ≡ keyword_of entry ∷ behind) × Behind entry behind
 
--- what is read behind a keyword, as an entry
+-- the words after a keyword, read as an entry
 put_read : {A : Type 0} (kind keyword : List ℕ) (words : List (List ℕ)) (put : A → EntryView) (o : Option A) (entry : EntryView)
     → bytes_eq kind keyword ≡ true → ((a : A) → keyword_of (put a) ≡ keyword) → Reads (λ a. Behind (put a) words) o → option_map put o ≡ Some entry
     → EntryWords (kind ∷ words) entry
@@ -231,7 +231,7 @@ put_read kind keyword words put None entry same by read e = absurd cc
 put_read kind keyword words put (Some a) entry same by read e =
     subst (EntryWords (kind ∷ words)) (same_Some (put a) entry e) (words, ap (λ k. k ∷ words) ((bytes_eq-Decides kind keyword).0 same ∙ sym (by a)), read.0)
 
--- words from which an entry is read are its words
+-- words from which an entry is read are the words of that entry
 words_inverse : (words : List (List ℕ)) (entry : EntryView) → entry_of_words words ≡ Some entry → EntryWords words entry
 unfolding entry_of_words
 words_inverse [] entry e = absurd cc
@@ -254,7 +254,7 @@ words_inverse (kind ∷ words) entry e =
       ]
     ]
 
--- and from the words of an entry it is read
+-- and the entry is read from its words
 words_spelled : (words : List (List ℕ)) (entry : EntryView) → EntryWords words entry → entry_of_words words ≡ Some entry
 unfolding entry_of_words
 words_spelled words (SubRunEntry start) (behind, are, is) =
@@ -265,7 +265,7 @@ words_spelled words (UnitEntry (ScriptUnit r)) (behind, are, is) =
 words_spelled words (UnitEntry (TestUnit t)) (behind, are, is) =
     ap entry_of_words are ∙ ap (option_map (λ x. UnitEntry (TestUnit x))) (reads_all (λ x. Behind (UnitEntry (TestUnit x)) behind) _ t (test_read behind) is)
 
--- the words of a line that spells an entry: they are plain, and their join is the line
+-- the words of a line that spells an entry are plain, and their join is the line
 record Written (line : List ℕ) (entry : EntryView) : Type 0 where
   behind : List (List ℕ)
   is : Behind entry behind
@@ -291,7 +291,7 @@ written line (UnitEntry unit) (TestLine earlier last slow fails, few, is_line, i
       plain = (refl, (list_passes (earlier ++ last ∷ []), flags_pass slow fails));
     })
 
--- a line that is cut into the words of an entry spells it
+-- a line that is cut into the words of an entry spells the entry
 spelled : (line : List ℕ) (entry : EntryView) → EntryWords (words_of line) entry → SpellsEntry line entry
 spelled line (SubRunEntry start) (behind, are, is) = start_spelled (codes "sub-run") line behind start are is
 spelled line (UnitEntry (ScriptUnit r)) (behind, are, (n, word, is)) =
@@ -306,7 +306,7 @@ spelled line (UnitEntry (TestUnit t)) (behind, are, (earlier, last, slow, fails,
       is,
     )
 
--- the entry that a line spells is read
+-- the entry that a line spells is read from it
 pub entry_reads : (line : List ℕ) → Reads (SpellsEntry line) (entry_of_words (words_of line))
 entry_reads line =
     let read = entry_of_words (words_of line) in
@@ -328,7 +328,7 @@ entry_is_text line entry s =
 pub one_unit : (line : List ℕ) (a b : UnitView) → SpellsUnit line a → SpellsUnit line b → a ≡ b
 one_unit line a b first second = cc (reads_one (SpellsEntry line) _ (UnitEntry a) (UnitEntry b) (entry_reads line) first second)
 
--- a line spells a unit or a start, and never both
+-- a line spells a unit or a start of a sub-run, and never both
 pub one_entry : (line : List ℕ) (unit : UnitView) (start : RunStart) → SpellsUnit line unit → ¬ SpellsStart (codes "sub-run") line start
 one_entry line unit start is_unit is_start =
     absurd (cc (reads_one (SpellsEntry line) _ (UnitEntry unit) (SubRunEntry start) (entry_reads line) is_unit is_start))

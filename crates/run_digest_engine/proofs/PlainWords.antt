@@ -1,4 +1,4 @@
--- Words of plain bytes, joined and cut.
+-- Words of plain bytes, their join and their division.
 use Rattle.std.proofs.Common.{◌≡◌, ℕ, ◌<◌, List, [], ◌∷◌, Bool, true, false, not, refl, ap, ◌∙◌, arith, ltb-true}
 use Rattle.std.specs.Prelude.{◌==◌, ◌&&◌, All, nat_lt}
 use Rattle.std.specs.List.{join_with_byte, list_all, slice_split}
@@ -12,27 +12,27 @@ use Rattle.std.proofs.lemmas.List.Sums.{AllPass-from_list_all, list_all-from_All
 use Rattle.std.proofs.lemmas.Str.{IsUtf8-from_ascii}
 use Rattle.std.proofs.lemmas.Str.Ascii.{IsAscii-from_all}
 
--- a byte of ASCII, and no space
+-- an ASCII byte other than a space
 abbrev pub is_plain : ℕ → Bool
 is_plain b = nat_lt b 128 && not (b == 32)
 
--- and no comma
+-- and other than a comma
 abbrev pub is_letter : ℕ → Bool
 is_letter b = is_plain b && not (b == 44)
 
--- each byte of each word passes
+-- each byte of each word passes the test
 abbrev pub Pass : (ℕ → Bool) → List (List ℕ) → Type 0
 Pass p [] = Unit {0}
 Pass p (word ∷ words) = (list_all p word ≡ true) × Pass p words
 
--- a byte does not occur that does not pass
+-- a byte that does not pass does not occur
 lacks : (p : ℕ → Bool) (c : ℕ) (word : List ℕ) → p c ≡ false → list_all p word ≡ true → All (λ b. (b == c) ≡ false) word
 lacks p c [] fails all = All-nil (λ b. (b == c) ≡ false)
 lacks p c (b ∷ bs) fails all =
     let both = and_parts (p b) (list_all p bs) all in
     All-cons (λ x. (x == c) ≡ false) b bs (grind (arith, nat_tests, both.0)) (lacks p c bs fails both.1)
 
--- words that were joined are cut into themselves
+-- joined words are divided into the same words
 pub cut_joined : (p : ℕ → Bool) (c : ℕ) (word : List ℕ) (words : List (List ℕ)) → p c ≡ false → Pass p (word ∷ words)
     → slice_split (λ b. b == c) (join_with_byte c (word ∷ words)) ≡ word ∷ words
 cut_joined p c word [] fails pass = slice_split_none (λ b. b == c) word (lacks p c word fails pass.0)
@@ -40,14 +40,14 @@ cut_joined p c word (next ∷ words) fails pass =
     slice_split_at (λ b. b == c) word c (join_with_byte c (next ∷ words)) (lacks p c word fails pass.0) (grind (arith, nat_tests))
     ∙ ap (λ ws. word ∷ ws) (cut_joined p c next words fails pass.1)
 
--- joined words pass, where the byte between them does
+-- joined words pass, if the byte between them does
 pub join_passes : (p : ℕ → Bool) (c : ℕ) (words : List (List ℕ)) → p c ≡ true → Pass p words → list_all p (join_with_byte c words) ≡ true
 join_passes p c [] between pass = refl
 join_passes p c (word ∷ []) between pass = pass.0
 join_passes p c (word ∷ next ∷ words) between pass =
     list_all-append p word (c ∷ join_with_byte c (next ∷ words)) ∙ rw (pass.0, between, join_passes p c (next ∷ words) between pass.1) refl
 
--- what passes a test passes a weaker one
+-- bytes that pass a test pass a weaker one
 weaker : (p q : ℕ → Bool) → ((b : ℕ) → p b ≡ true → q b ≡ true) → (word : List ℕ) → list_all p word ≡ true → list_all q word ≡ true
 weaker p q implied word all =
     list_all-from_AllPass q word (All-weaker (λ b. p b ≡ true) (λ b. q b ≡ true) implied word (AllPass-from_list_all p word all))

@@ -1,5 +1,5 @@
--- What lines say of runs, a line at a time, and the statistics of these runs: one more line at their end, which line is the first bad
--- one, and that lines say one thing alone.
+-- The runs that lines describe, one line at a time, and the statistics of these runs: one more line at their end, the first
+-- bad line, and that lines describe one list of runs only.
 use Rattle.std.proofs.Common.{◌≡◌, ℕ, zero, suc, ◌+◌, ◌-◌, ◌<◌, ◌≤◌, List, [], ◌∷◌, ◌++◌, length, refl, ap, sym, ◌∙◌, subst, append_assoc, arith, rules, length-append, inl, inr}
 use Rattle.std.specs.Prelude.{All, Some, codes, slice_get, Bool, Err, IfSome, IsErrAnd, IsErrOf, Ok, Option}
 use Rattle.std.proofs.lemmas.List.{append-nil, map-append}
@@ -31,7 +31,7 @@ begun start = record { start = start; units = [] }
 abbrev pub with_unit : Run → UnitView → Run
 with_unit run unit = record { start = run.start; units = run.units ++ unit ∷ [] }
 
--- the lines are those of the runs, one after another: the first begins by this keyword, the others by `sub-run`
+-- the lines are those of the runs, one after another: the first run begins with this keyword, and the others with `sub-run`
 abbrev pub SayRuns : List ℕ → List (List ℕ) → List Run → Type 0
 SayRuns keyword lines [] = lines ≡ []
 SayRuns keyword lines (run ∷ runs) =
@@ -45,7 +45,7 @@ to_sub_runs : (lines : List (List ℕ)) (runs : List Run) → SayRuns (codes "su
 to_sub_runs lines [] none = none
 to_sub_runs lines (run ∷ runs) (own, rest, divided, spelled, later) = (own, rest, divided, spelled, to_sub_runs rest runs later)
 
--- lines that say runs, at least one, and are not too many, have this reading
+-- lines that describe at least one run, and are not too many, have this reading
 pub reading-made : (lines : List (List ℕ)) (runs : List Run) → 0 < length lines → length lines ≤ 10000 → SayRuns (codes "run") lines runs → IsReading lines runs
 reading-made lines [] some few none = absurd (omega (arith, some, ap length none))
 reading-made lines (run ∷ runs) some few (own, rest, divided, spelled, later) = record {
@@ -60,7 +60,7 @@ reading-made lines (run ∷ runs) some few (own, rest, divided, spelled, later) 
   sub_runs = to_sub_runs rest runs later;
 }
 
--- a line that begins a run by this keyword
+-- a line that begins a run with this keyword
 pub say-first : (keyword line : List ℕ) (start : RunStart) → SpellsStart keyword line start → SayRuns keyword (line ∷ []) (begun start ∷ [])
 say-first keyword line start is = (line ∷ [], [], refl, record { first = line; others = []; divided = refl; start = is; units = tt }, refl)
 
@@ -70,7 +70,7 @@ units-more [] [] line unit spelled is = (is, tt)
 units-more (l ∷ lines) (u ∷ units) line unit spelled is = (spelled.0, units-more lines units line unit spelled.1 is)
 units-more _ _ line unit spelled is = absurd spelled
 
--- one more line after those of the last run, which with them says other runs
+-- one more line after those of the last run, which gives other runs
 say-last : (keyword : List ℕ) (lines : List (List ℕ)) (over : List Run) (run : Run) (line : List ℕ) (runs : List Run)
     → ((word : List ℕ) (own : List (List ℕ)) → SpellRun word own run → SayRuns word (own ++ line ∷ []) runs)
     → SayRuns keyword lines (over ++ run ∷ []) → SayRuns keyword (lines ++ line ∷ []) (over ++ runs)
@@ -104,7 +104,7 @@ say-sub_run keyword lines over run line start said is =
     let begins : SayRuns (codes "sub-run") (line ∷ []) (begun start ∷ []) = say-first (codes "sub-run") line start is in
     rw append_assoc (say-last keyword lines over run line (run ∷ begun start ∷ []) (λ word own spelled. (own, line ∷ [], refl, spelled, begins)) said)
 
--- each of these lines spells what a line after line 1 may
+-- each of these lines spells an entry
 units_have : (lines : List (List ℕ)) (units : List UnitView) → SpellUnits lines units → All HasEntry lines
 units_have [] units spelled = All-nil HasEntry
 units_have (line ∷ lines) [] spelled = absurd spelled
@@ -115,7 +115,7 @@ runs_have lines [] none = rw none (All-nil HasEntry)
 runs_have lines (run ∷ runs) (own, rest, divided, spelled, later) = rw (divided, spelled.divided) (All-cons HasEntry _ _ (inr (run.start, spelled.start))
     (All-append HasEntry spelled.others rest (units_have spelled.others run.units spelled.units) (runs_have rest runs later)))
 
--- a line that spells no such thing stands after them
+-- a line that spells no entry comes after them
 past_entries : (lines left : List (List ℕ)) (k : ℕ) (line : List ℕ) → All HasEntry lines → slice_get (lines ++ left) k ≡ Some line → ¬ HasEntry line
     → length lines ≤ k
 past_entries [] left k line have at none = omega arith
@@ -137,7 +137,7 @@ past_first first behind left start (suc (suc k)) is have few (inr (inr (positive
     let past = past_entries behind left k line have here (λ entry. unread (inr (λ one. absurd (omega (arith, one)), entry))) in
     (omega (arith, past), omega (arith, slice_get_within (behind ++ left) k line here, length-append behind left))
 
--- no line is bad of those that say runs
+-- lines that describe runs have no bad line
 pub past_said : (said left : List (List ℕ)) (runs : List Run) (k : ℕ) → SayRuns (codes "run") said runs → 0 < length said → length said ≤ 10000
     → IsBadLine (said ++ left) k → (length said < k) × (k ≤ length said + length left)
 past_said said left [] k none some few bad = absurd (omega (arith, some, ap length none))
@@ -148,7 +148,7 @@ past_said said left (run ∷ runs) k (own, rest, divided, spelled, later) some f
     let past = past_first spelled.first behind left run.start k spelled.start have (omega (arith, few, ap length whole)) (rw whole at bad) in
     (omega (arith, past.0, ap length whole), omega (arith, past.1, ap length whole))
 
--- the line behind some lines
+-- the line after some lines
 pub line_behind : (lines : List (List ℕ)) (line : List ℕ) (rest : List (List ℕ)) → slice_get (lines ++ line ∷ rest) (length lines) ≡ Some line
 line_behind [] line rest = refl
 line_behind (l ∷ lines) line rest = line_behind lines line rest
@@ -163,7 +163,7 @@ no_unit_first lines [] none = subst NoUnitFirst (sym none) tt
 no_unit_first lines (run ∷ runs) (own, rest, divided, spelled, later) =
     subst NoUnitFirst (sym (divided ∙ ap (λ ls. ls ++ rest) spelled.divided)) (λ unit is. one_entry spelled.first unit run.start is spelled.start)
 
--- where the units of a run end, and which they are
+-- the units of a run, and the line after them
 one_units : (a b : List (List ℕ)) (xs ys : List UnitView) (rest later : List (List ℕ)) → a ++ rest ≡ b ++ later → NoUnitFirst rest → NoUnitFirst later
     → SpellUnits a xs → SpellUnits b ys → (xs ≡ ys) × (rest ≡ later)
 one_units [] [] [] [] rest later same none last first second = (refl, same)
@@ -192,7 +192,7 @@ one_say keyword lines (x ∷ xs) (y ∷ ys) (own, rest, divided, s, later) (own'
     ∙ ap (λ us. record { start = y.start; units = us } ∷ xs) units.0
     ∙ ap (λ runs. y ∷ runs) (one_say (codes "sub-run") rest' xs ys (rw units.1 at later) later')
 
--- lines say at most one list of runs
+-- lines describe at most one list of runs
 pub one_reading : (lines : List (List ℕ)) (a b : List Run) → IsReading lines a → IsReading lines b → a ≡ b
 one_reading lines a b first second =
     first.begun
@@ -201,8 +201,8 @@ one_reading lines a b first second =
     (second.own, second.rest, second.divided, second.run, from_sub_runs second.rest second.more second.sub_runs)
     ∙ sym second.begun
 
--- The lines before this number say runs that are over, which have these statistics, and a run that goes on, which has those
--- so far. Of all lines these are left.
+-- The lines before this number describe runs that are over, which have these statistics, and a current run, which has those
+-- so far. These are the lines that are left.
 pub record Going (all : List (List ℕ)) (number : ℕ) (runs : List RunStats) (stats : RunStats) (left : List (List ℕ)) : Type 0 where
   pub done : List (List ℕ)
   pub divided : all ≡ done ++ left
@@ -238,12 +238,12 @@ room run (UnitEntry (TestUnit t)) short = rw (← stats_of-test run.units t run.
     (tests-fit (run.units ++ TestUnit t ∷ []) run.start (simp length-append (omega arith)))
 room run (SubRunEntry start) short = tt
 
--- the counters have room for what a line says
+-- the counters have room for the entry of a line
 pub has_room : {all left : List (List ℕ)} {number : ℕ} {runs : List RunStats} {stats : RunStats} (entry : EntryView)
     → Going all number runs stats left → HasRoom stats entry
 has_room entry g = rw g.counted (room g.run entry (omega (arith, g.short, g.few)))
 
--- one more line, with which these runs are over, and this run goes on
+-- one more line, after which these runs are over and this run is the current one
 going-more : {all rest : List (List ℕ)} {number : ℕ} {runs : List RunStats} {stats : RunStats} {line : List ℕ} (after : List RunStats) (next : RunStats)
     (over : List Run) (run : Run) (g : Going all number runs stats (line ∷ rest)) → number ≤ 10000
     → SayRuns (codes "run") (g.done ++ line ∷ []) (over ++ run ∷ [])
@@ -263,7 +263,7 @@ going-more {rest = rest} {line = line} after next over run g few said over_count
       short = omega (arith, short, long);
     }
 
--- the run that went on is over
+-- the current run is over
 over-more : {all left : List (List ℕ)} {number : ℕ} {runs : List RunStats} {stats : RunStats} → (g : Going all number runs stats left)
     → AreStats (runs ++ stats ∷ []) (g.over ++ g.run ∷ [])
 over-more {runs = runs} {stats = stats} g =
@@ -273,7 +273,7 @@ over-more {runs = runs} {stats = stats} g =
       fit = All-push FailuresFit runs stats g.over_counted.fit (rw g.counted fits);
     }
 
--- a unit was counted into the run that goes on
+-- a unit was counted into the current run
 unit_counted : {runs after : List RunStats} {stats next : RunStats} (run : Run) (unit : UnitView) → stats ≡ run_stats run
     → Counts (UnitEntry unit) runs stats after next → (after ≡ runs) × (next ≡ run_stats (with_unit run unit))
 unit_counted run (ScriptUnit r) so_far (same, is) = (same, is ∙ ap (λ s. with_script s r) so_far ∙ sym (stats_of-script run.units r run.start))
@@ -322,7 +322,7 @@ going-bad all left rest number runs stats line cut none g =
     no_reading (inl (first, start)) = absurd (omega (arith, first, g.place, g.short))
     no_reading (inr (other, entry)) = none entry
 
--- a line too many
+-- line 10,001
 pub going-late : (all left rest : List (List ℕ)) (number : ℕ) (runs : List RunStats) (stats : RunStats) (line : List ℕ) → left ≡ line ∷ rest → 10000 < number
     → Going all number runs stats left → IsFirstBadLine all number
 going-late all left rest number runs stats line cut late g =
@@ -339,7 +339,7 @@ no_first all line left cut none =
     let no_reading : ¬ HasReading 1 line = λ reading. elim reading [ inl one ↦ none one.1.0 one.1.1 | inr later ↦ later.0 refl ] in
     first-bad all (inr (inr (omega arith, (line, ap (λ ls. slice_get ls 0) cut, no_reading))))
 
--- the bad line that an answer names is the first one of the input
+-- the bad line of a result is the first bad line of the input
 pub named : (r : Result Bool Fault) (fault : Fault) (left : Option (List ℕ)) (read bytes : List ℕ) → IsErrAnd r (λ e. e ≡ fault)
     → IfSome left (λ all. read ≡ all) → bytes ≡ read → IsRefusal (texts_of bytes) fault
     → IfSome left (λ input. (number : ℕ) → IsErrOf r (faults.BadLine number) → IsFirstBadLine (texts_of input) number)

@@ -1,4 +1,4 @@
--- The text for runs, by their statistics; and that of finished runs is the one for lines that say them.
+-- The text for runs, from their statistics; and the text for finished runs is the one for lines that describe them.
 use Rattle.std.proofs.Common.{◌≡◌, ℕ, ◌+◌, ◌<◌, Bool, List, [], ◌∷◌, ◌++◌, length, get_or, map, take, ◌≤◌, refl, ap, sym, ◌∙◌, arith, inl, inr}
 use Rattle.std.specs.List.{concat}
 use Rattle.std.proofs.lemmas.List.{append-nil, map_more}
@@ -22,7 +22,7 @@ pub reports_more : (runs : List RunStats) (i : ℕ) (d : RunStats) → i < lengt
     → concat (map report_of (take (i + 1) runs)) ≡ concat (map report_of (take i runs)) ++ report_of (get_or runs i d)
 reports_more runs i d within = rw (map_more report_of runs i d within, concat-append, append-nil) refl
 
--- the text for runs, unless there is one run alone
+-- the text for runs, if there is not exactly one run
 pub reports_many : (runs : List RunStats) (o : RunOutcome) → ¬ (length runs ≡ 1) → concat (map report_of runs) ++ outcome_line o ≡ stats_reports runs o
 reports_many (run ∷ []) o many = absurd (many (omega arith))
 reports_many _ o many = refl
@@ -32,7 +32,7 @@ pub reports_one : (runs : List RunStats) (o : RunOutcome) → length runs ≡ 1 
 reports_one (run ∷ []) o one = append-nil (report_of run)
 reports_one _ o one = absurd (omega (arith, one))
 
--- the text by the statistics of runs is that of the runs
+-- the text from the statistics of runs is that of the runs
 pub told : (runs : List Run) (o : RunOutcome) → stats_reports (map run_stats runs) o ≡ reports_of runs o
 told (run ∷ next ∷ runs) o = ap (λ texts. concat texts ++ outcome_line o) (map-map report_of run_stats (run ∷ next ∷ runs))
 told _ o = refl
@@ -50,7 +50,7 @@ digest_made lines stats text success o counted highest text_is success_is = reco
   success_is = success_is;
 }
 
--- two outcomes of one rank are one
+-- two outcomes of the same rank are the same
 same_rank : (a b : RunOutcome) → outcome_rank a ≡ outcome_rank b → a ≡ b
 same_rank a b same = grind arith
 
@@ -64,13 +64,13 @@ one_highest outcomes a b (inr first) (inr second) =
     let above = All-contains (λ o. outcome_rank o ≤ outcome_rank b) outcomes a second.1 first.0 in
     same_rank a b (omega (arith, below, above))
 
--- the text by the statistics of runs and the highest of their outcomes
+-- the text from the statistics of runs and the highest of their outcomes
 pub reports_runs : (runs : List FinishedRun) (stats : List RunStats) (outcome : RunOutcome) (text : List ℕ) → AreStats stats (map run_view runs)
     → IsHighest (map (λ run. outcome_of (run_summary run)) runs) outcome → text ≡ stats_reports stats outcome → ReportsRuns (map run_view runs) text
 reports_runs runs stats outcome text are highest is =
     (outcome, rw (map-map run_outcome run_view runs) highest, is ∙ ap (λ s. stats_reports s outcome) are.is ∙ told (map run_view runs) outcome)
 
--- a text of runs is that of lines that say them
+-- a text for runs is that for lines that describe them
 pub agrees : (runs : List Run) (text : List ℕ) → ReportsRuns runs text → AgreesWithCount runs text
 agrees runs text (own, is_highest, is) lines written success reading digest =
     let same : runs ≡ digest.runs = one_reading lines runs digest.runs reading digest.reading in

@@ -1,4 +1,4 @@
--- The start of a run, read by its words: its numbers and its reason.
+-- The start of a run, read from its words: its numbers and its reason.
 use Rattle.std.proofs.Common.{◌≡◌, ℕ, ◌+◌, ◌-◌, ◌*◌, ◌^◌, ◌<◌, ◌≤◌, Bool, List, [], ◌∷◌, length, map, true, refl, ap, sym, ◌∙◌, arith, add-mul, mul_assoc, ◌++◌, drop, subst, append_assoc, inl, inr}
 use Rattle.std.specs.Prelude.{All, fold, nat_lt, nat_le, ◌&&◌, Some, codes, None, Option, option_and_then}
 use Rattle.std.specs.Char.{is_ascii_digit}
@@ -38,7 +38,7 @@ digits_by : (p : ℕ → Bool) → ((d : ℕ) → d < 10 → p (48 + d) ≡ true
 digits_by p passes [] each = refl
 digits_by p passes (d ∷ ds) each = rw (passes d (All-head (λ x. x < 10) d ds each), digits_by p passes ds (All-tail (λ x. x < 10) d ds each)) refl
 
--- what is spelled is read
+-- digits are read as their value
 number_read : (text : List ℕ) (n : ℕ) → SpellsNumber text n → number_of text ≡ Some n
 unfolding number_of
 number_read text n s =
@@ -57,13 +57,13 @@ digits_in (b ∷ bs) e =
     let rest = digits_in bs both.1 in
     ((b - 48) ∷ rest.0, All-cons (λ d. d < 10) (b - 48) rest.0 digit.1 rest.1, cc (digit.0, rest.2))
 
--- what the tests of a number say
+-- the tests of a number
 number_tests : (text : List ℕ)
     → (nat_lt 0 (length text) && (nat_le (length text) 7 && (list_all is_ascii_digit text && nat_le (value_of_digits text) 1000000))) ≡ true
     → (0 < length text) × (length text ≤ 7) × (list_all is_ascii_digit text ≡ true) × (value_of_digits text ≤ 1000000)
 number_tests text e = grind (arith, nat_tests)
 
--- what is read is spelled so
+-- a number that is read is spelled
 number_spelled : (text : List ℕ) (n : ℕ) → number_of text ≡ Some n → SpellsNumber text n
 unfolding number_of
 number_spelled text n e =
@@ -90,7 +90,7 @@ number_reads text = reads-by (SpellsNumber text) (number_of text) (number_read t
 pub digits_pass : (text : List ℕ) (n : ℕ) → SpellsNumber text n → list_all is_plain text ≡ true
 digits_pass text n s = ap (list_all is_plain) s.written ∙ digits_by is_plain (λ d small. grind arith) s.digits s.each
 
--- the words are two numbers and the word of a reason, of this start
+-- the words are the two numbers and the word for the reason of this start
 abbrev pub Fields : List (List ℕ) → RunStart → Type 0
 Fields (tests ∷ scripts ∷ why ∷ []) start =
     SpellsNumber tests start.initial_run_count × SpellsNumber scripts start.setup_scripts_initial_count
@@ -120,14 +120,14 @@ fields_read (tests ∷ scripts ∷ why ∷ []) =
     ))))
 fields_read _ = λ start no. no
 
--- the words behind the keyword of a start
+-- the words after the keyword of a start
 abbrev pub field_words : (keyword line : List ℕ) (start : RunStart) → SpellsStart keyword line start → List (List ℕ)
 field_words keyword line start s = s.tests ∷ s.scripts ∷ reason_word start.cancel_reason ∷ []
 
 pub fields_pass : (keyword line : List ℕ) (start : RunStart) (s : SpellsStart keyword line start) → Pass is_plain (field_words keyword line start s)
 fields_pass keyword line start s = (digits_pass s.tests _ s.tests_number, (digits_pass s.scripts _ s.scripts_number, (reason_passes start.cancel_reason, tt)))
 
--- a start is a keyword, and those words, with spaces between them
+-- a start is a keyword and those words, with spaces between them
 pub start_joined : (keyword line : List ℕ) (start : RunStart) (s : SpellsStart keyword line start)
     → line ≡ keyword ++ 32 ∷ join_with_byte 32 (field_words keyword line start s)
 start_joined keyword line start s = s.written ∙ simp append_assoc
@@ -147,7 +147,7 @@ start_spelled keyword line (tests ∷ scripts ∷ why ∷ []) start cut f = reco
 }
 start_spelled keyword line _ start cut f = absurd f
 
--- line 1, by its words
+-- line 1, from its words
 first_inverse : (words : List (List ℕ)) (start : RunStart) → start_of_words words ≡ Some start
     → (fields : List (List ℕ)) × (words ≡ codes "run" ∷ fields) × Fields fields start
 unfolding start_of_words
@@ -158,7 +158,7 @@ first_inverse (first ∷ words) start e =
       | inr none ↦ absurd cc
     ]
 
--- the start that line 1 spells is read
+-- the start that line 1 spells is read from it
 pub first_reads : (line : List ℕ) → Reads (SpellsStart (codes "run") line) (start_of_words (words_of line))
 unfolding start_of_words
 first_reads line =
@@ -170,7 +170,7 @@ first_reads line =
     ∙ reads_all (Fields fields) _ start (fields_read fields) (s.tests_number, s.scripts_number, refl, s.none_skipped))
     (λ start e. let words = first_inverse (words_of line) start e in start_spelled (codes "run") line words.0 start words.1 words.2)
 
--- a line spells at most one start by a keyword
+-- a line spells at most one start for each keyword
 pub one_start : (keyword line : List ℕ) (a b : RunStart) → SpellsStart keyword line a → SpellsStart keyword line b → a ≡ b
 one_start keyword line a b first second =
     let words : List (List ℕ) = field_words keyword line a first in
@@ -185,7 +185,7 @@ one_start keyword line a b first second =
     reads_one (Fields words) (start_fields words) a b (fields_read words) (first.tests_number, first.scripts_number, refl, first.none_skipped)
     (subst (λ (ws : List (List ℕ)). Fields ws b) cut (second.tests_number, second.scripts_number, refl, second.none_skipped))
 
--- line 1, where it spells a start, is text
+-- line 1 is text if it spells a start
 pub first_is_text : (line : List ℕ) (start : RunStart) → SpellsStart (codes "run") line start → IsUtf8 line
 first_is_text line start s =
     subst IsUtf8 (sym (start_joined (codes "run") line start s))

@@ -1,4 +1,4 @@
--- What `count` makes of the lines of its input.
+-- The text and the answer of `count` for the lines of its input.
 use Rattle.std.specs.Prelude.{◌≡◌, ℕ, Bool, List, map}
 use Rattle.run_events_stats.specs.Outcome.{IsHighest}
 use Rattle.run_events_stats.specs.declared.outcome.run_outcome.RunOutcome.{RunOutcome}
@@ -11,8 +11,8 @@ use Rattle.run_digest_engine.specs.declared.fault.Fault.TheVariants as faults
 abbrev pub NoBadLine : List (List ℕ) → Type 0
 NoBadLine lines = (number : ℕ) → ¬ IsBadLine lines number
 
--- No line is bad, the text is the reports of the runs that the lines say, with the line of their outcome where there are more
--- runs than one, and the answer is whether that outcome, the highest of theirs, is Success.
+-- No line is bad, and the text is the reports of the runs that the lines describe. If there is not exactly one run, a line
+-- with their outcome follows. The outcome is the highest of theirs, and the answer is whether it is `Success`.
 pub record IsDigest (lines : List (List ℕ)) (text : List ℕ) (success : Bool) : Type 0 where
   pub good : NoBadLine lines
   pub runs : List Run
@@ -22,7 +22,7 @@ pub record IsDigest (lines : List (List ℕ)) (text : List ℕ) (success : Bool)
   pub text_is : text ≡ reports_of runs outcome
   pub success_is : success ≡ is_success outcome
 
--- why these lines have no digest: the first bad line, or memory was refused
+-- why there is no text for these lines: the first bad line, or memory was refused
 abbrev pub IsRefusal : List (List ℕ) → Fault → Type 0
 IsRefusal lines (faults.BadLine number) = IsFirstBadLine lines number
 IsRefusal lines faults.OutOfMemory = Unit {0}

@@ -1,4 +1,4 @@
--- What a fault is to the caller of the program.
+-- The faults of the program: their texts, their exit statuses, and the steps at which they occur.
 use Rattle.std.specs.Prelude.{ℕ, List, ◌++◌, codes}
 use Rattle.std.specs.Fmt.{decimal}
 use Rattle.program_io.specs.Engine.{Stage, Reading, Refusing, Writing}
@@ -13,7 +13,7 @@ fault_of device.Read = Read
 fault_of device.Write = Write
 fault_of device.OutOfMemory = OutOfMemory
 
--- what an engine may have been doing when a fault came
+-- the earliest step of an engine at which a fault can occur; memory can also be refused later
 abbrev pub stage_of : Fault → Stage
 stage_of (BadLine number) = Refusing
 stage_of BadWord = Refusing
@@ -29,7 +29,7 @@ status_of Read = 3
 status_of Write = 3
 status_of OutOfMemory = 3
 
--- the line that tells of a fault
+-- the displayed text of a fault
 abbrev pub fault_text : Fault → List ℕ
 fault_text (BadLine number) = codes "line " ++ (decimal number ++ codes ": bad line")
 fault_text BadWord = codes "usage: run-digest extract|count"

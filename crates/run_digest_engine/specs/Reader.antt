@@ -1,5 +1,5 @@
--- The readers of `count`, as functions on words: what its private functions return. What a line spells is defined apart
--- from them, in Spelling and Number.
+-- The parsers of `count`, as functions on the words of a line: the results of its private functions. The grammar of a line
+-- is defined apart from them, in Spelling and Number.
 use Rattle.std.specs.Prelude.{◌+◌, ◌-◌, ◌*◌, ℕ, Bool, true, false, ◌&&◌, ◌==◌, nat_lt, nat_le, List}
 use Rattle.std.specs.Prelude.{[], ◌∷◌, length, fold, Option, Some, None, option_and_then, option_map, if◌then◌else◌, codes}
 use Rattle.std.specs.Char.{is_ascii_digit}
@@ -17,11 +17,11 @@ use Rattle.run_events_stats.specs.declared.stats.RunStart.{RunStart}
 use Rattle.run_digest_engine.specs.Spelling.{ResultWord, Pass, Leak, LeakFail, Fail, ExecFail, Timeout, TimeoutPass, word_of, result_named, reason_word}
 
 infixl 10 ◌>>=◌
--- what comes of a value that is there
+-- the function of a value that is present
 abbrev pub ◌>>=◌ : {A B : Type 0} → Option A → (A → Option B) → Option B
 o >>= f = option_and_then f o
 
--- the first of some values whose word this is
+-- the first of some values that has this word
 abbrev pub named : {A : Type 0} → (A → List ℕ) → List A → List ℕ → Option A
 named word_of [] word = None
 named word_of (x ∷ xs) word = if bytes_eq word (word_of x) then Some x else named word_of xs word
@@ -34,49 +34,50 @@ result_words = Pass ∷ Leak ∷ LeakFail ∷ Fail ∷ ExecFail ∷ Timeout ∷ 
 unfoldable pub result_of : List ℕ → Option ExecutionResultDescription
 result_of word = option_map result_named (named word_of result_words word)
 
--- the reasons to cancel, and that there is none
+-- the reasons to cancel, with `None`
 abbrev pub reasons : List (Option CancelReason)
 reasons =
     None ∷ Some reason.SetupScriptFailure ∷ Some reason.TestFailure ∷ Some reason.ReportError ∷ Some reason.OutputLimit
     ∷ Some reason.TestFailureImmediate ∷ Some reason.GlobalTimeout ∷ Some reason.Signal ∷ Some reason.Interrupt
     ∷ Some reason.SecondSignal ∷ []
 
--- the reason that a word names, or that there is none
+-- the reason that a word names, which is `Some None` for `-`
 unfoldable pub reason_of : List ℕ → Option (Option CancelReason)
 reason_of word = named reason_word reasons word
 
--- the number that digits spell
+-- the value of digits
 abbrev pub value_of_digits : List ℕ → ℕ
 value_of_digits digits = fold (λ n b. 10 * n + (b - 48)) 0 digits
 
--- one to seven digits that spell at most a million
+-- the value of one to seven digits, at most a million
 unfoldable pub number_of : List ℕ → Option ℕ
 number_of word =
     if nat_lt 0 (length word) && (nat_le (length word) 7 && (list_all is_ascii_digit word && nat_le (value_of_digits word) 1000000))
     then Some (value_of_digits word) else None
 
--- words, with one space between two
+-- the words of a line, with one space between two words
 abbrev pub words_of : List ℕ → List (List ℕ)
 words_of line = slice_split (λ b. b == 32) line
 
--- the start of a run, by the words after its keyword
+-- the start of a run, from the words after its keyword
 unfoldable pub start_fields : List (List ℕ) → Option RunStart
 start_fields (tests ∷ scripts ∷ why ∷ []) =
     number_of tests >>= λ t. number_of scripts >>= λ s. reason_of why >>= λ r.
     Some (record { initial_run_count = t; setup_scripts_initial_count = s; skipped = 0; cancel_reason = r })
 start_fields _ = None
 
--- the start of a run, by the words of line 1
+-- the start of a run, from the words of line 1
 unfoldable pub start_of_words : List (List ℕ) → Option RunStart
 start_of_words [] = None
 start_of_words (first ∷ words) = if bytes_eq first (codes "run") then start_fields words else None
 
--- the last of a test's results and how many they are, by the words that are left and those before them: at most a hundred
+-- the last result of a test and the number of its results, at most a hundred, from the words that are left, and the last
+-- result and number of the words before them
 unfoldable pub results_from : List (List ℕ) → ExecutionResultDescription → ℕ → Option (ExecutionResultDescription × ℕ)
 results_from [] last count = Some (last, count)
 results_from (word ∷ words) last count = if count == 100 then None else (result_of word >>= λ r. results_from words r (count + 1))
 
--- the last of the results in a list, which commas divide, and how many they are
+-- the last result of a list that is divided by commas, and the number of its results
 unfoldable pub results_of : List ℕ → Option (ExecutionResultDescription × ℕ)
 results_of list = results_from (slice_split (λ b. b == 44) list) result.Pass 0
 
@@ -90,24 +91,24 @@ flags_of (a ∷ []) =
 flags_of (a ∷ b ∷ []) = if bytes_eq a (codes "slow") && bytes_eq b (codes "flaky-fail") then Some (true, setting.Fail) else None
 flags_of _ = None
 
--- a script, by the words after the first
+-- the result of a script, from the words after `script`
 unfoldable pub script_of_words : List (List ℕ) → Option ExecutionResultDescription
 script_of_words (word ∷ []) = result_of word
 script_of_words _ = None
 
--- a test, by the words after the first
+-- the view of a test, from the words after `test`
 unfoldable pub test_of_words : List (List ℕ) → Option TestView
 test_of_words [] = None
 test_of_words (results ∷ flags) =
     flags_of flags >>= λ f. results_of results >>= λ r.
     Some (record { result = r.0; attempts = r.1; is_slow = f.0; flaky_result = f.1 })
 
--- what a line after line 1 says: a finished unit, or the start of a sub-run
+-- a line after line 1: a finished unit, or the start of a sub-run
 pub data EntryView : Type 0 where
   UnitEntry : UnitView → EntryView
   SubRunEntry : RunStart → EntryView
 
--- a line after line 1, by its words: the first says what follows
+-- a line after line 1, from its words; the first one decides
 unfoldable pub entry_of_words : List (List ℕ) → Option EntryView
 entry_of_words [] = None
 entry_of_words (kind ∷ words) =

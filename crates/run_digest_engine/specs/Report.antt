@@ -1,4 +1,4 @@
--- The text that tells of runs.
+-- The text of the reports of runs.
 use Rattle.std.specs.Prelude.{ℕ, Bool, true, false, List, [], ◌∷◌, ◌++◌, map, codes}
 use Rattle.std.specs.Fmt.{decimal}
 use Rattle.std.specs.List.{concat}
@@ -16,29 +16,29 @@ use Rattle.run_events_stats.specs.declared.stats.RunStats.{RunStats}
 use Rattle.run_digest_engine.specs.Reading.{Run}
 use Rattle.run_digest_engine.specs.Spelling.{reason_word}
 
--- the step at which a run ended
+-- the words for the step of a run
 unfoldable pub step_words : RunStatsFailureKind → List ℕ
 step_words SetupScript = codes "setup-script"
 step_words (Test initial not_run) = codes "test " ++ (decimal initial ++ (codes " " ++ decimal not_run))
 
--- a summary in words
+-- the words for a summary
 unfoldable pub summary_words : FinalRunStats → List ℕ
 summary_words Success = codes "success"
 summary_words NoTestsRun = codes "no-tests-run"
 summary_words (Cancelled why kind) = codes "cancelled " ++ (reason_word why ++ (codes " " ++ step_words kind))
 summary_words (Failed kind) = codes "failed " ++ step_words kind
 
--- the line of the tests, by its numbers
+-- the line of the tests, from its numbers
 unfoldable pub tests_line : ℕ → ℕ → ℕ → ℕ → List ℕ
 tests_line finished passed failed flaky =
     codes "tests " ++ (decimal finished ++ (codes " passed " ++ (decimal passed
     ++ (codes " failed " ++ (decimal failed ++ (codes " flaky " ++ (decimal flaky ++ codes "\n")))))))
 
--- the line of the scripts, by its numbers
+-- the line of the scripts, from its numbers
 unfoldable pub scripts_line : ℕ → ℕ → List ℕ
 scripts_line finished failed = codes "scripts " ++ (decimal finished ++ (codes " failed " ++ (decimal failed ++ codes "\n")))
 
--- the three lines for statistics
+-- the three lines of a report
 unfoldable pub report_of : RunStats → List ℕ
 report_of s =
     tests_line s.finished_count s.passed (failed_tests s) s.flaky
@@ -53,7 +53,7 @@ run_stats run = stats_of run.units run.start
 abbrev pub run_outcome : Run → RunOutcome
 run_outcome run = outcome_of (summary_of (run_stats run))
 
--- an outcome in words
+-- the words for an outcome
 unfoldable pub outcome_words : RunOutcome → List ℕ
 outcome_words outcome.Success = codes "success"
 outcome_words outcome.NoTestsRun = codes "no-tests-run"
@@ -70,7 +70,7 @@ outcome_line o = codes "outcome " ++ (outcome_words o ++ codes "\n")
 abbrev pub run_reports : List Run → List ℕ
 run_reports runs = concat (map (λ run. report_of (run_stats run)) runs)
 
--- the text for runs and their outcome: of one run its report alone, of more their reports and the line of the outcome
+-- the reports of runs, and unless there is exactly one run, the line of their outcome
 abbrev pub reports_of : List Run → RunOutcome → List ℕ
 reports_of (run ∷ []) o = report_of (run_stats run)
 reports_of runs o = run_reports runs ++ outcome_line o

@@ -1,4 +1,4 @@
--- What a line of the input spells.
+-- The grammar of the lines of the input.
 use Rattle.std.specs.Prelude.{◌≡◌, ◌<◌, ◌+◌, ℕ, Bool, true, false, if◌then◌else◌, List, [], ◌∷◌, ◌++◌, map, length, codes, pos, Option, None, Some}
 use Rattle.std.specs.List.{join_with_byte}
 use Rattle.run_events_stats.specs.Counters.{UnitView, ScriptUnit, TestUnit}
@@ -13,7 +13,7 @@ use Rattle.run_events_results.specs.declared.results.failure.FailureDescription.
 use Rattle.run_events_stats.specs.declared.stats.RunStart.{RunStart}
 use Rattle.run_digest_engine.specs.Number.{SpellsNumber}
 
--- the word of a reason, and `-` for none
+-- the word for a reason, and `-` for no reason
 abbrev pub reason_word : Option CancelReason → List ℕ
 reason_word None = codes "-"
 reason_word (Some reason.SetupScriptFailure) = codes "setup-script-failure"
@@ -26,7 +26,7 @@ reason_word (Some reason.Signal) = codes "signal"
 reason_word (Some reason.Interrupt) = codes "interrupt"
 reason_word (Some reason.SecondSignal) = codes "second-signal"
 
--- line is `KEYWORD TESTS SCRIPTS REASON`, which is the start of a run without skipped tests
+-- the line is `KEYWORD TESTS SCRIPTS REASON`, the start of a run without skipped tests
 pub record SpellsStart (keyword line : List ℕ) (start : RunStart) : Type 0 where
   pub tests : List ℕ
   pub scripts : List ℕ
@@ -45,7 +45,7 @@ pub data ResultWord : Type 0 where
   Timeout : ResultWord
   TimeoutPass : ResultWord
 
--- the word by which a result is spelled
+-- the word for a result
 abbrev pub word_of : ResultWord → List ℕ
 word_of Pass = codes "pass"
 word_of Leak = codes "leak"
@@ -55,7 +55,7 @@ word_of ExecFail = codes "exec-fail"
 word_of Timeout = codes "timeout"
 word_of TimeoutPass = codes "timeout-pass"
 
--- the result that a word stands for: a failure is exit code 1 and not leaked
+-- the result that a word names; a failure has the exit code 1 and no leak
 abbrev pub result_named : ResultWord → ExecutionResultDescription
 result_named Pass = result.Pass
 result_named Leak = result.Leak leak.Pass
@@ -65,7 +65,7 @@ result_named ExecFail = result.ExecFail
 result_named Timeout = result.Timeout slow.Fail
 result_named TimeoutPass = result.Timeout slow.Pass
 
--- what the line of a unit says: a script's result, or a test's results, the last one apart, and its flags
+-- the content of a line of a unit: the result of a script; or the results of a test, with the last one apart, and its flags
 pub data UnitLine : Type 0 where
   ScriptLine : ResultWord → UnitLine
   TestLine : (earlier : List ResultWord) → (last : ResultWord) → (is_slow : Bool) → (flaky_fails : Bool) → UnitLine
@@ -75,20 +75,20 @@ abbrev pub IsUnitLine : UnitLine → Type 0
 IsUnitLine (ScriptLine r) = Unit {0}
 IsUnitLine (TestLine earlier last is_slow flaky_fails) = length earlier < 100
 
--- the words after the results of a test: for a slow last attempt, and for the setting that fails flaky tests
+-- the flags after the results of a test: for a slow last attempt, and for the setting that fails flaky tests
 abbrev pub flag_words : Bool → Bool → List ℕ
 flag_words false false = []
 flag_words true false = codes " slow"
 flag_words false true = codes " flaky-fail"
 flag_words true true = codes " slow flaky-fail"
 
--- the spelling of a line: `script R`, or `test R,R,..` and its flags
+-- the text of a line: `script R`, or `test R,R,..` and its flags
 abbrev pub spelling : UnitLine → List ℕ
 spelling (ScriptLine r) = codes "script " ++ word_of r
 spelling (TestLine earlier last is_slow flaky_fails) =
     codes "test " ++ (join_with_byte 44 (map word_of (earlier ++ last ∷ [])) ++ flag_words is_slow flaky_fails)
 
--- the finished unit that a line stands for
+-- the finished unit that a line describes
 abbrev pub unit_said : UnitLine → UnitView
 unit_said (ScriptLine r) = ScriptUnit (result_named r)
 unit_said (TestLine earlier last is_slow flaky_fails) = TestUnit (record {
@@ -98,6 +98,6 @@ unit_said (TestLine earlier last is_slow flaky_fails) = TestUnit (record {
   flaky_result = if flaky_fails then setting.Fail else setting.Pass;
 })
 
--- line is the spelling of this unit
+-- the line is the spelling of this unit
 abbrev pub SpellsUnit : List ℕ → UnitView → Type 0
 SpellsUnit line unit = (said : UnitLine) × IsUnitLine said × (line ≡ spelling said) × (unit ≡ unit_said said)

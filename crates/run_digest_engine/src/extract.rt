@@ -102,7 +102,7 @@ pub fn extract<R: Source, W: Sink>(
         (λ input. Answers stage_of (IsExtractAnswer input) result
         (W.written sink.old) (W.written sink.new)) }
 
-    // Of an input nothing else is extracted: where the answer is `false`, there is nothing.
+    // There is only one extraction of an input. If the result is `false`, there is none.
     ensures only { IfOk result (λ success. IfSome (R.left source.old)
         (λ input. TellsEachExtract success (W.written sink.old) (W.written sink.new) input)) }
 {

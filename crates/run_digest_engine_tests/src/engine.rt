@@ -17,11 +17,11 @@ pub(crate) const REPORT: &[u8] =
 /// The output of a test that panicked.
 pub(crate) const OUTPUT: &[u8] = b"foobar\nthread 'main' panicked at 'foo', src/lib.rs:1\n\n";
 
-/// What is extracted from [`OUTPUT`].
+/// The text that `extract` writes for [`OUTPUT`].
 pub(crate) const EXTRACT: &[u8] =
     b"panic-message 7 45\nthread 'main' panicked at 'foo', src/lib.rs:1\n";
 
-/// How much room the sink has, and which calls of the source and of the sink fail.
+/// The room of the sink, and the calls of the source and of the sink that fail.
 #[derive(Clone, Copy)]
 pub(crate) struct Devices {
     pub(crate) room: usize,
@@ -36,7 +36,7 @@ pub(crate) const SOUND: Devices = Devices {
     write_fails: None,
 };
 
-/// What is done with the input.
+/// The engine that reads the input.
 #[derive(Clone, Copy)]
 pub(crate) enum Engine {
     Count,
@@ -44,8 +44,8 @@ pub(crate) enum Engine {
 }
 
 impl Engine {
-    /// Whether the engine answers this over such devices, with this text written, and the sink has
-    /// failed exactly where the answer says so.
+    /// Returns true if the engine returns `wanted` with these devices and writes this text, and the
+    /// sink has failed if and only if the engine returns [`Fault::Write`].
     pub(crate) fn gives(
         self,
         alloc: Global,

@@ -6,7 +6,7 @@ use run_digest_engine::fault::Fault;
 use std::alloc::Global;
 use std::test::Fail;
 
-/// Three sub-runs. As one run they would be cancelled by the interrupt.
+/// Three sub-runs. Counted as one run, they would be cancelled by the interrupt.
 const SUB_RUNS: &[u8] =
     b"run 1 0 -\ntest pass\nsub-run 1 0 -\ntest fail\nsub-run 2 0 interrupt\ntest pass\n";
 
@@ -17,7 +17,7 @@ const SUB_REPORTS: &[u8] =
       tests 1 passed 1 failed 0 flaky 0\nscripts 0 failed 0\nsummary cancelled interrupt test 2 1\n\
       outcome failed test\n";
 
-/// What an engine answers and writes for an input.
+/// An engine and its input, with the answer and the text for that input.
 type Case = (Engine, &'static [u8], bool, &'static [u8]);
 
 const CASES: [Case; 3] = [
@@ -26,8 +26,8 @@ const CASES: [Case; 3] = [
     (Engine::Extract, OUTPUT, true, EXTRACT),
 ];
 
-/// Whether the engine answers each of so many reads that fails in turn, and gives this answer and
-/// this text where a later one would.
+/// Returns true if the engine returns a fault for each of the first `reads` reads that fails in
+/// turn, and this answer and this text if a later read would fail.
 fn answers_failed_reads(
     alloc: Global,
     engine: Engine,
@@ -56,7 +56,7 @@ fn answers_failed_reads(
 fn each_read_that_fails_is_answered(rt: HostRuntime) -> Result<(), Fail> {
     let alloc = rt.alloc();
     assert!(rt; answers_failed_reads(alloc, Engine::Count, SUB_RUNS, 2, false, SUB_REPORTS));
-    // Three reads of the bytes, then the one that finds the end.
+    // Three reads of the bytes, then the read that finds the end.
     let run = run_of(alloc, 1_000, "test pass\n", (1_000, "", 0))?;
     let report = b"tests 1000 passed 1000 failed 0 flaky 0\nscripts 0 failed 0\nsummary success\n";
     assert!(rt; answers_failed_reads(alloc, Engine::Count, run.as_bytes(), 4, true, report));
@@ -78,7 +78,7 @@ fn each_read_that_fails_is_answered(rt: HostRuntime) -> Result<(), Fail> {
 #[test]
 fn a_write_or_a_flush_that_fails_is_answered(rt: HostRuntime) {
     for (engine, input, answer, text) in CASES {
-        // The write takes the whole text; the flush comes after it.
+        // The write takes the whole text, then the flush follows.
         for (at, wanted, written) in [
             (0, Err(Fault::Write), b"".as_slice()),
             (1, Err(Fault::Write), text),
@@ -95,7 +95,7 @@ fn a_write_or_a_flush_that_fails_is_answered(rt: HostRuntime) {
             );
         }
     }
-    // A bad line after good ones: nothing is tried.
+    // A bad line after good ones: the sink is not called.
     let input = b"run 2 0 -\ntest pass\ntest pass\ntest\n";
     let devices = Devices {
         write_fails: Some(0),

@@ -1,4 +1,5 @@
-//! The report of finished runs, beside what `count` writes for lines that say them.
+//! The report of finished runs, compared with the text that `count` writes for lines that describe
+//! them.
 
 use crate::engine::{Engine, SOUND};
 use fixtures::{EXIT_ONE, LEAK_PASS, PASS, finished_script, finished_test};
@@ -8,16 +9,16 @@ use run_events_settings::config::FlakyResult;
 use run_events_stats::stats::{FinishedRun, FinishedUnit, RunStart};
 use std::alloc::{AllocError, Global};
 
-/// Lines that say two runs.
+/// Lines that describe two runs.
 const LINES: &[u8] =
     b"run 1 0 -\ntest fail,pass slow flaky-fail\nsub-run 3 1 interrupt\nscript leak\n";
 
-/// Their reports, and the line of their outcome.
+/// The reports of the two runs, and the line of their outcome.
 const REPORTS: &str =
     "tests 1 passed 0 failed 1 flaky 0\nscripts 0 failed 0\nsummary failed test 1 0\n\
     tests 0 passed 0 failed 0 flaky 0\nscripts 1 failed 0\nsummary cancelled interrupt test 3 3\noutcome failed test\n";
 
-/// The start of a run of so many tests and scripts.
+/// Returns the start of a run of this many tests and scripts.
 fn start_of(tests: usize, scripts: usize, cancel_reason: Option<CancelReason>) -> RunStart {
     RunStart {
         initial_run_count: tests,
@@ -27,7 +28,7 @@ fn start_of(tests: usize, scripts: usize, cancel_reason: Option<CancelReason>) -
     }
 }
 
-/// The report of the runs that [`LINES`] say.
+/// Returns the report of the runs that [`LINES`] describe.
 fn report(alloc: Global) -> Result<String, AllocError> {
     let flaky = finished_test(alloc, &[EXIT_ONE], PASS, true, FlakyResult::Fail)?;
     let script = finished_script(LEAK_PASS);

@@ -1,4 +1,4 @@
-//! Each law of `run_events` called once.
+//! One call of each law of `run_events`.
 
 use run_events::attempts::RetryData;
 use run_events::chain::SerializableError;
@@ -22,7 +22,7 @@ use std::hash::{DefaultHasher, Hasher};
 use std::num::NonZero;
 use std::test::Fail;
 
-/// Counters of which each is 0.
+/// Counters that are all 0.
 const ZERO: RunStats = RunStats {
     initial_run_count: 0,
     finished_count: 0,
@@ -101,7 +101,7 @@ fn attempts_and_sub_runs_are_ordered_by_their_number(rt: HostRuntime) {
     assert_eq!(rt; one.finish(), other.finish());
 }
 
-/// An error without a cause.
+/// Returns an error without a cause.
 fn error(alloc: Global, message: &str) -> Result<SerializableError, AllocError> {
     let message = String::from_str(alloc, message)?;
     SerializableError::from_message_and_causes(alloc, message, Vec::new(alloc))

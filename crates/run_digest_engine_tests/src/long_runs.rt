@@ -5,8 +5,8 @@ use run_digest_engine::fault::Fault;
 use std::alloc::Global;
 use std::test::Fail;
 
-/// A run of so many tests: the line of a test, so many times before other lines, and so many times
-/// after them.
+/// Returns the lines of a run of `tests` tests. `counts` has how often the line of a test is before
+/// other lines, these other lines, and how often it is after them.
 pub(crate) fn run_of(
     alloc: Global,
     tests: u32,
@@ -65,7 +65,7 @@ fn a_run_has_at_most_ten_thousand_lines(rt: HostRuntime) -> Result<(), Fail> {
             Ok(true),
             "tests 9998 passed 9998 failed 0 flaky 0\nscripts 0 failed 0\nsummary success\n",
         ),
-        // Lines that begin sub-runs are counted too.
+        // Lines that begin sub-runs count as lines too.
         (
             9_998,
             (9_998, "sub-run 0 0 -\n", 0),

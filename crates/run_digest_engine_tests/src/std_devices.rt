@@ -1,4 +1,5 @@
-//! What readers and writers of std are asked: fakes that keep a log of their calls.
+//! The calls that devices make of readers and writers of `std`, which are fakes that keep a log of
+//! their calls.
 
 use crate::engine::{EXTRACT, OUTPUT, REPORT, RUN};
 use program_io::device::{DeviceFailed, Sink, Source};
@@ -9,7 +10,7 @@ use run_digest_engine::fault::Fault;
 use std::alloc::Global;
 use std::io::{self, Read, Write};
 
-/// Gives at most so many bytes a call, fails at one call, and then goes on.
+/// A reader that returns at most `most` bytes for each call, and fails only at one call.
 #[derive(Drop)]
 struct Pieces {
     bytes: &'static [u8],
@@ -32,14 +33,14 @@ impl Read for Pieces {
     }
 }
 
-/// A call of a writer: how many bytes it was handed, or that it was flushed.
+/// A call of a writer: a write of a number of bytes, or a flush.
 #[derive(Clone, Copy, PartialEq, Eq)]
 enum Call {
     Write(usize),
     Flush,
 }
 
-/// Takes at most so many bytes a call, fails at one call, and then goes on.
+/// A writer that takes at most `most` bytes for each call, and fails only at one call.
 #[derive(Drop)]
 struct Log {
     most: usize,
@@ -81,7 +82,7 @@ impl Write for Log {
     }
 }
 
-/// A reader of bytes by at most so many a call.
+/// Returns a reader that returns at most `most` bytes for each call.
 fn reader(bytes: &'static [u8], most: usize, fails_at: Option<usize>) -> Pieces {
     Pieces {
         bytes,
@@ -91,7 +92,7 @@ fn reader(bytes: &'static [u8], most: usize, fails_at: Option<usize>) -> Pieces 
     }
 }
 
-/// Counts the run, by a reader and a writer.
+/// Counts the run that is read from a reader, and writes its report to a writer.
 fn counted(alloc: Global, reader: &mut Pieces, writer: &mut Log) -> Result<bool, Fault> {
     let mut source = StdSource::new(reader);
     let mut sink = StdSink::new(writer);
@@ -165,7 +166,7 @@ fn pieces_of_every_size_give_the_same_text(rt: HostRuntime) {
 fn the_text_is_handed_on_and_then_flushed(rt: HostRuntime) {
     let whole = REPORT.len();
     let at_once = [Call::Write(whole), Call::Flush];
-    // What a writer left is handed on next.
+    // The bytes that a writer did not take are passed next.
     let in_pieces = [
         Call::Write(whole),
         Call::Write(whole.saturating_sub(30)),

@@ -1,4 +1,4 @@
-//! What words ask for, and what faults say.
+//! The commands that arguments name, and the texts of faults.
 
 use run_digest_engine::command::Command;
 use run_digest_engine::fault::Fault;

@@ -1,4 +1,4 @@
--- Lists of errors, and lists that are empty.
+-- Lists of errors, and empty lists.
 use Rattle.std.proofs.Common.{◌≡◌, ◌↔◌, ℕ, List, [], ◌∷◌, ◌++◌, Option, Some, None, IsNone, IfSome, map, refl, sym, ap, ◌∙◌}
 use Rattle.run_events_child.specs.ListedErrors.{ListedErrors}
 use Rattle.run_events.specs.UnitErrors.{ErrorOfUnit, IsListOf, error_seen}
@@ -12,7 +12,7 @@ pub right_is_empty : {A : Type 0} (xs ys : List A) → xs ++ ys ≡ [] → ys �
 right_is_empty [] ys none = none
 right_is_empty (x ∷ xs) ys none = cc
 
--- a list that was made of errors is of these errors: there is one where there is a list
+-- a list that was made from errors has these errors; if there is a list, there is an error
 pub listed : (list : Option (ListedErrors UnitError)) (said description : List ℕ) (made : List UnitError) (errors : List ErrorOfUnit)
     → (IsNone list ↔ (made ≡ [])) → IfSome list (λ l. (l.description ≡ said) × (l.items ≡ made))
     → said ≡ description → map error_seen made ≡ errors → IsListOf description errors list

@@ -1,17 +1,17 @@
--- The texts by which the ending of a unit is shown.
+-- The displayed texts of why and how the runner ends a unit.
 use Rattle.std.specs.Prelude.{ℕ, List, codes}
 use Rattle.run_events.specs.declared.events.terminate.UnitTerminateReason.{UnitTerminateReason}
 use Rattle.run_events.specs.declared.events.terminate.UnitTerminateReason.TheVariants as why
 use Rattle.run_events.specs.declared.events.terminate.UnitTerminateSignal.{UnitTerminateSignal}
 use Rattle.run_events.specs.declared.events.terminate.UnitTerminateSignal.TheVariants as signal
 
--- why a unit is ended, in words
+-- the displayed text of the reason why the runner ends a unit
 abbrev pub terminate_reason_text : UnitTerminateReason → List ℕ
 terminate_reason_text why.Timeout = codes "timeout"
 terminate_reason_text why.Signal = codes "signal"
 terminate_reason_text why.Interrupt = codes "interrupt"
 
--- the name of the signal that ends a unit
+-- the displayed name of the signal by which the runner ends a unit
 abbrev pub terminate_signal_text : UnitTerminateSignal → List ℕ
 terminate_signal_text signal.Interrupt = codes "SIGINT"
 terminate_signal_text signal.Term = codes "SIGTERM"

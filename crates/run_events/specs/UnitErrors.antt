@@ -1,4 +1,4 @@
--- The errors of a unit: what went wrong with a test or a setup script, in order.
+-- The errors of a test or a setup script, in order.
 use Rattle.std.specs.Prelude.{◌≡◌, ◌≢◌, ℕ, Bool, true, false, List, [], ◌∷◌, ◌++◌, map, not, IsTrue, Option, None, Some, MatchOption, option_map, option_to_list}
 use Rattle.std.specs.Option.{option_map_or}
 use Rattle.output_slice.specs.Extraction.{Extract, IsExtract, LiesIn}
@@ -25,26 +25,26 @@ use Rattle.run_events.specs.declared.unit_error.UnitErrorDescription.{UnitErrorD
 use Rattle.run_events.specs.declared.unit_error.errors.UnitError.{UnitError}
 use Rattle.run_events.specs.declared.unit_error.errors.UnitError.TheVariants as unit
 
--- an error of a unit, wherever it is borrowed from
+-- an error of a unit, as a value that is not borrowed
 pub data ErrorOfUnit : Type 0 where
   start_error : ChildStartErrorDescription → ErrorOfUnit
   output_error : ChildErrorDescription → ErrorOfUnit
   abort_error : AbortDescription → Bool → ErrorOfUnit
   slice_error : Extract → ErrorOfUnit
 
--- The errors of what a child process left.
+-- The errors in the output of a child process.
 
--- the errors that keep a unit from being run: that of its start, or those in reading its output, in order
+-- the errors in running a unit, in order: the error of its start, or those in reading its output
 abbrev pub exec_fail_of : ChildExecutionOutputDescription LiveSpec ChildOutputDescription → List ErrorOfUnit
 exec_fail_of (left.StartError e) = start_error e ∷ []
 exec_fail_of (left.Output end output errors) = option_map_or (λ l. map output_error l.items) errors []
 
--- the abort of a failure, with whether it left a handle open
+-- the abort of a failure, with whether the process left a handle open
 abbrev pub aborts_in : ExecutionResultDescription → List ErrorOfUnit
 aborts_in (Fail (Abort a) leaked) = abort_error a leaked ∷ []
 aborts_in _ = []
 
--- the abort that ended the process, if one did
+-- the abort that ended the process, if there was one
 abbrev pub aborts_of : ChildExecutionOutputDescription LiveSpec ChildOutputDescription → List ErrorOfUnit
 aborts_of (left.Output (Some r) output errors) = aborts_in r
 aborts_of _ = []
@@ -64,41 +64,41 @@ abbrev pub is_failed_test : UnitKind → Option ExecutionResultDescription → B
 is_failed_test kind.Test (Some r) = not (succeeds r)
 is_failed_test _ _ = false
 
--- What is found is the extraction of the output, of which both streams in one are each of the two.
+-- `found` is the extraction of the output. If both streams were captured as one, each of them is that one.
 abbrev pub IsExtractOf : ChildOutputDescription → Option Extract → Type 0
 IsExtractOf (Split stdout stderr) found = IsExtract stdout stderr found
 IsExtractOf (Combined o) found = IsExtract (Some o) (Some o) found
 IsExtractOf NotLoaded found = ⊥
 
--- What is found in the output where it is searched, and none where it is not.
+-- If the output is searched, `found` is its extraction, and otherwise `None`.
 abbrev pub IsSearched : Bool → ChildOutputDescription → Option Extract → Type 0
 IsSearched true output found = IsExtractOf output found
 IsSearched false output found = found ≡ None
 
--- What is found is the slice of a failed test's output, and none of any other unit's.
+-- For a failed test, `found` is the slice of its output. For any other unit it is `None`.
 abbrev pub IsSliceOf : UnitKind → ChildExecutionOutputDescription LiveSpec ChildOutputDescription → Option Extract → Type 0
 IsSliceOf k (left.Output end output errors) found = IsSearched (is_failed_test k end) output found
 IsSliceOf k (left.StartError e) found = found ≡ None
 
--- What was found is a part of the stream that it comes from.
+-- the extraction is a part of the stream that its kind names
 abbrev pub LiesInStreams : ChildOutputDescription → Extract → Type 0
 LiesInStreams (Split stdout stderr) x = LiesIn stdout stderr x
 LiesInStreams (Combined o) x = LiesIn (Some o) (Some o) x
 LiesInStreams NotLoaded x = ⊥
 
--- The same of what a process left; one that was not started left no stream.
+-- The same for the output of a child process. A process that was not started has no stream.
 abbrev pub LiesInOutput : ChildExecutionOutputDescription LiveSpec ChildOutputDescription → Extract → Type 0
 LiesInOutput (left.Output end output errors) x = LiesInStreams output x
 LiesInOutput (left.StartError e) x = ⊥
 
--- The output of a failed test is loaded.
+-- if the unit is a failed test, its output is loaded
 abbrev pub CanDescribe : UnitKind → ChildExecutionOutputDescription LiveSpec ChildOutputDescription → Type 0
 CanDescribe k (left.Output end output errors) = IsTrue (is_failed_test k end) → IsLoaded output
 CanDescribe k (left.StartError e) = Unit {0}
 
 -- The parts of a description.
 
--- the unit is a test or a script
+-- the kind of the unit: a test or a script
 abbrev pub kind_of : UnitErrorDescription → UnitKind
 kind_of d = d.kind
 
@@ -106,7 +106,7 @@ kind_of d = d.kind
 abbrev pub described_slice : UnitErrorDescription → Option Extract
 described_slice d = option_map extract_of d.output_slice
 
--- the error of the start, then those of the output
+-- the error of the start, then the errors of the output
 abbrev pub exec_fail_errors : UnitErrorDescription → List ErrorOfUnit
 exec_fail_errors d =
     option_to_list (option_map (λ e. start_error e.now) d.start_error) ++ option_map_or (λ l. map output_error l.now.items) d.output_errors []
@@ -122,18 +122,18 @@ all_errors d = exec_fail_errors d ++ child_process_errors d
 
 -- Lists of errors.
 
--- an error apart from where it is borrowed from
+-- a borrowed error as a value
 abbrev pub error_seen : UnitError → ErrorOfUnit
 error_seen (unit.Start e) = start_error e.now
 error_seen (unit.Output e) = output_error e.now
 error_seen (unit.Abort a) = abort_error a.description.now a.leaked
 error_seen (unit.Slice s) = slice_error (extract_of s)
 
--- a list of these errors, of which there is one at least, under this description; or none, and there is no error
+-- the result is a list of these errors under this description, or `None` if there are no errors
 abbrev pub IsListOf : List ℕ → List ErrorOfUnit → Option (ListedErrors UnitError) → Type 0
 IsListOf description errors list = MatchOption list (errors ≡ []) (λ l. (errors ≢ []) × (l.description ≡ description) × (map error_seen l.items ≡ errors))
 
--- the text of an error: that of what it holds
+-- the text of an error, which is that of the error in it
 abbrev pub unit_error_text : UnitError → List ℕ
 unit_error_text (unit.Start e) = start_error_text e.now
 unit_error_text (unit.Output e) = child_error_text e.now

@@ -1,9 +1,10 @@
--- Which states of a unit come with output of its own.
+-- The states of a unit whose output is that of the current attempt.
 use Rattle.std.specs.Prelude.{Bool, true, false}
 use Rattle.run_events.specs.declared.events.unit_state.UnitState.{UnitState}
 use Rattle.run_events.specs.declared.events.unit_state.UnitState.TheVariants as state
 
--- whether a state comes with the output of its own attempt: all but the wait between two attempts
+-- whether the output that comes with a state is that of the current attempt: in every state except the wait between two
+-- attempts
 abbrev pub state_has_output : UnitState → Bool
 state_has_output (state.Running pid time_taken slow_after) = true
 state_has_output (state.Exiting pid time_taken slow_after tentative_result waiting_duration remaining) = true

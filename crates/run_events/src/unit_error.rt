@@ -65,7 +65,8 @@ impl<'a> UnitErrorDescription<'a> {
             ≡ child_process_of output.now (described_slice result) }
         ensures slice { IsSliceOf kind output.now (described_slice result) }
 
-        // Whatever is the slice equals the description's, so `None` says that there is none.
+        // Every slice of the output equals that of the description, so `None` means that there is
+        // none.
         ensures only { (found : Option Extract) → IsSliceOf kind output.now found
             → found ≡ described_slice result }
         ensures part { IfSome (described_slice result) (LiesInOutput output.now) }

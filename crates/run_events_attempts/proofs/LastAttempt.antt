@@ -1,4 +1,4 @@
--- The last attempt of a test decides its view, and its view its levels.
+-- The last attempt of a test decides its view, and the view decides its levels.
 use Rattle.std.proofs.Common.{◌≡◌, ◌-◌, ◌<◌, List, [], ◌∷◌, ◌++◌, length, get_or, take, drop, drop-cons, refl, ap, sym, ◌∙◌, arith, lt-ltb}
 use Rattle.std.specs.Prelude.{Some}
 use Rattle.std.proofs.lemmas.Bool.{or_right}
@@ -17,11 +17,11 @@ use Rattle.run_events_attempts.specs.declared.attempts.statuses.ExecutionStatuse
 pub first-rest : {X : Type 0} (xs : List X) (x : X) → 0 < length xs → x ≡ get_or xs 0 x → xs ≡ x ∷ take (length xs - 1) (drop 1 xs)
 first-rest xs x some is = drop-cons xs 0 x some ∙ ap (λ y. y ∷ drop 1 xs) (sym is) ∙ ap (λ ys. x ∷ ys) (sym (take_rest xs 1))
 
--- what stands at the last place is the last
+-- the element at the last position is the last one
 pub last-at : {X : Type 0} (xs : List X) (x : X) → 0 < length xs → x ≡ get_or xs (length xs - 1) x → last_of xs ≡ Some x
 last-at xs x some is = slice_get_read xs _ _ x refl (omega arith) is
 
--- what is pushed last is the last
+-- the element that is pushed last is the last one
 last-push : {X : Type 0} (xs : List X) (x : X) → last_of (xs ++ x ∷ []) ≡ Some x
 last-push xs x =
     let size = length_push xs x in
@@ -50,14 +50,14 @@ last-result : {S D : Type 0} (t : ExecutionStatuses S D) (last : ExecuteStatus S
     → succeeds last.result ≡ succeeds (view_of t).result
 last-result t last is = rw is refl
 
--- a description is that of a success exactly where the last attempt succeeded
+-- a description is that of a success if and only if the last attempt succeeded
 pub success-described : {S D : Type 0} (t : ExecutionStatuses S D) (d : ExecutionDescription S D) → ComesTo (attempts_of t) (flaky_result_of t) d
     → is_success_description d ≡ succeeds (view_of t).result
 success-described t (Success only) is = sym is.1 ∙ last-result t only.now (ap last_of is.0)
 success-described t (Flaky last prior result) is = sym is.2 ∙ last-result t last.now (ap last_of is.0 ∙ last-push prior.now last.now)
 success-described t (Failure first last retries) is = sym is.2 ∙ last-result t last.now is.1
 
--- what attempts come to has a final level
+-- a description of attempts has a final level
 pub has-final-level : {S D : Type 0} (t : ExecutionStatuses S D) (d : ExecutionDescription S D) → ComesTo (attempts_of t) (flaky_result_of t) d
     → HasFinalLevel d
 has-final-level t (Success only) is = or_right _ _ is.1

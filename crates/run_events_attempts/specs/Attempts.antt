@@ -1,4 +1,4 @@
--- The attempts of a test, and what of them decides how it counts.
+-- The attempts of a test, and the parts of them that decide how it counts.
 use Rattle.std.specs.Prelude.{◌≡◌, ◌<◌, ◌≤◌, ◌⊎◌, ◌-◌, false, List, Option, length, slice_get}
 use Rattle.std.specs.Option.{option_map_or}
 use Rattle.run_events_settings.specs.declared.config.FlakyResult.{FlakyResult}
@@ -13,15 +13,15 @@ use Rattle.run_events_levels.specs.TestView.{TestView}
 abbrev pub attempts_of : {S D : Type 0} → ExecutionStatuses S D → List (ExecuteStatus S D)
 attempts_of t = t.statuses.items
 
--- how the test counts where it is flaky
+-- how the test counts if it is flaky
 abbrev pub flaky_result_of : {S D : Type 0} → ExecutionStatuses S D → FlakyResult
 flaky_result_of t = t.flaky_result
 
--- the last of a list, which is there where the list is not empty
+-- the last element of a list, or `None` if the list is empty
 abbrev pub last_of : {A : Type 0} → List A → Option A
 last_of xs = slice_get xs (length xs - 1)
 
--- The view of a test. A test always has a last attempt: what stands for want of one is never met.
+-- The view of a test. A test always has a last attempt, so the default values are never used.
 abbrev pub view_of : {S D : Type 0} → ExecutionStatuses S D → TestView
 view_of t =
     let last = last_of (attempts_of t) in
@@ -36,6 +36,6 @@ view_of t =
 abbrev pub attempts_left : {S D : Type 0} → ExecutionStatusesIter S D → List (ExecuteStatus S D)
 attempts_left iter = iter.rest.now
 
--- a comes before b, or is b: an earlier attempt, or the same attempt of no more
+-- the attempt a is at most b: its number is less, or its number is the same and its total is at most that of b
 abbrev pub IsNoLaterAttempt : RetryData → RetryData → Type 0
 IsNoLaterAttempt a b = (a.attempt < b.attempt) ⊎ ((a.attempt ≡ b.attempt) × (a.total_attempts ≤ b.total_attempts))

@@ -1,4 +1,4 @@
--- What the attempts of a test come to, and the levels of that.
+-- The description of a test by its attempts, and the levels of a description.
 use Rattle.std.specs.Prelude.{◌≡◌, ◌<◌, ◌||◌, Bool, true, false, List, [], ◌∷◌, ◌++◌, length, Option, Some}
 use Rattle.run_events_levels.specs.Level.{final_flaky_level, final_success_level, flaky_level, success_level}
 use Rattle.run_events_results.specs.Results.{succeeds}
@@ -12,9 +12,9 @@ use Rattle.run_events_levels.specs.declared.levels.FinalStatusLevel.TheVariants 
 use Rattle.run_events_levels.specs.declared.levels.StatusLevel.{StatusLevel}
 use Rattle.run_events_levels.specs.declared.levels.StatusLevel.TheVariants as level
 
--- Attempts with a setting come to this. One attempt that succeeded is a success. More, of which the last succeeded, are
--- flaky: the last one, those before it, and the setting. Attempts of which the last did not succeed are a failure: the
--- first, the last, and those after the first.
+-- The description of attempts with a setting. One attempt that succeeded is a success. Several attempts of which the last
+-- succeeded are flaky, with the last one, those before it, and the setting. Attempts of which the last did not succeed are a
+-- failure, with the first, the last, and those after the first.
 abbrev pub ComesTo : {S D : Type 0} → List (ExecuteStatus S D) → FlakyResult → ExecutionDescription S D → Type 0
 ComesTo attempts setting (Success only) = (attempts ≡ only.now ∷ []) × (succeeds only.now.result ≡ true)
 ComesTo attempts setting (Flaky last prior result) =
@@ -28,12 +28,12 @@ last_described (Success only) = only.now
 last_described (Flaky last prior result) = last.now
 last_described (Failure first last retries) = last.now
 
--- the status of a success did succeed
+-- the attempt of a success succeeded
 abbrev pub IsConsistent : {S D : Type 0} → ExecutionDescription S D → Type 0
 IsConsistent (Success only) = succeeds only.now.result ≡ true
 IsConsistent _ = Unit {0}
 
--- the status of a success is slow or did succeed
+-- the attempt of a success was slow or succeeded
 abbrev pub HasFinalLevel : {S D : Type 0} → ExecutionDescription S D → Type 0
 HasFinalLevel (Success only) = (only.now.is_slow || succeeds only.now.result) ≡ true
 HasFinalLevel _ = Unit {0}
@@ -50,7 +50,7 @@ described_final_level (Success only) = final_success_level only.now.result only.
 described_final_level (Flaky last prior result) = Some (final_flaky_level result)
 described_final_level (Failure first last retries) = Some final.Fail
 
--- whether output is displayed as that of a success: not only of a failure
+-- whether the setting for the output of successful tests applies: for every description except a failure
 abbrev pub is_success_description : {S D : Type 0} → ExecutionDescription S D → Bool
 is_success_description (Failure first last retries) = false
 is_success_description _ = true

@@ -70,8 +70,8 @@ pub struct ExecuteStatus<S: OutputSpec> {
     /// The output and the errors of its process.
     pub output: ChildExecutionOutputDescription<S>,
 
-    // Right before the result: a count reads both of each test's last attempt, and fields lie in
-    // memory today in the order in which they are written.
+    // Next to the result, since counting reads both fields of each test's last attempt. Today
+    // fields are in memory in the order of their declaration.
     /// True if it took longer than the slow timeout.
     pub is_slow: bool,
 

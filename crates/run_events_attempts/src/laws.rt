@@ -6,7 +6,7 @@ ghost use Rattle.run_events_attempts.specs.Attempts.{IsNoLaterAttempt};
 use crate::attempts::RetryData;
 use std::cmp::Ordering;
 
-/// Attempts are ordered by their number, then by how many there are.
+/// Attempts are ordered by their number, then by their total.
 pub fn retry_data_order(a: RetryData, b: RetryData) -> Ordering
     ensures at_most { (result ≢ Ordering.Greater) ↔ IsNoLaterAttempt a b }
     ensures equality { (result ≡ Ordering.Equal) ↔ (a ≡ b) }

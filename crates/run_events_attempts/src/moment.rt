@@ -3,7 +3,7 @@
 use jiff::Timestamp;
 use jiff::tz::Offset;
 
-/// A time of the clock with the offset from UTC at the place where it was read.
+/// A time of the clock, with the offset from UTC of the place where the clock was read.
 #[derive(Clone, Copy, Debug)]
 pub struct Moment {
     /// The instant.

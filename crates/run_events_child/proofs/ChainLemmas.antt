@@ -1,4 +1,4 @@
--- Error chains as JSON: what is written for one, and what is read again.
+-- Error chains as JSON: the value that is written for a chain, and the chain that is read from it.
 use Rattle.std.proofs.Common.{◌≡◌, ◌≤◌, ◌⊎◌, Ordering, ℕ, ◌+◌, max, Bool, true, cond, Result, Ok, List, [], ◌∷◌, map, codes, None, Some, IsSome, is_some, not, position, unwrap_or, refl, sym, ap, subst, ◌∙◌, inl, inr, true≢false, arith}
 use Rattle.std.specs.Ordering.{nat_cmp, match_ordering}
 use Rattle.std.specs.declared.cmp.Ordering.TheVariants.{Equal}
@@ -25,12 +25,12 @@ pub values_in_items_of : (ds : List Data) → values_in (items_of ds) ≡ ds
 values_in_items_of [] = refl
 values_in_items_of (d ∷ ds) = ap (λ xs. d ∷ xs) (values_in_items_of ds)
 
--- the texts of what the values stand for
+-- the texts of the data of values
 pub texts_of_views : (vs : List Value) → map (λ d. unwrap_or (as_str d) []) (map view vs) ≡ texts_of vs
 texts_of_views [] = refl
 texts_of_views (v ∷ vs) = ap (λ ts. unwrap_or (as_str (view v)) [] ∷ ts) (texts_of_views vs)
 
--- whether a value is no text
+-- whether a value is not a text
 abbrev is_no_text : Data → Bool
 is_no_text d = not (is_some (as_str d))
 
@@ -38,7 +38,7 @@ position_from_view : (i : ℕ) (vs : List Value) → position_from is_no_text i 
 position_from_view i [] = refl
 position_from_view i (v ∷ vs) = ap (λ o. cond (is_no_text (view v)) (Some i) o) (position_from_view (i + 1) vs)
 
--- the position of the first value that stands for no text
+-- the position of the first value whose data is not a text
 pub position_of_view : (vs : List Value) → position (λ v. not (is_some (as_str (view v)))) vs ≡ position is_no_text (map view vs)
 position_of_view vs = position_from-zero (λ v. is_no_text (view v)) vs ∙ sym (position_from_view 0 vs) ∙ sym (position_from-zero is_no_text (map view vs))
 
@@ -56,7 +56,7 @@ read_texts-string cs = rw (position_from-zero is_no_text (map string cs), all_ar
 read_causes-text_list : (cs : List (List ℕ)) → read_causes (Some (text_list cs)) ≡ Ok cs
 read_causes-text_list cs = ap read_texts (values_in_items_of (map string cs)) ∙ read_texts-string cs
 
--- what has a member is an object
+-- a value that has a member is an object
 has_members : (d : Data) (key : List ℕ) → IsSome (get key d) → is_some (as_object d) ≡ true
 has_members (object ms) key h = refl
 has_members _ key h = h
@@ -69,7 +69,7 @@ pub reads_back_from_reads : (d : Data) (c : ErrorChain) (answer : Result ErrorCh
     → IsChainUnlessMemory c answer
 reads_back_from_reads d c answer h reads = rw (read_chain-of_value d c h) at reads
 
--- a key at which one member stands before others is the member's, or stands among the others
+-- a key at which one member comes before others is that of the member, or is among the others
 found_first : (key name : List ℕ) (d : Data) (ms : Members) (r : Ordering) → r ≡ slice_cmp nat_cmp key name
     → IsSome (match_ordering r (get_member key ms) (Some d) (get_member key ms)) → (key ≡ name) ⊎ IsSome (get_member key ms)
 found_first key name d ms Equal e h = inl (exact_bytes key name (sym e))
@@ -89,19 +89,19 @@ only_members c key h =
 is_chain_value : (c : ErrorChain) → IsChainValue (chain_object c) c
 is_chain_value c = record { message = refl; causes = refl; only = only_members c }
 
--- the object that is written for a chain is a value of it
+-- the object that is written for a chain is a value of that chain
 pub is_chain_value_from_object : (d : Data) (c : ErrorChain) → d ≡ chain_object c → IsChainValue d c
 is_chain_value_from_object d c e = subst (λ x. IsChainValue x c) (sym e) (is_chain_value c)
 
--- texts nest nothing
+-- texts have no nesting
 flat : (cs : List (List ℕ)) → items_depth (items_of (map string cs)) ≡ 0
 flat [] = refl
 flat (c ∷ cs) = ap (max 0) (flat cs)
 
--- the object that is written for a chain nests no deeper than its list of causes
+-- the object that is written for a chain is nested no deeper than its list of causes
 pub nests_from_object : (d : Data) (c : ErrorChain) → d ≡ chain_object c → depth d ≤ 2
 nests_from_object d c e = let list = flat c.causes in rw (e, list) (omega arith)
 
--- and is read as that chain
+-- and it is read as that chain
 pub reads_from_object : (d : Data) (c : ErrorChain) → d ≡ chain_object c → read_chain d ≡ Ok c
 reads_from_object d c e = read_chain-of_value d c (is_chain_value_from_object d c e)

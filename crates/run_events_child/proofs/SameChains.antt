@@ -1,4 +1,4 @@
--- When two errors are the same.
+-- The equality of two errors.
 use Rattle.std.proofs.Common.{◌≡◌, ◌↔◌, ℕ, List, true, refl, ap}
 use Rattle.std.specs.Cmp.Lexicographic.{pointwise}
 use Rattle.std.specs.Str.{bytes_eq}
@@ -9,7 +9,7 @@ same_parts : (m n : List ℕ) (cs ds : List (List ℕ)) → m ≡ n → cs ≡ d
     → let a : ErrorChain = record { message = m; causes = cs } in let b : ErrorChain = record { message = n; causes = ds } in a ≡ b
 same_parts m n cs ds p q = cc
 
--- errors are the same where their texts compare as equal
+-- errors are the same if their texts compare as equal
 pub same_chain : (a b : ErrorChain) → (pointwise bytes_eq (texts a) (texts b) ≡ true) ↔ (a ≡ b)
 same_chain a b =
     let decides = slice_eq-Decides bytes_eq-Decides (texts a) (texts b) _ refl in (

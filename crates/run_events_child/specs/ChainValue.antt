@@ -9,7 +9,7 @@ use Rattle.run_events_child.specs.ErrorChain.{ErrorChain}
 abbrev pub text_list : List (List ℕ) → Data
 text_list ts = array (items_of (map string ts))
 
--- an object with the message, with the causes, and with no other member
+-- an object with exactly two members, `message` and `causes`
 pub record IsChainValue (d : Data) (c : ErrorChain) : Type 0 where
   pub message : get (codes "message") d ≡ Some (string c.message)
   pub causes : get (codes "causes") d ≡ Some (text_list c.causes)

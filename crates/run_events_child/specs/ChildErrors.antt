@@ -1,4 +1,4 @@
--- The errors of a child process: their causes, and how what the runner has is described.
+-- The errors of a child process: their causes, their texts, and their descriptions.
 use Rattle.std.specs.Prelude.{ℕ, List, codes, map}
 use Rattle.run_events_child.specs.ErrorChain.{ErrorChain}
 use Rattle.run_events_child.specs.ListedErrors.{ListedErrors}
@@ -13,12 +13,12 @@ use Rattle.run_events_child.specs.declared.child.errors.ChildStartError.TheVaria
 use Rattle.run_events_child.specs.declared.child.errors.ChildStartErrorDescription.{ChildStartErrorDescription}
 use Rattle.run_events_child.specs.declared.child.errors.ChildStartErrorDescription.TheVariants as start
 
--- what lies behind an error
+-- the cause of an error in starting a child process
 abbrev pub start_cause : ChildStartErrorDescription → ErrorChain
 start_cause (start.TempPath e) = e
 start_cause (start.Spawn e) = e
 
--- what is behind an error of a child process
+-- the cause of an error of a child process
 abbrev pub error_cause : ChildErrorDescription → ErrorChain
 error_cause (error.ReadStdout e) = e
 error_cause (error.ReadStderr e) = e
@@ -26,33 +26,33 @@ error_cause (error.ReadCombined e) = e
 error_cause (error.Wait e) = e
 error_cause (error.SetupScriptOutput e) = e
 
--- what the runner has, described: the same case with the same cause
+-- the description of an error in starting a child process: the same case with the same cause
 abbrev pub described_start_error : ChildStartError → ChildStartErrorDescription
 described_start_error (starting.TempPath e) = start.TempPath e
 described_start_error (starting.Spawn e) = start.Spawn e
 
--- an error of reading, described
+-- the description of an error in reading from a child process or waiting for it
 abbrev pub described_fd_error : ChildFdError → ChildErrorDescription
 described_fd_error (reading.ReadStdout e) = error.ReadStdout e
 described_fd_error (reading.ReadStderr e) = error.ReadStderr e
 described_fd_error (reading.ReadCombined e) = error.ReadCombined e
 described_fd_error (reading.Wait e) = error.Wait e
 
--- an error of a child process, described
+-- the description of an error of a child process
 abbrev pub described_error : ChildError → ChildErrorDescription
 described_error (seen.Fd e) = described_fd_error e
 described_error (seen.SetupScriptOutput e) = error.SetupScriptOutput e
 
--- a list: its errors in order, under the same description
+-- the descriptions of the errors of a list, in order, under the same description of the operation
 abbrev pub described_errors : ListedErrors ChildError → ListedErrors ChildErrorDescription
 described_errors l = record { description = l.description; items = map described_error l.items }
 
--- errors of a child process, without what caused them
+-- the text of an error in starting a child process, without its cause
 abbrev pub start_error_text : ChildStartErrorDescription → List ℕ
 start_error_text (start.TempPath cause) = codes "error creating temporary path for setup script"
 start_error_text (start.Spawn cause) = codes "error spawning child process"
 
--- an error in reading from a child process or waiting for it, without what caused it
+-- the text of an error of a child process, without its cause
 abbrev pub child_error_text : ChildErrorDescription → List ℕ
 child_error_text (error.ReadStdout cause) = codes "error reading standard output"
 child_error_text (error.ReadStderr cause) = codes "error reading standard error"

@@ -1,7 +1,7 @@
--- An error and what caused it, as texts.
+-- An error and its causes, as texts.
 use Rattle.std.specs.Prelude.{ℕ, ◌+◌, List, [], ◌∷◌, length}
 
--- a message, and the messages of what caused it, the nearest cause first
+-- a message and the messages of its causes, the nearest cause first
 pub record ErrorChain : Type 0 where
   pub message : List ℕ
   pub causes : List (List ℕ)
@@ -10,7 +10,7 @@ pub record ErrorChain : Type 0 where
 abbrev pub texts : ErrorChain → List (List ℕ)
 texts c = c.message ∷ c.causes
 
--- how many texts a chain has
+-- the number of texts of a chain
 abbrev pub text_count : ErrorChain → ℕ
 text_count c = length c.causes + 1
 

@@ -1,4 +1,4 @@
--- What a child process left: how it is described, and whether anything went wrong.
+-- The output and the errors of a child process: their description, and whether there was an error.
 use Rattle.std.specs.Prelude.{Bool, true, false, not, ◌||◌, Option, None, Some, is_some, option_map, String}
 use Rattle.std.specs.declared.alloc.Global.{Global}
 use Rattle.run_events_child.specs.ChildErrors.{described_errors, described_start_error}
@@ -15,23 +15,24 @@ use Rattle.run_events_child.specs.declared.child.execution.ChildExecutionOutput.
 use Rattle.run_events_child.specs.declared.child.output.ChildOutputDescription.{ChildOutputDescription}
 use Rattle.run_events_results.specs.declared.results.ExecutionResultDescription.{ExecutionResultDescription}
 
--- the errors in reading from a process and waiting for it, where there are any
+-- the errors in reading from a process and waiting for it, if there were any
 abbrev pub output_errors : ChildExecutionOutput → Option (ListedErrors ChildError)
 output_errors (seen.Output end output errors) = errors
 output_errors (seen.StartError e) = None
 
--- what the runner has, described: the same case with all its parts, the name in the signal that ended the process
+-- the description of the output and the errors of a process: the same case with all its parts, and with the name of the
+-- signal that ended it
 abbrev pub described_execution : ChildExecutionOutput → Option (String Global) → ChildExecutionOutputDescription LiveSpec ChildOutputDescription
 described_execution (seen.Output end output errors) name =
     told.Output (option_map (λ r. described_result r name) end) (described_output output) (option_map described_errors errors)
 described_execution (seen.StartError e) name = told.StartError (described_start_error e)
 
--- a process has ended, and without success
+-- the process has ended without success
 abbrev pub end_fails : Option ExecutionResultDescription → Bool
 end_fails None = false
 end_fails (Some r) = not (succeeds r)
 
--- something went wrong: an error in starting the process, one in reading from it, or an end without success
+-- there was an error in starting the process, in reading from it or in waiting for it, or it ended without success
 abbrev pub errors_occurred : {S D : Type 0} → ChildExecutionOutputDescription S D → Bool
 errors_occurred (told.Output end output errors) = is_some errors || end_fails end
 errors_occurred (told.StartError e) = true

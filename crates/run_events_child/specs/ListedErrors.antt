@@ -1,7 +1,7 @@
--- Errors of one attempt at something.
+-- The errors of one operation.
 use Rattle.std.specs.Prelude.{ℕ, List}
 
--- errors in order, under a description of what was tried
+-- errors in order, under a description of the operation
 pub record ListedErrors (T : Type 0) : Type 0 where
   pub description : List ℕ
   pub items : List T

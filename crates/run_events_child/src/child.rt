@@ -19,7 +19,7 @@ pub use crate::child::output::{
     ChildOutput, ChildOutputDescription, ChildSingleOutput, ChildSplitOutput,
 };
 
-/// The form in which the output of a child process is described: as it was captured, or as something
+/// The form in which events hold the output of a child process: as it was captured, or as something
 /// that represents it.
 pub trait OutputSpec {
     /// The description of captured output.

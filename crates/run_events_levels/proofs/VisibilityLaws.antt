@@ -1,4 +1,4 @@
--- Visibility under greater reasons.
+-- Visibility with greater reasons.
 use Rattle.std.proofs.Common.{◌≡◌, ◌≢◌, ◌≤◌, ◌<◌, ◌⊎◌, ◌==◌, ◌&&◌, ◌||◌, ℕ, Bool, true, false, if◌then◌else◌, nat_lt, Option, Some, refl, sym, ◌∙◌, inl, inr, arith}
 use Rattle.std.proofs.lemmas.Bool.{and_parts, eqb-false, eqb-true, false≢true, false_from_ne_true, or_parts}
 use Rattle.std.proofs.lemmas.Bool.Decides.{nat_tests}
@@ -8,7 +8,7 @@ use Rattle.run_events_levels.specs.declared.levels.OutputStoreFinal.TheVariants.
 use Rattle.run_events_results.specs.declared.results.CancelReason.{CancelReason}
 use Rattle.run_events_results.specs.declared.results.CancelReason.TheVariants as reason
 
--- The rows of the table, by their tests: stopped, below a signal, under a signal.
+-- The rows of the table, by their tests: stopped, below a signal, at a signal.
 
 abbrev row : Asked → Bool → Bool → Bool → OutputOnTestFinished
 row w stopped below signal =
@@ -23,13 +23,13 @@ at-most-itself x = record { shown = λ h. h; stored = omega arith }
 hidden-least : (w : Asked) (y : OutputOnTestFinished) → IsNoMoreVisible (with_output w false No) y
 hidden-least w y = record { shown = λ h. absurd (false≢true h); stored = omega arith }
 
--- of output that nobody asked for nothing is shown
+-- if no output was asked for, none is shown
 nothing-asked : (w : Asked) (below signal : Bool) (y : OutputOnTestFinished) → (w.at_once || w.stored) ≡ false → IsNoMoreVisible (row w false below signal) y
 nothing-asked w true signal y e = let none = or_parts w.at_once w.stored e in rw (none.0, none.1) (hidden-least w y)
 nothing-asked w false true y e = let none = or_parts w.at_once w.stored e in rw (none.0, none.1) (hidden-least w y)
 nothing-asked w false false y e = hidden-least w y
 
--- no more is shown under a signal than below it
+-- no more is shown with a signal than with a lesser reason
 signal-below : (line at_once at_end stored terminated : Bool)
     → let w : Asked = record { line = line; at_once = at_once; at_end = at_end; stored = stored; terminated = terminated } in
     IsNoMoreVisible (row w false false true) (row w false true false)
@@ -38,7 +38,7 @@ signal-below line true true true terminated = record { shown = λ h. h; stored =
 signal-below line true false true terminated = record { shown = λ h. h; stored = omega arith }
 signal-below line false at_end true terminated = record { shown = λ h. h; stored = omega arith }
 
--- the rows, by how the tests of a greater reason go with those of a lesser one
+-- the rows, by how the tests for a greater reason relate to those for a lesser one
 rows : (w : Asked) (stopped below signal stopped' below' signal' : Bool)
     → (below ≡ true → below' ≡ true)
     → (signal ≡ true → (below' ≡ true) ⊎ (signal' ≡ true))
@@ -58,7 +58,7 @@ row-line : (w : Asked) (stopped below signal : Bool) → (row w stopped below si
 row-line w false false true = refl
 row-line w _ _ _ = refl
 
--- the line is the same under every reason
+-- the line is the same with every reason
 pub line-stays : (w : Asked) (why : Option CancelReason) → (visibility w why).write_status_line ≡ w.line
 line-stays w why = row-line w _ _ _
 
@@ -82,14 +82,15 @@ stop-reason : (why : Option CancelReason) → severity why ≡ severity (Some re
 stop-reason (Some reason.TestFailureImmediate) e = refl
 stop-reason _ e = absurd (omega arith)
 
--- the reasons above an immediate stop, up to a signal
+-- the reasons greater than an immediate stop, up to a signal
 later-reasons : (why : Option CancelReason) → severity (Some reason.TestFailureImmediate) < severity why → severity why ≤ severity (Some reason.Signal)
     → (why ≡ Some reason.GlobalTimeout) ⊎ (why ≡ Some reason.Signal)
 later-reasons (Some reason.GlobalTimeout) low high = inl refl
 later-reasons (Some reason.Signal) low high = inr refl
 later-reasons _ low high = absurd (omega arith)
 
--- where a test is hidden as the run stops at once, and not under a greater reason, nothing was asked for
+-- if a test is hidden because the run stops at once, but not with a greater reason, and this is not the exception, nothing
+-- was asked for
 hidden-unasked : (w : Asked) (why greater : Option CancelReason) → severity why ≤ severity greater → ¬ (IsException w why greater)
     → ((severity greater == severity (Some reason.TestFailureImmediate)) && w.terminated) ≡ false
     → (nat_lt (severity greater) (severity (Some reason.Signal)) || severity greater == severity (Some reason.Signal)) ≡ true
@@ -108,7 +109,7 @@ hidden-unasked w why greater order usual goes_on seen stops =
       asked = asked;
     }))
 
--- no more is shown under a greater reason, but for the exception
+-- no more is shown with a greater reason, except for the exception
 pub never-grows : (w : Asked) (why greater : Option CancelReason) → severity why ≤ severity greater
     → ¬ (IsException w why greater) → IsNoMoreVisible (visibility w greater) (visibility w why)
 never-grows w why greater order usual =

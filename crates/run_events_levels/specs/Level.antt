@@ -1,4 +1,4 @@
--- How much a finished test asks for attention: its status level and its final level.
+-- The status level and the final level of a finished test.
 use Rattle.std.specs.Prelude.{Bool, true, false, nat_lt, if◌then◌else◌, Option, Some, None}
 use Rattle.run_events_levels.specs.TestView.{TestView}
 use Rattle.run_events_results.specs.Results.{succeeds}
@@ -13,7 +13,7 @@ use Rattle.run_events_levels.specs.declared.levels.FinalStatusLevel.TheVariants 
 use Rattle.run_events_results.specs.declared.results.ExecutionResultDescription.{ExecutionResultDescription}
 use Rattle.run_events_results.specs.declared.results.ExecutionResultDescription.TheVariants as result
 
--- the level of a success at the first attempt, and none for a result that is no success
+-- the level of a success at the first attempt, or `None` if the result is not a success
 abbrev pub success_level : ExecutionResultDescription → Option StatusLevel
 success_level result.Pass = Some level.Pass
 success_level (result.Leak leak.Pass) = Some level.Leak
@@ -50,7 +50,7 @@ has_level_fail t = is_level_fail (level_of t)
 abbrev pub has_level_retry : TestView → Bool
 has_level_retry t = is_level_retry (level_of t)
 
--- the final level of a success at the first attempt: slow ones come before their result
+-- the final level of a success at the first attempt: a slow one is `Slow` whatever its result
 abbrev pub final_success_level : ExecutionResultDescription → Bool → Option FinalStatusLevel
 final_success_level r true = Some final.Slow
 final_success_level result.Pass false = Some final.Pass

@@ -5,7 +5,7 @@ use Rattle.run_events_levels.specs.declared.levels.FinalStatusLevel.TheVariants 
 use Rattle.run_events_levels.specs.declared.levels.StatusLevel.{StatusLevel}
 use Rattle.run_events_levels.specs.declared.levels.StatusLevel.TheVariants as level
 
--- how late a level stands in its declaration
+-- the position of a level in its declaration, from 0
 abbrev pub level_rank : StatusLevel → ℕ
 level_rank level.None = 0
 level_rank level.Fail = 1
@@ -16,7 +16,7 @@ level_rank level.Pass = 5
 level_rank level.Skip = 6
 level_rank level.All = 7
 
--- how late a final level stands in its declaration
+-- the position of a final level in its declaration, from 0
 abbrev pub final_level_rank : FinalStatusLevel → ℕ
 final_level_rank final.None = 0
 final_level_rank final.Fail = 1

@@ -7,7 +7,7 @@ ghost use Rattle.run_events_levels.specs.LevelRanks.{final_level_rank, level_ran
 use crate::levels::{FinalStatusLevel, StatusLevel};
 use std::cmp::Ordering;
 
-/// Status levels are ordered as they are declared, `None` the least and `All` the greatest.
+/// Status levels are ordered as they are declared, from `None`, the least, to `All`, the greatest.
 pub fn status_level_order(a: StatusLevel, b: StatusLevel) -> Ordering
     ensures order { result ≡ nat_cmp (level_rank a) (level_rank b) }
     ensures equality { (result ≡ Ordering.Equal) ↔ (a ≡ b) }
@@ -22,7 +22,7 @@ pub fn status_level_at_most(a: StatusLevel, b: StatusLevel) -> bool
     a <= b
 }
 
-/// Final levels are ordered as they are declared, `None` the least and `All` the greatest.
+/// Final levels are ordered as they are declared, from `None`, the least, to `All`, the greatest.
 pub fn final_level_order(a: FinalStatusLevel, b: FinalStatusLevel) -> Ordering
     ensures order { result ≡ nat_cmp (final_level_rank a) (final_level_rank b) }
     ensures equality { (result ≡ Ordering.Equal) ↔ (a ≡ b) }

@@ -8,8 +8,8 @@ use crate::levels::{FinalStatusLevel, StatusLevel};
 use run_events_results::results::ExecutionResultDescription;
 use run_events_settings::config::FlakyResult;
 
-/// The parts of a finished test that decide its counters and its levels, borrowed from its attempts.
-/// A caller that does not keep attempts can make it from what it knows.
+/// The parts of a finished test that decide its counters and its levels, borrowed from its
+/// attempts. A caller that does not keep attempts can make it from these parts.
 #[derive(Clone, Copy, Debug, PartialEq, Eq)]
 pub struct TestView<'a> {
     /// The result of the last attempt.

@@ -1,4 +1,4 @@
--- What `{:08x}` writes of the 32 bits of a number.
+-- The text that `{:08x}` writes for the 32 bits of a number.
 use Rattle.std.proofs.Common.{◌≡◌, ℕ, zero, suc, add-one, ◌+◌, ◌-◌, ◌/◌, ◌%◌, ◌^◌, ◌<◌, ◌≤◌, false, List, [], ◌∷◌, ◌++◌, length, refl, sym, ap, ◌∙◌, inl, inr, arith, append_assoc, append-nil}
 use Rattle.std.specs.Prelude.{replicate}
 use Rattle.std.proofs.Math.Nat.{pow-suc, sub-zero}
@@ -9,16 +9,16 @@ use Rattle.std.proofs.Common.{ℤ}
 use Rattle.std.specs.Int.{cast_unsigned, w32}
 use Rattle.run_events_results.specs.Texts.{hexadecimal_digits, code_digits}
 
--- zero has zeros for digits
+-- the digits of zero are zeros
 hexadecimal_digits-zero : (k : ℕ) → hexadecimal_digits k 0 ≡ replicate k 48
 hexadecimal_digits-zero zero = refl
 hexadecimal_digits-zero (suc k) = rw (hexadecimal_digits-zero k) (replicate_more k 48 ∙ ap (λ n. replicate {A = ℕ} n 48) (add-one k))
 
--- the first digit is written before what is written already
+-- the first digit is written before the digits that are already written
 onto_first : (i n : ℕ) (acc : List ℕ) → n / 16 ≡ 0 → digits_onto (suc i) 16 false n acc ≡ digit_glyph false (n % 16) ∷ acc
 onto_first i n acc e = rw e refl
 
--- the last digit is written, and then those before it
+-- the last digit is written, and then the digits before it
 onto_more : (i n : ℕ) (acc : List ℕ) → 16 ≤ n → digits_onto (suc i) 16 false n acc ≡ digits_onto i 16 false (n / 16) (digit_glyph false (n % 16) ∷ acc)
 onto_more i n acc h = rw (ne_eqb (n / 16) 0 (λ e. omega (arith, h, e))) refl
 
@@ -33,12 +33,12 @@ padded_single k n acc e =
 abbrev padded_digits : ℕ → ℕ → ℕ → List ℕ → List ℕ
 padded_digits k i n acc = replicate (k + length acc - length (digits_onto i 16 false n acc)) 48 ++ digits_onto i 16 false n acc
 
--- the same where one step writes all digits
+-- the same if one step writes all digits
 padded_first : (k i n : ℕ) (acc : List ℕ) → n / 16 ≡ 0 → padded_digits (suc k) (suc i) n acc ≡ hexadecimal_digits (suc k) n ++ acc
 padded_first k i n acc e = let written : digits_onto (suc i) 16 false n acc ≡ digit_glyph false (n % 16) ∷ acc = onto_first i n acc e in
     ap (λ ds. replicate (suc k + length acc - length ds) 48 ++ ds) written ∙ padded_single k n acc e
 
--- the digits padded to k + 1 are the last k + 1 digits of the number, where it has no more
+-- the digits padded to k + 1 are the last k + 1 digits of the number, if it has no more digits
 padded_onto : (k i n : ℕ) (acc : List ℕ) → n < 16 ^ suc k → k ≤ i → padded_digits (suc k) (suc i) n acc ≡ hexadecimal_digits (suc k) n ++ acc
 padded_onto zero i n acc small room = padded_first zero i n acc (omega (arith, pow-suc 16 0))
 padded_onto (suc k) zero n acc small room = absurd (omega arith)
@@ -55,7 +55,7 @@ padded_onto (suc k) (suc i) n acc small room =
           ∙ sym (append_assoc (hexadecimal_digits (suc k) (n / 16)) (digit_glyph false (n % 16) ∷ []) acc)
     ]
 
--- what a width of eight with zeros adds
+-- the zeros that a width of eight adds
 padded_is : (ds : List ℕ) → padded_integral (format_spec 32 0 4 8 (2 ^ 64 - 1)) false [] ds ≡ replicate (8 - length ds) 48 ++ ds
 unfolding padded_integral char_count
 padded_is ds = simp (append-nil, sub-zero)
@@ -65,12 +65,12 @@ digits_is : (n : ℕ) → digits 16 false n ≡ digits_onto 64 16 false n []
 unfolding digits
 digits_is n = refl
 
--- what `{:08x}` writes
+-- the text that `{:08x}` writes
 padded_to_eight : (n : ℕ) → n < 2 ^ 32 → padded_integral (format_spec 32 0 4 8 (2 ^ 64 - 1)) false [] (digits 16 false n) ≡ hexadecimal_digits 8 n
 padded_to_eight n small = padded_is (digits 16 false n) ∙ ap (λ ds. replicate (8 - length ds) 48 ++ ds) (digits_is n)
     ∙ padded_onto 7 63 n [] (omega arith) (omega arith) ∙ append-nil (hexadecimal_digits 8 n)
 
--- the same of the bits of a code
+-- the same for the bits of a code
 pub code_text : (z : ℤ) (n : ℕ) → n ≡ cast_unsigned w32 z → n < 2 ^ 32
     → padded_integral (format_spec 32 0 4 8 (2 ^ 64 - 1)) false [] (digits 16 false n) ≡ code_digits z
 unfolding code_digits

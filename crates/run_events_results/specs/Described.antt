@@ -1,4 +1,4 @@
--- A result as its runner saw it, described: the same case, with a name for a signal.
+-- The description of a result: the same case, with the name of a signal.
 use Rattle.std.specs.Prelude.{Option, String}
 use Rattle.std.specs.declared.alloc.Global.{Global}
 use Rattle.run_events_results.specs.declared.results.failure.AbortDescription.{AbortDescription}
@@ -14,7 +14,7 @@ use Rattle.run_events_results.specs.declared.results.failure.FailureDescription.
 use Rattle.run_events_results.specs.declared.results.failure.FailureStatus.{FailureStatus}
 use Rattle.run_events_results.specs.declared.results.failure.FailureStatus.TheVariants as failed
 
--- an abort: the name goes into a signal
+-- an abort: the name is that of the signal
 abbrev pub described_abort : AbortStatus → Option (String Global) → AbortDescription
 described_abort (UnixSignal signal) name = abort.UnixSignal signal name
 
@@ -23,7 +23,7 @@ abbrev pub described_failure : FailureStatus → Option (String Global) → Fail
 described_failure (failed.ExitCode code) name = failure.ExitCode code
 described_failure (failed.Abort a) name = failure.Abort (described_abort a name)
 
--- a result: only a failure may have a name
+-- a result: only a failure can have a name
 abbrev pub described_result : ExecutionResult → Option (String Global) → ExecutionResultDescription
 described_result status.Pass name = result.Pass
 described_result (status.Leak r) name = result.Leak r

@@ -3,7 +3,7 @@ use Rattle.std.specs.Prelude.{ℕ}
 use Rattle.run_events_results.specs.declared.results.CancelReason.{CancelReason}
 use Rattle.run_events_results.specs.declared.results.CancelReason.TheVariants as reason
 
--- how severe a reason is
+-- how severe a reason is, as a number
 abbrev pub reason_rank : CancelReason → ℕ
 reason_rank reason.SetupScriptFailure = 0
 reason_rank reason.TestFailure = 1

@@ -23,12 +23,12 @@ abbrev pub is_pass : ExecutionResultDescription → Bool
 is_pass result.Pass = true
 is_pass _ = false
 
--- it leaked, which passes
+-- it leaked, and that counts as passed
 abbrev pub is_leak_pass : ExecutionResultDescription → Bool
 is_leak_pass (result.Leak leak.Pass) = true
 is_leak_pass _ = false
 
--- it leaked, which fails
+-- it leaked, and that counts as failed
 abbrev pub is_leak_fail : ExecutionResultDescription → Bool
 is_leak_fail (result.Leak leak.Fail) = true
 is_leak_fail _ = false
@@ -43,31 +43,31 @@ abbrev pub is_exec_fail : ExecutionResultDescription → Bool
 is_exec_fail result.ExecFail = true
 is_exec_fail _ = false
 
--- its time ran out, which passes
+-- it ran out of time, and that counts as passed
 abbrev pub is_timeout_pass : ExecutionResultDescription → Bool
 is_timeout_pass (result.Timeout slow.Pass) = true
 is_timeout_pass _ = false
 
--- its time ran out, which fails
+-- it ran out of time, and that counts as failed
 abbrev pub is_timeout_fail : ExecutionResultDescription → Bool
 is_timeout_fail (result.Timeout slow.Fail) = true
 is_timeout_fail _ = false
 
--- whether an attempt succeeded: it passed, or leaked or ran out of time where that counts as passed
+-- whether an attempt succeeded: it passed, or it leaked or ran out of time and that counts as passed
 abbrev pub succeeds : ExecutionResultDescription → Bool
 succeeds result.Pass = true
 succeeds (result.Leak leak.Pass) = true
 succeeds (result.Timeout slow.Pass) = true
 succeeds _ = false
 
--- the same of a result as its runner saw it
+-- the same for a result as the runner saw it
 abbrev pub status_succeeds : ExecutionResult → Bool
 status_succeeds status.Pass = true
 status_succeeds (status.Leak leak.Pass) = true
 status_succeeds (status.Timeout slow.Pass) = true
 status_succeeds _ = false
 
--- whether an abort is one by which a runner ends a test: signal 15, or the end of the job object
+-- whether an abort is one by which the runner ends a test: signal 15, or the end of the job object
 abbrev pub is_termination : AbortDescription → Bool
 is_termination (abort.UnixSignal signal name) = int_eq signal (pos 15)
 is_termination (abort.WindowsNtStatus code message) = false
@@ -91,7 +91,7 @@ result_word (result.Fail failure leaked) = codes "fail"
 result_word result.ExecFail = codes "exec-fail"
 result_word (result.Timeout r) = codes "timeout"
 
--- the case of a result as its runner saw it, in one word
+-- the case of a result as the runner saw it, in one word
 abbrev pub status_word : ExecutionResult → List ℕ
 status_word status.Pass = codes "pass"
 status_word (status.Leak r) = codes "leak"
@@ -99,6 +99,6 @@ status_word (status.Fail failure leaked) = codes "fail"
 status_word status.ExecFail = codes "exec-fail"
 status_word (status.Timeout r) = codes "timeout"
 
--- how an abort is shown by `{:?}`
+-- the text of an abort as `{:?}` writes it
 abbrev pub abort_status_text : AbortStatus → List ℕ
 abort_status_text (UnixSignal signal) = codes "UnixSignal(" ++ signed_decimal signal ++ codes ")"

@@ -7,8 +7,8 @@ ghost use Rattle.run_events_results.specs.Ranks.{reason_rank};
 use crate::results::{CancelReason, ExecutionResult, SIGTERM, UnitKind};
 use std::cmp::Ordering;
 
-/// Cancel reasons are ordered as they are declared, `SetupScriptFailure` the least and
-/// `SecondSignal` the greatest.
+/// Cancel reasons are ordered as they are declared, from `SetupScriptFailure`, the least, to
+/// `SecondSignal`, the greatest.
 pub fn cancel_reason_order(a: CancelReason, b: CancelReason) -> Ordering
     ensures order { result ≡ nat_cmp (reason_rank a) (reason_rank b) }
     ensures equality { (result ≡ Ordering.Equal) ↔ (a ≡ b) }
@@ -31,7 +31,7 @@ pub fn termination_signal() -> i32
     SIGTERM
 }
 
-/// The constant messages while a process is waited for are these texts.
+/// The constant messages while the runner waits for a process are these texts.
 pub fn waiting_on_messages() -> (&'static str, &'static str)
     ensures constants { (result.0.now ≡ UnitKind.WAITING_ON_TEST_MESSAGE.now)
         × (result.1.now ≡ UnitKind.WAITING_ON_SCRIPT_MESSAGE.now) }
@@ -44,7 +44,7 @@ pub fn waiting_on_messages() -> (&'static str, &'static str)
     )
 }
 
-/// The constant descriptions of what was tried are these texts.
+/// The constant descriptions of the errors of a unit are these texts.
 pub fn executing_messages() -> (&'static str, &'static str)
     ensures constants { (result.0.now ≡ UnitKind.EXECUTING_TEST_MESSAGE.now)
         × (result.1.now ≡ UnitKind.EXECUTING_SCRIPT_MESSAGE.now) }
@@ -57,8 +57,8 @@ pub fn executing_messages() -> (&'static str, &'static str)
     )
 }
 
-/// Results are equal exactly where they are the same: also in how a leak or a lack of time counts,
-/// in a failure's code or signal, and in whether it left a handle open.
+/// Results are equal if and only if they are the same case with the same parts: how a leak or a
+/// timeout counts, the code or signal of a failure, and whether it left a handle open.
 pub fn results_are_equal(a: ExecutionResult, b: ExecutionResult) -> bool
     ensures { IsTrue result ↔ (a ≡ b) }
 {

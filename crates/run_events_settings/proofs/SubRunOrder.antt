@@ -1,4 +1,4 @@
--- Sub-runs are equal exactly where they compare as equal.
+-- Sub-runs are equal if and only if they compare as equal.
 use Rattle.std.proofs.Common.{◌≡◌, ◌<◌, ◌==◌, ◌&&◌, ℕ, Bool, true, Option, Some, None, refl, ap, ◌∙◌, subst, arith, nat_cmp}
 use Rattle.std.proofs.Props.{props}
 use Rattle.std.proofs.lemmas.Bool.{and_parts, eq-eqb, eqb-true}
@@ -10,7 +10,7 @@ use Rattle.std.specs.declared.cmp.Ordering.TheVariants.{Equal}
 use Rattle.std.specs.declared.num.NonZeroU32.{NonZeroU32}
 use Rattle.run_events_settings.specs.declared.stress.StressIndex.{StressIndex}
 
--- numbers that are not 0 are equal where they are equal as numbers
+-- numbers other than 0 are equal if their values are equal
 pub same-non_zero : (a b : NonZeroU32) → non_zero_u32_get a ≡ non_zero_u32_get b → a ≡ b
 same-non_zero a b e =
     let P : ℕ → Type 0 = λ v. (positive : 0 < v) → a ≡ record { value = v; ok = positive } in
@@ -49,7 +49,7 @@ same-sub_run a b e =
 pub sub_run-equal : (a b : StressIndex) → a ≡ b → ordering_then (nat_cmp a.current b.current) (option_cmp by_number a.total b.total) ≡ Equal
 sub_run-equal a b e = rw (e, equal-number b.current) (itself-equal b.total)
 
--- The same of `==`.
+-- The same for `==`.
 
 abbrev is_number : NonZeroU32 → NonZeroU32 → Bool
 is_number m n = non_zero_u32_get m == non_zero_u32_get n

@@ -1,11 +1,11 @@
--- When captured output is displayed, and what a run is for.
+-- When captured output is displayed, and the mode of a run.
 use Rattle.std.specs.Prelude.{Bool, true, false, ℕ, List, codes}
 use Rattle.run_events_settings.specs.declared.config.TestOutputDisplay.{TestOutputDisplay}
 use Rattle.run_events_settings.specs.declared.config.TestOutputDisplay.TheVariants as display
 use Rattle.run_events_settings.specs.declared.run_mode.NextestRunMode.{NextestRunMode}
 use Rattle.run_events_settings.specs.declared.run_mode.NextestRunMode.TheVariants as mode
 
--- whether output is displayed as soon as its test finishes
+-- whether output is displayed as soon as the test finishes
 abbrev pub is_immediate_display : TestOutputDisplay → Bool
 is_immediate_display display.Immediate = true
 is_immediate_display display.ImmediateFinal = true
@@ -24,7 +24,7 @@ abbrev pub is_benchmark_mode : NextestRunMode → Bool
 is_benchmark_mode mode.Test = false
 is_benchmark_mode mode.Benchmark = true
 
--- how a run is named by what it is for
+-- the displayed text of a mode
 abbrev pub mode_text : NextestRunMode → List ℕ
 mode_text mode.Test = codes "test"
 mode_text mode.Benchmark = codes "benchmark"

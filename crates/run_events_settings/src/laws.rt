@@ -24,8 +24,8 @@ pub fn run_mode_default() -> NextestRunMode
     NextestRunMode::default()
 }
 
-/// Sub-runs are ordered by their number, then by how many there are, where an unknown number is
-/// the least.
+/// Sub-runs are ordered by their number, then by their total. An unknown total is less than a known
+/// one.
 pub fn stress_index_order(a: StressIndex, b: StressIndex) -> Ordering
     ensures at_most { (result ≢ Ordering.Greater) ↔ IsNoLaterSubRun a b }
     ensures equality { (result ≡ Ordering.Equal) ↔ (a ≡ b) }
@@ -40,8 +40,8 @@ pub fn stress_index_at_most(a: StressIndex, b: StressIndex) -> bool
     a <= b
 }
 
-/// A sub-run writes its number to a hasher, and then its total. So equal sub-runs hash alike: two
-/// hashers in one state are in one state again after them.
+/// A sub-run writes its number to a hasher, and then its total. So equal sub-runs have the same
+/// hash: two hashers that are in the same state before are in the same state after.
 pub fn stress_index_hashes<H: Hasher>(
     a: StressIndex,
     b: StressIndex,

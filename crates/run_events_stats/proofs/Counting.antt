@@ -17,11 +17,11 @@ pub counters_of-test : (tests : List TestView) (scripts : List ExecutionResultDe
     → counters_of (tests ++ t ∷ []) scripts start ≡ with_test (counters_of tests scripts start) t
 counters_of-test tests scripts start t = simp (length-append, count_of-push)
 
--- one more unit at the end, a test
+-- one more unit at the end, which is a test
 pub stats_of-test : (us : List UnitView) (t : TestView) (start : RunStart) → stats_of (us ++ TestUnit t ∷ []) start ≡ with_test (stats_of us start) t
 stats_of-test us t start = simp (filter_map-append, append-nil, length-append, count_of-push)
 
--- one more unit at the end, a script
+-- one more unit at the end, which is a script
 pub stats_of-script : (us : List UnitView) (r : ExecutionResultDescription) (start : RunStart)
     → stats_of (us ++ ScriptUnit r ∷ []) start ≡ with_script (stats_of us start) r
 stats_of-script us r start = simp (filter_map-append, append-nil, length-append, count_of-push)
@@ -35,13 +35,13 @@ stats_of-unit : (us : List UnitView) (v : UnitView) (start : RunStart) → stats
 stats_of-unit us (ScriptUnit r) start = stats_of-script us r start
 stats_of-unit us (TestUnit t) start = stats_of-test us t start
 
--- the statistics of the units so far, and of one more
+-- the statistics of the units so far, and of one more unit
 pub stats-more : (us : List FinishedUnit) (i : ℕ) (u : FinishedUnit) (start : RunStart) (s : RunStats) (v : UnitView) → i < length us → u ≡ get_or us i u
     → s ≡ stats_of (map unit_view (take i us)) start → unit_view u ≡ v → with_unit s v ≡ stats_of (map unit_view (take (i + 1) us)) start
 stats-more us i u start s v within is_at so_far is =
     rw (so_far, ← is, map_more unit_view us i u within, ← is_at) (sym (stats_of-unit (map unit_view (take i us)) (unit_view u) start))
 
--- a count over a part of a list that fits
+-- a count over a part of a list whose count fits
 count-fits : {X Y : Type 0} (h : X → Option Y) (p : Y → Bool) (xs : List X) → length xs < 2 ^ 64 → count_of p (filter_map h xs) < 2 ^ 64
 count-fits h p xs short = omega (arith, count_of-le p (filter_map h xs), length-filter_map-le h xs)
 

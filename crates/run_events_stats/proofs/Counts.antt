@@ -1,4 +1,4 @@
--- Laws of `count_of`, and of what is kept of a list.
+-- Laws of `count_of`, and of filtered lists.
 use Rattle.std.proofs.Common.{◌≡◌, ℕ, ◌+◌, ◌≤◌, List, [], ◌∷◌, ◌++◌, length, Bool, true, cond, not, refl, ap, ◌∙◌, arith, rules}
 use Rattle.std.specs.Prelude.{filter, Option}
 use Rattle.std.specs.List.{filter_map, AllPass}
@@ -8,7 +8,7 @@ use Rattle.std.proofs.lemmas.List.Filters.{length-filter_both}
 use Rattle.std.proofs.lemmas.List.Sums.{count_by-le-length, length-filter, sum_by-cons}
 use Rattle.run_events_stats.specs.Counters.{count_of, plus_if}
 
--- one where a rule holds
+-- 1 if a rule holds, and otherwise 0
 abbrev pub one : Bool → ℕ
 one b = cond b 1 0
 
@@ -24,7 +24,7 @@ count_of-push p xs x = omega (arith, count_of-append p xs (x ∷ []), count_of-c
 pub count_of-le : {X : Type 0} (p : X → Bool) (xs : List X) → count_of p xs ≤ length xs
 count_of-le p xs = omega (arith, length-filter p xs, count_by-le-length p xs)
 
--- rules that share out another rule share out its count
+-- if rules divide another rule among them, their counts add up to its count
 pub count_of-three : {X : Type 0} (p q r whole : X → Bool) → ((x : X) → one (p x) + one (q x) + one (r x) ≡ one (whole x)) → (xs : List X)
     → count_of p xs + count_of q xs + count_of r xs ≡ count_of whole xs
 count_of-three p q r whole each [] = refl
@@ -35,11 +35,11 @@ count_of-three p q r whole each (x ∷ xs) = omega
 pub count_of-same : {X : Type 0} (p q : X → Bool) → ((x : X) → p x ≡ q x) → (xs : List X) → count_of p xs ≡ count_of q xs
 count_of-same p q same xs = ap length (filter_agree p q same xs)
 
--- a rule holds of an element or it does not
+-- a rule holds for an element or it does not
 pub count_of-not : {X : Type 0} (p : X → Bool) (xs : List X) → count_of (λ x. not (p x)) xs + count_of p xs ≡ length xs
 count_of-not p xs = omega (arith, length-filter_both p (λ x. not (p x)) (λ _. refl) xs)
 
--- a rule is counted as often as the list is long where each element passes it
+-- if every element passes a rule, its count is the length of the list
 pub AllPass-from_count : {X : Type 0} (p : X → Bool) (xs : List X) → count_of p xs ≡ length xs → AllPass p xs
 AllPass-from_count p [] e = search rules
 AllPass-from_count p (x ∷ xs) e =
@@ -52,7 +52,7 @@ count-from_AllPass p (x ∷ xs) all =
     let rest = count-from_AllPass p xs (All-tail (λ y. p y ≡ true) x xs all) in
     grind (arith, count_of-cons p x xs, All-head (λ y. p y ≡ true) x xs all)
 
--- what is kept of a list is no longer than the list
+-- a filtered list is no longer than the list
 pub length-filter_map-le : {X Y : Type 0} (h : X → Option Y) (xs : List X) → length (filter_map h xs) ≤ length xs
 length-filter_map-le h [] = omega arith
 length-filter_map-le h (x ∷ xs) = grind (arith, length-filter_map-le h xs)

@@ -17,14 +17,14 @@ sum_of_parts h p a b = ap (count_of p) (filter_map-append h a b) ∙ count_of-ap
 pub length_of_parts : {U X : Type 0} (h : U → Option X) (a b : List U) → length (filter_map h (a ++ b)) ≡ length (filter_map h a) + length (filter_map h b)
 length_of_parts h a b = ap length (filter_map-append h a b) ∙ length-append (filter_map h a) (filter_map h b)
 
--- each counter of a whole is the sum of that counter in both parts
+-- each counter of the whole is the sum of that counter in both parts
 pub cut-law : (a b : List UnitView) (start : RunStart) → IsSum (stats_of a start) (stats_of b start) (stats_of (a ++ b) start)
 cut-law a b start = search (rules, sum_of_parts, length_of_parts)
 
--- the statistics of the units of both parts are the sum of both
+-- the statistics of the units of both parts are the sum of those of both
 pub sum-of-both : (a b : List UnitView) (start other : RunStart) → stats_of (a ++ b) (start_of_both start other) ≡ sum_of (stats_of a start) (stats_of b other)
 sum-of-both a b start other = simp (sum_of_parts, length_of_parts)
 
--- two neighbouring parts may change places
+-- two neighbouring parts can be swapped
 pub exchange-law : (a l r b : List UnitView) (start : RunStart) → stats_of (a ++ r ++ l ++ b) start ≡ stats_of (a ++ l ++ r ++ b) start
 exchange-law a l r b start = grind (arith, sum_of_parts, length_of_parts)

@@ -12,7 +12,7 @@ combined-least (outcome.Cancelled step.Test) = refl
 combined-least (outcome.Failed step.Test) = refl
 combined-least _ = refl
 
--- the only outcome is the highest
+-- a single outcome is the highest
 highest-one : (o : RunOutcome) → IsHighest (o ∷ []) o
 highest-one o = inr (Contains-push [] o, All-push (λ other. outcome_rank other ≤ outcome_rank o) [] o (search arith) (omega arith))
 

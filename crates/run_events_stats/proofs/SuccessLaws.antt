@@ -1,4 +1,4 @@
--- When the summary of a run is `Success`.
+-- The runs whose summary is `Success`.
 use Rattle.std.proofs.Common.{◌≡◌, ◌<◌, ◌≤◌, ◌||◌, List, Bool, cond, false, Option, arith}
 use Rattle.std.specs.Prelude.{◌↔◌, ◌==◌, nat_lt}
 use Rattle.std.proofs.lemmas.Bool.Decides.{nat_tests}
@@ -23,7 +23,7 @@ record Good (s : RunStats) : Type 0 where
   tests_ran : s.initial_run_count ≤ s.finished_count
   some : 0 < s.finished_count
 
--- no row of the summary holds above the last
+-- no line of the summary before the last applies
 no_row : (scripts few tests less none : Bool) (why : Option CancelReason) (kind : RunStatsFailureKind)
     → cond scripts (failure why SetupScript) (cond few (Cancelled why SetupScript) (cond tests (failure why kind)
     (cond less (Cancelled why kind) (cond none NoTestsRun Success)))) ≡ Success → (scripts || few || tests || less || none) ≡ false

@@ -1,4 +1,4 @@
--- Each finished test counts in one way, and so does each finished script.
+-- Each finished test is counted in one way, and so is each finished script.
 use Rattle.std.proofs.Common.{◌≡◌, ◌+◌, ◌<◌, ◌^◌, List, length, Bool, true, cond, not, ◌&&◌, ◌||◌, refl, arith}
 use Rattle.std.specs.Prelude.{Option, Some}
 use Rattle.run_events_stats.specs.Counters.{UnitView, count_of, stats_of, tests_of, scripts_of, test_of, script_of}
@@ -24,7 +24,8 @@ use Rattle.run_events_stats.proofs.Counts.{one, count_of-le, count_of-not, count
 abbrev level_by : ExecutionResultDescription → Bool → FlakyResult → Option StatusLevel
 level_by r retried setting = cond (succeeds r) (cond retried (Some (flaky_level setting)) (success_level r)) (Some level.Fail)
 
--- such a test is counted in one failure counter where its level is `Fail`, and else in `passed`; and in `flaky` where its level is `Retry`
+-- such a test is counted in one failure counter if its level is `Fail`, and otherwise in `passed`; and in `flaky` if its
+-- level is `Retry`
 counted_by : (r : ExecutionResultDescription) (retried : Bool) (setting : FlakyResult)
     → (one ((succeeds r && retried && flaky_fails setting) || is_leak_fail r || is_fail r) + one (is_exec_fail r) + one (is_timeout_fail r) ≡ one
     (is_level_fail (level_by r retried setting)))
@@ -35,7 +36,7 @@ counted_by (result.Leak leak.Pass) true flaky.Pass = (refl, refl, refl)
 counted_by (result.Timeout slow.Pass) true flaky.Pass = (refl, refl, refl)
 counted_by _ _ _ = (refl, refl, refl)
 
--- a test of level `Fail`, and no other, is counted in one of the three failure counters
+-- a test is counted in one of the three failure counters if and only if its level is `Fail`
 one_failure : (t : TestView) → one (is_failed t) + one (is_exec_failed t) + one (is_failed_timed_out t) ≡ one (has_level_fail t)
 one_failure t = (counted_by t.result (was_retried t) t.flaky_result).0
 
@@ -74,7 +75,7 @@ pub scripts-verdicts : (scripts : List ExecutionResultDescription)
     ≡ length scripts
 scripts-verdicts scripts = omega (arith, failed-scripts scripts, count_of-not script_passed scripts)
 
--- the sums of failures fit where the list does
+-- the sums of failures fit if the length of the list does
 pub failures-fit : (us : List UnitView) (start : RunStart) → length us < 2 ^ 64 → FailuresFit (stats_of us start)
 failures-fit us start short = record {
   tests = omega (arith, failed-level (tests_of us), count_of-le has_level_fail (tests_of us), length-filter_map-le test_of us);

@@ -11,7 +11,7 @@ use Rattle.run_events_stats.specs.declared.stats.FinishedUnit.TheVariants.{Scrip
 use Rattle.run_events_stats.specs.declared.stats.RunStats.{RunStats}
 use Rattle.run_events_stats.specs.declared.stats.RunStart.{RunStart}
 
--- what of a finished unit decides the counters: a script's result, or a test's view
+-- the part of a finished unit that decides the counters: the result of a script, or the view of a test
 pub data UnitView : Type 0 where
   ScriptUnit : ExecutionResultDescription → UnitView
   TestUnit : TestView → UnitView
@@ -39,7 +39,7 @@ tests_of units = filter_map test_of units
 abbrev pub scripts_of : List UnitView → List ExecutionResultDescription
 scripts_of units = filter_map script_of units
 
--- how many of a list a rule holds of
+-- the number of elements of a list for which a rule holds
 abbrev pub count_of : {A : Type 0} → (A → Bool) → List A → ℕ
 count_of rule xs = length (filter rule xs)
 
@@ -101,11 +101,11 @@ all_zero = record {
   cancel_reason = None;
 }
 
--- a counter, one higher where the rule holds
+-- a counter, raised by 1 if the rule holds
 abbrev pub plus_if : ℕ → Bool → ℕ
 plus_if n holds = n + (if holds then 1 else 0)
 
--- the statistics after one more test, but for `finished_count`: each counter whose rule holds of it is one higher
+-- the statistics after one more test, except `finished_count`: each counter whose rule holds for the test is raised by 1
 abbrev pub with_result : RunStats → TestView → RunStats
 with_result s t = record s {
   passed = plus_if s.passed (is_passed t);
@@ -120,20 +120,20 @@ with_result s t = record s {
   exec_failed = plus_if s.exec_failed (is_exec_failed t);
 }
 
--- the statistics after one more test: `finished_count` and each counter whose rule holds of it are one higher
+-- the statistics after one more test: `finished_count` and each counter whose rule holds for the test are raised by 1
 abbrev pub with_test : RunStats → TestView → RunStats
 with_test s t = record (with_result s t) {
   finished_count = s.finished_count + 1;
 }
 
--- the statistics with `failed` one higher, and `failed_slow` too where the test is slow
+-- the statistics with `failed` raised by 1, and also `failed_slow` if the test is slow
 abbrev pub with_failed : RunStats → Bool → RunStats
 with_failed s is_slow = record s {
   failed = s.failed + 1;
   failed_slow = plus_if s.failed_slow is_slow;
 }
 
--- the statistics after one more script
+-- the statistics after one more script: `setup_scripts_finished_count` and the counter of its result are raised by 1
 abbrev pub with_script : RunStats → ExecutionResultDescription → RunStats
 with_script s r = record s {
   setup_scripts_finished_count = s.setup_scripts_finished_count + 1;

@@ -1,4 +1,4 @@
--- The outcome of a run and of sub-runs, and what is left of a run that is over.
+-- The outcomes of runs and sub-runs, and the summary of a repeated run.
 use Rattle.std.specs.Prelude.{◌≡◌, ◌≤◌, ◌⊎◌, ℕ, if◌then◌else◌, nat_le, nat_lt, List, [], map, All, Contains}
 use Rattle.run_events_stats.specs.Counters.{stats_of, unit_view}
 use Rattle.run_events_stats.specs.Summary.{summary_of}
@@ -17,7 +17,7 @@ use Rattle.run_events_stats.specs.declared.outcome.run_outcome.RunOutcome.{RunOu
 use Rattle.run_events_stats.specs.declared.outcome.run_outcome.RunOutcome.TheVariants as outcome
 use Rattle.run_events_stats.specs.declared.stats.FinishedRun.{FinishedRun}
 
--- the order of steps
+-- the order of steps, as numbers
 abbrev pub step_rank : RunFailureStep → ℕ
 step_rank step.Test = 0
 step_rank step.SetupScript = 1
@@ -34,11 +34,11 @@ outcome_of summary.NoTestsRun = outcome.NoTestsRun
 outcome_of (summary.Cancelled reason kind) = outcome.Cancelled (step_of kind)
 outcome_of (summary.Failed kind) = outcome.Failed (step_of kind)
 
--- the summary of a run, by its units and its start
+-- the summary of a run, from its units and its start
 abbrev pub run_summary : FinishedRun → FinalRunStats
 run_summary run = summary_of (stats_of (map unit_view run.units.now) run.start)
 
--- the order of outcomes
+-- the order of outcomes, as numbers
 abbrev pub outcome_rank : RunOutcome → ℕ
 outcome_rank outcome.NoTestsRun = 0
 outcome_rank outcome.Success = 1
@@ -47,24 +47,24 @@ outcome_rank (outcome.Cancelled step.SetupScript) = 3
 outcome_rank (outcome.Failed step.Test) = 4
 outcome_rank (outcome.Failed step.SetupScript) = 5
 
--- of two outcomes the one of the greater rank
+-- of two outcomes, the one of the greater rank
 abbrev pub combined : RunOutcome → RunOutcome → RunOutcome
 combined a b = if nat_le (outcome_rank a) (outcome_rank b) then b else a
 
--- `NoTestsRun` for no outcomes, else the one among them whose rank is the greatest
+-- the outcome of the greatest rank, or `NoTestsRun` if there are no outcomes
 abbrev pub IsHighest : List RunOutcome → RunOutcome → Type 0
 IsHighest outcomes o =
     ((outcomes ≡ []) × (o ≡ outcome.NoTestsRun))
     ⊎ (Contains outcomes o × All (λ other. outcome_rank other ≤ outcome_rank o) outcomes)
 
--- what a repeated run amounts to whose last sub-run has this summary, where no sub-run was counted as failed
+-- the summary of a repeated run whose last sub-run has this summary, if no sub-run was counted as failed
 abbrev pub last_summary : FinalRunStats → StressFinalRunStats
 last_summary summary.Success = stress.Success
 last_summary summary.NoTestsRun = stress.NoTestsRun
 last_summary (summary.Cancelled reason kind) = stress.Cancelled
 last_summary (summary.Failed kind) = stress.Success
 
--- what a repeated run amounts to
+-- the summary of a repeated run
 abbrev pub stress_summary_of : StressRunStats → StressFinalRunStats
 stress_summary_of s = if nat_lt 0 s.failed_count then stress.Failed else last_summary s.last_final_stats
 

@@ -8,7 +8,7 @@ use Rattle.run_events_levels.specs.TestView.{TestView}
 use Rattle.run_events_stats.specs.declared.stats.RunStart.{RunStart}
 use Rattle.run_events_stats.specs.declared.stats.RunStats.{RunStats}
 
--- each counter of a whole is the sum of that counter in both parts
+-- each counter of the whole is the sum of that counter in both parts
 pub record IsSum (a b whole : RunStats) : Type 0 where
   pub finished_count : whole.finished_count ≡ a.finished_count + b.finished_count
   pub setup_scripts_finished_count : whole.setup_scripts_finished_count ≡ a.setup_scripts_finished_count + b.setup_scripts_finished_count
@@ -31,8 +31,8 @@ pub record IsSum (a b whole : RunStats) : Type 0 where
 abbrev pub has_no_failure : TestView → Bool
 has_no_failure t = not (has_level_fail t)
 
--- Every script passed or leaked where that passes, and no test has the level `Fail`. The scripts and the tests reach
--- their initial counts, and there is at least one test.
+-- Every script passed, or leaked and that counts as passed. No test has the level `Fail`. The numbers of scripts and of
+-- tests reach their initial counts, and there is at least one test.
 pub record RunSucceeds (units : List UnitView) (start : RunStart) : Type 0 where
   pub scripts_passed : AllPass script_passed (scripts_of units)
   pub scripts_ran : start.setup_scripts_initial_count ≤ length (scripts_of units)

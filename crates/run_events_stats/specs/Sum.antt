@@ -6,13 +6,13 @@ use Rattle.run_events_stats.specs.Counters.{ScriptCountersFit, TestCountersFit}
 use Rattle.run_events_stats.specs.declared.stats.RunStart.{RunStart}
 use Rattle.run_events_stats.specs.declared.stats.RunStats.{RunStats}
 
--- the greater of two reasons to cancel a run, of which none is the least
+-- the greater of two reasons to cancel a run; no reason is less than any
 abbrev pub greater_of : Option CancelReason → Option CancelReason → Option CancelReason
 greater_of None other = other
 greater_of (Some one) None = Some one
 greater_of (Some one) (Some two) = if nat_lt (reason_rank one) (reason_rank two) then Some two else Some one
 
--- the statistics of both parts: each counter is the sum of theirs
+-- the statistics of both parts: each counter is the sum of both
 abbrev pub sum_of : RunStats → RunStats → RunStats
 sum_of a b = record {
   initial_run_count = a.initial_run_count + b.initial_run_count;

@@ -18,21 +18,22 @@ pub fn run_stats_default() -> RunStats
     RunStats::default()
 }
 
-/// Statistics are equal exactly where all their counters and their reasons to cancel are.
+/// Statistics are equal if and only if all their counters and their reasons to cancel are equal.
 pub fn run_stats_are_equal(stats: RunStats, other: RunStats) -> bool
     ensures { IsTrue result ↔ (stats ≡ other) }
 {
     stats == other
 }
 
-/// Summaries are equal exactly where they are the same: also in their reasons and numbers.
+/// Summaries are equal if and only if their kinds, their reasons, their steps and their numbers are
+/// equal.
 pub fn final_stats_are_equal(summary: FinalRunStats, other: FinalRunStats) -> bool
     ensures { IsTrue result ↔ (summary ≡ other) }
 {
     summary == other
 }
 
-/// Steps of a run are ordered as they are declared, `Test` the least.
+/// Steps of a run are ordered as they are declared, from `Test`, the least.
 pub fn failure_step_order(a: RunFailureStep, b: RunFailureStep) -> Ordering
     ensures order { result ≡ nat_cmp (step_rank a) (step_rank b) }
     ensures equality { (result ≡ Ordering.Equal) ↔ (a ≡ b) }
@@ -47,7 +48,7 @@ pub fn failure_step_at_most(a: RunFailureStep, b: RunFailureStep) -> bool
     a <= b
 }
 
-/// Different outcomes have different ranks, so one outcome alone is the highest of some.
+/// Different outcomes have different ranks, so a list of outcomes has only one highest outcome.
 pub fn outcomes_are_equal(a: RunOutcome, b: RunOutcome) -> bool
     ensures rank { IsTrue result ↔ (outcome_rank a ≡ outcome_rank b) }
     ensures equality { IsTrue result ↔ (a ≡ b) }

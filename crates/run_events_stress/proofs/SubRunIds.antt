@@ -1,4 +1,4 @@
--- The ids of sub-runs tell them apart.
+-- The ids of sub-runs are different.
 use Rattle.std.proofs.Common.{◌≡◌, ℕ, ◌<◌, ◌^◌, ◌↔◌, List, ◌++◌, take, Result, Ok, Err, IfOk, String, Global, string_bytes, refl, sym, ap, subst, ◌∙◌, inl, arith, append_assoc}
 use Rattle.std.specs.Prelude.{codes}
 use Rattle.std.specs.Fmt.{decimal}
@@ -16,14 +16,14 @@ same_run a b ida idb e =
     same_Some a b (parses_hyphenated_text lower a (inl refl) ida.bytes ida.in_range ∙ ap parsed_hyphenated e
     ∙ sym (parses_hyphenated_text lower b (inl refl) idb.bytes idb.in_range))
 
--- an id begins with the text of its run, which is as long as that of any other
+-- an id begins with the text of its run, which is as long as that of any other run
 front : (run : List ℕ) (n : ℕ) → take 36 (hyphenated_text lower run ++ codes ":@stress-" ++ decimal n) ≡ hyphenated_text lower run
 front run n =
     let text = hyphenated_text lower run in
     let rest = codes ":@stress-" ++ decimal n in
     rw append_assoc (subst (λ k. take k (text ++ rest) ≡ text) (by_index_length 36 _) (take-append_seam text rest))
 
--- two ids are equal exactly where the run and the count are
+-- two ids are equal if and only if their runs and their counts are equal
 pub ids_tell_apart : (a b : List ℕ) (m n : ℕ) → IsRunId a → IsRunId b → m < 2 ^ 32 → n < 2 ^ 32
     → (sub_run_id a m ≡ sub_run_id b n) ↔ ((a ≡ b) × (m ≡ n))
 unfolding sub_run_id
@@ -43,7 +43,7 @@ unfolding sub_run_id
 written_id (Ok s) run m n e h = rw (append_assoc, ← e) h
 written_id (Err x) run m n e h = tt
 
--- and it is the id of nothing else
+-- and it is the id of no other sub-run
 pub written_alone : {E : Type 0} (r : Result (String Global) E) (run : List ℕ) (n : ℕ) → IsRunId run → n < 2 ^ 32
     → IfOk r (λ s. string_bytes s ≡ sub_run_id run n) → IfOk r (λ s. TellsApart (string_bytes s) run n)
 written_alone (Ok s) run n id small is_id = λ other count other_id small_count. rw is_id (ids_tell_apart run other n count id other_id small small_count)

@@ -1,4 +1,4 @@
--- What a displayer needs of what is shown.
+-- Lemmas on what a displayer shows.
 use Rattle.std.proofs.Common.{◌≡◌, ◌<◌, ◌≤◌, Bool, true, false, Option, Some, refl, arith}
 use Rattle.std.specs.Prelude.{if◌then◌else◌}
 use Rattle.run_events.specs.Visibility.{Asked, severity, visibility, with_output}
@@ -7,11 +7,11 @@ use Rattle.run_events_results.specs.declared.results.CancelReason.{CancelReason}
 use Rattle.run_events_results.specs.declared.results.CancelReason.TheVariants as reason
 use Rattle.uses.specs.Displayer.{without_output}
 
--- nothing is shown of a test that was ended as the run stops at once
+-- nothing is shown of a test that the runner ended because the run stops at once
 pub hidden_when_stopped : (w : Asked) → w.terminated ≡ true → visibility w (Some reason.TestFailureImmediate) ≡ with_output w false No
 hidden_when_stopped w ended = rw ended refl
 
--- up to a signal, output of any other test is shown at once where that is asked for
+-- up to a signal, the output of any other test is shown at once if that is asked for
 pub shown_up_to_signal : (w : Asked) (why : Option CancelReason) → (why ≡ Some reason.TestFailureImmediate → w.terminated ≡ false)
     → severity why ≤ severity (Some reason.Signal) → (visibility w why).show_immediate ≡ w.at_once
 shown_up_to_signal w (Some reason.TestFailureImmediate) spared up_to = rw (spared refl) refl
@@ -19,7 +19,7 @@ shown_up_to_signal w (Some reason.Interrupt) spared up_to = absurd (omega (arith
 shown_up_to_signal w (Some reason.SecondSignal) spared up_to = absurd (omega (arith, up_to))
 shown_up_to_signal w _ spared up_to = refl
 
--- below a signal, it is stored where that is asked for
+-- below a signal, any other test is stored if that is asked for
 pub stored_below_signal : (w : Asked) (why : Option CancelReason) → (why ≡ Some reason.TestFailureImmediate → w.terminated ≡ false)
     → severity why < severity (Some reason.Signal) → (visibility w why).store_final ≡ (if w.stored then Yes w.at_end else No)
 stored_below_signal w (Some reason.TestFailureImmediate) spared below = rw (spared refl) refl
@@ -35,7 +35,7 @@ once true at_end false = refl
 once false at_end true = refl
 once false at_end false = refl
 
--- under a signal, it is stored without output that is shown at once
+-- with a signal, a test whose output is shown at once is stored without it
 pub stored_under_signal : (w : Asked) (why : Option CancelReason) → why ≡ Some reason.Signal
     → (visibility w why).store_final ≡ without_output (visibility w why).show_immediate (if w.stored then Yes w.at_end else No)
 stored_under_signal w why signal = rw signal (once w.at_once w.at_end w.stored)

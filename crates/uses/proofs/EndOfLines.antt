@@ -7,13 +7,13 @@ use Rattle.test_report_events.specs.Event.{EventView}
 use Rattle.test_report_events.specs.Line.{LineSays}
 use Rattle.test_report_run.specs.Run.{RunState, after, run_start}
 
--- some lines say events, and this is the run after these
+-- these lines have events, and this is the run after these events
 pub record IsRunOf (lines : List (List ℕ)) (run : RunState) : Type 0 where
   pub events : List EventView
   pub say : AllZip LineSays lines events
   pub is : run ≡ fold after run_start events
 
--- one more line, and what it says
+-- one more line, and its event
 says-more : (lines : List (List ℕ)) (events : List EventView) (line : List ℕ) (event : EventView) → AllZip LineSays lines events → LineSays line event
     → AllZip LineSays (lines ++ line ∷ []) (events ++ event ∷ [])
 says-more [] [] line event p q = (q, tt)

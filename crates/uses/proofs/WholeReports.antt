@@ -8,7 +8,7 @@ use Rattle.test_report_engine.specs.Reading.{Finishes, HasRead, ReadsOneMore}
 use Rattle.test_report_engine.specs.Report.{IsReport}
 use Rattle.test_report_engine.specs.declared.report.Report.{Report}
 
--- a fact on known bytes follows from another one
+-- a fact about known bytes follows from another one
 pub if_known : {P Q : List ℕ → Type 0} → (known : Option (List ℕ)) → ((bytes : List ℕ) → P bytes → Q bytes) → IfSome known P → IfSome known Q
 if_known None f p = tt
 if_known (Some bytes) f p = f bytes p
@@ -18,7 +18,7 @@ module _ {F : Type 0} (line : F → EntryView → List ℕ) (last : F → List E
   abbrev pub IsWritten : F → List ℕ → RunEnd → Option (List ℕ) → Option (List ℕ) → Type 0
   IsWritten form input end before behind = (text : List ℕ) × IsReport (line form) (last form) (input ∷ []) text end × Appends before behind text
 
-  -- a report that had read nothing has read one input, and then finished
+  -- the report of one input was written, if only that input was read and the report was then finished
   pub is-written : (form : F) (old new : Report F) (input : List ℕ) (end : RunEnd) (a b c : Option (List ℕ))
       → HasRead line last Knows form old [] [] → ReadsOneMore line last Knows old new input a b → Finishes line last Knows new end b c
       → IsWritten form input end a c

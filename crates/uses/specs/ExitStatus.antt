@@ -5,7 +5,7 @@ use Rattle.run_events_stats.specs.declared.outcome.RunFailureStep.TheVariants.{S
 use Rattle.run_events_stats.specs.declared.outcome.run_outcome.RunOutcome.{RunOutcome}
 use Rattle.run_events_stats.specs.declared.outcome.run_outcome.RunOutcome.TheVariants.{Cancelled, Failed, NoTestsRun, Success}
 
--- the status of an outcome; of a run that was cancelled, or failed, by its step
+-- the exit status of an outcome; that of a cancelled or failed run depends on its step
 abbrev pub status_of : RunOutcome → ℕ
 status_of Success = 0
 status_of NoTestsRun = 4
@@ -14,15 +14,15 @@ status_of (Failed Test) = 100
 status_of (Cancelled SetupScript) = 105
 status_of (Failed SetupScript) = 105
 
--- a run that succeeded or ran no tests
+-- the run succeeded or ran no tests
 abbrev pub IsQuiet : RunOutcome → Type 0
 IsQuiet o = (o ≡ Success) ⊎ (o ≡ NoTestsRun)
 
--- one sub-run succeeded, and each other succeeded too or ran no tests
+-- one sub-run succeeded, and every other one succeeded or ran no tests
 abbrev pub Succeeds : List RunOutcome → Type 0
 Succeeds outcomes = Contains outcomes Success × All IsQuiet outcomes
 
--- no sub-run ran a test, and none went wrong
+-- no sub-run ran a test, and none failed or was cancelled
 abbrev pub RanNoTests : List RunOutcome → Type 0
 RanNoTests outcomes = All (λ o. o ≡ NoTestsRun) outcomes
 

@@ -1,4 +1,4 @@
--- What a JUnit report says of a test.
+-- The entry of a test in a JUnit report.
 use Rattle.std.specs.Prelude.{Bool, true, false, Option, IfSome, option_map}
 use Rattle.output_slice.specs.Extraction.{Extract}
 use Rattle.output_slice.specs.Shown.{extract_of}
@@ -10,25 +10,25 @@ use Rattle.run_events.specs.UnitErrors.{CanDescribe, IsSliceOf, LiesInOutput}
 use Rattle.uses.specs.declared.junit.TestCase.{TestCase}
 use Rattle.uses.specs.declared.junit.TestCase.TheVariants.{Failure, Flaky, FlakyFailure, Success}
 
--- whether the report has a failure
+-- whether the entry is a failure
 abbrev pub is_failure : TestCase → Bool
 is_failure Success = false
 is_failure Flaky = false
 is_failure FlakyFailure = true
 is_failure (Failure message) = true
 
--- whether it has a success that came late, and counts as a success
+-- whether the entry is a flaky test that counts as passed
 abbrev pub is_flaky : TestCase → Bool
 is_flaky Flaky = true
 is_flaky _ = false
 
--- whether it has a success that came late, however that counts
+-- whether the entry is a flaky test, however it counts
 abbrev pub is_late_success : TestCase → Bool
 is_late_success Flaky = true
 is_late_success FlakyFailure = true
 is_late_success _ = false
 
--- the slice of a test that left this output, where it is loaded, and a part of the stream that it comes from
+-- the message is the slice of the output if that is loaded, and it is a part of the stream that its kind names
 pub record IsMessage (output : ChildExecutionOutputDescription LiveSpec ChildOutputDescription) (message : Option Extract) : Type 0 where
   pub slice : CanDescribe UnitKind.Test output → IsSliceOf UnitKind.Test output message
   pub part : IfSome message (LiesInOutput output)

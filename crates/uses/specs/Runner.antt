@@ -1,4 +1,4 @@
--- What a runner makes, and what its events tell.
+-- The attempts that a runner makes, and the units in its events.
 use Rattle.std.specs.Prelude.{ℕ, Bool, List, Option, None, Some, option_and_then}
 use Rattle.run_events.specs.Counters.{ScriptUnit, TestUnit, UnitView}
 use Rattle.run_events.specs.Described.{described_result}
@@ -20,61 +20,61 @@ use Rattle.run_events_stats.specs.declared.stats.RunStats.{RunStats}
 use Rattle.run_events_results.specs.declared.results.ExecutionResult.{ExecutionResult}
 use Rattle.uses.specs.declared.of_run_events.EndedAttempt.{EndedAttempt}
 
--- the view of a test of so many attempts, of which the last ended so
+-- the view of a test with this many attempts, of which the last has this result
 abbrev pub view_of_attempts : ℕ → ExecutionResult → Bool → FlakyResult → TestView
 view_of_attempts attempts outcome slow setting =
     record { result = described_result outcome None; attempts = attempts; is_slow = slow; flaky_result = setting }
 
--- the attempt of a number, from 1, of so many
+-- the number of an attempt, counted from 1, of this total
 abbrev pub numbered_of : ℕ → ℕ → RetryData
 numbered_of total number = record { attempt = number; total_attempts = total }
 
--- what an attempt left: its result, what it wrote to standard error, nothing of standard output, and no error
+-- the output of an attempt: its result, its standard error, no standard output, and no error
 abbrev pub left_by : EndedAttempt → ChildExecutionOutputDescription LiveSpec ChildOutputDescription
 left_by attempt = left.Output (Some (described_result attempt.outcome None)) (Split None (Some attempt.stderr.now)) None
 
--- what was captured of standard error; both streams in one are taken as it
+-- the captured standard error; if both streams were captured as one, that one
 abbrev pub stderr_in : ChildOutputDescription → Option (List ℕ)
 stderr_in (Split stdout stderr) = stderr
 stderr_in (Combined both) = Some both
 stderr_in NotLoaded = None
 
--- the same of what a process left; one that was not started left nothing
+-- the captured standard error of a process, or `None` if it was not started
 abbrev pub stderr_of : ChildExecutionOutputDescription LiveSpec ChildOutputDescription → Option (List ℕ)
 stderr_of (left.Output end output errors) = stderr_in output
 stderr_of (left.StartError e) = None
 
--- what was captured of standard error of the last attempt
+-- the captured standard error of the last attempt
 abbrev pub last_stderr : ExecutionStatuses LiveSpec ChildOutputDescription → Option (List ℕ)
 last_stderr test = option_and_then (λ status. stderr_of status.output) (last_of (attempts_of test))
 
--- the unit whose end a kind of event tells
+-- the finished unit in a kind of event
 abbrev pub unit_of_kind : TestEventKind → Option UnitView
 unit_of_kind (SetupScriptFinished index n total id program args success failure no_capture status) = Some (ScriptUnit status.result)
 unit_of_kind (TestFinished index id success failure store_success store_failure flaky statuses stats running) = Some (TestUnit (view_of statuses))
 unit_of_kind _ = None
 
--- the unit whose end an event tells
+-- the finished unit in an event
 abbrev pub told_unit : ReporterEvent → Option UnitView
 told_unit told.Tick = None
 told_unit (told.Test event) = unit_of_kind event.value.kind
 
--- the name of the test whose end a kind of event tells
+-- the name of the finished test in a kind of event
 abbrev pub name_of_kind : TestEventKind → Option (List ℕ)
 name_of_kind (TestFinished index id success failure store_success store_failure flaky statuses stats running) = Some id.test_name.now
 name_of_kind _ = None
 
--- the name of the test whose end an event tells
+-- the name of the finished test in an event
 abbrev pub told_name : ReporterEvent → Option (List ℕ)
 told_name told.Tick = None
 told_name (told.Test event) = name_of_kind event.value.kind
 
--- the counters that a kind of event tells at the end of a test
+-- the counters in a kind of event, when a test finishes
 abbrev pub stats_of_kind : TestEventKind → Option RunStats
 stats_of_kind (TestFinished index id success failure store_success store_failure flaky statuses stats running) = Some stats
 stats_of_kind _ = None
 
--- the counters that an event tells at the end of a test
+-- the counters in an event, when a test finishes
 abbrev pub told_stats : ReporterEvent → Option RunStats
 told_stats told.Tick = None
 told_stats (told.Test event) = stats_of_kind event.value.kind

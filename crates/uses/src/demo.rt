@@ -1,4 +1,4 @@
-//! The small inputs of the program, and what each user makes of them.
+//! The small inputs of the program, and the results of each caller for them.
 
 use crate::displayer::{Displayer, summary_text};
 use crate::exit_status;
@@ -33,7 +33,7 @@ pub(crate) const PANICKED: EndedAttempt<'static> = EndedAttempt {
     is_slow: false,
 };
 
-/// Four tests were to run, and one was skipped.
+/// The start of the run: four tests were to run, and one was skipped.
 pub(crate) const START: RunStart = RunStart {
     initial_run_count: 4,
     setup_scripts_initial_count: 0,
@@ -41,7 +41,7 @@ pub(crate) const START: RunStart = RunStart {
     cancel_reason: None,
 };
 
-/// Prints failures and flaky tests, and the output of failures.
+/// A displayer that prints failures, flaky tests and the output of failures.
 const DISPLAYER: Displayer = Displayer {
     levels: StatusLevels {
         status_level: StatusLevel::Retry,
@@ -51,7 +51,8 @@ const DISPLAYER: Displayer = Displayer {
     failure_output: TestOutputDisplay::ImmediateFinal,
 };
 
-/// The event that a test of this name finished, with this attempt after the earlier ones.
+/// Returns the event that a test of this name finished, with `last` as its last attempt after the
+/// earlier ones.
 fn event(
     alloc: Global,
     name: &'static str,
@@ -63,8 +64,8 @@ fn event(
     test_finished(alloc, name, test, RunStats::default())
 }
 
-/// What a runner tells of a run: a test that passed, one that panicked, and two that passed at
-/// their second attempt, of which one is to count as failed then.
+/// Returns the events of a run: a test that passed, one that panicked, and two flaky ones, of which
+/// one counts as passed and one as failed.
 pub(crate) fn run(alloc: Global) -> Result<Vec<ReporterEvent<'static>>, AllocError> {
     let mut events = Vec::new(alloc);
     events.push(event(alloc, "adds", &[], PASSED, FlakyResult::Pass)?)?;
@@ -74,7 +75,7 @@ pub(crate) fn run(alloc: Global) -> Result<Vec<ReporterEvent<'static>>, AllocErr
     Ok(events)
 }
 
-/// Prints what a runner counts.
+/// Prints the numbers that a runner counts.
 pub(crate) fn count<R: AllocGlobal + Print>(
     rt: &R,
     events: &[ReporterEvent<'_>],
@@ -84,7 +85,7 @@ pub(crate) fn count<R: AllocGlobal + Print>(
     println!(rt; "runner\n  {finished} tests finished, {passed} passed")
 }
 
-/// The test whose end an event tells, with its name.
+/// Returns the finished test of an event, with its name.
 fn test_of<'e>(event: &'e ReporterEvent<'_>) -> Option<(&'e str, &'e ExecutionStatuses<LiveSpec>)> {
     let ReporterEvent::Test(event) = event else {
         return None;
@@ -99,7 +100,7 @@ fn test_of<'e>(event: &'e ReporterEvent<'_>) -> Option<(&'e str, &'e ExecutionSt
     }
 }
 
-/// What is stored of a test for the end of the run, in words.
+/// Returns the words for what is stored of a test for the end of the run.
 fn stored_text(stored: OutputStoreFinal) -> &'static str {
     match stored {
         OutputStoreFinal::No => "nothing",
@@ -112,7 +113,7 @@ fn stored_text(stored: OutputStoreFinal) -> &'static str {
     }
 }
 
-/// Prints what a displayer makes of a test, while the run goes on and after a signal.
+/// Prints the output of a displayer for a test, before and after a signal.
 fn display_test<R: AllocGlobal + Print>(
     rt: &R,
     name: &str,
@@ -133,7 +134,7 @@ fn display_test<R: AllocGlobal + Print>(
     Ok(())
 }
 
-/// Prints what a displayer makes of the run.
+/// Prints the output of a displayer for the run.
 pub(crate) fn display<R: AllocGlobal + Print>(
     rt: &R,
     events: &[ReporterEvent<'_>],
@@ -149,7 +150,7 @@ pub(crate) fn display<R: AllocGlobal + Print>(
     print!(rt; "{summary}")
 }
 
-/// Prints what a JUnit report says of each test of the run.
+/// Prints the entry of each test of the run in a JUnit report.
 pub(crate) fn write_junit<R: Print>(rt: &R, events: &[ReporterEvent<'_>]) -> io::Result<()> {
     println!(rt; "junit")?;
     for event in events {
@@ -168,7 +169,7 @@ pub(crate) fn write_junit<R: Print>(rt: &R, events: &[ReporterEvent<'_>]) -> io:
     Ok(())
 }
 
-/// An error with two causes.
+/// Returns an error with two causes.
 fn error(alloc: Global) -> Result<SerializableError, AllocError> {
     let mut causes = Vec::new(alloc);
     causes.push(String::from_str(alloc, "cannot start `sh`")?)?;
@@ -177,7 +178,8 @@ fn error(alloc: Global) -> Result<SerializableError, AllocError> {
     SerializableError::from_message_and_causes(alloc, message, causes)
 }
 
-/// Prints an error in JSON, what comes back of it, and what is said of a text that is no error.
+/// Prints an error in JSON, the error that is read from that, and the refusal of a text that is not
+/// an error.
 pub(crate) fn record<R: AllocGlobal + Print>(rt: &R) -> io::Result<()> {
     println!(rt; "recorder")?;
     let error = error(rt.alloc())?;
@@ -208,8 +210,8 @@ pub(crate) fn exit<R: Print>(rt: &R, units: &[FinishedUnit<'_>]) -> io::Result<(
     exit_of_sub_runs(rt)
 }
 
-/// Prints the exit status of repeated runs of one test, the second time to its end or stopped
-/// before it.
+/// Prints the exit status of two sub-runs of one test: both run to their end, then the second one
+/// stopped before the test.
 fn exit_of_runs<R: Print>(rt: &R, unit: &FinishedUnit<'_>) -> io::Result<()> {
     let start = RunStart {
         initial_run_count: 1,
@@ -233,7 +235,8 @@ fn exit_of_runs<R: Print>(rt: &R, unit: &FinishedUnit<'_>) -> io::Result<()> {
     println!(rt; "  then stopped at a script: {status}")
 }
 
-/// Prints the exit status of repeated runs with these summaries.
+/// Prints the exit status of a repeated run for several summaries of its sub-runs, and that of a
+/// run in three parts.
 fn exit_of_sub_runs<R: Print>(rt: &R) -> io::Result<()> {
     let failed = FinalRunStats::Failed {
         kind: RunStatsFailureKind::SetupScript,

@@ -1,4 +1,4 @@
-//! A reporter on a terminal: what it prints of a finished test, and of a run.
+//! A reporter on a terminal: the texts that it prints for a finished test, and for a run.
 
 ghost use Rattle.std.specs.Prelude.{◌≡◌, ◌≢◌, ◌↔◌, ◌<◌, ◌≤◌, [], false, map, IfOk, IfSome, IsTrue, None, Some, string_bytes, true};
 ghost use Rattle.run_events.specs.Config.{is_immediate_display};
@@ -17,10 +17,11 @@ use run_events::results::CancelReason;
 use run_events::stats::{FinishedUnit, RunStart, RunStats};
 use std::alloc::{AllocError, Global};
 
-/// What a displayer is set to.
+/// The settings of a displayer.
 #[derive(Clone, Copy)]
 pub struct Displayer {
-    /// Which tests are printed as they finish, and which are listed at the end.
+    /// The levels of the tests that are printed when they finish, and of those that are listed at
+    /// the end.
     pub levels: StatusLevels,
 
     /// When the output of a test that succeeded is displayed.
@@ -30,36 +31,36 @@ pub struct Displayer {
     pub failure_output: TestOutputDisplay,
 }
 
-/// What is displayed of a finished test before the run is cancelled for a greater reason, and after.
+/// What is displayed of a finished test before and after the run is cancelled for a greater reason.
 #[derive(Clone, Copy)]
 pub struct OnCancel {
-    /// Under the reason that there was, if there was one.
+    /// With the reason before, if there was one.
     pub before: OutputOnTestFinished,
 
-    /// Under the greater reason.
+    /// With the greater reason.
     pub after: OutputOnTestFinished,
 }
 
 impl Displayer {
-    /// What is shown and stored of a test that has just finished, in a run that is cancelled for
-    /// this reason, if it is.
+    /// Returns what is shown and stored of a test that has just finished. `reason` is the reason to
+    /// cancel the run, if there is one.
     pub fn on_test_finished(
         &self,
         test: &ExecutionStatuses<LiveSpec>,
         reason: Option<CancelReason>,
     ) -> OutputOnTestFinished
-        // No line is written exactly where the test's level is above the one that is set.
+        // The line is written unless the level of the test is greater than that of the displayer.
         ensures line { (result.write_status_line ≡ false)
             ↔ IsAbove (level_of (view_of test.now)) self.now.levels.status_level }
 
-        // Of a test that the runner ended as the run stops at once nothing is displayed.
+        // Of a test that the runner ended because the run stops at once, nothing is displayed.
         ensures stopped { reason ≡ Some CancelReason.TestFailureImmediate
             → is_termination_failure (view_of test.now).result ≡ true
             → (result.show_immediate ≡ false) × (result.store_final ≡ OutputStoreFinal.No) }
 
-        // Of any other the setting for such a test says up to a signal whether its output is
-        // displayed at once, and below a signal, with its final level, what is listed of it at the
-        // end. Under a signal the listing is without output that is displayed at once.
+        // For any other test: up to a signal, the setting decides whether its output is displayed
+        // at once. Below a signal, the setting and its final level decide what is listed at the
+        // end. With a signal, a test whose output is displayed at once is listed without it.
         ensures at_once { (reason ≡ Some CancelReason.TestFailureImmediate
             → is_termination_failure (view_of test.now).result ≡ false)
             → severity reason ≤ severity (Some CancelReason.Signal) → result.show_immediate
@@ -74,7 +75,8 @@ impl Displayer {
             ≡ without_output result.show_immediate
             (listing self.now (succeeds (view_of test.now).result) level)) }
 
-        // From a signal on no output is displayed twice, and from an interrupt on none is.
+        // With a signal or a greater reason no output is displayed twice. With an interrupt or a
+        // greater reason none is displayed.
         ensures never_twice { severity (Some CancelReason.Signal) ≤ severity reason
             → IsTrue result.show_immediate → result.store_final ≢ OutputStoreFinal.Yes true }
         ensures interrupted { severity (Some CancelReason.Interrupt) ≤ severity reason
@@ -87,15 +89,15 @@ impl Displayer {
             .compute_output_on_test_finished(display, reason, level, final_level, view.result)
     }
 
-    /// What is shown and stored of a finished test under a reason, and under a greater one: what was
-    /// not displayed yet as the run is cancelled may be less than what was to be.
+    /// Returns what is shown and stored of a finished test with a reason, and with a greater one.
+    /// Output that was not displayed before the run is cancelled may be hidden then.
     pub fn on_cancel(
         &self,
         test: &ExecutionStatuses<LiveSpec>,
         reason: Option<CancelReason>,
         greater: Option<CancelReason>,
     ) -> OnCancel
-        // It is never more, but for a test that the runner has ended.
+        // It is never more, except for a test that the runner seems to have ended.
         ensures no_more { severity reason ≤ severity greater
             → is_termination_failure (view_of test.now).result ≡ false
             → IsNoMoreVisible result.after result.before }
@@ -113,7 +115,7 @@ impl Displayer {
         }
     }
 
-    /// When the output of a test is displayed that succeeded, or failed.
+    /// Returns when the output of a test that succeeded, or that failed, is displayed.
     fn display_for(&self, succeeded: bool) -> TestOutputDisplay
         ensures { result ≡ display_of self.now succeeded }
     {
@@ -124,15 +126,16 @@ impl Displayer {
         }
     }
 
-    /// The text that is printed as a test finishes: a line with how it ended and its name, or
-    /// nothing. Whether the run is cancelled does not matter for it.
+    /// Returns the text that is printed when a test finishes: a line with the word for the test and
+    /// its name, or nothing. It does not depend on whether the run is cancelled.
     pub fn finished_text(
         &self,
         alloc: Global,
         name: &str,
         test: &ExecutionStatuses<LiveSpec>,
     ) -> Result<String, AllocError>
-        // Nothing is printed exactly where the test's level is above the one that is set.
+        // The text is empty if and only if the level of the test is greater than that of the
+        // displayer.
         ensures hidden { IfOk result (λ text. (string_bytes text ≡ [])
             ↔ IsAbove (level_of (view_of test.now)) self.now.levels.status_level) }
         ensures shown { IfOk result (λ text. string_bytes text ≢ []
@@ -148,7 +151,7 @@ impl Displayer {
     }
 }
 
-/// How a test ended, in one word.
+/// Returns the word for a finished test.
 fn word_of(test: &ExecutionStatuses<LiveSpec>) -> &'static str
     ensures { result.now ≡ test_word (view_of test.now) }
 {
@@ -160,8 +163,8 @@ fn word_of(test: &ExecutionStatuses<LiveSpec>) -> &'static str
     }
 }
 
-/// The line that sums up a run: how many tests finished, passed and failed, by their levels, how
-/// many of those that passed were flaky, and how many were skipped.
+/// Returns the summary line of a run: how many tests finished, passed and failed, by their levels,
+/// how many of those that passed were flaky, and how many were skipped.
 pub fn summary_text(
     alloc: Global,
     units: &[FinishedUnit<'_>],
@@ -182,7 +185,7 @@ pub fn summary_text(
     )
 }
 
-/// The line that sums up a run, by its numbers.
+/// Returns the summary line of a run, from its numbers.
 #[tactic(auto, unfolding(crate::specs::Displayer::numbers_line))]
 fn numbers_text(
     alloc: Global,

@@ -1,8 +1,8 @@
-//! The exit status of a run, as a test runner's process ends with it.
+//! The exit status of a test runner for a run.
 //!
-//! The numbers are those of nextest. A run that was cancelled ends as one that failed: what was to
-//! run did not, so neither 0 nor the status of an empty run would be true, and there is no number
-//! of its own for it. What decides is the step, as with a failure.
+//! The numbers are those of nextest. A cancelled run has the status of a failed run with the same
+//! step: not all of it ran, so neither 0 nor the status of an empty run is right, and nextest has
+//! no number for it.
 
 ghost use Rattle.std.specs.Prelude.{◌≡◌, ◌↔◌, map};
 ghost use Rattle.run_events.specs.Counters.{stats_of, unit_view};
@@ -14,10 +14,10 @@ ghost use Rattle.uses.specs.ExitStatus.{EndsBy, RanNoTests, Succeeds, status_of}
 use run_events::outcome::{FinalRunStats, RunFailureStep, RunOutcome};
 use run_events::stats::{FinishedRun, FinishedUnit, RunStart, RunStats};
 
-/// All went well, and at least one test ran.
+/// Nothing failed, and at least one test ran.
 pub const SUCCESS: u8 = 0;
 
-/// Nothing went wrong, but no test ran.
+/// Nothing failed, but no test ran.
 pub const NO_TESTS_RUN: u8 = 4;
 
 /// A test failed, or the run was cancelled at its tests.
@@ -26,7 +26,7 @@ pub const TEST_RUN_FAILED: u8 = 100;
 /// A setup script failed, or the run was cancelled at its setup scripts.
 pub const SETUP_SCRIPT_FAILED: u8 = 105;
 
-/// The status of an outcome.
+/// Returns the exit status of an outcome.
 fn of_outcome(outcome: RunOutcome) -> u8
     ensures { result ≡ status_of outcome }
 {
@@ -40,7 +40,7 @@ fn of_outcome(outcome: RunOutcome) -> u8
     }
 }
 
-/// The status of a run with these finished units.
+/// Returns the exit status of a run with these finished units.
 pub fn of_run(units: &[FinishedUnit<'_>], start: RunStart) -> u8
     ensures success { (result ≡ SUCCESS) ↔ RunSucceeds (map unit_view units.now) start }
     ensures summary { result ≡ status_of (outcome_of
@@ -50,7 +50,7 @@ pub fn of_run(units: &[FinishedUnit<'_>], start: RunStart) -> u8
     of_outcome(RunOutcome::from_final_stats(stats.summarize_final()))
 }
 
-/// The status of a repeated run, from the summaries of its sub-runs.
+/// Returns the exit status of a repeated run, from the summaries of its sub-runs.
 pub fn of_sub_runs(sub_runs: &[FinalRunStats]) -> u8
     ensures success { (result ≡ SUCCESS) ↔ Succeeds (map outcome_of sub_runs.now) }
     ensures no_tests { (result ≡ NO_TESTS_RUN) ↔ RanNoTests (map outcome_of sub_runs.now) }
@@ -59,7 +59,8 @@ pub fn of_sub_runs(sub_runs: &[FinalRunStats]) -> u8
     of_outcome(RunOutcome::of_sub_runs(sub_runs))
 }
 
-/// The status of a repeated run, from the finished units and the start of each of its sub-runs.
+/// Returns the exit status of a repeated run, from the finished units and the start of each of its
+/// sub-runs.
 pub fn of_runs(runs: &[FinishedRun<'_>]) -> u8
     ensures success { (result ≡ SUCCESS) ↔ Succeeds (map
         (λ run. outcome_of (run_summary run)) runs.now) }
@@ -70,8 +71,8 @@ pub fn of_runs(runs: &[FinishedRun<'_>]) -> u8
     of_outcome(RunOutcome::of_runs(runs))
 }
 
-/// The status of a run of which three machines ran a part each, in whatever order their outcomes
-/// come in.
+/// Returns the exit status of a run that three machines ran in parts. The order in which their
+/// outcomes are combined does not matter.
 pub fn of_partitions(first: RunOutcome, second: RunOutcome, third: RunOutcome) -> u8
     ensures first_two_first { result ≡ status_of (combined (combined first second) third) }
     ensures last_two_first { result ≡ status_of (combined first (combined second third)) }

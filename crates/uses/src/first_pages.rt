@@ -1,4 +1,4 @@
-//! Short callers that the first pages of libraries show, if no other file has one.
+//! Short callers for the first pages of libraries that no other file has.
 
 ghost use Rattle.std.specs.Prelude.{◌≡◌, ◌||◌, if◌then◌else◌, codes, is_none};
 ghost use Rattle.run_events.specs.Config.{is_final_display, is_immediate_display};
@@ -9,7 +9,7 @@ use run_events::config::TestOutputDisplay;
 use run_events::progress::StressProgress;
 use run_events::results::ExecutionResult;
 
-/// Whether the output of a test is displayed at any time.
+/// Returns true if the output of a test is displayed at any time.
 pub fn is_displayed(display: TestOutputDisplay) -> bool
     ensures { result ≡ (is_immediate_display display || is_final_display display) }
 {
@@ -23,7 +23,7 @@ pub fn is_over(progress: &StressProgress) -> bool
     progress.remaining().is_none()
 }
 
-/// How an attempt ended, in one word: `ok` for every success.
+/// Returns the word for the result of an attempt, which is `ok` for every success.
 pub fn word_of_end(end: ExecutionResult) -> &'static str
     ensures { result.now ≡ (if status_succeeds end then codes "ok" else status_word end) }
 {

@@ -1,4 +1,4 @@
-//! A JUnit writer: what it says of a finished test.
+//! A JUnit writer: the entry of a finished test in its report.
 
 ghost use Rattle.std.specs.Prelude.{◌≡◌, ◌&&◌, nat_lt, IfSome, option_map};
 ghost use Rattle.output_slice.specs.Shown.{extract_of};
@@ -14,29 +14,30 @@ use run_events::config::FlakyResult;
 use run_events::results::UnitKind;
 use run_events::unit_error::UnitErrorDescription;
 
-/// What a report says of a test.
+/// The entry of a test in a report.
 #[derive(Clone, Copy)]
 pub enum TestCase<'a> {
-    /// It succeeded at once.
+    /// The test succeeded at its first attempt.
     Success,
 
-    /// It succeeded only after a first attempt.
+    /// The test succeeded after a retry.
     Flaky,
 
-    /// So it did, and that counts as a failure.
+    /// The test succeeded after a retry, and that counts as failed.
     FlakyFailure,
 
-    /// It failed.
+    /// The test failed.
     Failure {
-        /// The part of the last attempt's output that says why, where there is one.
+        /// The part of the last attempt's output that explains the failure, if there is one.
         message: Option<TestOutputErrorSlice<'a>>,
     },
 }
 
-/// What a report says of a test.
+/// Returns the entry of a test in a report.
 pub fn test_case(test: &ExecutionStatuses<LiveSpec>) -> TestCase<'_>
-    // The report has a failure exactly where the test is counted as failed, and so with flaky. A
-    // success that came late is told apart from other failures, also where it counts as one.
+    // The entry is a failure if and only if the test is counted as failed, and it is flaky if and
+    // only if the test is counted as flaky. A flaky test that counts as failed is different from
+    // other failures.
     ensures failure { is_failure result ≡ has_level_fail (view_of test.now) }
     ensures flaky { is_flaky result ≡ has_level_retry (view_of test.now) }
     ensures late { is_late_success result ≡ (nat_lt 1 (view_of test.now).attempts
@@ -56,7 +57,8 @@ pub fn test_case(test: &ExecutionStatuses<LiveSpec>) -> TestCase<'_>
     }
 }
 
-/// The part of a test's output that says why it failed. Output that is not loaded has none.
+/// Returns the part of a test's output that explains its failure. Output that is not loaded has
+/// none.
 fn message_of(
     output: &ChildExecutionOutputDescription<LiveSpec>,
 ) -> Option<TestOutputErrorSlice<'_>>

@@ -1,7 +1,7 @@
-//! Examples of use of the layer: a runner, a displayer, a JUnit writer, a recorder and the exit
-//! status of a run, and the callers that the pages on calling the libraries show, which are in the
-//! files `of_LIBRARY`; each on a small input. The libraries' first pages show some of these, and of
-//! `first_pages`.
+//! Examples of use of the layer, each on a small input: a runner, a displayer, a JUnit writer, a
+//! recorder and the exit status of a run. The callers that the pages on calling the libraries show
+//! are in the files `of_LIBRARY`. The libraries' first pages show some of these callers, and those
+//! of `first_pages`.
 #![tactic(auto)]
 
 mod demo;

@@ -1,4 +1,4 @@
-//! A caller of `output_slice`, as its page of calls has it.
+//! The callers that the page on calling `output_slice` shows.
 
 ghost use Rattle.std.specs.Prelude.{◌↔◌, ℕ, IsTrue, Some, option_map};
 ghost use Rattle.output_slice.specs.Extraction.{IsExtract};
@@ -8,14 +8,14 @@ ghost use Rattle.output_slice.specs.Shown.{extract_of};
 use output_slice::last_head::last_head;
 use output_slice::subslice::TestOutputErrorSlice;
 
-/// Whether a panic message begins in the output of a test.
+/// Returns true if a panic message begins in the standard error of a test.
 pub fn has_panicked(stderr: &[u8]) -> bool
     ensures { IsTrue result ↔ ((s : ℕ) × (e : ℕ) × IsHead stderr.now s e) }
 {
     last_head(stderr).is_some()
 }
 
-/// What a test's combined output says of its failure.
+/// Returns the part of a test's combined output that explains its failure.
 pub fn failure_in(output: &[u8]) -> Option<TestOutputErrorSlice<'_>>
     ensures { IsExtract (Some output.now) (Some output.now) (option_map extract_of result) }
 {

@@ -1,4 +1,4 @@
-//! A caller of `program_io`, as its page of calls has it.
+//! The caller that the page on calling `program_io` shows.
 
 ghost use Rattle.std.specs.Prelude.{◌≡◌, ◌↔◌, true, false, IfSome, IsErrOf, OnOk};
 ghost use Rattle.std.specs.Io.KnownBytes.{Appends};
@@ -9,7 +9,7 @@ use program_io::fault::DeviceFault;
 use program_io::transfer::{read_all, write_all};
 use std::alloc::Global;
 
-/// Writes all that a source has left to a sink.
+/// Writes all bytes that are left in a source to a sink.
 pub fn copy<R: Source, W: Sink>(
     alloc: Global,
     source: &mut R,

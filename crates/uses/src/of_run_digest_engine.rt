@@ -1,4 +1,4 @@
-//! A caller of `run_digest_engine`, as its page of calls has it.
+//! The caller that the page on calling `run_digest_engine` shows.
 
 ghost use Rattle.std.specs.Prelude.{◌≡◌, ◌↔◌, ◌⊎◌, true, false, IfErr, IfOk, IfSome, IsErrOf, MatchOption};
 ghost use Rattle.run_digest_engine.specs.Answer.{NoBadLine};
@@ -10,8 +10,9 @@ use run_digest_engine::count::count;
 use run_digest_engine::fault::Fault;
 use std::alloc::Global;
 
-/// Counts the runs that a source says, with their reports to the sink, and answers the number of the
-/// first bad line, from 1, if a line is bad. A failed write is no fault here.
+/// Counts the runs of a source and writes their reports to the sink. Returns the number of the
+/// first bad line, counted from 1, or `None` if no line is bad. A failed write is not an error
+/// here.
 pub fn first_bad_line<R: Source, W: Sink>(
     alloc: Global,
     source: &mut R,

@@ -1,4 +1,4 @@
-//! A caller of `run_events`, as its page of calls has it.
+//! The callers that the page on calling `run_events` shows.
 
 ghost use Rattle.std.specs.Prelude.{◌≡◌, ◌↔◌, ◌∷◌, [], IfOk, IsTrue, None, Some, map};
 ghost use Rattle.run_events.specs.Attempts.{view_of};
@@ -22,20 +22,20 @@ use run_events::stats::{FinishedUnit, RunStart, RunStats};
 use std::alloc::{AllocError, Global};
 use std::time::Duration;
 
-/// An attempt to run a test, as the runner saw it end.
+/// A finished attempt to run a test, as the runner saw it.
 #[derive(Clone, Copy)]
 pub struct EndedAttempt<'a> {
-    /// How it ended.
+    /// The result of the attempt.
     pub outcome: ExecutionResult,
 
-    /// What it wrote to standard error.
+    /// Its standard error.
     pub stderr: &'a [u8],
 
-    /// Whether it took longer than the slow timeout.
+    /// True if it took longer than the slow timeout.
     pub is_slow: bool,
 }
 
-/// The status of an attempt, from how it ended and which it was.
+/// Returns the status of an attempt, from the attempt and its number.
 pub fn status_of(
     alloc: Global,
     attempt: EndedAttempt<'_>,
@@ -73,7 +73,7 @@ pub fn status_of(
     }
 }
 
-/// The moment at which everything here happens: no clock is read.
+/// Returns the time of every event here, since no clock is read.
 pub fn epoch() -> Moment {
     Moment {
         timestamp: Timestamp::UNIX_EPOCH,
@@ -81,7 +81,7 @@ pub fn epoch() -> Moment {
     }
 }
 
-/// A test that finished with its first attempt.
+/// Returns a test that finished with its first attempt.
 pub fn finished_at_first(
     alloc: Global,
     attempt: EndedAttempt<'_>,
@@ -98,15 +98,15 @@ pub fn finished_at_first(
     Ok(ExecutionStatuses::new(statuses, FlakyResult::Pass))
 }
 
-/// The counters of a run of one test.
+/// Returns the counters of a run of one test.
 pub fn stats_of_test(test: &ExecutionStatuses<LiveSpec>, start: RunStart) -> RunStats
     ensures { result ≡ stats_of (TestUnit (view_of test.now) ∷ []) start }
 {
     RunStats::of_run(&[FinishedUnit::Test(test)], start)
 }
 
-/// Whether a run ends with the status of a success: every script passed, no test failed, and all
-/// that was to run did.
+/// Returns true if a run succeeded: every script passed, no test failed, everything that was to run
+/// ran, and at least one test did.
 pub fn ends_well(units: &[FinishedUnit<'_>], start: RunStart) -> bool
     ensures { IsTrue result ↔ RunSucceeds (map unit_view units.now) start }
 {

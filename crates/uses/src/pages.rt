@@ -1,4 +1,4 @@
-//! Runs the callers that the pages on calling show, and prints what they return.
+//! Runs the callers that the pages on calling show, and prints their results.
 
 use crate::demo::{PANICKED, PASSED, START};
 use crate::first_pages::{is_displayed, is_over, word_of_end};
@@ -20,7 +20,7 @@ use test_report_engine::fault::Fault;
 use test_report_forms::options::Options;
 use test_report_run::note::{Disagreement, Note};
 
-/// A run whose line 3 names no result.
+/// A run whose line 3 has no word for a result.
 const BAD_RUN: &[u8] = b"run 2 0 -\ntest pass\ntest maybe\n";
 
 /// The line that starts a suite of ten tests.
@@ -34,7 +34,7 @@ const OPTIONS: Options = Options {
     no_tests_pass: false,
 };
 
-/// Lines that start a test, end it, and start another test, which has no end.
+/// Lines that start and end a test, and start another test that does not end.
 const PARSES_STARTS: &[u8] =
     b"{ \"type\": \"test\", \"event\": \"started\", \"name\": \"parses\" }";
 
@@ -53,7 +53,7 @@ const ABORTED_RUN: &[u8] = b"{ \"type\": \"suite\", \"event\": \"started\", \"te
       { \"type\": \"test\", \"event\": \"started\", \"name\": \"loops\" }\n\
       what a test printed\n";
 
-/// Prints what each of the callers returns, for the output of a test and the units of a run.
+/// Prints the result of each caller, for the output of a test and the units of a run.
 pub(crate) fn show<R: AllocGlobal + Print>(
     rt: &R,
     output: &[u8],
@@ -82,7 +82,8 @@ pub(crate) fn show<R: AllocGlobal + Print>(
     show_report(rt)
 }
 
-/// Prints what the callers of first pages return, for two ends, one display and one repeated run.
+/// Prints the results of the callers of first pages, for two results of attempts, one display and
+/// one repeated run.
 fn show_first_pages<R: Print>(rt: &R) -> io::Result<()> {
     let (passed, panicked) = (word_of_end(PASSED.outcome), word_of_end(PANICKED.outcome));
     println!(rt; "  ends: {passed}, {panicked}")?;
@@ -97,7 +98,7 @@ fn show_first_pages<R: Print>(rt: &R) -> io::Result<()> {
     println!(rt; "  nothing remains: {over}")
 }
 
-/// Prints which line of the bad run is bad.
+/// Prints the number of the first bad line of the bad run.
 fn show_bad_line<R: AllocGlobal + Print>(rt: &R) -> io::Result<()> {
     let mut buffer = [0; 64];
     let mut source = MemorySource::new(BAD_RUN, None);
@@ -109,7 +110,7 @@ fn show_bad_line<R: AllocGlobal + Print>(rt: &R) -> io::Result<()> {
     }
 }
 
-/// Prints how much of the bad run was copied.
+/// Prints the number of bytes of the bad run that were copied.
 fn show_copy<R: AllocGlobal + Print>(rt: &R) -> io::Result<()> {
     let mut buffer = [0; 64];
     let mut source = MemorySource::new(BAD_RUN, None);
@@ -124,7 +125,7 @@ fn show_copy<R: AllocGlobal + Print>(rt: &R) -> io::Result<()> {
     }
 }
 
-/// Prints how many tests the suite has.
+/// Prints the number of tests of the suite.
 fn show_test_count<R: AllocGlobal + Print>(rt: &R) -> io::Result<()> {
     match test_count_of(rt.alloc(), SUITE)? {
         Some(count) => println!(rt; "  a suite of {count} tests"),
@@ -139,7 +140,7 @@ fn show_note<R: AllocGlobal + Print>(rt: &R) -> io::Result<()> {
     print!(rt; "  a note: {text}")
 }
 
-/// Prints how a run of two tests ends, of which one has no end.
+/// Prints the end of a run of two tests, of which one does not end.
 fn show_end<R: AllocGlobal + Print>(rt: &R) -> io::Result<()> {
     match end_of_lines(
         rt.alloc(),

@@ -1,4 +1,4 @@
-//! A recorder: takes an error with its causes to JSON text, and back.
+//! A recorder: writes an error with its causes as JSON text, and reads it back.
 
 ghost use Rattle.std.specs.Prelude.{◌≡◌, Err, IfErr, IfOk, IsErrOf, None, Some, option_map, string_bytes};
 ghost use Rattle.serde_json.specs.Read.{read};
@@ -13,10 +13,10 @@ use std::alloc::{AllocError, Global};
 /// Why no error was read from a text.
 #[derive(Clone, Copy, Debug, PartialEq, Eq)]
 pub enum LoadError {
-    /// The text is no JSON.
+    /// The text is not JSON.
     NotJson,
 
-    /// It is JSON of something else.
+    /// The text is JSON, but its value is not an error.
     NotAnError(FromValueError),
 
     /// Memory was refused.
@@ -33,19 +33,20 @@ impl From<AllocError> for LoadError {
     }
 }
 
-/// The text of an error.
+/// Returns the JSON text of an error.
 pub fn store(alloc: Global, error: &SerializableError) -> Result<String, AllocError>
     ensures { IfOk result (λ text. chain_in (string_bytes text) ≡ Some error.now) }
 {
     error.to_value(alloc)?.to_string(alloc)
 }
 
-/// The error that a text says.
+/// Reads an error from a JSON text.
 pub fn load(alloc: Global, text: &str) -> Result<SerializableError, LoadError>
     ensures chain { IfOk result (λ error. chain_in text.now ≡ Some error) }
-    // Only want of memory keeps a text that says an error from being read.
+    // If the text has an error, only a lack of memory keeps it from being read.
     ensures refused { IfErr result (λ e. IsRefusal e → chain_in text.now ≡ None) }
-    // The reason is that of the text: it is no JSON, or its value is refused for this reason.
+    // The reason given is the right one: the text is not JSON, or its value is refused for this
+    // reason.
     ensures not_json { IsErrOf result LoadError.NotJson → read text.now ≡ None }
     ensures not_an_error { (refusal : FromValueError)
         → IsErrOf result (LoadError.NotAnError refusal)
@@ -62,7 +63,7 @@ pub fn load(alloc: Global, text: &str) -> Result<SerializableError, LoadError>
     }
 }
 
-/// What comes back of an error that was stored: that error, unless memory is refused.
+/// Writes an error as text and reads it back. Returns an equal error, unless memory is refused.
 pub fn through_text(
     alloc: Global,
     error: &SerializableError,

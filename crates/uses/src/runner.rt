@@ -1,5 +1,5 @@
-//! A runner's side: makes the statuses of attempts and the events that tell of finished tests, and
-//! lends what finished to the counters.
+//! The side of a runner: makes the statuses of attempts and the events of finished tests, and
+//! passes the finished units to the counters.
 
 ghost use Rattle.std.specs.Prelude.{◌≡◌, ◌<◌, ◌+◌, ◌^◌, ◌++◌, ◌∷◌, [], IfOk, None, Some, length, map, option_map};
 ghost use Rattle.std.specs.List.{filter_map, range_with_len};
@@ -17,8 +17,8 @@ use run_events::stats::{FinishedUnit, RunStart, RunStats};
 use std::alloc::{AllocError, Global};
 use std::time::Duration;
 
-/// A test that finished with the last of these attempts, after the earlier ones. They are numbered
-/// from 1, and each tells how many there are, as far as a `u32` counts.
+/// Returns a test that finished with the attempt `last` after the earlier ones. The attempts are
+/// numbered from 1, and the total of each is their number. Both stop at `u32::MAX`.
 #[tactic(auto, using(crate::proofs::Lists::last_pushed))]
 pub fn finished_test(
     alloc: Global,
@@ -55,7 +55,7 @@ pub fn finished_test(
     Ok(ExecutionStatuses::new(statuses, setting))
 }
 
-/// The event that a test of this name finished.
+/// Returns the event that a test of this name finished.
 pub fn test_finished(
     alloc: Global,
     test_name: &str,
@@ -89,7 +89,7 @@ pub fn test_finished(
     Ok(ReporterEvent::Test(Box::new(alloc, event)?))
 }
 
-/// The unit whose end an event tells, lent.
+/// Returns the finished unit of an event, borrowed.
 fn finished_unit<'e>(event: &'e ReporterEvent<'_>) -> Option<FinishedUnit<'e>>
     ensures { option_map unit_view result ≡ told_unit event.now }
 {
@@ -105,7 +105,7 @@ fn finished_unit<'e>(event: &'e ReporterEvent<'_>) -> Option<FinishedUnit<'e>>
     }
 }
 
-/// The units whose ends events tell, lent, in order.
+/// Returns the finished units of events, borrowed and in order.
 pub fn finished_units<'e>(
     alloc: Global,
     events: &'e [ReporterEvent<'_>],
@@ -121,7 +121,7 @@ pub fn finished_units<'e>(
     Ok(units)
 }
 
-/// The counters of a run, from the events of it.
+/// Returns the counters of a run, from its events.
 pub fn stats_of_events(
     alloc: Global,
     events: &[ReporterEvent<'_>],

@@ -133,7 +133,7 @@ pub struct StressProgress {
     pub elapsed: Duration,
 }
 
-/// The rest of a repeated run.
+/// What remains of a repeated run.
 #[repr(C)]
 #[derive(Clone, Copy, Debug, Default, PartialEq, Eq)]
 pub struct StressRemaining {
@@ -142,8 +142,8 @@ pub struct StressRemaining {
     pub time: Duration,
 }
 
-// SAFETY: the header declares these functions with these parameters, and asks of its caller that
-// a pointer to a struct is one to a whole struct, which nobody else writes: references are such.
+// SAFETY: the header declares these functions with these parameters. It requires that a pointer to
+// a struct points to a whole struct, to which nobody else writes, and references do.
 unsafe extern "C" {
     safe fn deodarsieve_layouts_1();
     fn deodarsieve_slice_extract(
@@ -205,8 +205,8 @@ unsafe extern "C" {
     ) -> u32;
 }
 
-/// A library with other structs or calls does not have this name, so a program with these ones does
-/// not link with it.
+/// A library with other structs or functions does not have this name, so a program with these ones
+/// does not link with it.
 #[used]
 static LAYOUTS: extern "C" fn() = deodarsieve_layouts_1;
 

@@ -2,27 +2,27 @@
  * The run statistics, outcomes and output slices of a test runner.
  *
  * Two libraries have these functions. Rattle builds libdeodarsieve.a from proved sources, for Linux on
- * x86-64. Cargo builds libdeodarsieve_c.a and libdeodarsieve_c.so from the same sources, with their
- * contracts taken out. What a function's comment says of its status and of what it writes is proved of
- * its body in libdeodarsieve.a, as a clause of its contract. This header and the libraries that cargo
- * builds are not proved: tests compare them with that library.
+ * x86-64. Cargo builds libdeodarsieve_c.a and libdeodarsieve_c.so from the same sources without their
+ * contracts. The comment of a function describes its status and its result. In libdeodarsieve.a both
+ * are proved, as clauses of the function's contract. This header and the libraries that cargo builds
+ * are not proved. Tests compare them with libdeodarsieve.a.
  *
  * Every function except deodarsieve_version and deodarsieve_layouts_1
  *
  * - returns a status, and writes its result through its last parameter, `answer`. The two functions
  *   that count change `stats` instead. With any status except DEODARSIEVE_OK, nothing is written;
- * - allocates nothing and keeps no state. Any thread may call it at any time.
+ * - allocates no memory and keeps no state. Any thread may call it at any time.
  *
- * What the caller owes, and no function checks:
+ * The caller must make sure of these preconditions, which no function checks:
  *
  * - A pointer to a struct, a bool or a number is aligned and points to a whole one. All members of a
  *   struct that is read are set, even those that are ignored, and a bool is true or false.
  * - `out`, `err` and `bytes` point to `out_length`, `err_length` and `length` bytes, and `sub_runs`
  *   points to `length` structs: at most PTRDIFF_MAX bytes. Such a pointer may be null if its length
  *   is 0. No other pointer is null.
- * - What the function writes does not overlap with what it reads. While it runs, no other thread
- *   writes what it reads, and none reads or writes what it writes. Two threads may read the same
- *   bytes at once.
+ * - The memory that the function writes does not overlap with the memory that it reads. While it
+ *   runs, no other thread writes either of them, and none reads the memory that it writes. Two
+ *   threads may read the same bytes at once.
  *
  * Lengths, offsets and limits are in bytes. An enumeration is a uint32_t with a code of the tables
  * below. Any number may be passed as a code: if it is not in the table and not ignored, the function
@@ -73,7 +73,7 @@ __attribute__((used)) static void (*const deodarsieve_layouts)(void) = deodarsie
 
 /* The status that a function returns. */
 #define DEODARSIEVE_OK 0u
-#define DEODARSIEVE_BAD_CODE 1u     /* an argument has a code, or a number, that names nothing */
+#define DEODARSIEVE_BAD_CODE 1u     /* a code is not in its table, or a number is not allowed */
 #define DEODARSIEVE_COUNTER_FULL 2u /* a counter, or a sum of counters, does not fit size_t */
 
 /* The kind of a slice. */
@@ -84,17 +84,17 @@ __attribute__((used)) static void (*const deodarsieve_layouts)(void) = deodarsie
 
 /* The result of an attempt or of a setup script. */
 #define DEODARSIEVE_RESULT_PASS 0u
-#define DEODARSIEVE_RESULT_LEAK_PASS 1u          /* left a handle open, which passes */
-#define DEODARSIEVE_RESULT_LEAK_FAIL 2u          /* left a handle open, which fails */
+#define DEODARSIEVE_RESULT_LEAK_PASS 1u          /* left a handle open; counts as passed */
+#define DEODARSIEVE_RESULT_LEAK_FAIL 2u          /* left a handle open; counts as failed */
 #define DEODARSIEVE_RESULT_EXIT_CODE 3u          /* failed; the number is the exit code */
 #define DEODARSIEVE_RESULT_UNIX_SIGNAL 4u        /* failed; the number is that of the signal */
 #define DEODARSIEVE_RESULT_WINDOWS_NT_STATUS 5u  /* failed; the number is the status */
 #define DEODARSIEVE_RESULT_WINDOWS_JOB_OBJECT 6u /* failed: its job object was terminated */
 #define DEODARSIEVE_RESULT_EXEC_FAIL 7u          /* could not be executed */
-#define DEODARSIEVE_RESULT_TIMEOUT_PASS 8u       /* timed out, which passes */
-#define DEODARSIEVE_RESULT_TIMEOUT_FAIL 9u       /* timed out, which fails */
+#define DEODARSIEVE_RESULT_TIMEOUT_PASS 8u       /* timed out; counts as passed */
+#define DEODARSIEVE_RESULT_TIMEOUT_FAIL 9u       /* timed out; counts as failed */
 
-/* How a flaky test counts: one that succeeded after at least one failed attempt. */
+/* How a flaky test counts. A test is flaky if it succeeded after at least one failed attempt. */
 #define DEODARSIEVE_FLAKY_PASS 0u
 #define DEODARSIEVE_FLAKY_FAIL 1u
 
@@ -159,25 +159,25 @@ __attribute__((used)) static void (*const deodarsieve_layouts)(void) = deodarsie
 #define DEODARSIEVE_OUTCOME_FAILED_AT_TESTS 4u
 #define DEODARSIEVE_OUTCOME_FAILED_AT_SETUP_SCRIPTS 5u
 
-/* How long a run is repeated, and what is left of it. */
+/* How long a run is repeated, and what remains of it. */
 #define DEODARSIEVE_STRESS_COUNT 0u    /* a number of sub-runs */
 #define DEODARSIEVE_STRESS_INFINITE 1u /* until it is cancelled */
 #define DEODARSIEVE_STRESS_TIME 2u     /* for a time */
-#define DEODARSIEVE_STRESS_NOTHING 3u  /* of what is left alone: nothing is left */
+#define DEODARSIEVE_STRESS_NOTHING 3u  /* nothing remains; not allowed in a progress */
 
 /* ---- Output ---- */
 
 /* A part of a captured stream. */
 typedef struct deodarsieve_slice {
-    uint32_t kind; /* DEODARSIEVE_SLICE_..., which also tells the stream */
+    uint32_t kind; /* DEODARSIEVE_SLICE_..., which also names the stream */
     size_t start;  /* the offset of the part in its stream; 0 if nothing was found */
     size_t length; /* its length, more than 0; 0 if nothing was found */
 } deodarsieve_slice;
 
 /*
  * Finds the part of a test's output that explains its failure: the message of the last panic in
- * standard error, or else its first `Error: ` line with what follows, or else the line of standard
- * output which notes that a test did not panic as it should have.
+ * standard error, or else standard error from its first line that begins with `Error: ` on, or else
+ * the line of standard output which notes that a test did not panic as it should have.
  *
  * `out` is standard output and `err` standard error. The bytes of a stream that was not captured are
  * not read. Pass the same bytes twice if both streams were captured as one. The part lies within the
@@ -188,8 +188,8 @@ uint32_t deodarsieve_slice_extract(bool is_out_captured, const uint8_t *out, siz
                                    deodarsieve_slice *answer);
 
 /*
- * Finds the same part, and keeps its first `limit` bytes if it is longer. The cut may be inside a
- * character. Returns DEODARSIEVE_BAD_CODE if the limit is 0, and else DEODARSIEVE_OK.
+ * Finds the same part, cut to its first `limit` bytes if it is longer. The cut may be inside a
+ * character. Returns DEODARSIEVE_BAD_CODE if the limit is 0, and otherwise DEODARSIEVE_OK.
  */
 uint32_t deodarsieve_slice_extract_capped(bool is_out_captured, const uint8_t *out,
                                           size_t out_length, bool is_err_captured,
@@ -200,15 +200,14 @@ uint32_t deodarsieve_slice_extract_capped(bool is_out_captured, const uint8_t *o
 typedef struct deodarsieve_head {
     bool is_found;  /* whether there is a head; if not, start and stop are 0 */
     size_t start;   /* the offset of `thread '` */
-    size_t stop;    /* the offset of what follows ` panicked at ` */
-    uint64_t reads; /* how often the search read a byte; UINT64_MAX if more often than that */
+    size_t stop;    /* the offset after the last space of ` panicked at ` */
+    uint64_t reads; /* how often the search read a byte, or UINT64_MAX if more often */
 } deodarsieve_head;
 
 /*
- * Finds the last head of a panic message. The first head is taken, then the first one that does not
- * start before the taken one stops, and so on. `reads` is the number of times that the search read a
- * byte: at least `length`, since it reads each byte, and at most 3 * length + 8. The status is always
- * DEODARSIEVE_OK.
+ * Finds the last head of a panic message. Heads are matched from left to right and do not overlap.
+ * `reads` is the number of times that the search read a byte: at least `length`, since it reads each
+ * byte, and at most 3 * length + 8. The status is always DEODARSIEVE_OK.
  */
 uint32_t deodarsieve_head_find_last(const uint8_t *bytes, size_t length, deodarsieve_head *answer);
 
@@ -217,7 +216,7 @@ uint32_t deodarsieve_head_find_last(const uint8_t *bytes, size_t length, deodars
 /* The result of an attempt or of a setup script. */
 typedef struct deodarsieve_result {
     uint32_t kind;  /* DEODARSIEVE_RESULT_... */
-    int32_t number; /* of an exit code, a signal or a status; ignored for other kinds */
+    int32_t number; /* the exit code, the signal or the status; ignored for other kinds */
 } deodarsieve_result;
 
 /* The part of a finished test that decides its counters and its levels. */
@@ -228,26 +227,29 @@ typedef struct deodarsieve_test_view {
     uint32_t flaky_result;     /* DEODARSIEVE_FLAKY_... */
 } deodarsieve_test_view;
 
-/* The counters of a run. */
+/*
+ * The counters of a run. A flaky test that counts as failed is in `leaky` too if its last attempt
+ * leaked and a leak counts as passed.
+ */
 typedef struct deodarsieve_run_stats {
     size_t initial_run_count;            /* tests that were to run */
     size_t finished_count;               /* tests that finished */
     size_t setup_scripts_initial_count;  /* setup scripts that were to run */
     size_t setup_scripts_finished_count; /* setup scripts that finished */
-    size_t setup_scripts_passed;         /* passed, or leaked if a leak passes */
-    size_t setup_scripts_failed;         /* failed, or leaked if a leak fails */
+    size_t setup_scripts_passed;         /* passed, or leaked and counts as passed */
+    size_t setup_scripts_failed;         /* failed, or leaked and counts as failed */
     size_t setup_scripts_exec_failed;    /* could not be executed */
-    size_t setup_scripts_timed_out;      /* timed out, even if a test would have passed so */
+    size_t setup_scripts_timed_out;      /* timed out, even if that counts as passed */
     size_t passed;                       /* succeeded, except flaky tests that count as failed */
     size_t passed_slow;                  /* slow tests among `passed`, except timeouts */
     size_t passed_timed_out;             /* timeouts among `passed` */
     size_t flaky;                        /* flaky tests among `passed` */
-    size_t failed;                       /* failed, leaked and that fails, or flaky and that fails */
+    size_t failed;                       /* failed; or leaked, or flaky, and counts as failed */
     size_t failed_slow;                  /* slow tests among `failed` */
-    size_t failed_timed_out;             /* timed out and that fails; not among `failed` */
-    size_t leaky;                        /* leaked and that passes, even if flaky and that fails */
-    size_t leaky_failed;                 /* leaked and that fails; among `failed` */
-    size_t exec_failed;                  /* could not be executed; not among `failed` */
+    size_t failed_timed_out;             /* timed out and counts as failed; not in `failed` */
+    size_t leaky;                        /* leaked, and the leak counts as passed */
+    size_t leaky_failed;                 /* leaked and counts as failed; in `failed` */
+    size_t exec_failed;                  /* could not be executed; not in `failed` */
     size_t skipped;                      /* skipped */
     uint32_t cancel_reason;              /* DEODARSIEVE_REASON_... */
 } deodarsieve_run_stats;
@@ -260,9 +262,9 @@ typedef struct deodarsieve_run_stats {
 #endif
 
 /*
- * Counts a finished test: adds 1 to `finished_count` and to each other counter that the test belongs
- * to, as listed there. Returns DEODARSIEVE_BAD_CODE if a code names nothing, and
- * DEODARSIEVE_COUNTER_FULL if such a counter is SIZE_MAX.
+ * Counts a finished test: adds 1 to `finished_count` and to every other counter whose comment
+ * describes the test. Returns DEODARSIEVE_BAD_CODE if a code is not in its table, and
+ * DEODARSIEVE_COUNTER_FULL if one of these counters is SIZE_MAX.
  */
 uint32_t deodarsieve_run_stats_count_test(deodarsieve_run_stats *stats,
                                           const deodarsieve_test_view *test);
@@ -281,16 +283,17 @@ typedef struct deodarsieve_failed_counts {
 } deodarsieve_failed_counts;
 
 /*
- * Adds up the tests that did not pass, and the setup scripts. Returns DEODARSIEVE_BAD_CODE if the
- * code of the cancel reason names nothing, and DEODARSIEVE_COUNTER_FULL if one of the two sums does
- * not fit size_t.
+ * Adds up the tests that did not pass, and the setup scripts that did not pass. Returns
+ * DEODARSIEVE_BAD_CODE if the code of the cancel reason is not in its table, and
+ * DEODARSIEVE_COUNTER_FULL if one of the two sums does not fit size_t.
  */
 uint32_t deodarsieve_run_stats_failed_counts(const deodarsieve_run_stats *stats,
                                              deodarsieve_failed_counts *answer);
 
 /*
- * Finds out whether any test or setup script did not pass, for any values of the counters. Returns
- * DEODARSIEVE_BAD_CODE if the code of the cancel reason names nothing.
+ * Writes true if any test or setup script did not pass. The six failure counters are compared with 0
+ * one by one, so no sum can overflow. Returns DEODARSIEVE_BAD_CODE if the code of the cancel reason is
+ * not in its table.
  */
 uint32_t deodarsieve_run_stats_has_failures(const deodarsieve_run_stats *stats, bool *answer);
 
@@ -304,12 +307,12 @@ typedef struct deodarsieve_final_stats {
     uint32_t kind;            /* DEODARSIEVE_FINAL_... */
     uint32_t reason;          /* DEODARSIEVE_REASON_..., of a cancelled run */
     uint32_t step;            /* DEODARSIEVE_STEP_..., of a cancelled or failed run */
-    size_t initial_run_count; /* at the step of the tests, how many were to run */
+    size_t initial_run_count; /* at the step of the tests, how many tests were to run */
     size_t not_run;           /* at the step of the tests, how many of them did not finish */
 } deodarsieve_final_stats;
 
 /*
- * Sums up the counters of a finished run, for any values of them. The first line that holds decides:
+ * Sums up the counters of a finished run, whatever their values. The first line that applies decides:
  *
  * - A setup script did not pass: failed at the step of the setup scripts.
  * - Not all setup scripts finished: cancelled at the step of the setup scripts.
@@ -318,19 +321,19 @@ typedef struct deodarsieve_final_stats {
  * - No test finished: no tests run.
  * - None of these: success.
  *
- * In place of failed the run is cancelled, at the same step, if its cancel reason is none of NONE,
- * SETUP_SCRIPT_FAILURE, TEST_FAILURE and TEST_FAILURE_IMMEDIATE.
+ * If the cancel reason is not one of NONE, SETUP_SCRIPT_FAILURE, TEST_FAILURE and
+ * TEST_FAILURE_IMMEDIATE, the run is cancelled instead of failed, at the same step.
  *
- * Returns DEODARSIEVE_BAD_CODE if the code of the cancel reason names nothing.
+ * Returns DEODARSIEVE_BAD_CODE if the code of the cancel reason is not in its table.
  */
 uint32_t deodarsieve_run_stats_summarize(const deodarsieve_run_stats *stats,
                                          deodarsieve_final_stats *answer);
 
 /*
  * Sums up a repeated run, from the summary of its last sub-run and the number of its sub-runs that
- * were counted as failed. Writes a DEODARSIEVE_FINAL_...: failed if that number is not 0, else
- * cancelled or no tests run if the last sub-run was so, and else success. Returns
- * DEODARSIEVE_BAD_CODE if a code names nothing.
+ * were counted as failed. Writes a DEODARSIEVE_FINAL_...: failed if that number is not 0, or else
+ * cancelled or no tests run if that is the last summary, or else success. Returns
+ * DEODARSIEVE_BAD_CODE if a code is not in its table.
  */
 uint32_t deodarsieve_final_stats_summarize_stress(const deodarsieve_final_stats *last,
                                                   uint32_t failed_count, uint32_t *answer);
@@ -339,25 +342,25 @@ uint32_t deodarsieve_final_stats_summarize_stress(const deodarsieve_final_stats 
  * Finds the outcome of a run from the summaries of all its sub-runs. Writes the highest of their
  * outcomes, a DEODARSIEVE_OUTCOME_..., or DEODARSIEVE_OUTCOME_NO_TESTS_RUN if there is no sub-run.
  * Pass one summary for the outcome of one run. Returns DEODARSIEVE_BAD_CODE if a code in any of the
- * summaries names nothing.
+ * summaries is not in its table.
  */
 uint32_t deodarsieve_outcome_of_sub_runs(const deodarsieve_final_stats *sub_runs, size_t length,
                                          uint32_t *answer);
 
-/* Writes the higher of two outcomes. Returns DEODARSIEVE_BAD_CODE if one of them names nothing. */
+/* Writes the higher of two outcomes. Returns DEODARSIEVE_BAD_CODE if one is not in the table. */
 uint32_t deodarsieve_outcome_combine(uint32_t outcome, uint32_t other, uint32_t *answer);
 
 /* ---- Levels and display ---- */
 
 /*
  * Finds the level of a test that finishes. Writes a DEODARSIEVE_STATUS_LEVEL_.... Returns
- * DEODARSIEVE_BAD_CODE if a code names nothing.
+ * DEODARSIEVE_BAD_CODE if a code is not in its table.
  */
 uint32_t deodarsieve_test_view_status_level(const deodarsieve_test_view *test, uint32_t *answer);
 
 /*
  * Finds the level of a test at the end of the run. Writes a DEODARSIEVE_FINAL_STATUS_LEVEL_....
- * Returns DEODARSIEVE_BAD_CODE if a code names nothing.
+ * Returns DEODARSIEVE_BAD_CODE if a code is not in its table.
  */
 uint32_t deodarsieve_test_view_final_status_level(const deodarsieve_test_view *test,
                                                   uint32_t *answer);
@@ -385,29 +388,29 @@ typedef struct deodarsieve_output_on_test_finished {
  *
  * - It writes a line if the test's status level is at most its own, whatever the cancel reason.
  * - It displays the output at once if `display` is IMMEDIATE or IMMEDIATE_FINAL.
- * - It stores the test with its output if `display` is FINAL or IMMEDIATE_FINAL. Else it stores the
- *   test without its output if the test's final level is at most its own.
+ * - It stores the test with its output if `display` is FINAL or IMMEDIATE_FINAL. Otherwise it stores
+ *   the test without its output if the test's final level is at most its own.
  *
- * A cancel reason takes away from this:
+ * With these cancel reasons it does less:
  *
- * - TEST_FAILURE_IMMEDIATE: a test that failed by SIGTERM or with its job object gets its line alone.
+ * - TEST_FAILURE_IMMEDIATE: a test that failed by SIGTERM or with its job object gets only its line.
  * - SIGNAL: a test whose output is displayed at once is stored without it.
- * - INTERRUPT and SECOND_SIGNAL: every test gets its line alone.
+ * - INTERRUPT and SECOND_SIGNAL: every test gets only its line.
  *
- * Returns DEODARSIEVE_BAD_CODE if a code names nothing.
+ * Returns DEODARSIEVE_BAD_CODE if a code is not in its table.
  */
 uint32_t deodarsieve_finished_test_compute_output(const deodarsieve_finished_test *test,
                                                   deodarsieve_output_on_test_finished *answer);
 
 /*
- * Finds out whether an attempt succeeded: it passed, or it leaked or timed out and that passes.
- * Returns DEODARSIEVE_BAD_CODE if the kind names nothing.
+ * Writes true if an attempt succeeded: it passed, or it leaked or timed out and that counts as
+ * passed. Returns DEODARSIEVE_BAD_CODE if the kind is not in its table.
  */
 uint32_t deodarsieve_result_is_success(const deodarsieve_result *result, bool *answer);
 
 /*
- * Finds out whether an attempt failed by SIGTERM (15) or with its job object, which is how a runner
- * terminates a test. Returns DEODARSIEVE_BAD_CODE if the kind names nothing.
+ * Writes true if an attempt failed by SIGTERM (15) or with its job object, which is how a runner
+ * terminates a test. Returns DEODARSIEVE_BAD_CODE if the kind is not in its table.
  */
 uint32_t deodarsieve_result_is_termination_failure(const deodarsieve_result *result, bool *answer);
 
@@ -419,28 +422,28 @@ typedef struct deodarsieve_duration {
     uint32_t nanoseconds; /* below 1,000,000,000 */
 } deodarsieve_duration;
 
-/* How far a repeated run is. */
+/* The progress of a repeated run. */
 typedef struct deodarsieve_stress_progress {
     uint32_t kind;                /* DEODARSIEVE_STRESS_COUNT, .._INFINITE or .._TIME */
-    uint32_t total_count;         /* of a count, the number of sub-runs; else ignored */
-    uint32_t completed;           /* the number of sub-runs that are done */
-    deodarsieve_duration total;   /* of a time, the whole time; else ignored */
-    deodarsieve_duration elapsed; /* the time that all sub-runs took so far */
+    uint32_t total_count;         /* for COUNT, the number of sub-runs; otherwise ignored */
+    uint32_t completed;           /* the number of completed sub-runs */
+    deodarsieve_duration total;   /* for TIME, the whole time; otherwise ignored */
+    deodarsieve_duration elapsed; /* the time that the sub-runs have taken so far */
 } deodarsieve_stress_progress;
 
-/* What is left of a repeated run. */
+/* What remains of a repeated run. */
 typedef struct deodarsieve_stress_remaining {
     uint32_t kind;             /* DEODARSIEVE_STRESS_... */
-    uint32_t count;            /* of a count, the number of sub-runs, at least 1; else 0 */
-    deodarsieve_duration time; /* of a time, how much, more than nothing; else 0 */
+    uint32_t count;            /* for COUNT, the number of sub-runs, at least 1; otherwise 0 */
+    deodarsieve_duration time; /* for TIME, the time, more than 0; otherwise 0 */
 } deodarsieve_stress_remaining;
 
 /*
- * Finds what is left of a repeated run: the sub-runs that are not done, or the time that has not
- * elapsed, or DEODARSIEVE_STRESS_NOTHING if none is left.
+ * Finds what remains of a repeated run: the number of sub-runs that are not completed, or the time
+ * that has not elapsed, or DEODARSIEVE_STRESS_NOTHING if nothing remains.
  *
- * Returns DEODARSIEVE_BAD_CODE if the kind is none of COUNT, INFINITE and TIME, if `total_count` of a
- * count is 0, or if `elapsed`, or `total` of a time, has 1,000,000,000 nanoseconds or more.
+ * Returns DEODARSIEVE_BAD_CODE if the kind is not COUNT, INFINITE or TIME, if it is COUNT and
+ * `total_count` is 0, or if `elapsed`, or for TIME `total`, has 1,000,000,000 nanoseconds or more.
  */
 uint32_t deodarsieve_stress_progress_remaining(const deodarsieve_stress_progress *progress,
                                                deodarsieve_stress_remaining *answer);

@@ -1,7 +1,7 @@
 //! What a test run means: its events, its counters, its outcome, and which lines of a failed test's
 //! output explain the failure.
 //!
-//! A test runner tells this crate how each test and setup script ended. In return it gets
+//! A test runner passes the result of each test and setup script to this crate. In return it gets
 //!
 //! - counters of what passed, failed, was flaky, slow or leaky ([`RunStats`]);
 //! - the summary and the outcome of the run ([`FinalRunStats`], [`RunOutcome`]);
@@ -83,12 +83,12 @@ mod run_events_stats;
 mod run_events_stress;
 mod std_impls;
 
-/// What a run is for.
+/// The mode of a run: tests or benchmarks.
 pub mod run_mode {
     pub use crate::run_events_settings::run_mode::NextestRunMode;
 }
 
-/// What reporters receive, and how they decide what to show.
+/// The types that reporters receive, and the decisions what to show.
 pub mod reporter {
     pub use crate::output_slice::{
         ByteSubslice, TestOutputErrorSlice, heuristic_error_str, heuristic_panic_message,
@@ -100,7 +100,7 @@ pub mod reporter {
     };
     pub use crate::run_events_levels::levels::{FinalStatusLevel, StatusLevel};
 
-    /// The events of a run, and what they hold: results, attempts, counters and outcomes.
+    /// The events of a run, and the types in them: results, attempts, counters and outcomes.
     pub mod events {
         pub use crate::run_events::events::{
             InfoResponse, ReporterEvent, SetupScriptInfoResponse, TestEvent, TestEventKind,
@@ -131,7 +131,7 @@ pub mod reporter {
         pub use crate::run_events_stress::progress::{StressProgress, StressRemaining};
     }
 
-    /// What a reporter writes on a terminal.
+    /// The display of a run on a terminal.
     pub mod displayer {
         /// Which lines and which output a reporter shows of a finished test.
         pub mod status_level {
@@ -175,7 +175,7 @@ pub mod errors {
     pub use crate::run_events_stats::stats::CounterFull;
 }
 
-/// In what form events hold the output of a child process.
+/// The forms in which events hold the output of a child process.
 pub mod output_spec {
     pub use crate::run_events_child::child::{LiveSpec, OutputSpec};
 }
@@ -209,7 +209,7 @@ pub mod counted {
     };
 }
 
-/// Has the example of the first page run as a test.
+/// Runs the example of the README as a test.
 #[cfg(doctest)]
 #[doc = include_str!("../README.md")]
 struct FirstPage;

@@ -1,5 +1,6 @@
-//! Each condition of a call, misused: the call panics, and the message names the call that tests the
-//! condition. What tests it agrees, and nothing was changed before the panic.
+//! Each condition of a function, not met: the function panics, and the message names the function
+//! that tests the condition. That function agrees that the condition is not met. Nothing was
+//! changed before the panic.
 
 mod common;
 
@@ -23,7 +24,7 @@ fn with_inconsistent_success(call: impl Fn(ExecutionDescription<'_, LiveSpec>)) 
     call(description);
 }
 
-/// Counters of which one is full.
+/// Counters of which one is `usize::MAX`.
 fn full_of_passed() -> RunStats {
     RunStats {
         passed: usize::MAX,
@@ -31,7 +32,7 @@ fn full_of_passed() -> RunStats {
     }
 }
 
-/// Counters of which one of the scripts' is full.
+/// Counters of which one of those of scripts is `usize::MAX`.
 fn full_of_scripts() -> RunStats {
     RunStats {
         setup_scripts_passed: usize::MAX,

@@ -1,4 +1,4 @@
-//! Conversions from what a runner has to the descriptions that reporters get.
+//! Conversions from the values of a runner to the descriptions that reporters get.
 
 mod common;
 
@@ -141,7 +141,7 @@ mod exit_status {
 
     use deodarsieve::{AbortStatus, FailureStatus, SIGTERM};
 
-    /// How a shell ends that runs this script.
+    /// Returns the exit status of a shell that runs this script.
     fn ended(script: &str) -> ExitStatus {
         Command::new("sh")
             .args(["-c", script])

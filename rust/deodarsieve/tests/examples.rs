@@ -1,4 +1,4 @@
-//! The examples write what is stored next to them.
+//! The output of each example is the text that is stored next to it.
 
 #[allow(dead_code, reason = "the test calls what `main` calls")]
 #[path = "../examples/reporter/main.rs"]

@@ -5,13 +5,13 @@ use std::thread;
 
 use deodarsieve::SerializableError;
 
-/// How many causes the chain has.
+/// The number of causes of the chain.
 const CAUSES: usize = 100_000;
 
 /// The size of the stack, in bytes: a frame for each cause would need at least 16 times as many.
 const STACK_SIZE: usize = 100_000;
 
-/// Runs a task on a small stack, and returns what it returns.
+/// Runs a task on a small stack, and returns its result.
 fn on_small_stack<T: Send + 'static>(task: fn() -> T) -> T {
     thread::Builder::new()
         .stack_size(STACK_SIZE)

@@ -1,4 +1,4 @@
-//! Moments: what is refused, how they compare, and conversions.
+//! Moments: values that are refused, comparisons and conversions.
 
 use deodarsieve::Moment;
 

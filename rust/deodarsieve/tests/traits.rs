@@ -1,4 +1,4 @@
-//! The traits of `std` that the types have, as a user calls for them.
+//! The traits of `std` that the types have, called as a user calls them.
 
 mod common;
 

@@ -1,5 +1,5 @@
-//! Each type has the traits that it has in nextest-runner 0.129.0, except those of `serde`. Nothing here
-//! is called: it compiles only if the traits are there.
+//! Each type has the traits that it has in nextest-runner 0.129.0, except those of `serde`. Nothing
+//! here is called: it compiles only if the types have the traits.
 #![allow(dead_code, reason = "that it compiles is the test")]
 
 use std::error::Error;
@@ -8,7 +8,7 @@ use std::hash::Hash;
 
 use deodarsieve::*;
 
-/// Asks a type for traits.
+/// Compiles only if a type has the traits.
 macro_rules! has {
     ($($name:ty: $($bound:path),+;)+) => {
         $(const _: () = {

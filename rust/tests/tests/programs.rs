@@ -1,4 +1,4 @@
-//! The test program gives the output that is stored next to its input, in `crates`.
+//! The output of the test program is the text that is stored next to its input, in `crates`.
 
 use std::fs::{self, File};
 use std::path::Path;

@@ -180,8 +180,8 @@ fn a_success_at_the_first_attempt_is_slow_at_the_end_if_it_was_slow() {
     }
 }
 
-/// Returns the numbers of the attempts that a description holds, the last one twice if it is also in
-/// a field of its own.
+/// Returns the numbers of the attempts in a description. The last one comes twice if it also has a
+/// field of its own.
 fn numbers_in(description: ExecutionDescription<'_, LiveSpec>) -> Vec<u32> {
     let numbers = |statuses: &[ExecuteStatus<LiveSpec>]| -> Vec<u32> {
         statuses
@@ -218,7 +218,7 @@ fn a_description_has_all_attempts_in_order() {
     }
 }
 
-/// Returns the offset of the part that explains a failure with this output.
+/// Returns the offset of the part of this output that explains a failure.
 fn start_of(stdout: &[u8], stderr: &[u8]) -> Option<usize> {
     let found = TestOutputErrorSlice::heuristic_extract(Some(stdout), Some(stderr))?;
     found.combined_subslice().map(|part| part.start)
@@ -226,8 +226,8 @@ fn start_of(stdout: &[u8], stderr: &[u8]) -> Option<usize> {
 
 #[test]
 fn a_marker_is_found_at_every_place_near_the_edge_of_a_block() {
-    /// Where blocks begin, counted from the end: 131,072 bytes for an error and a note, and the others
-    /// for a panic.
+    /// The starts of blocks, counted from the end: 131,072 bytes for an error and a note, and the
+    /// others for a panic.
     const EDGES: [usize; 4] = [48, 98_304, 131_072, 196_608];
     for after in EDGES.into_iter().flat_map(|edge| edge - 40..edge + 2) {
         let rest = vec![b'x'; after];

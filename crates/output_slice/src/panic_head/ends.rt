@@ -77,8 +77,8 @@ fn named_head_end<S: ByteSource>(source: &mut S, quote: usize, close: usize) -> 
     Some(stop)
 }
 
-/// Returns the end of the head whose name begins after `quote`, if one begins there at or after
-/// `place`. The next quote is at `close`.
+/// Returns the end of the head whose name begins after `quote`, if there is one and it starts at or
+/// after `place`. The next quote is at `close`.
 pub(crate) fn opened_head_end<S: ByteSource>(
     source: &mut S,
     place: usize,

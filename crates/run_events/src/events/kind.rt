@@ -18,8 +18,8 @@ use run_events_stress::progress::StressProgress;
 use std::time::Duration;
 use uuid::Uuid;
 
-/// The kind of an event. The kinds are in the order of a run, with those that can come at any time
-/// before the end of the run.
+/// The kind of an event. The kinds are declared in the order of a run. Those that can come at any
+/// time are before the end of the run.
 #[derive(Drop)]
 pub enum TestEventKind<'a> {
     // The start of the run.
@@ -311,7 +311,7 @@ pub enum TestEventKind<'a> {
         running: usize,
     },
 
-    // Stopping and going on.
+    // Cancellation and pauses.
 
     /// The run begins to be cancelled, or the reason became a greater one. The reason is in the
     /// counters. The runner waits for the running units or ends them, which depends on the reason.

@@ -1,4 +1,4 @@
-//! The levels that a result stands for.
+//! The levels of results.
 
 ghost use Rattle.std.specs.Prelude.{◌≡◌};
 ghost use Rattle.run_events_levels.specs.Level.{final_flaky_level, final_success_level, flaky_level, success_level};

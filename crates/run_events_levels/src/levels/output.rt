@@ -1,4 +1,4 @@
-//! The decision what a reporter shows of a finished test.
+//! What a reporter shows of a finished test.
 
 ghost use Rattle.std.specs.Prelude.{◌≡◌, ◌≢◌, ◌≤◌, ◌==◌, ◌&&◌, IsTrue, Option, Some, false, true, if◌then◌else◌};
 ghost use Rattle.run_events_settings.specs.Config.{is_final_display, is_immediate_display};
@@ -43,7 +43,7 @@ impl StatusLevels {
             test_final_status_level execution_result.now in
             result ≡ visibility asked cancel_status }
 
-        // Under each lesser reason no less is shown, exactly but for the exception.
+        // With each lesser reason no less is shown, except for the exception.
         ensures never_grows { let asked = asked_of self.now display test_status_level
             test_final_status_level execution_result.now in
             (lesser : Option CancelReason) → severity lesser ≤ severity cancel_status
@@ -54,13 +54,13 @@ impl StatusLevels {
             (lesser : Option CancelReason) → IsException asked lesser cancel_status
             → ¬ (IsNoMoreVisible result (visibility asked lesser)) }
 
-        // The line is written under every reason or under none.
+        // The line is written with every reason or with none.
         ensures line { let asked = asked_of self.now display test_status_level
             test_final_status_level execution_result.now in
             (other : Option CancelReason) → (visibility asked other).write_status_line
             ≡ result.write_status_line }
 
-        // From a signal on, output is never displayed twice.
+        // With a signal or a greater reason, output is never displayed twice.
         ensures never_twice { severity (Some CancelReason.Signal) ≤ severity cancel_status
             → IsTrue result.show_immediate → result.store_final ≢ OutputStoreFinal.Yes true }
     {
@@ -123,7 +123,7 @@ impl StatusLevels {
     }
 }
 
-/// Returns output that is at most the line.
+/// Returns no output, and the line if `write_status_line`.
 fn hidden(write_status_line: bool) -> OutputOnTestFinished
     ensures { result ≡ record {
       write_status_line = write_status_line;

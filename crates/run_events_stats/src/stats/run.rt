@@ -17,7 +17,8 @@ impl RunStats {
         // Swapping two neighbouring parts of the list changes nothing: its order does not matter.
         ensures exchange { (a p q b : List UnitView) → map unit_view units.now ≡ a ++ p ++ q ++ b
             → stats_of (a ++ q ++ p ++ b) start ≡ result }
-        // Split the list anywhere: a counter of the whole is what those of both pieces add up to.
+        // Wherever the list is split, a counter of the whole list is the sum of those of both
+        // parts.
         ensures cut { (a b : List UnitView) → map unit_view units.now ≡ a ++ b
             → IsSum (stats_of a start) (stats_of b start) result }
 

@@ -1,5 +1,5 @@
 // Made by tools/erase from crates/deodarsieve/src/codes.rt. Do not edit.
-//! The codes of enumerations: from a code to its value, and back.
+//! The codes of enumerations, converted to values and back.
 
 use crate::exports::layout::FfiResult;
 use deodarsieve::{
@@ -69,38 +69,38 @@ const OUTCOMES: [RunOutcome; 6] = [
     },
 ];
 
-/// Returns how a flaky test counts, or `None` if the code names nothing.
+/// Returns how a flaky test counts, or `None` if the code is not in the table.
 pub(crate) fn flaky_result(code: u32) -> Option<FlakyResult> {
     FLAKY_RESULTS.get(code as usize).copied()
 }
 
-/// Returns why a run is cancelled, if it is, or `None` if the code names nothing.
+/// Returns why a run is cancelled, if it is, or `None` if the code is not in the table.
 pub(crate) fn reason(code: u32) -> Option<Option<CancelReason>> {
     REASONS.get(code as usize).copied()
 }
 
-/// Returns the status level of a code, or `None` if the code names nothing.
+/// Returns the status level of a code, or `None` if the code is not in the table.
 pub(crate) fn level(code: u32) -> Option<StatusLevel> {
     LEVELS.get(code as usize).copied()
 }
 
-/// Returns the final level of a code, or `None` if the code names nothing.
+/// Returns the final level of a code, or `None` if the code is not in the table.
 pub(crate) fn final_level(code: u32) -> Option<FinalStatusLevel> {
     FINAL_LEVELS.get(code as usize).copied()
 }
 
-/// Returns when output is displayed, or `None` if the code names nothing.
+/// Returns when output is displayed, or `None` if the code is not in the table.
 pub(crate) fn display(code: u32) -> Option<TestOutputDisplay> {
     DISPLAYS.get(code as usize).copied()
 }
 
-/// Returns the outcome of a code, or `None` if the code names nothing.
+/// Returns the outcome of a code, or `None` if the code is not in the table.
 pub(crate) fn outcome(code: u32) -> Option<RunOutcome> {
     OUTCOMES.get(code as usize).copied()
 }
 
-/// Returns the result of an attempt from its code and its number, or `None` if the code names
-/// nothing.
+/// Returns the result of an attempt from its code and its number, or `None` if the code is not in
+/// the table.
 pub(crate) fn described(ended: FfiResult) -> Option<ExecutionResultDescription> {
     match ended.kind {
         0 => Some(ExecutionResultDescription::Pass),
@@ -145,7 +145,7 @@ fn failed(failure: FailureDescription) -> ExecutionResultDescription {
     }
 }
 
-/// Returns the code of why a run is cancelled, if it is.
+/// Returns the code of a reason to cancel a run, or the code 0 for `None`.
 pub(crate) fn reason_code(reason: Option<CancelReason>) -> u32 {
     match reason {
         None => 0,

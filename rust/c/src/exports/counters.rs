@@ -5,7 +5,8 @@ use crate::exports::layout::{FfiFailedCounts, FfiResult, FfiRunStats, FfiTestVie
 use crate::exports::status::{BAD_CODE, COUNTER_FULL, OK};
 use crate::exports::{codes, values};
 
-/// Counts a finished test: raises `finished_count` and each other counter whose rule holds of it.
+/// Counts a finished test: raises `finished_count` and each other counter whose rule holds for it
+/// by 1.
 #[unsafe(no_mangle)]
 pub extern "C" fn deodarsieve_run_stats_count_test(
     stats: &mut FfiRunStats,
@@ -23,8 +24,8 @@ pub extern "C" fn deodarsieve_run_stats_count_test(
     OK
 }
 
-/// Counts a finished setup script by its result: raises `setup_scripts_finished_count` and each other
-/// counter whose rule holds of it.
+/// Counts a finished setup script by its result: raises `setup_scripts_finished_count` and each
+/// other counter whose rule holds for it by 1.
 #[unsafe(no_mangle)]
 pub extern "C" fn deodarsieve_run_stats_count_script(
     stats: &mut FfiRunStats,
@@ -41,7 +42,7 @@ pub extern "C" fn deodarsieve_run_stats_count_script(
     OK
 }
 
-/// Writes the number of tests that did not pass, and that of setup scripts.
+/// Writes the number of tests and the number of setup scripts that did not pass.
 #[unsafe(no_mangle)]
 pub extern "C" fn deodarsieve_run_stats_failed_counts(
     stats: &FfiRunStats,

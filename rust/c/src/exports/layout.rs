@@ -1,5 +1,5 @@
 // Made by tools/erase from crates/deodarsieve/src/layout.rt. Do not edit.
-//! The structs that cross, in the layout of C.
+//! The structs of the C interface, in the layout of C.
 
 /// A part of captured output.
 #[repr(C)]
@@ -15,7 +15,7 @@ pub struct FfiSlice {
     pub length: usize,
 }
 
-/// The head of a panic message, and how many reads the search for it took.
+/// The head of a panic message, and the number of reads of the search for it.
 #[repr(C)]
 #[derive(Clone, Copy)]
 pub struct FfiHead {
@@ -25,14 +25,14 @@ pub struct FfiHead {
     /// The offset in bytes of `thread '`.
     pub start: usize,
 
-    /// The offset in bytes of what follows ` panicked at `.
+    /// The offset in bytes after the last space of ` panicked at `.
     pub stop: usize,
 
     /// The number of reads of a byte that the search made, or `u64::MAX` if there were more.
     pub reads: u64,
 }
 
-/// How an attempt, or a setup script, ended.
+/// The result of an attempt or of a setup script.
 #[repr(C)]
 #[derive(Clone, Copy)]
 pub struct FfiResult {
@@ -85,34 +85,35 @@ pub struct FfiRunStats {
     /// The setup scripts that could not be executed.
     pub setup_scripts_exec_failed: usize,
 
-    /// The setup scripts whose time ran out.
+    /// The setup scripts that ran out of time.
     pub setup_scripts_timed_out: usize,
 
     /// The tests that passed.
     pub passed: usize,
 
-    /// The slow tests among `passed`, except those whose time ran out.
+    /// The slow tests among `passed`, except those that ran out of time.
     pub passed_slow: usize,
 
-    /// The tests among `passed` whose time ran out.
+    /// The tests among `passed` that ran out of time.
     pub passed_timed_out: usize,
 
-    /// The tests among `passed` that succeeded only after a first attempt.
+    /// The tests among `passed` that succeeded after a retry.
     pub flaky: usize,
 
-    /// The tests that failed, leaked if a leak fails, or are flaky and set to fail.
+    /// The tests that failed, that leaked if that counts as failed, or that are flaky and count as
+    /// failed.
     pub failed: usize,
 
     /// The slow tests among `failed`.
     pub failed_slow: usize,
 
-    /// The tests that failed because their time ran out. They are not among `failed`.
+    /// The tests that failed because they ran out of time. They are not among `failed`.
     pub failed_timed_out: usize,
 
-    /// The tests that leaked if a leak passes, including those that are flaky and set to fail.
+    /// The tests that leaked if that counts as passed, even if they are flaky and count as failed.
     pub leaky: usize,
 
-    /// The tests among `failed` that leaked if a leak fails.
+    /// The tests among `failed` that leaked if that counts as failed.
     pub leaky_failed: usize,
 
     /// The tests that could not be executed. They are not among `failed`.
@@ -136,8 +137,8 @@ pub struct FfiFailedCounts {
     pub setup_scripts: usize,
 }
 
-/// The summary of a finished run. Fields that its kind and its step do not have are 0 if a call
-/// wrote them, and are not looked at if a call reads them.
+/// The summary of a finished run. If a function writes it, fields that its kind and its step do not
+/// have are 0. If a function reads it, they are ignored.
 #[repr(C)]
 #[derive(Clone, Copy)]
 pub struct FfiFinalStats {
@@ -204,11 +205,11 @@ pub struct FfiDuration {
     /// Its whole seconds.
     pub seconds: u64,
 
-    /// Its nanoseconds above them, below 1,000,000,000.
+    /// The rest in nanoseconds, below 1,000,000,000.
     pub nanoseconds: u32,
 }
 
-/// How far a repeated run is.
+/// The progress of a repeated run.
 #[repr(C)]
 #[derive(Clone, Copy)]
 pub struct FfiStressProgress {
@@ -218,26 +219,26 @@ pub struct FfiStressProgress {
     /// The number of sub-runs, if the run is repeated a number of times.
     pub total_count: u32,
 
-    /// The number of sub-runs that are done.
+    /// The number of completed sub-runs.
     pub completed: u32,
 
     /// The time, if the run is repeated for a time.
     pub total: FfiDuration,
 
-    /// The time that all sub-runs took so far.
+    /// The time that the sub-runs have taken so far.
     pub elapsed: FfiDuration,
 }
 
-/// What is left of a repeated run. A field that its kind does not have is 0.
+/// What remains of a repeated run. A field that its kind does not have is 0.
 #[repr(C)]
 #[derive(Clone, Copy)]
 pub struct FfiStressRemaining {
-    /// The code of the kind of what is left.
+    /// The code of the kind of what remains.
     pub kind: u32,
 
-    /// The number of sub-runs that are left.
+    /// The number of sub-runs that remain.
     pub count: u32,
 
-    /// The time that is left.
+    /// The time that remains.
     pub time: FfiDuration,
 }

@@ -1,5 +1,5 @@
 // Made by tools/erase from crates/deodarsieve/src/levels.rt. Do not edit.
-//! Levels, and what is shown of a finished test.
+//! The levels of finished tests, and what a reporter shows of them.
 
 use crate::exports::layout::{FfiFinishedTest, FfiOutput, FfiResult, FfiTestView};
 use crate::exports::{codes, values};
@@ -31,7 +31,7 @@ pub extern "C" fn deodarsieve_finished_test_compute_output(
     values::give(answer, output_of(test).map(written_output))
 }
 
-/// Returns what is displayed and stored, or `None` if a code names nothing.
+/// Returns what is displayed and stored, or `None` if a code is not in its table.
 fn output_of(test: &FfiFinishedTest) -> Option<OutputOnTestFinished> {
     let own = StatusLevels {
         status_level: codes::level(test.status_level)?,
@@ -61,7 +61,7 @@ pub extern "C" fn deodarsieve_result_is_success(ended: &FfiResult, answer: &mut 
     values::give(answer, is_success)
 }
 
-/// Writes whether an attempt failed by `SIGTERM` or with its job object.
+/// Writes whether an attempt failed by `SIGTERM` or by the end of its job object.
 #[unsafe(no_mangle)]
 pub extern "C" fn deodarsieve_result_is_termination_failure(
     ended: &FfiResult,

@@ -16,7 +16,7 @@ pub extern "C" fn deodarsieve_run_stats_summarize(
 }
 
 /// Writes the code of a run's outcome, from the summaries of all its sub-runs: the highest of their
-/// outcomes, or that no tests were run if there is no sub-run.
+/// outcomes, or `NoTestsRun` if there is no sub-run.
 ///
 /// # Safety
 ///
@@ -33,7 +33,7 @@ pub unsafe extern "C" fn deodarsieve_outcome_of_sub_runs(
     values::give(answer, outcome_of(sub_runs).map(codes::outcome_code))
 }
 
-/// Returns the highest outcome of all sub-runs, or `None` if a code names nothing.
+/// Returns the highest outcome of all sub-runs, or `None` if a code is not in its table.
 fn outcome_of(sub_runs: &[FfiFinalStats]) -> Option<RunOutcome> {
     let mut highest = RunOutcome::NoTestsRun;
     for sub_run in sub_runs {
@@ -53,8 +53,8 @@ pub extern "C" fn deodarsieve_outcome_combine(outcome: u32, other: u32, answer: 
     values::give(answer, higher)
 }
 
-/// Writes the code of a repeated run's summary, from how many of its sub-runs failed and the summary
-/// of the last one.
+/// Writes the code of a repeated run's summary, from the number of its sub-runs that failed and the
+/// summary of the last one.
 #[unsafe(no_mangle)]
 pub extern "C" fn deodarsieve_final_stats_summarize_stress(
     last: &FfiFinalStats,

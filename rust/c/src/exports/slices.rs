@@ -8,7 +8,7 @@ use deodarsieve::counted::{ByteSource, CountedBytes, last_panic_head};
 use std::num::NonZero;
 
 /// Writes the part of a test's output that explains its failure: the last panic message in standard
-/// error, or else its first error message, or else the line of standard output which notes that a
+/// error, or else its first error message, or else the line of standard output that notes that a
 /// test did not panic. The bytes of a stream that was not captured are not read.
 ///
 /// # Safety
@@ -38,7 +38,7 @@ pub unsafe extern "C" fn deodarsieve_slice_extract(
     OK
 }
 
-/// Writes the first bytes of that part, at most `limit`. A limit of 0 names nothing.
+/// Writes the first bytes of that part, at most `limit`. For a limit of 0 it returns `BAD_CODE`.
 ///
 /// # Safety
 ///
@@ -77,7 +77,7 @@ fn stream(is_captured: bool, bytes: &[u8]) -> Option<&[u8]> {
     is_captured.then_some(bytes)
 }
 
-/// Returns the struct of C with what was found.
+/// Returns the struct of C for a part that was found, or for none.
 fn written_slice(found: Option<TestOutputErrorSlice<'_>>) -> FfiSlice {
     let (kind, part) = match found {
         None => {
@@ -117,7 +117,7 @@ pub unsafe extern "C" fn deodarsieve_head_find_last(
 }
 
 /// Searches a source for the last head, and returns it with the number of reads that the source has
-/// counted then.
+/// counted after the search.
 fn counted_head(source: &mut CountedBytes<'_>) -> FfiHead {
     let head = last_panic_head(source);
     FfiHead {

@@ -1,10 +1,10 @@
 // Made by tools/erase from crates/deodarsieve/src/status.rt. Do not edit.
-//! The statuses that the exports return.
+//! The statuses that the functions return.
 
-/// The call did what it says.
+/// The function succeeded.
 pub const OK: u32 = 0;
 
-/// A code, or another value of an argument, names nothing.
+/// A code is not in its table, or another number in an argument is not allowed.
 pub const BAD_CODE: u32 = 1;
 
 /// A counter or a sum does not fit `usize`.

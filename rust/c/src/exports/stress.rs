@@ -1,5 +1,5 @@
 // Made by tools/erase from crates/deodarsieve/src/stress.rt. Do not edit.
-//! What is left of a repeated run.
+//! What remains of a repeated run.
 
 use crate::exports::layout::{FfiDuration, FfiStressProgress, FfiStressRemaining};
 use crate::exports::values;
@@ -7,8 +7,8 @@ use deodarsieve::{NonZeroDuration, StressCount, StressProgress, StressRemaining}
 use std::num::NonZero;
 use std::time::Duration;
 
-/// Writes what is left of a repeated run. A count of 0 and a duration with 1,000,000,000 nanoseconds
-/// or more name nothing.
+/// Writes what remains of a repeated run. Returns `BAD_CODE` for a count of 0, and for a duration
+/// with 1,000,000,000 nanoseconds or more.
 #[unsafe(no_mangle)]
 pub extern "C" fn deodarsieve_stress_progress_remaining(
     progress: &FfiStressProgress,
@@ -18,7 +18,8 @@ pub extern "C" fn deodarsieve_stress_progress_remaining(
     values::give(answer, left)
 }
 
-/// Returns how far the run is, or `None` if a code or a number names nothing.
+/// Returns the progress of a run, or `None` if a code is not in its table or a number is not
+/// allowed.
 fn progress_of(progress: &FfiStressProgress) -> Option<StressProgress> {
     let elapsed = duration(progress.elapsed)?;
     let completed = progress.completed;
@@ -45,12 +46,12 @@ fn progress_of(progress: &FfiStressProgress) -> Option<StressProgress> {
     }
 }
 
-/// Returns a duration, or `None` if its nanoseconds are a second or more.
+/// Returns a duration, or `None` if it has 1,000,000,000 nanoseconds or more.
 fn duration(given: FfiDuration) -> Option<Duration> {
     (given.nanoseconds < 1_000_000_000).then(|| Duration::new(given.seconds, given.nanoseconds))
 }
 
-/// Returns the struct of C with what is left.
+/// Returns the struct of C for what remains.
 fn written_left(left: Option<StressRemaining>) -> FfiStressRemaining {
     match left {
         None => left_without_time(3, 0),
@@ -58,7 +59,7 @@ fn written_left(left: Option<StressRemaining>) -> FfiStressRemaining {
     }
 }
 
-/// Returns the struct of C with what is left, which is more than nothing.
+/// Returns the struct of C for what remains, which is not nothing.
 fn written_some(left: StressRemaining) -> FfiStressRemaining {
     match left {
         StressRemaining::Count(count) => left_without_time(0, count.get()),
@@ -67,7 +68,7 @@ fn written_some(left: StressRemaining) -> FfiStressRemaining {
     }
 }
 
-/// Returns the struct of C with what is left, which is no time.
+/// Returns the struct of C for what remains if it is not a time.
 fn left_without_time(kind: u32, count: u32) -> FfiStressRemaining {
     FfiStressRemaining {
         kind,
@@ -79,7 +80,7 @@ fn left_without_time(kind: u32, count: u32) -> FfiStressRemaining {
     }
 }
 
-/// Returns the struct of C with the time that is left.
+/// Returns the struct of C for the time that remains.
 fn written_time(time: NonZeroDuration) -> FfiStressRemaining {
     let time = time.get();
     FfiStressRemaining {

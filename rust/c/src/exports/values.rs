@@ -1,12 +1,12 @@
 // Made by tools/erase from crates/deodarsieve/src/values.rt. Do not edit.
-//! From structs of C to values of the layer, and back.
+//! Conversions of structs of C to values of the layer and back.
 
 use crate::exports::codes;
 use crate::exports::layout::{FfiFinalStats, FfiRunStats, FfiTestView};
 use crate::exports::status::{BAD_CODE, OK};
 use deodarsieve::{FinalRunStats, FinishedTest, RunStats, RunStatsFailureKind};
 
-/// Writes a value if there is one, and returns the status of that.
+/// Writes the value if there is one, and returns the status: `OK` or `BAD_CODE`.
 pub(crate) fn give<T: Copy>(answer: &mut T, value: Option<T>) -> u32 {
     match value {
         Some(given) => {
@@ -17,7 +17,7 @@ pub(crate) fn give<T: Copy>(answer: &mut T, value: Option<T>) -> u32 {
     }
 }
 
-/// Returns the finished test, or `None` if a code names nothing.
+/// Returns the finished test, or `None` if a code is not in its table.
 pub(crate) fn finished_test(test: &FfiTestView) -> Option<FinishedTest> {
     Some(FinishedTest {
         result: codes::described(test.result)?,
@@ -27,7 +27,7 @@ pub(crate) fn finished_test(test: &FfiTestView) -> Option<FinishedTest> {
     })
 }
 
-/// Returns the counters of a run, or `None` if the code of the reason names nothing.
+/// Returns the counters of a run, or `None` if the code of the reason is not in its table.
 pub(crate) fn run_stats(stats: &FfiRunStats) -> Option<RunStats> {
     Some(RunStats {
         initial_run_count: stats.initial_run_count,
@@ -79,8 +79,8 @@ pub(crate) fn written_stats(stats: RunStats) -> FfiRunStats {
     }
 }
 
-/// Returns the step of a failure or a cancellation with its numbers, or `None` if the code names
-/// nothing.
+/// Returns the step of a failure or a cancellation with its numbers, or `None` if the code is not
+/// in its table.
 fn failure_kind(stats: &FfiFinalStats) -> Option<RunStatsFailureKind> {
     match stats.step {
         0 => Some(RunStatsFailureKind::Test {
@@ -92,7 +92,7 @@ fn failure_kind(stats: &FfiFinalStats) -> Option<RunStatsFailureKind> {
     }
 }
 
-/// Returns the summary of a finished run, or `None` if a code names nothing.
+/// Returns the summary of a finished run, or `None` if a code is not in its table.
 pub(crate) fn final_stats(stats: &FfiFinalStats) -> Option<FinalRunStats> {
     match stats.kind {
         0 => Some(FinalRunStats::NoTestsRun),
@@ -132,7 +132,7 @@ pub(crate) fn written_final(stats: FinalRunStats) -> FfiFinalStats {
     }
 }
 
-/// Returns the struct of C with a step and its numbers, and with 0 in the other fields.
+/// Returns the struct of C for a step and its numbers, with 0 in the other fields.
 fn written_kind(kind: RunStatsFailureKind) -> FfiFinalStats {
     match kind {
         RunStatsFailureKind::Test {

@@ -1,4 +1,4 @@
-//! Compares what the exports make of the codes of results, settings and reasons with the layer.
+//! Compares the exports with the layer for all codes of results, settings and reasons.
 
 use crate::tables::{
     FINAL_LEVELS, FLAKY_RESULTS, LEVELS, REASONS, code_of, expect_codes, results, variant_of,

@@ -1,4 +1,4 @@
-//! Compares what the exports make of the codes of a finished test's display with the layer.
+//! Compares the exports with the layer for all codes of a finished test's display.
 
 use crate::tables::{
     DISPLAYS, FINAL_LEVELS, LEVELS, REASONS, STORES, code_of, expect_codes, results, variant_of,
@@ -32,7 +32,7 @@ pub fn finished_test(mut case: u32, result: FfiResult) -> FfiFinishedTest {
     }
 }
 
-/// Returns what the layer says of a finished test.
+/// Returns the result of the layer for a finished test.
 fn output_of(test: &FfiFinishedTest, result: &ExecutionResultDescription) -> OutputOnTestFinished {
     let own = StatusLevels {
         status_level: variant_of(&LEVELS, test.status_level),

@@ -1,4 +1,4 @@
-//! The text of the header, and what the tests read from it.
+//! The text of the header, and the values that the tests read from it.
 
 /// The text of the header, with its comments.
 pub const HEADER: &str = include_str!("../../include/deodarsieve.h");

@@ -1,7 +1,6 @@
-//! Compares the exports with the header and with the layer: structs, functions, versions, and what
-//! each code means. What an export writes for a code is what the layer returns for the variant of the
-//! name that the header gives to the code. The first code past the end of each table is refused. No
-//! export allocates.
+//! Compares the exports with the header and with the layer: structs, functions, versions and codes.
+//! An export writes for a code the result of the layer for the variant that has this code by its
+//! name in the header. The first code past the end of each table is refused. No export allocates.
 
 mod allocations;
 mod counters;

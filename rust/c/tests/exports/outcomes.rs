@@ -1,4 +1,4 @@
-//! Compares what the exports make of the codes of summaries and outcomes with the layer.
+//! Compares the exports with the layer for all codes of summaries and outcomes.
 
 use crate::counters::no_counters;
 use crate::tables::{OUTCOMES, REASONS, STEPS, SUMMARIES, code_of, expect_codes};

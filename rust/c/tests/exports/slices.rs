@@ -1,4 +1,4 @@
-//! Compares the kinds and the places of slices with the layer.
+//! Compares the kinds and the offsets of slices with the layer.
 
 use crate::tables::SLICES;
 use deodarsieve::TestOutputErrorSlice;
@@ -9,7 +9,7 @@ use deodarsieve_c::exports::slices::{
 };
 use deodarsieve_c::exports::status::OK;
 
-/// Returns what the export finds, as the name of its kind, its offset and its length.
+/// Returns the slice of the export, as the name of its kind, its offset and its length.
 fn found(out: &[u8], err: &[u8]) -> (&'static str, usize, usize) {
     let mut answer = FfiSlice {
         kind: 77,
@@ -33,7 +33,7 @@ fn found(out: &[u8], err: &[u8]) -> (&'static str, usize, usize) {
     (SLICES[answer.kind as usize], answer.start, answer.length)
 }
 
-/// Returns what the layer finds.
+/// Returns the slice of the layer.
 fn found_by_layer(out: &[u8], err: &[u8]) -> (&'static str, usize, usize) {
     let (name, part) = match TestOutputErrorSlice::heuristic_extract(Some(out), Some(err)) {
         None => return ("NONE", 0, 0),

@@ -1,4 +1,4 @@
-//! Compares what the export of a repeated run makes of its codes with the layer.
+//! Compares the export of a repeated run with the layer for all of its codes.
 
 use crate::tables::{STRESS, expect_codes};
 use deodarsieve::{StressCount, StressProgress, StressRemaining};
@@ -54,7 +54,7 @@ fn progress_of_layer(kind: &str, completed: u32, seconds: u64) -> StressProgress
     }
 }
 
-/// Returns what is left as the name of its kind, its count and its time.
+/// Returns what remains as the name of its kind, its count and its time.
 fn left(remaining: Option<StressRemaining>) -> (&'static str, u32, Duration) {
     match remaining {
         None => ("NOTHING", 0, Duration::ZERO),

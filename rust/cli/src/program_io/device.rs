@@ -1,5 +1,5 @@
 // Made by tools/erase from crates/program_io/src/device.rt. Do not edit.
-//! Sources that bytes are read from, and sinks that they are written to.
+//! Sources, from which bytes are read, and sinks, to which bytes are written.
 
 /// A read, a write or a flush failed.
 #[derive(Clone, Copy, Debug, PartialEq, Eq)]
@@ -10,8 +10,8 @@ pub trait Source {
     /// Returns true if a read has failed.
     fn has_failed(&self) -> bool;
 
-    /// Reads some bytes into the front of `buffer`, and returns how many. The result is 0 only at the
-    /// end.
+    /// Reads some bytes into the front of `buffer`, and returns their number, which is 0 only at
+    /// the end of the source.
     ///
     /// `buffer` must not be empty. After [`DeviceFailed`] the source has failed, and it is not known
     /// which bytes are left.

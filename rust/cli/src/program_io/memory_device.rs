@@ -104,7 +104,7 @@ impl Sink for MemorySink<'_> {
         Ok(n)
     }
 
-    /// As [`Sink::flush`]. It fails exactly where no call was to come before the one that fails.
+    /// As [`Sink::flush`]. It fails if and only if this call is the one that was chosen to fail.
     fn flush(&mut self) -> Result<(), DeviceFailed> {
         if self.call_fails() {
             return Err(DeviceFailed);

@@ -1,7 +1,7 @@
 //! A reporter: it receives the events of a run in the order in which a runner makes them, writes a line
 //! for each that [`StatusLevels`](deodarsieve::StatusLevels) selects, and sums the run up.
 //!
-//! `cargo run --example reporter` writes what is in `reporter.stdout`.
+//! `cargo run --example reporter` writes the text of `reporter.stdout`.
 
 mod report;
 mod run;

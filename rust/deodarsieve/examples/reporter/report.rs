@@ -1,4 +1,4 @@
-//! The reporter's part: what it writes of each event.
+//! The reporter's part: the text that it writes for each event.
 
 use std::io::{self, Write};
 use std::time::Duration;
@@ -40,7 +40,7 @@ impl<'w, W: Write> Reporter<'w, W> {
         }
     }
 
-    /// Writes what an event is to show.
+    /// Writes the text for an event.
     pub fn report(&mut self, event: &ReporterEvent<'_>) -> io::Result<()> {
         let ReporterEvent::Test(event) = event else {
             return Ok(());
@@ -71,7 +71,7 @@ impl<'w, W: Write> Reporter<'w, W> {
         }
     }
 
-    /// Writes what an event of a test is to show. Events that this reporter does not show are ignored,
+    /// Writes the text for an event of a test. Events that this reporter does not show are ignored,
     /// and so are kinds that a later version adds.
     fn report_test(&mut self, kind: &TestEventKind<'_>) -> io::Result<()> {
         match kind {
@@ -116,8 +116,8 @@ impl<'w, W: Write> Reporter<'w, W> {
         Ok(())
     }
 
-    /// Writes the line and the errors of a finished test, and stores what is to be listed later, as
-    /// the levels decide.
+    /// Writes the line and the errors of a finished test, and stores the test for the list at the
+    /// end, as the levels decide.
     fn test_finished(
         &mut self,
         test: &TestInstanceId<'_>,
@@ -156,7 +156,8 @@ impl<'w, W: Write> Reporter<'w, W> {
         Ok(())
     }
 
-    /// Says why the run is cancelled, and remembers it: less is shown of the tests that still end.
+    /// Writes the reason to cancel the run, and remembers it: less is shown of the tests that still
+    /// end.
     fn cancelled(&mut self, stats: &RunStats, running: usize) -> io::Result<()> {
         self.cancel_status = stats.cancel_reason;
         let reason = stats
@@ -200,7 +201,7 @@ fn name_of(test: &TestInstanceId<'_>) -> String {
     format!("{} {}", test.binary_id, test.test_name)
 }
 
-/// Returns how an attempt ended, with its number if there may be others.
+/// Returns the result of an attempt in words, with its number if there may be others.
 fn label_of(status: &ExecuteStatus<LiveSpec>) -> String {
     let label = match (&status.result, status.is_slow) {
         (ExecutionResultDescription::Pass, true) => "slow",
@@ -249,7 +250,7 @@ fn counts_of(stats: &RunStats) -> String {
     )
 }
 
-/// Returns the summary of a run and the exit status that it asks for.
+/// Returns the summary of a run and the exit status for it.
 fn summary_of(stats: FinalRunStats) -> String {
     let (label, status) = match RunOutcome::from_final_stats(stats) {
         RunOutcome::Success => ("success", 0),

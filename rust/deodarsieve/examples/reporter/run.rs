@@ -120,7 +120,7 @@ fn described(result: ExecutionResult) -> ExecutionResultDescription {
     ExecutionResultDescription::from_status(result, Some(String::from("TERM")))
 }
 
-/// Returns what a process left that wrote this to its standard error.
+/// Returns the output of a process that wrote this to its standard error.
 fn captured(
     result: ExecutionResult,
     stderr: &'static str,
@@ -138,7 +138,7 @@ fn captured(
     ChildExecutionOutputDescription::from_output(output, Some(String::from("TERM")))
 }
 
-/// What a runner knows of its run, and the events so far.
+/// The state of a runner, and the events so far.
 struct Runner<'a> {
     events: Vec<TestEvent<'a>>,
     stats: RunStats,
@@ -163,14 +163,14 @@ impl<'a> Runner<'a> {
         }
     }
 
-    /// Returns what the clock shows.
+    /// Returns the time of the clock.
     fn now(&self) -> Moment {
         let nanoseconds = START.unix_nanoseconds() + self.elapsed.as_nanos() as i128;
         Moment::from_unix_nanoseconds(nanoseconds, START.offset_seconds())
             .expect("the run ends before the greatest moment")
     }
 
-    /// Makes an event ten milliseconds after what was before it.
+    /// Makes an event ten milliseconds after the one before it.
     fn emit(&mut self, kind: TestEventKind<'a>) {
         self.elapsed += Duration::from_millis(10);
         self.events.push(TestEvent {
@@ -255,7 +255,7 @@ impl<'a> Runner<'a> {
         });
     }
 
-    /// Skips a test. It is among the skipped from the beginning, and counted nowhere else.
+    /// Skips a test. It is one of the skipped tests from the beginning, and no counter changes.
     fn skip(&mut self, test_instance: TestInstanceId<'a>) {
         self.emit(TestEventKind::TestSkipped {
             stress_index: None,
@@ -265,7 +265,7 @@ impl<'a> Runner<'a> {
         });
     }
 
-    /// Starts a test. It is running by the time its event is made.
+    /// Starts a test. It is running when its event is made.
     fn start(&mut self, test_instance: TestInstanceId<'a>) {
         self.running += 1;
         self.emit(TestEventKind::TestStarted {
@@ -278,7 +278,7 @@ impl<'a> Runner<'a> {
         });
     }
 
-    /// Says that a test has run for a minute.
+    /// Makes the event that a test has run for a minute.
     fn is_slow(&mut self, test_instance: TestInstanceId<'a>) {
         self.emit(TestEventKind::TestSlow {
             stress_index: None,

@@ -91,15 +91,15 @@ pub fn heuristic_error_str(stderr: &[u8]) -> Option<ByteSubslice<'_>> {
 
 /// Returns the error slice, given that no error marker begins at or after `end`.
 ///
-/// `heuristic_extract` has looked for the markers of the error and of the note in one pass, and
-/// passes on what it knows of the end.
+/// `heuristic_extract` searches for the markers of the error and of the note in one pass, and
+/// passes the offset at or after which there is none.
 fn error_str_before(stderr: &[u8], end: usize) -> Option<ByteSubslice<'_>> {
     let start = error_start(stderr, end)?;
     Some(trimmed(stderr, start))
 }
 
-/// Returns the offset of the first line that begins with `Error: `, given that no error marker begins
-/// at or after `end`.
+/// Returns the offset of the first line that begins with `Error: `, given that no error marker
+/// begins at or after `end`.
 fn error_start(stderr: &[u8], end: usize) -> Option<usize> {
     if stderr.starts_with_str(&ERROR_SIGN[1..]) {
         return Some(0);
@@ -150,7 +150,7 @@ fn widened(stderr: &[u8], start: usize) -> usize {
     }
 }
 
-/// Returns the offset of the first of the line breaks that end at `start`.
+/// Returns the offset of the first of the line breaks right before `start`.
 fn breaks_start(stderr: &[u8], start: usize) -> usize {
     let mut at = start;
     while at > 0 && (stderr[at - 1] == b'\n' || stderr[at - 1] == b'\r') {
@@ -168,7 +168,7 @@ fn trimmed(stderr: &[u8], start: usize) -> ByteSubslice<'_> {
     }
 }
 
-/// Returns the offset of the ASCII white space that ends the bytes, at least `start`.
+/// Returns the offset of the ASCII white space at the end of the bytes, which is at least `start`.
 fn spaces_start(bytes: &[u8], start: usize) -> usize {
     match bytes[start..].rfind_not_byteset(SPACES) {
         Some(last) => start + last + 1,

@@ -69,7 +69,7 @@ fn last_from(bytes: &[u8], cut: usize) -> Option<HeadSpan> {
     Some(head_behind(cut, head))
 }
 
-/// Converts a head of the bytes after `place` to a head of all bytes.
+/// Converts a head of the bytes from `place` on to a head of all bytes.
 fn head_behind(place: usize, head: HeadSpan) -> HeadSpan {
     HeadSpan {
         start: place + head.start,

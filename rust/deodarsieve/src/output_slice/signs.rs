@@ -1,9 +1,10 @@
 // Made by tools/erase from crates/output_slice/src/signs.rt. Do not edit.
-//! Markers: texts that a slice cannot do without, and the offset after which output has none.
+//! Markers: texts that every slice of a kind contains, and the offset after which output has none.
 //!
-//! Most output has no marker, and then each marker is searched for in all of it, block by block from
-//! the end. The marker of a panic comes first and alone, since a panic message takes precedence. The
-//! other two are searched for together, while the block is in the processor's cache.
+//! Most output has no marker, and then all of it is searched for each marker, block by block from
+//! the end. The marker of a panic is searched for first and separately, since a panic message takes
+//! precedence. The other two are searched for together, while the block is in the processor's
+//! cache.
 
 use bstr::ByteSlice;
 
@@ -11,8 +12,8 @@ use bstr::ByteSlice;
 /// search.
 const BLOCK_SIZE: usize = 131_072;
 
-/// The size in bytes of the first block in which the last offset of a marker is searched for. With a
-/// marker it has less than 64 bytes, for which `bstr` makes no table.
+/// The size in bytes of the first block of a search for the last marker. With a marker added it is
+/// less than 64 bytes, for which `bstr` builds no table.
 const LEAST_BLOCK_SIZE: usize = 48;
 
 /// The end of a panic's head.

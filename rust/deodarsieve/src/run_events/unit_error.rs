@@ -53,7 +53,7 @@ impl<'a> UnitErrorDescription<'a> {
     ///
     /// # Panics
     ///
-    /// Panics if the output is searched and was not loaded.
+    /// Panics if the unit is a failed test and its output was not loaded.
     #[must_use]
     pub fn new(
         kind: UnitKind,

@@ -5,8 +5,8 @@ use crate::run_events_levels::levels::{FinalStatusLevel, StatusLevel};
 use crate::run_events_results::results::ExecutionResultDescription;
 use crate::run_events_settings::config::FlakyResult;
 
-/// The parts of a finished test that decide its counters and its levels, borrowed from its attempts.
-/// A caller that does not keep attempts can make it from what it knows.
+/// The parts of a finished test that decide its counters and its levels, borrowed from its
+/// attempts. A caller that does not keep attempts can make it from these parts.
 #[derive(Clone, Copy, Debug, PartialEq, Eq)]
 #[non_exhaustive]
 pub struct TestView<'a> {

@@ -1,4 +1,4 @@
-//! Conversions from what a runner has to the descriptions that reporters get.
+//! Conversions from the values of a runner to the descriptions that reporters get.
 
 use crate::run_events_child::child::{
     ChildExecutionOutput, ChildExecutionOutputDescription, LiveSpec,

@@ -1,9 +1,10 @@
-//! What [`ErrorList`] has by hand.
+//! Hand-written methods and traits of [`ErrorList`].
 
 use crate::run_events_child::child::ErrorList;
 
 impl<T> ErrorList<T> {
-    /// Returns a list with the same description and what `convert` makes of each error, in order.
+    /// Returns a list with the same description and the results of `convert` for the errors, in
+    /// order.
     #[must_use]
     pub fn map<U>(self, convert: impl FnMut(T) -> U) -> ErrorList<U> {
         ErrorList {

@@ -1,4 +1,5 @@
-//! `Error` for the error types of the layer. Their texts name what failed; the sources say why.
+//! `Error` for the error types of the layer. The text of an error names the failed operation, and
+//! its source is the cause.
 
 use crate::output_slice::TestOutputErrorSlice;
 use crate::run_events::unit_error::{UnitAbortDescription, UnitError};

@@ -1,4 +1,4 @@
-//! How a process ended, by what the operating system says of it.
+//! Results of processes, from the exit statuses of the operating system.
 
 use crate::run_events_results::results::{AbortStatus, FailureStatus};
 use std::os::unix::process::ExitStatusExt;

@@ -1,5 +1,5 @@
-//! `Clone`, `Debug` and equality of the types that are generic over [`OutputSpec`]. A type has the
-//! trait if its description of output has it; nothing is asked of the parameter itself.
+//! `Clone`, `Debug` and equality of the types that are generic over [`OutputSpec`]. Such a type has
+//! a trait if its type of output description has it. The type parameter itself need not have it.
 
 use crate::run_events_attempts::attempts::{
     ExecuteStatus, ExecutionDescription, ExecutionStatuses, SetupScriptExecuteStatus,

@@ -1,5 +1,5 @@
-//! What [`SerializableError`] has by hand. Its causes are a linked list, so everything that visits
-//! them is a loop: recursion would overflow the stack on a long chain.
+//! Hand-written methods and traits of [`SerializableError`]. Its causes are a linked list, so
+//! everything that visits them is a loop: recursion would overflow the stack on a long chain.
 
 use crate::run_events_child::chain::SerializableError;
 use alloc::string::{String, ToString};
@@ -43,7 +43,7 @@ impl fmt::Debug for SerializableError {
     }
 }
 
-/// Debugs as the list of the messages of an error's causes.
+/// Writes, with `Debug`, the list of the messages of an error's causes.
 struct Messages<'a>(&'a SerializableError);
 
 impl fmt::Debug for Messages<'_> {

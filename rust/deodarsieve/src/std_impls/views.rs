@@ -1,4 +1,4 @@
-//! How a [`TestView`] is made outside the crate.
+//! Functions that make a [`TestView`] outside the crate.
 
 use crate::run_events_levels::view::TestView;
 use crate::run_events_results::results::ExecutionResultDescription;

@@ -49,7 +49,7 @@ fn extracted(output: &Output, size: usize) -> Work {
     }
 }
 
-/// Returns the count of a run, of at most the lines that a run may have.
+/// Returns the count of a run with at most the number of lines that is allowed.
 fn counted(size: usize) -> Work {
     let pairs = share(size, 4_999).min(4_999);
     let lines = format!(
@@ -80,7 +80,7 @@ fn name(number: usize) -> String {
     format!("module::tests::case_{number}")
 }
 
-/// Returns the two lines of a test that ends with `event`, with what else `more` says of it.
+/// Returns the two lines of a test that ends with `event` and has the members `more`.
 fn test_lines(name: &str, event: &str, more: &str) -> String {
     format!(
         "{{ \"type\": \"test\", \"event\": \"started\", \"name\": \"{name}\" }}\n\
@@ -97,20 +97,20 @@ fn suite_lines(event: &str, count: usize, test: impl Fn(usize) -> String) -> Str
     )
 }
 
-/// Returns the lines of a run of `count` tests, all of which end with `event`, with what else `more`
-/// says of them.
+/// Returns the lines of a run of `count` tests, all of which end with `event` and have the members
+/// `more`.
 fn lines(event: &str, count: usize, more: impl Fn(usize) -> String) -> String {
     suite_lines(event, count, |number| {
         test_lines(&name(number), event, &more(number))
     })
 }
 
-/// Returns the report of a run that the lines say.
+/// Returns the report of a run with these lines.
 fn reported(lines: String, expected: String) -> Work {
     reported_with(FileForms::none, lines, expected)
 }
 
-/// Returns the report of a run that the lines say, with the texts of files.
+/// Returns the report of a run with these lines, with the texts of files.
 fn reported_with(files: fn() -> FileForms, lines: String, expected: String) -> Work {
     let lines: Rc<str> = lines.into();
     let read = Rc::clone(&lines);

@@ -66,7 +66,7 @@ fn work(output: &Output, is_stdout: bool, size: usize) -> Work {
     }
 }
 
-/// Returns the rows of ordinary output, and those of output that is made to take long.
+/// Returns the rows of ordinary output, and those of output that is chosen to take long.
 pub fn rows() -> Vec<Row> {
     let stderr = |name, output: Output| Row::new(name, move |size| work(&output, false, size));
     let front = stderr("panic-at-front", inputs::PANIC_AT_FRONT);

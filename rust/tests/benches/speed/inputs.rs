@@ -21,11 +21,11 @@ test session::tests::closes_after_timeout ... ok\n\
 /// A line of a log, of 64 bytes, without a quote.
 const QUOTELESS_LOG: &[u8] = b"[00:00:01.209 TRACE wire::frame] read 4096 bytes, stream 5, End\n";
 
-/// A line that ends as the head of a panic message does, and is no head. Without it no head is looked
-/// for.
+/// A line that ends like the head of a panic message but is not one. Without such a line the search
+/// does not look for heads.
 const NO_HEAD: &[u8] = b"the worker panicked at start\n";
 
-/// Where the panic in an output begins. It ends before the white space at the end of the output.
+/// The place of the panic in an output. It ends before the white space at the end of the output.
 #[derive(Clone, Copy)]
 pub enum Place {
     Nowhere,
@@ -47,7 +47,7 @@ pub struct Output {
     panic_at: Place,
 }
 
-/// Returns an output of nothing but a piece that is no panic.
+/// Returns an output that is only a repeated piece without a panic.
 const fn pieces(piece: &'static [u8], count: usize) -> Output {
     Output {
         front: b"",
@@ -58,7 +58,7 @@ const fn pieces(piece: &'static [u8], count: usize) -> Output {
     }
 }
 
-/// Returns the same output before a line for which heads are looked for.
+/// Returns the same output before a line after which the search looks for heads.
 const fn before_no_head(output: Output) -> Output {
     Output {
         end: NO_HEAD,
@@ -142,12 +142,12 @@ impl Output {
     }
 }
 
-/// Returns how many things an input of `size` bytes has if one of 64 megabytes has `count`.
+/// Returns the number of things in an input of `size` bytes, if one of 64 megabytes has `count`.
 pub fn share(size: usize, count: usize) -> usize {
     size * count / 64_000_000
 }
 
-/// Passes once over an input, none of whose bytes is 0.
+/// Reads an input once, by a search for a byte 0, which does not occur in it.
 pub fn pass_over(bytes: &[u8]) {
     assert_eq!(bytes.find_byte(0), None);
 }

@@ -5,12 +5,12 @@
 //! DEODARSIEVE_LIB_DIR is the folder of the library, a line also has the time as a multiple of the
 //! time that the library takes, if the library has the call. A time is the least of 15.
 //!
-//! A pass over output is a search for a byte that is not there. Over units, summaries and counters it
-//! is one read of each, and over the lines of a test run it parses each as JSON.
+//! A pass over output is a search for a byte that does not occur. A pass over units, summaries and
+//! counters is one read of each, and a pass over the lines of a test run parses each as JSON.
 //!
-//! The exit status is 1 if a call takes more than 1.1 times as long as the library's and 25 ns more, or
-//! if an extraction takes more passes than it may. The 25 ns are for the searcher that bstr builds at
-//! each search. A wrong result is a panic.
+//! The exit status is 1 if a call takes more than 1.1 times as long as the library's and 25 ns
+//! more, or if an extraction takes more passes than its limit. The 25 ns are for the searcher that
+//! bstr builds at each search. If a result is wrong, the program panics.
 
 /// Makes an `Option` of a step of the proved library: `None` without the feature `archive`.
 macro_rules! archived {
@@ -37,7 +37,7 @@ use timing::{Times, Work, least_times};
 struct Row {
     name: &'static str,
 
-    /// The most passes that the call may take, if that is bounded.
+    /// The most passes that the call may take, if there is a limit.
     most_passes: Option<f64>,
 
     work: Box<dyn Fn(usize) -> Work>,
@@ -89,8 +89,8 @@ fn is_within(row: &Row, size: usize) -> bool {
     verdict == "within"
 }
 
-/// Returns the number of megabytes that the arguments ask for, from 1 to 1,024, and 64 if they ask
-/// for none. Cargo adds `--bench` to the arguments.
+/// Returns the number of megabytes that the arguments name, from 1 to 1,024, or 64 if they name
+/// none. Cargo adds `--bench` to the arguments.
 fn megabytes() -> Option<usize> {
     let mut arguments = env::args().skip(1).filter(|argument| argument != "--bench");
     let megabytes = arguments

@@ -5,13 +5,13 @@ use std::time::Instant;
 /// How often each step is timed.
 const ROUNDS: usize = 15;
 
-/// The least number of nanoseconds that are measured as one: a shorter step is repeated.
+/// The least time in nanoseconds that is measured. A shorter step is repeated.
 const LEAST_TIME: f64 = 1_000_000.0;
 
 /// A step, which panics if its result is wrong.
 pub type Step = Box<dyn FnMut()>;
 
-/// What is timed of a call.
+/// The steps that are timed for a call.
 pub struct Work {
     /// The call.
     pub call: Step,
@@ -23,10 +23,10 @@ pub struct Work {
     pub pass: Step,
 }
 
-/// The most that a call may take, as a multiple of the time of the library's.
+/// The most time that a call may take, as a multiple of the time of the library's.
 const MOST_OF_ARCHIVE: f64 = 1.1;
 
-/// The nanoseconds that a call may take besides.
+/// The nanoseconds that a call may take in addition.
 const LEEWAY: f64 = 25.0;
 
 /// The least times of the steps, in nanoseconds.

@@ -5,7 +5,8 @@ use crate::output_slice_tests::met::Met;
 use crate::output_slice_tests::trial::Trial;
 use std::io;
 
-/// Outputs with heads that cross, and with a number past ASCII that is one, or is none.
+/// Outputs with heads that cross, with a decimal digit outside ASCII, and with a superscript digit,
+/// which is not a decimal digit.
 const CUT: [&[u8]; 4] = [
     b"thread 'a\nthread ' panicked at x' panicked at y\n",
     b"thread 'a\nthread ' panicked at x\nthread ' panicked at y' panicked at z",
@@ -13,7 +14,7 @@ const CUT: [&[u8]; 4] = [
     b"thread 'a' (\xc2\xb2) panicked at x",
 ];
 
-/// Tries every beginning of the outputs, from none of their bytes to all.
+/// Tries every beginning of the outputs, from no byte to all bytes.
 pub(crate) fn beginnings() -> io::Result<Met> {
     let mut trial = Trial::new();
     let mut met = Met::NONE;

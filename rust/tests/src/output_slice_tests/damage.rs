@@ -6,7 +6,7 @@ use crate::output_slice_tests::trial::Trial;
 use std::io;
 use std::io::{BufRead, BufReader};
 
-/// The bytes that stand in the place of each byte in turn.
+/// The bytes that replace each byte in turn.
 const DAMAGE: [u8; 4] = [b'\'', b'\n', 0xff, b' '];
 
 /// Tries each line of standard input with each byte replaced in turn.

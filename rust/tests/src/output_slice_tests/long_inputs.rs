@@ -1,12 +1,12 @@
 // Made by tools/erase from crates/output_slice_tests/src/long_inputs.rt. Do not edit.
-//! Long inputs: the reads, and a time that grows no faster than the input.
+//! Long inputs: the numbers of reads, and searches whose time must grow no faster than the input.
 
 use deodarsieve::TestOutputErrorSlice;
 use deodarsieve::counted::last_panic_head;
 use deodarsieve::counted::{ByteSource, CountedBytes};
 use std::io;
 
-/// What an input shows, and its bytes: a front, a piece so many times, and an end.
+/// The name of an input, and its bytes: a front, a piece `times` times, and an end.
 struct Long {
     shows: &'static str,
     front: &'static [u8],
@@ -26,7 +26,7 @@ impl Long {
     }
 }
 
-/// Inputs without a head, in which a search reads on and on.
+/// Inputs without a head, in which a search could read the same bytes over and over.
 const READ: [Long; 3] = [
     Long {
         shows: "openings",
@@ -51,14 +51,16 @@ const READ: [Long; 3] = [
     },
 ];
 
-/// A line that holds what ends a head, and is none: without it no head is looked for.
+/// A line that contains the end of a head but is not one. Without such a line the search does not
+/// look for heads.
 const NO_HEAD: &[u8] = b"the worker panicked at start\n";
 
-/// The end of a name that is no UTF-8, and what ends a head: any opening before it may reach it.
+/// The end of a name that is not UTF-8, and the end of a head. Any `thread '` before it may be
+/// crossed by a head up to here.
 const NO_NAME: &[u8] = b"\xFF' panicked at start\n";
 
-/// Inputs on which a search that looks through the rest of the input at every opening or at every
-/// window, or that compares all heads with each other, would not end in time.
+/// Inputs on which a search would not end in time if it looked through the rest of the input at
+/// every `thread '` or at every window, or if it compared all heads with each other.
 const SEARCHED: [Long; 7] = [
     Long {
         shows: "openings alone",
@@ -111,8 +113,8 @@ const SEARCHED: [Long; 7] = [
     },
 ];
 
-/// Prints of each input to be read whether a head is found, and whether its reads are few: at most
-/// three a byte and eight more.
+/// Prints for each of the inputs to be read whether a head is found, and whether there are few
+/// reads: at most three for each byte, and eight more.
 pub(crate) fn few_reads() -> io::Result<()> {
     println!("reads of long inputs");
     for long in &READ {
@@ -125,7 +127,8 @@ pub(crate) fn few_reads() -> io::Result<()> {
     Ok(())
 }
 
-/// Prints of each input to be searched where the slice begins that is found, and how long it is.
+/// Prints for each of the inputs to be searched the start and the length of the slice that is
+/// found.
 pub(crate) fn linear_time() -> io::Result<()> {
     println!("searches of long inputs");
     for long in &SEARCHED {

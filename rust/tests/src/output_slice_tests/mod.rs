@@ -1,25 +1,28 @@
 // Made by tools/erase from crates/output_slice_tests/src/main.rt. Do not edit.
-//! What is tested of `output_slice`, through its public calls alone. Worked inputs with their answers
-//! are rows of the replay in `rust/tests`; this program tests what no such row can say. What it
-//! prints is compared with the file `stdout`.
+//! Tests of `output_slice` through its public calls only. Worked inputs with their answers are rows
+//! of the replay in `rust/tests`. This program has the tests that cannot be such rows. Its output
+//! is compared with the file `stdout`.
 //!
-//! The program compares the searches for the last taken head with slow functions that follow the rules
-//! to the letter: on worked inputs, of which it prints the heads that the slow functions list; on all
-//! inputs of a few pieces; on every beginning of a few outputs; and on damaged outputs.
+//! The program compares the searches for the last taken head with slow functions that follow the
+//! rules to the letter. It does so on worked inputs, for which it prints the heads that the slow
+//! functions list, on all inputs of a few pieces, on every beginning of a few outputs, and on
+//! damaged outputs.
 //!
-//! Standard input is a list of outputs, one a line, in hex. Each is tried with every byte replaced
-//! in turn by a quote, a line feed, a byte 0xFF and a space.
+//! Standard input is a list of outputs in hexadecimal, one on each line. Each is tried with every
+//! byte replaced in turn by a quote, a line feed, a byte 0xFF and a space.
 //!
-//! Of each set of inputs it prints what was met in it. An input on which the searches do not agree,
-//! or that is no hex, is printed before. The exit status is 0 where all agree, and else 1.
+//! For each set of inputs it prints how many of each kind there were. If the searches do not agree
+//! on an input, or if a line is not hexadecimal, it prints that input first. The exit status is 0
+//! if the searches agree on all inputs, and otherwise 1.
 //!
-//! It also prints the parts of each stream with their text, the reads that a source counts, and what is
-//! found in long inputs, where a search whose time grows faster than its input does not end in time.
+//! It also prints the parts of each stream with their text, the reads that a source counts, and the
+//! results of searches in long inputs. If the time of a search grew faster than its input, such a
+//! search would not end in time.
 //!
-//! The wanted heads, in the file `stdout`, were worked out by hand. The wanted numbers of inputs are
-//! those that a search by the pattern of upstream with a regular expression engine gives, so that no
-//! kind can go missing unseen. The most reads are as they were measured: that they are few is tested
-//! of each input.
+//! The expected heads in the file `stdout` were worked out by hand. The expected numbers of inputs
+//! are those of a search by upstream's pattern with a regular expression engine, so that no kind of
+//! input can be missing unnoticed. The greatest numbers of reads are as measured. Every input is
+//! tested to take few reads.
 
 use crate::output_slice_tests::beginnings::beginnings;
 use crate::output_slice_tests::damage::damaged_outputs;

@@ -4,13 +4,13 @@
 use deodarsieve::{ByteSubslice, TestOutputErrorSlice};
 use std::io;
 
-/// An error of which the text is malformed.
+/// An error whose text is not UTF-8.
 const ERROR: &[u8] = b"Error: \xc3\xa9 \xff\xe2\x80";
 
 /// A note between two lines.
 const NOTE: &[u8] = b"a\r\nnote: test did not panic as expected\r\nb";
 
-/// Prints where a part stands in its stream, from its start to its end.
+/// Prints the start and the length of a part of a stream.
 fn print_part(stream: &str, found: Option<ByteSubslice<'_>>) -> io::Result<()> {
     match found {
         Some(part) => {
@@ -24,7 +24,7 @@ fn print_part(stream: &str, found: Option<ByteSubslice<'_>>) -> io::Result<()> {
     }
 }
 
-/// Prints the text of what is extracted, and its part of each stream.
+/// Prints the text of what was found, and its part of each stream.
 fn print_parts(found: TestOutputErrorSlice<'_>) -> io::Result<()> {
     println!("parts of {found}");
     print_part("standard error", found.stderr_subslice())?;
@@ -32,7 +32,7 @@ fn print_parts(found: TestOutputErrorSlice<'_>) -> io::Result<()> {
     print_part("combined", found.combined_subslice())
 }
 
-/// Prints the parts of what is extracted of each stream.
+/// Prints the parts that are found in each stream.
 pub(crate) fn parts_of_each_stream() -> io::Result<()> {
     for (stdout, stderr) in [(None, Some(ERROR)), (Some(NOTE), None)] {
         match TestOutputErrorSlice::heuristic_extract(stdout, stderr) {

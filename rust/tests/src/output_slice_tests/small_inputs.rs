@@ -5,7 +5,7 @@ use crate::output_slice_tests::met::Met;
 use crate::output_slice_tests::trial::Trial;
 use std::io;
 
-/// Pieces, and how many inputs there are of at most six of them, or of at most five.
+/// Pieces, and the number of inputs that can be made of at most five or six of them.
 pub(crate) struct Set {
     pub(crate) name: &'static str,
     pieces: &'static [&'static [u8]],
@@ -67,8 +67,8 @@ pub(crate) fn all_inputs(set: &Set) -> io::Result<Met> {
     Ok(met)
 }
 
-/// Joins the pieces of the input with this number: 0 is that of no piece, then come those of one
-/// piece, those of two, and so on.
+/// Joins the pieces of the input with this number. Input 0 has no piece. Then come the inputs of
+/// one piece, those of two, and so on.
 fn join(bytes: &mut Vec<u8>, pieces: &[&[u8]], number: usize) {
     bytes.clear();
     let mut left = number;

@@ -1,11 +1,11 @@
 // Made by tools/erase from crates/output_slice_tests/src/worked_heads.rt. Do not edit.
-//! Worked inputs: the heads that the slow functions list of them are printed.
+//! Worked inputs, and the heads that the slow functions list for them.
 
 use crate::output_slice_tests::met::Met;
 use crate::output_slice_tests::trial::Trial;
 use std::io;
 
-/// What an input shows, and its bytes.
+/// The names of inputs, and their bytes.
 const WORKED: [(&str, &[u8]); 7] = [
     ("a head", b"thread 'main' panicked at 'foo', src/lib.rs:1\n"),
     (
@@ -28,7 +28,7 @@ const WORKED: [(&str, &[u8]); 7] = [
     ("empty bytes", b""),
 ];
 
-/// Tries the worked inputs, and prints their heads and which of these are taken.
+/// Tries the worked inputs, and prints their heads and whether each head is taken.
 pub(crate) fn worked_heads() -> io::Result<Met> {
     let mut trial = Trial::new();
     let mut met = Met::NONE;

@@ -7,7 +7,7 @@ use crate::run_digest_engine_tests::engine::{
 use crate::run_digest_engine_tests::long_runs::run_of;
 use deodarsieve_cli::run_digest_engine::fault::Fault;
 
-/// Three sub-runs. As one run they would be cancelled by the interrupt.
+/// Three sub-runs. Counted as one run, they would be cancelled by the interrupt.
 const SUB_RUNS: &[u8] =
     b"run 1 0 -\ntest pass\nsub-run 1 0 -\ntest fail\nsub-run 2 0 interrupt\ntest pass\n";
 
@@ -18,7 +18,7 @@ const SUB_REPORTS: &[u8] =
       tests 1 passed 1 failed 0 flaky 0\nscripts 0 failed 0\nsummary cancelled interrupt test 2 1\n\
       outcome failed test\n";
 
-/// What an engine answers and writes for an input.
+/// An engine and its input, with the answer and the text for that input.
 type Case = (Engine, &'static [u8], bool, &'static [u8]);
 
 const CASES: [Case; 3] = [
@@ -27,8 +27,8 @@ const CASES: [Case; 3] = [
     (Engine::Extract, OUTPUT, true, EXTRACT),
 ];
 
-/// Whether the engine answers each of so many reads that fails in turn, and gives this answer and
-/// this text where a later one would.
+/// Returns true if the engine returns a fault for each of the first `reads` reads that fails in
+/// turn, and this answer and this text if a later read would fail.
 fn answers_failed_reads(
     engine: Engine,
     input: &[u8],
@@ -61,7 +61,7 @@ fn each_read_that_fails_is_answered() -> Result<(), Box<dyn std::error::Error>> 
         false,
         SUB_REPORTS
     ));
-    // Three reads of the bytes, then the one that finds the end.
+    // Three reads of the bytes, then the read that finds the end.
     let run = run_of(1_000, "test pass\n", (1_000, "", 0))?;
     let report = b"tests 1000 passed 1000 failed 0 flaky 0\nscripts 0 failed 0\nsummary success\n";
     assert!(answers_failed_reads(
@@ -86,7 +86,7 @@ fn each_read_that_fails_is_answered() -> Result<(), Box<dyn std::error::Error>> 
 #[test]
 fn a_write_or_a_flush_that_fails_is_answered() {
     for (engine, input, answer, text) in CASES {
-        // The write takes the whole text; the flush comes after it.
+        // The write takes the whole text, then the flush follows.
         for (at, wanted, written) in [
             (0, Err(Fault::Write), b"".as_slice()),
             (1, Err(Fault::Write), text),
@@ -103,7 +103,7 @@ fn a_write_or_a_flush_that_fails_is_answered() {
             );
         }
     }
-    // A bad line after good ones: nothing is tried.
+    // A bad line after good ones: the sink is not called.
     let input = b"run 2 0 -\ntest pass\ntest pass\ntest\n";
     let devices = Devices {
         write_fails: Some(0),

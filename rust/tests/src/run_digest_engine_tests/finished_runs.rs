@@ -1,20 +1,21 @@
 // Made by tools/erase from crates/run_digest_engine_tests/src/finished_runs.rt. Do not edit.
-//! The report of finished runs, beside what `count` writes for lines that say them.
+//! The report of finished runs, compared with the text that `count` writes for lines that describe
+//! them.
 
 use crate::fixtures::{EXIT_ONE, LEAK_PASS, PASS, finished_script, finished_test};
 use crate::run_digest_engine_tests::engine::{Engine, SOUND};
 use deodarsieve::{CancelReason, FinishedRun, FinishedUnit, FlakyResult, RunStart};
 use deodarsieve_cli::run_digest_engine::runs::report_of_runs;
 
-/// Lines that say two runs.
+/// Lines that describe two runs.
 const LINES: &[u8] =
     b"run 1 0 -\ntest fail,pass slow flaky-fail\nsub-run 3 1 interrupt\nscript leak\n";
 
-/// Their reports, and the line of their outcome.
+/// The reports of the two runs, and the line of their outcome.
 const REPORTS: &str = "tests 1 passed 0 failed 1 flaky 0\nscripts 0 failed 0\nsummary failed test 1 0\n\
     tests 0 passed 0 failed 0 flaky 0\nscripts 1 failed 0\nsummary cancelled interrupt test 3 3\noutcome failed test\n";
 
-/// The start of a run of so many tests and scripts.
+/// Returns the start of a run of this many tests and scripts.
 fn start_of(tests: usize, scripts: usize, cancel_reason: Option<CancelReason>) -> RunStart {
     RunStart {
         initial_run_count: tests,
@@ -24,7 +25,7 @@ fn start_of(tests: usize, scripts: usize, cancel_reason: Option<CancelReason>) -
     }
 }
 
-/// The report of the runs that [`LINES`] say.
+/// Returns the report of the runs that [`LINES`] describe.
 fn report() -> String {
     let flaky = finished_test(&[EXIT_ONE], PASS, true, FlakyResult::Fail);
     let script = finished_script(LEAK_PASS);

@@ -4,8 +4,8 @@
 use crate::run_digest_engine_tests::engine::{Engine, SOUND};
 use deodarsieve_cli::run_digest_engine::fault::Fault;
 
-/// A run of so many tests: the line of a test, so many times before other lines, and so many times
-/// after them.
+/// Returns the lines of a run of `tests` tests. `counts` has how often the line of a test is before
+/// other lines, these other lines, and how often it is after them.
 pub(crate) fn run_of(
     tests: u32,
     test: &str,
@@ -63,7 +63,7 @@ fn a_run_has_at_most_ten_thousand_lines() -> Result<(), Box<dyn std::error::Erro
             Ok(true),
             "tests 9998 passed 9998 failed 0 flaky 0\nscripts 0 failed 0\nsummary success\n",
         ),
-        // Lines that begin sub-runs are counted too.
+        // Lines that begin sub-runs count as lines too.
         (
             9_998,
             (9_998, "sub-run 0 0 -\n", 0),

@@ -1,7 +1,8 @@
 // Made by tools/erase from crates/run_digest_engine_tests/src/lib.rt. Do not edit.
-//! Tests of `run_digest_engine` and of the crates below it through their public calls alone: words
-//! and faults, devices that fail, runs of many lines, the report of finished runs, and what readers and
-//! writers of std are asked. Whole inputs with their texts are data of the replay in `rust/tests`.
+//! Tests of `run_digest_engine` and of the crates below it through their public calls only:
+//! arguments and faults, devices that fail, runs of many lines, the report of finished runs, and
+//! the calls that devices make of readers and writers of `std`. Whole inputs with their texts are
+//! data of the replay in `rust/tests`.
 
 #[cfg(test)]
 mod engine;

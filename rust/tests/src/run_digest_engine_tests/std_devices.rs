@@ -1,5 +1,6 @@
 // Made by tools/erase from crates/run_digest_engine_tests/src/std_devices.rt. Do not edit.
-//! What readers and writers of std are asked: fakes that keep a log of their calls.
+//! The calls that devices make of readers and writers of `std`, which are fakes that keep a log of
+//! their calls.
 
 use crate::run_digest_engine_tests::engine::{EXTRACT, OUTPUT, REPORT, RUN};
 use deodarsieve_cli::program_io::device::{DeviceFailed, Sink, Source};
@@ -10,7 +11,7 @@ use deodarsieve_cli::run_digest_engine::fault::Fault;
 use std::io;
 use std::io::{Read, Write};
 
-/// Gives at most so many bytes a call, fails at one call, and then goes on.
+/// A reader that returns at most `most` bytes for each call, and fails only at one call.
 #[derive(Clone)]
 struct Pieces {
     bytes: &'static [u8],
@@ -33,14 +34,14 @@ impl Read for Pieces {
     }
 }
 
-/// A call of a writer: how many bytes it was handed, or that it was flushed.
+/// A call of a writer: a write of a number of bytes, or a flush.
 #[derive(Clone, Copy, PartialEq, Eq)]
 enum Call {
     Write(usize),
     Flush,
 }
 
-/// Takes at most so many bytes a call, fails at one call, and then goes on.
+/// A writer that takes at most `most` bytes for each call, and fails only at one call.
 #[derive(Clone)]
 struct Log {
     most: usize,
@@ -82,7 +83,7 @@ impl Write for Log {
     }
 }
 
-/// A reader of bytes by at most so many a call.
+/// Returns a reader that returns at most `most` bytes for each call.
 fn reader(bytes: &'static [u8], most: usize, fails_at: Option<usize>) -> Pieces {
     Pieces {
         bytes,
@@ -92,7 +93,7 @@ fn reader(bytes: &'static [u8], most: usize, fails_at: Option<usize>) -> Pieces 
     }
 }
 
-/// Counts the run, by a reader and a writer.
+/// Counts the run that is read from a reader, and writes its report to a writer.
 fn counted(reader: &mut Pieces, writer: &mut Log) -> Result<bool, Fault> {
     let mut source = StdSource::new(reader);
     let mut sink = StdSink::new(writer);
@@ -162,7 +163,7 @@ fn pieces_of_every_size_give_the_same_text() {
 fn the_text_is_handed_on_and_then_flushed() {
     let whole = REPORT.len();
     let at_once = [Call::Write(whole), Call::Flush];
-    // What a writer left is handed on next.
+    // The bytes that a writer did not take are passed next.
     let in_pieces = [
         Call::Write(whole),
         Call::Write(whole.saturating_sub(30)),

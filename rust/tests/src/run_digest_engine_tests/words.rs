@@ -1,5 +1,5 @@
 // Made by tools/erase from crates/run_digest_engine_tests/src/words.rt. Do not edit.
-//! What words ask for, and what faults say.
+//! The commands that arguments name, and the texts of faults.
 
 use deodarsieve_cli::run_digest_engine::command::Command;
 use deodarsieve_cli::run_digest_engine::fault::Fault;

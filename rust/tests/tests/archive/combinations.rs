@@ -9,7 +9,7 @@ use deodarsieve_archive::codes::{
 };
 use deodarsieve_archive::sys::{self, OK, written};
 
-/// Numbers of attempts: none counts as one.
+/// Numbers of attempts. 0 counts as 1.
 const ATTEMPTS: [usize; 5] = [0, 1, 2, 3, usize::MAX];
 
 /// Numbers of exit codes, signals and statuses. Signal 15 asks a process to end.

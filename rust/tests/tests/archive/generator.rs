@@ -6,7 +6,7 @@ pub struct Generator {
 }
 
 impl Generator {
-    /// Returns a generator whose numbers depend on `seed` alone.
+    /// Returns a generator whose numbers depend only on `seed`.
     pub fn new(seed: u64) -> Self {
         Self { state: seed }
     }
@@ -30,7 +30,7 @@ impl Generator {
         self.below(count) == 0
     }
 
-    /// Returns one of `values`, which must have some.
+    /// Returns one of `values`, which must not be empty.
     pub fn pick<'a, T>(&mut self, values: &'a [T]) -> &'a T {
         &values[self.below(values.len())]
     }

@@ -99,7 +99,7 @@ impl Run {
         assert_eq!((counters, expected), (self.archived, status));
     }
 
-    /// Compares what is derived from the counters, and returns their summary.
+    /// Compares the results that depend only on the counters, and returns their summary.
     fn compare_summary(&self) -> FinalRunStats {
         let stats = &self.stats;
         let counts = stats.failed_counts_fit().then(|| sys::FailedCounts {

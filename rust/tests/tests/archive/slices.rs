@@ -14,15 +14,15 @@ const COUNT: usize = 1_000_000;
 /// The most bytes of a stream that a failed comparison shows.
 const MOST_SHOWN: usize = 1_000;
 
-/// Where the blocks of a search begin, counted from the end of a stream: multiples of 131,072 bytes for
-/// an error and a note, and the others for a panic.
+/// The starts of the blocks of a search, counted from the end of a stream: multiples of 131,072
+/// bytes for an error and a note, and the others for a panic.
 const EDGES: [usize; 4] = [98_304, 131_072, 196_608, 262_144];
 
 /// The cases of the replay, some of which begin with an output.
 const REPLAYED: &str = include_str!("../../data/upstream_replay.txt");
 
-/// What streams are made of: heads, quotes, errors, notes, digits, white space, and bytes that are
-/// no UTF-8.
+/// The pieces of streams: heads, quotes, errors, notes, digits, white space, and bytes that are not
+/// UTF-8.
 const PIECES: &[&[u8]] = &[
     b"thread 'main' panicked at ",
     b"\nthread 'tests::a' panicked at src/lib.rs:4:5:\nboom\n",

@@ -1,5 +1,5 @@
-//! Large inputs: no call gives up on an input for its size, and the time of a search grows no faster
-//! than its input.
+//! Large inputs: no function fails because of the size of its input, and the time of a search grows
+//! no faster than its input.
 
 mod reports;
 mod runs;

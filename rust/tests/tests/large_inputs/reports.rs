@@ -7,7 +7,7 @@ use deodarsieve_cli::test_report_forms::options::Options;
 use deodarsieve_cli::test_report_forms::text::TextForm;
 use std::fmt::Write;
 
-/// The greatest number of bytes that are shown of why a test failed.
+/// The greatest number of bytes that are shown of the explanation of a failure.
 const LIMIT: usize = 4_096;
 
 /// Returns the report of a run. It must have at most a million bytes.

@@ -1,4 +1,4 @@
-//! The time of searches, on the beginnings of panic messages that do not go on.
+//! The time of searches, on beginnings of panic messages without the rest.
 
 use deodarsieve::TestOutputErrorSlice;
 use std::time::{Duration, Instant};
@@ -6,20 +6,20 @@ use std::time::{Duration, Instant};
 /// Beginnings of a panic message, one a line: the name in each may go on to the quote of the next.
 const OPENING: &[u8] = b"thread '\n";
 
-/// How often an opening is repeated.
+/// The number of copies of a beginning.
 const COUNT: usize = 1_000_000;
 
-/// By how many times the small input is smaller than the large one.
+/// The size of the large input as a multiple of the small one.
 const SHARE: usize = 8;
 
-/// Returns where the slice of standard error begins.
+/// Returns the start of the slice of standard error.
 fn start_of(stderr: &[u8]) -> Option<usize> {
     let found = TestOutputErrorSlice::heuristic_extract(None, Some(stderr))?;
     found.stderr_subslice().map(|part| part.start)
 }
 
-/// Returns the least time of three searches in openings before a last line, in which the slice must
-/// begin if `is_found`.
+/// Returns the least time of three searches in copies of a beginning before a last line. The slice
+/// must begin at that line if `is_found`.
 fn least_time(count: usize, last: &[u8], is_found: bool) -> Duration {
     let stderr = [&OPENING.repeat(count), last].concat();
     let wanted = is_found.then_some(count * OPENING.len());
@@ -31,8 +31,8 @@ fn least_time(count: usize, last: &[u8], is_found: bool) -> Duration {
     time().min(time()).min(time())
 }
 
-/// Asserts that the time grows with the size of the input, and not with its square. The limit is three
-/// times as high as needed, and has 50 milliseconds for what a busy machine does in between.
+/// Asserts that the time grows with the size of the input, and not with its square. The limit is
+/// three times as high as needed, and has 50 milliseconds more for other work of a busy machine.
 fn assert_linear(last: &[u8], is_found: bool) {
     let small = least_time(COUNT / SHARE, last, is_found);
     let large = least_time(COUNT, last, is_found);

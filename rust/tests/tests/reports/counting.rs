@@ -1,4 +1,4 @@
-//! Which suite a test belongs to, how tests count, and what lines contradict each other.
+//! The suite of a test, how tests count, and lines that contradict each other.
 
 use crate::{Case, OPTIONS, assert_reports, reported};
 use deodarsieve_cli::test_report_forms::names::NamesForm;

@@ -37,16 +37,16 @@ fn reported<F: Form>(form: F, files: &[&str]) -> (String, bool) {
 
 /// A run, and the parts of its report.
 struct Case {
-    /// What the run shows.
+    /// The name of the case.
     name: &'static str,
 
-    /// Its lines.
+    /// The lines of the run.
     lines: &'static str,
 
-    /// What is written before the rule.
+    /// The text before the rule.
     notes: &'static str,
 
-    /// What the summary says.
+    /// The text of the summary.
     summary: &'static str,
 
     /// The list after the summary.

@@ -1,11 +1,11 @@
-//! How much of why a test failed is shown, and how.
+//! How much is shown of the explanation of a failure, and in which form.
 
 use crate::{Case, OPTIONS, assert_reports, reported};
 use deodarsieve_cli::test_report_forms::options::Options;
 use deodarsieve_cli::test_report_forms::text::TextForm;
 
-/// A failed test, of which nine bytes say why: a character of two bytes, an escape and three letters after
-/// it, and a character of three bytes.
+/// A failed test with an explanation of nine bytes: a character of two bytes, an escape and three
+/// letters after it, and a character of three bytes.
 const RUN: &str = r#"{"type":"suite","event":"started","test_count":1}
 {"type":"test","event":"started","name":"a"}
 {"type":"test","event":"failed","name":"a","message":"£\u001b[1m€"}

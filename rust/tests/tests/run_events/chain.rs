@@ -8,7 +8,7 @@ fn long_error(count: u32) -> SerializableError {
     SerializableError::from_message_and_causes(String::from("m"), causes.collect())
 }
 
-// A comparison, or a drop, that calls itself for each cause needs more stack than there is.
+// If a comparison or a drop called itself for each cause, the stack would overflow.
 #[test]
 fn long_errors_go_to_json_and_back() {
     for count in [1_000, 200_000] {

@@ -45,13 +45,13 @@ const THIRD: Option<StressIndex> = Some(StressIndex {
     total: None,
 });
 
-/// The first moment there is.
+/// The earliest moment.
 const FIRST: Moment = Moment::MIN;
 
-/// The last moment there is.
+/// The latest moment.
 const LAST: Moment = Moment::MAX;
 
-/// A test of the one binary there is.
+/// A test of the only binary.
 fn instance(test_name: &str) -> TestInstanceId<'_> {
     TestInstanceId {
         binary_id: "app::bin/app",
@@ -59,7 +59,7 @@ fn instance(test_name: &str) -> TestInstanceId<'_> {
     }
 }
 
-/// Returns true if it is that test.
+/// Returns true if it is the test with this name.
 fn is_instance(found: &TestInstanceId<'_>, test_name: &str) -> bool {
     found.binary_id == "app::bin/app" && found.test_name == test_name
 }
@@ -79,7 +79,7 @@ fn are(found: &[String], wanted: &[&str]) -> bool {
     found == wanted
 }
 
-/// Returns true if a process left this: it ended so, and nothing was captured of it.
+/// Returns true if it is the output of a process with this result, of which nothing was captured.
 fn is_silent(output: &ChildExecutionOutputDescription<LiveSpec>, outcome: ExecutionResult) -> bool {
     matches!(
         output,

@@ -19,8 +19,8 @@ fn start_of(initial_run_count: usize, cancel_reason: Option<CancelReason>) -> Ru
     }
 }
 
-/// The counters of a run of a flaky test, a slow one that failed, one that timed out, one that could
-/// not be run, and two setup scripts.
+/// The counters of a run of a flaky test, a slow test that failed, a test that timed out, a test
+/// that could not be executed, and two setup scripts.
 fn counted(start: RunStart) -> RunStats {
     let flaky = finished_test(&[EXIT_ONE, EXIT_ONE], PASS, true, FlakyResult::Pass);
     let slow = finished_test(&[], EXIT_ONE, true, FlakyResult::Pass);
@@ -82,8 +82,8 @@ fn agree(test: &ExecutionStatuses<LiveSpec>) -> bool {
     stats.failed_count() == usize::from(fails) && stats.has_failures() == fails
 }
 
-/// Returns true if they agree for a test that ended so after these attempts, slow or not, with each
-/// setting for flaky tests.
+/// Returns true if they agree for a test with this last result after these attempts, slow or not,
+/// with each setting for flaky tests.
 fn agree_on(earlier: &[ExecutionResult], last: ExecutionResult) -> bool {
     [FlakyResult::Pass, FlakyResult::Fail]
         .iter()
@@ -114,7 +114,8 @@ fn outcomes() -> [RunOutcome; 3] {
     let failed = finished_test(&[], EXIT_ONE, false, FlakyResult::Pass);
     let passes = [FinishedUnit::Test(&passed)];
     let fails = [FinishedUnit::Test(&failed)];
-    // The failed run is neither the first nor the last. As one run they would be cancelled.
+    // The failed run is neither the first nor the last. Counted as one run, the runs would be
+    // cancelled.
     let runs = [
         FinishedRun {
             units: &passes,

@@ -1,4 +1,4 @@
-//! Tests that are counted by their views, which a caller makes that keeps no attempts.
+//! Tests that are counted by views, from a caller that does not keep attempts.
 
 use deodarsieve::{
     CounterFull, ExecutionResultDescription, FinalStatusLevel, FlakyResult, RunStats, StatusLevel,

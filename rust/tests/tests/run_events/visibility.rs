@@ -53,8 +53,8 @@ fn signalled(signal: i32) -> ExecutionResultDescription {
     failed(FailureDescription::Abort { abort })
 }
 
-/// Returns what is shown of a failed test with the final level `level`, if the own final level is
-/// `own`. Lines are written from `Pass` on.
+/// Returns what is shown of a failed test with the final level `level`, if the reporter's final
+/// level is `own`. Its status level is `Pass`.
 fn output(
     own: FinalStatusLevel,
     display: TestOutputDisplay,

@@ -1,14 +1,14 @@
 //! The counters that one finished unit raises.
 //!
-//! A case is `script RESULT: COUNTERS` or `test RESULT ATTEMPTS SETTING SLOW: COUNTERS`. COUNTERS are
-//! `NAME: NUMBER`, divided by a comma and a space; a counter that is not named is 0.
+//! A case is `script RESULT: COUNTERS` or `test RESULT ATTEMPTS SETTING SLOW: COUNTERS`. COUNTERS
+//! are `NAME: NUMBER`, separated by a comma and a space. A counter that is not named is 0.
 
 use crate::unit::{Unit, test_in};
 use crate::words::named_result;
 use deodarsieve::{RunStart, RunStats};
 use deodarsieve_tests::fixtures::finished_script;
 
-/// Returns the counters that a unit raises from zero, by the update.
+/// Returns the counters after a unit was counted from zero.
 fn updated(unit: &Unit) -> RunStats {
     let mut stats = RunStats::default();
     match unit {
@@ -75,7 +75,7 @@ pub fn counters_in(text: &str) -> Option<RunStats> {
     Some(stats)
 }
 
-/// Returns true if the crates have the result of a case, or `None` if the text is no case.
+/// Returns true if the crates have the result of a case, or `None` if the text is not a case.
 pub fn agrees(case: &str) -> Option<bool> {
     let (unit, counters) = case.split_once(": ")?;
     let (unit, counters) = (unit_in(unit)?, counters_in(counters)?);

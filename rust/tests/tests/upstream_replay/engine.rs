@@ -1,6 +1,7 @@
-//! What `run-digest` writes for an input.
+//! The text that `run-digest` writes for an input.
 //!
-//! A case is `STATUS INPUT STDOUT STDERR`: the exit status, and bytes in hex, `-` for none.
+//! A case is `STATUS INPUT STDOUT STDERR`: the exit status, and bytes in hexadecimal, or `-` for
+//! none.
 
 use crate::hexadecimal::bytes_in;
 use deodarsieve_cli::program_io::memory_device::{MemorySink, MemorySource};
@@ -43,7 +44,7 @@ fn run(command: Command, input: &[u8]) -> Output {
     output_of(result, sink.written().to_vec())
 }
 
-/// Returns true if the crates have the result of a case, or `None` if the text is no case.
+/// Returns true if the crates have the result of a case, or `None` if the text is not a case.
 pub fn agrees(command: Command, case: &str) -> Option<bool> {
     let words: Vec<&str> = case.split(' ').collect();
     let [status, input, stdout, stderr] = words.as_slice() else {

@@ -1,8 +1,8 @@
 //! The taken heads of output.
 //!
-//! A case is `OUTPUT START-STOP START-STOP ..`: bytes in hex, `-` for none, and the taken heads in
-//! order. The last of them is compared with those that the counted search and the search from the
-//! back find.
+//! A case is `OUTPUT START-STOP START-STOP ..`: bytes in hexadecimal, or `-` for none, and the
+//! taken heads in order. The last of them is compared with the result of the counted search and of
+//! the search from the end.
 
 use crate::hexadecimal::bytes_in;
 use deodarsieve::counted::{CountedBytes, HeadSpan, last_head, last_panic_head};
@@ -16,7 +16,7 @@ fn head_in(word: &str) -> Option<HeadSpan> {
     })
 }
 
-/// Returns true if the crates have the result of a case, or `None` if the text is no case.
+/// Returns true if the crates have the result of a case, or `None` if the text is not a case.
 pub fn agrees(case: &str) -> Option<bool> {
     let mut words = case.split(' ');
     let output = bytes_in(words.next()?)?;

@@ -35,7 +35,7 @@ pub fn named_final_level(word: &str) -> Option<FinalStatusLevel> {
     }
 }
 
-/// Returns true if the crates have the result of a case, or `None` if the text is no case.
+/// Returns true if the crates have the result of a case, or `None` if the text is not a case.
 pub fn agrees(case: &str) -> Option<bool> {
     let words: Vec<&str> = case.split(' ').collect();
     let [test @ .., level, final_level] = words.as_slice() else {

@@ -2,9 +2,9 @@
 //! crates.
 //!
 //! `data/upstream_replay.txt` has a case in each line: the name of its kind, a space, and the case.
-//! A line that begins with `#` says what the cases after it show. A line that begins with `changed`
-//! has a case with another result than upstream's, and one that begins with `malformed` has no case:
-//! these two kinds show that a wrong line is noticed.
+//! A line that begins with `#` describes the cases after it. A line that begins with `changed` has
+//! a case with another result than upstream's, and a line that begins with `malformed` has no case.
+//! These two kinds show that the replay notices a wrong line.
 
 mod counter;
 mod engine;

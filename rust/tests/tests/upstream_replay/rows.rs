@@ -1,8 +1,8 @@
-//! Worked rows: a question, and the result that is wanted.
+//! Worked rows: a question, and the expected result.
 //!
-//! A case is `QUESTION => RESULT`. The parts of a question are divided by ` | `. The first part says
-//! what is asked; if it is a call, it is the name of the call. Results are compared as texts. A result
-//! that has no text of its own is shown as debugging output.
+//! A case is `QUESTION => RESULT`. The parts of a question are separated by ` | `. The first part
+//! is the name of a call or of another question. Results are compared as texts. A result without a
+//! text of its own is compared by its debugging output.
 
 mod attempts;
 mod errors;
@@ -13,7 +13,7 @@ mod slices;
 mod stress;
 mod words;
 
-/// Returns the result of the crates, or `None` if the parts are no question.
+/// Returns the result of the crates, or `None` if the parts are not a question.
 fn answer(parts: &[&str]) -> Option<String> {
     results::answer(parts)
         .or_else(|| names::answer(parts))
@@ -24,7 +24,7 @@ fn answer(parts: &[&str]) -> Option<String> {
         .or_else(|| errors::answer(parts))
 }
 
-/// Returns true if the crates have the result of a case, or `None` if the text is no case.
+/// Returns true if the crates have the result of a case, or `None` if the text is not a case.
 pub fn agrees(case: &str) -> Option<bool> {
     let (question, wanted) = case.split_once(" => ")?;
     let parts: Vec<&str> = question.split(" | ").collect();

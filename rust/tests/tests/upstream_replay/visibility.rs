@@ -1,11 +1,12 @@
-//! What is shown of a finished test, under every own level and every level of the test.
+//! What is shown of a finished test, for every level of the reporter and every level of the test.
 //!
-//! A case is `DISPLAY REASON RESULT LINES OUTPUTS`. LINES has a letter for each own status level
-//! and, within it, for each status level of the test: `y` if its line is written, `n` if it is not.
-//! OUTPUTS has a letter for each own final level and, within it, for each final level of the test:
-//! `a` to `c` if output is not displayed at once, `d` to `f` if it is, and in each three for a test
-//! that is not stored, is stored, and is stored with its output. All levels are in order, the least
-//! first. Every pair of a letter in LINES and a letter in OUTPUTS is compared.
+//! A case is `DISPLAY REASON RESULT LINES OUTPUTS`. LINES has a letter for each status level of the
+//! reporter and, within it, for each status level of the test: `y` if its line is written, `n` if
+//! it is not. OUTPUTS has a letter for each final level of the reporter and, within it, for each
+//! final level of the test: `a` to `c` if output is not displayed at once, `d` to `f` if it is. The
+//! three letters are for a test that is not stored, is stored, and is stored with its output. All
+//! levels are in order, the least first. Every pair of a letter in LINES and a letter in OUTPUTS is
+//! compared.
 
 use deodarsieve::{
     AbortDescription, CancelReason, ExecutionResultDescription, FailureDescription,
@@ -117,7 +118,7 @@ fn wanted(line: u8, output: u8) -> Option<OutputOnTestFinished> {
     })
 }
 
-/// What a case asks, except the levels.
+/// The parts of a case except the levels.
 struct Question {
     display: TestOutputDisplay,
     reason: Option<CancelReason>,
@@ -148,7 +149,7 @@ impl Question {
     }
 }
 
-/// Returns true if the crates have the result of a case, or `None` if the text is no case.
+/// Returns true if the crates have the result of a case, or `None` if the text is not a case.
 pub fn agrees(case: &str) -> Option<bool> {
     let words: Vec<&str> = case.split(' ').collect();
     let [display, reason, result, lines, outputs] = words.as_slice() else {

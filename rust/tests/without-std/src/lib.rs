@@ -1,4 +1,4 @@
-//! Counts a test with neither the standard library nor an allocator that gives memory.
+//! Counts a test without the standard library, and with an allocator that never has memory.
 #![no_std]
 
 use core::alloc::{GlobalAlloc, Layout};

@@ -3,7 +3,7 @@ use Rattle.deodarsieve.specs.Layout.{script_counted}
 use Rattle.run_events_stats.specs.Counters.{ScriptCountersFit, with_script}
 use Rattle.deodarsieve.proofs.counters.deodarsieve_run_stats_count_script.Goals as goal
 
--- all codes name something, and the counters with one more script fit
+-- all codes are in their tables, and the counters with one more script fit
 pub returns-clause-ok : goal.returns-clause-ok
 returns-clause-ok c =
     let counted : script_counted c.args.stats.now c.args.script.now ≡ Some (with_script c.in-Some-Some.counters c.in-Some-Some.ended) = search rules in

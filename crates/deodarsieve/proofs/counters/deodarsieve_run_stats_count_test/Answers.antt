@@ -4,7 +4,7 @@ use Rattle.run_events_levels.specs.TestView.{said_of}
 use Rattle.run_events_stats.specs.Counters.{TestCountersFit, with_test}
 use Rattle.deodarsieve.proofs.counters.deodarsieve_run_stats_count_test.Goals as goal
 
--- all codes name something, and the counters with one more test do not fit
+-- all codes are in their tables, and the counters with one more test do not fit
 pub returns-then-is_err-clause-counter_full : goal.returns-then-is_err-clause-counter_full
 returns-then-is_err-clause-counter_full c =
     let counted : test_counted c.args.stats.now c.args.test.now ≡ Some (with_test c.in-Some-Some.counters (said_of c.view.result)) = search rules in

@@ -5,7 +5,7 @@ use Rattle.deodarsieve.specs.Layout.{captured, slice_out}
 use Rattle.output_slice.specs.Extraction.{IsCappedExtract}
 use Rattle.deodarsieve.proofs.slices.deodarsieve_slice_extract_capped.Goals as goal
 
--- what is the capped extraction of these streams is that of the streams that the call got
+-- the capped extraction of these streams is that of the streams that were passed
 pub returns-clause-only : goal.returns-clause-only
 returns-clause-only c positive found is =
     let limit : non_zero_usize_get c.in-Some.limit ≡ c.args.limit =

@@ -2,7 +2,7 @@ use Rattle.output_slice.proofs.Words.{◌≡◌, ◌-◌, ◌≤◌, ℕ, List, 
 use Rattle.output_slice.proofs.OccursLemmas.{is-first}
 use Rattle.output_slice.proofs.lines.next_byte.Goals as goal
 
--- the byte passes the test where the bytes from `from` on have it
+-- the byte that is searched for passes the test, at its offset in the bytes from `from` on
 passes : (b : List ℕ) (x from k : ℕ) → from ≤ k → get_or b k 0 ≡ x → is_byte x (get_or (drop from b) (k - from) 0) ≡ true
 passes b x from k low is = eq-eqb _ x (grind (arith, get_or-drop))
 

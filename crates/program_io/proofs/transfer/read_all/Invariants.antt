@@ -2,7 +2,7 @@ use Rattle.std.proofs.Common.{◌≡◌, ◌-◌, ◌^◌, false, vec_len}
 use Rattle.std.specs.Io.KnownBytes.{Consumes}
 use Rattle.program_io.proofs.transfer.read_all.Given as goal
 
--- the bytes so far are those that the source has lost
+-- the bytes so far are those that were taken from the source
 abbrev pub invariant-loop-n : goal.invariant-loop-n
 invariant-loop-n g l = record {
   works : g.R.Source.failed l.source ≡ false;

@@ -2,7 +2,7 @@ use Rattle.std.proofs.Common.{◌≡◌, false, length}
 use Rattle.program_io.proofs.KnownBytes.{Writing}
 use Rattle.program_io.proofs.transfer.write_all.Given as goal
 
--- what was written is the text without its rest
+-- the bytes written so far are the text without its rest
 abbrev pub invariant-loop-rest : goal.invariant-loop-rest
 invariant-loop-rest g l = record {
   works : g.W.Sink.failed l.sink ≡ false;

@@ -11,7 +11,7 @@ use Rattle.run_digest_engine.specs.Fault.{stage_of}
 use Rattle.run_digest_engine.specs.declared.fault.Fault.{Fault}
 use Rattle.run_digest_engine.proofs.extract.extract.Goals as goal
 
--- what is said of each extraction of what was read is said of each of the input
+-- the text is that of each extraction of the input, since it is that of each extraction of the bytes that were read
 written_alone : (left old new : Option (List ℕ)) (read bytes text : List ℕ) (success : Bool) → IfSome left (λ all. read ≡ all) → bytes ≡ read
     → ((found : Option Extract) → IsExtracted bytes found → (text ≡ extract_text found) × (success ≡ is_some found)) → Appends old new text
     → IfSome left (λ input. TellsEachExtract success old new input)

@@ -2,7 +2,7 @@ use Rattle.std.proofs.Common.{◌≡◌, ◌≤◌, length}
 use Rattle.run_digest_engine.specs.Reader.{results_from, results_of}
 use Rattle.run_digest_engine.proofs.units.parse_results.Given as goal
 
--- what is left, behind the results so far, gives what the list does
+-- the rest of the list, after the results so far, has the same result as the whole list
 abbrev pub invariant-loop-word : goal.invariant-loop-word
 invariant-loop-word l = record {
   same : results_from l.words l.last l.count ≡ results_of l.fn.list;

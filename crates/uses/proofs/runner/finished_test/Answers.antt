@@ -8,7 +8,7 @@ use Rattle.run_events_attempts.specs.declared.attempts.RetryData.{RetryData}
 use Rattle.uses.specs.Runner.{numbered_of}
 use Rattle.uses.proofs.runner.finished_test.Goals as goal
 
--- one more attempt, of the next number
+-- one more attempt, with the next number
 numbered_more : {S D : Type 0} (statuses : List (ExecuteStatus S D)) (next : ExecuteStatus S D) (f : ℕ → RetryData) (count number : ℕ)
     → map (λ s. s.retry_data) statuses ≡ map f (range_with_len 1 count) → next.retry_data ≡ f number → number ≡ count + 1
     → map (λ s. s.retry_data) (statuses ++ next ∷ []) ≡ map f (range_with_len 1 (count + 1))

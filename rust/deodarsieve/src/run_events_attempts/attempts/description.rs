@@ -93,13 +93,13 @@ impl<'a, S: OutputSpec> ExecutionDescription<'a, S> {
     ///
     /// # Panics
     ///
-    /// Panics if the status of a success has not succeeded.
+    /// Panics if the attempt of a `Success` did not succeed.
     #[must_use]
     pub fn status_level(&self) -> StatusLevel {
         match self {
             ExecutionDescription::Success { single_status } => {
                 StatusLevel::of_success(&single_status.result)
-                    .expect("the status of a success has not succeeded: `is_consistent` tests it")
+                    .expect("the attempt of a `Success` did not succeed: `is_consistent` tests it")
             }
             ExecutionDescription::Flaky { result, .. } => StatusLevel::of_flaky(*result),
             ExecutionDescription::Failure { .. } => StatusLevel::Fail,
@@ -115,13 +115,13 @@ impl<'a, S: OutputSpec> ExecutionDescription<'a, S> {
     ///
     /// # Panics
     ///
-    /// Panics if the status of a success has not succeeded and is not slow.
+    /// Panics if the attempt of a `Success` did not succeed and was not slow.
     #[must_use]
     pub fn final_status_level(&self) -> FinalStatusLevel {
         match self {
             ExecutionDescription::Success { single_status } => {
                 FinalStatusLevel::of_success(&single_status.result, single_status.is_slow)
-                    .expect("the status of a success has not succeeded: `is_consistent` tests it")
+                    .expect("the attempt of a `Success` did not succeed: `is_consistent` tests it")
             }
             ExecutionDescription::Flaky { result, .. } => FinalStatusLevel::of_flaky(*result),
             ExecutionDescription::Failure { .. } => FinalStatusLevel::Fail,

@@ -1,5 +1,5 @@
 // Made by tools/erase from crates/run_events_levels/src/levels/of_result.rt. Do not edit.
-//! The levels that a result stands for.
+//! The levels of results.
 
 use crate::run_events_levels::levels::{FinalStatusLevel, StatusLevel};
 use crate::run_events_results::results::ExecutionResultDescription;

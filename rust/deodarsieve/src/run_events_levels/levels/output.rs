@@ -1,5 +1,5 @@
 // Made by tools/erase from crates/run_events_levels/src/levels/output.rt. Do not edit.
-//! The decision what a reporter shows of a finished test.
+//! What a reporter shows of a finished test.
 
 use crate::run_events_levels::levels::{
     FinalStatusLevel, OutputOnTestFinished, OutputStoreFinal, StatusLevel, StatusLevels,
@@ -70,7 +70,7 @@ impl StatusLevels {
     }
 }
 
-/// Returns output that is at most the line.
+/// Returns no output, and the line if `write_status_line`.
 fn hidden(write_status_line: bool) -> OutputOnTestFinished {
     OutputOnTestFinished {
         write_status_line,

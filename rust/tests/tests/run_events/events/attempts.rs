@@ -1,4 +1,4 @@
-//! Tests start, are slow, are tried again, finish and are skipped.
+//! Tests are started, slow, retried, finished and skipped.
 
 use super::{
     SO_FAR, THIRD, are, event_of, instance, is_instance, is_result, is_silent, kind_of, owned,
@@ -16,7 +16,7 @@ const SECOND: RetryData = RetryData {
     total_attempts: 3,
 };
 
-/// The third slot of all, the first of its group.
+/// The third of all slots and the first of its group.
 fn in_group(name: &str) -> TestSlotAssignment {
     TestSlotAssignment {
         global_slot: 2,
@@ -37,7 +37,7 @@ fn is_in_group(slot: &TestSlotAssignment, wanted: &str) -> bool {
     )
 }
 
-/// The third slot of all, in no group of its own.
+/// The third of all slots, without a group.
 const IN_NONE: TestSlotAssignment = TestSlotAssignment {
     global_slot: 2,
     group_slot: None,

@@ -1,4 +1,4 @@
-//! Events of finished units lend them to the counters.
+//! The finished units of events are counted.
 
 use super::{SO_FAR, event_of, instance, script_id};
 use deodarsieve::{
@@ -9,7 +9,7 @@ use deodarsieve_tests::fixtures::{
     EXIT_ONE, LEAK_FAIL, PASS, TIMEOUT_PASS, finished_script, finished_test,
 };
 
-/// The event of a test whose attempts ended so, the last of them slow or not.
+/// Returns the event of a test whose attempts have these results, the last one slow or not.
 fn test_finished(
     test_name: &'static str,
     earlier: &[ExecutionResult],
@@ -31,7 +31,7 @@ fn test_finished(
     event_of(kind)
 }
 
-/// The event of the one setup script, which ran out of its time.
+/// Returns the event of the only setup script, which ran out of time.
 fn script_finished() -> ReporterEvent<'static> {
     let script_id = script_id();
     let program = String::from("sh");
@@ -50,7 +50,7 @@ fn script_finished() -> ReporterEvent<'static> {
     event_of(kind)
 }
 
-/// Returns the unit of an event that a unit has finished.
+/// Returns the finished unit of an event, if it has one.
 fn finished_unit<'e>(event: &'e ReporterEvent<'_>) -> Option<FinishedUnit<'e>> {
     let ReporterEvent::Test(event) = event else {
         return None;
@@ -64,8 +64,8 @@ fn finished_unit<'e>(event: &'e ReporterEvent<'_>) -> Option<FinishedUnit<'e>> {
     }
 }
 
-/// Returns the events of a run: a script that timed out, a flaky test, a slow one that leaked,
-/// a slow one that was to time out.
+/// Returns the events of a run: a script that timed out, a flaky test, a slow test that leaked, and
+/// a slow test that timed out, which counts as passed.
 fn events_of_run() -> Vec<ReporterEvent<'static>> {
     vec![
         script_finished(),
@@ -77,7 +77,7 @@ fn events_of_run() -> Vec<ReporterEvent<'static>> {
     ]
 }
 
-/// The counters of a run whose events are these.
+/// Returns the counters of a run with these events.
 fn counted(events: &[ReporterEvent<'_>], start: RunStart) -> RunStats {
     let units: Vec<FinishedUnit<'_>> = events.iter().filter_map(finished_unit).collect();
     RunStats::of_run(&units, start)

@@ -1,4 +1,4 @@
-//! The user asks in the middle of a run.
+//! Requests of the user in the middle of a run.
 
 use super::states::{delayed, ending, is_as_made};
 use super::{
@@ -15,7 +15,7 @@ const FIRST_OF_THREE: RetryData = RetryData {
     total_attempts: 3,
 };
 
-/// The answer of a setup script that is being ended.
+/// Returns the response of a setup script that is being ended.
 fn answer_of_script() -> SetupScriptInfoResponse {
     let script_id = script_id();
     let program = String::from("sh");
@@ -30,7 +30,7 @@ fn answer_of_script() -> SetupScriptInfoResponse {
     }
 }
 
-/// Returns true if it is that answer.
+/// Returns true if it is that response.
 fn is_script_that_ends(answer: &SetupScriptInfoResponse) -> bool {
     answer.stress_index == THIRD
         && answer.script_id.0.as_str() == "make-database"
@@ -41,7 +41,7 @@ fn is_script_that_ends(answer: &SetupScriptInfoResponse) -> bool {
         && is_silent(&answer.output, LEAK_PASS)
 }
 
-/// The answer of a test that waits for its second attempt.
+/// Returns the response of a test that waits for its second attempt.
 fn answer_of_test() -> TestInfoResponse<'static> {
     TestInfoResponse {
         stress_index: None,
@@ -52,7 +52,7 @@ fn answer_of_test() -> TestInfoResponse<'static> {
     }
 }
 
-/// Returns true if it is that answer.
+/// Returns true if it is that response.
 fn is_test_that_waits(answer: &TestInfoResponse<'_>) -> bool {
     answer.stress_index.is_none()
         && is_instance(&answer.test_instance, "adds")
@@ -62,7 +62,7 @@ fn is_test_that_waits(answer: &TestInfoResponse<'_>) -> bool {
         && is_silent(&answer.output, EXIT_ONE)
 }
 
-/// One of two answers, of this place.
+/// Returns the event of one of two responses, at this position.
 fn answered(index: usize, response: InfoResponse<'_>) -> ReporterEvent<'_> {
     let kind = TestEventKind::InfoResponse {
         index,
@@ -72,7 +72,7 @@ fn answered(index: usize, response: InfoResponse<'_>) -> ReporterEvent<'_> {
     event_of(kind)
 }
 
-/// The answer of this place, of two.
+/// Returns the response of an event, if it is one of two and at this position.
 fn answer_at<'e, 'a>(event: &'e ReporterEvent<'a>, wanted: usize) -> Option<&'e InfoResponse<'a>> {
     match kind_of(event)? {
         TestEventKind::InfoResponse {
@@ -84,7 +84,7 @@ fn answer_at<'e, 'a>(event: &'e ReporterEvent<'a>, wanted: usize) -> Option<&'e 
     }
 }
 
-/// Returns true if it is the first answer, of the setup script.
+/// Returns true if it is the first response, that of the setup script.
 fn is_answer_of_script(event: &ReporterEvent<'_>) -> bool {
     match answer_at(event, 0) {
         Some(InfoResponse::SetupScript(answer)) => is_script_that_ends(answer),
@@ -92,7 +92,7 @@ fn is_answer_of_script(event: &ReporterEvent<'_>) -> bool {
     }
 }
 
-/// Returns true if it is the second answer, of the test.
+/// Returns true if it is the second response, that of the test.
 fn is_answer_of_test(event: &ReporterEvent<'_>) -> bool {
     match answer_at(event, 1) {
         Some(InfoResponse::Test(answer)) => is_test_that_waits(answer),

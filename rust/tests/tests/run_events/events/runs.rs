@@ -48,7 +48,7 @@ fn is_for_an_hour(found: &Option<StressCondition>) -> bool {
     *found == Some(StressCondition::Duration(Duration::from_secs(3_600)))
 }
 
-/// What a repeated run comes to, one of whose three sub-runs failed.
+/// The statistics of a repeated run of three sub-runs, of which one failed.
 const ONE_FAILED: RunFinishedStats = RunFinishedStats::Stress(StressRunStats {
     completed: StressIndex {
         current: 2,
@@ -91,7 +91,7 @@ fn is_begun(event: &ReporterEvent<'_>) -> bool {
         && is_for_an_hour(stress_condition)
 }
 
-/// Some tests that a rerun did not meet, of which one is named.
+/// Tests that a rerun did not find, of which one is named.
 fn not_seen() -> TestsNotSeen {
     let test = OwnedTestInstanceId {
         binary_id: String::from("app::bin/app"),
@@ -115,7 +115,7 @@ fn are_not_seen(found: &TestsNotSeen) -> bool {
     }
 }
 
-/// The end of a rerun that did not meet some of its tests.
+/// Returns the end of a rerun that did not find some of its tests.
 fn rerun_over() -> ReporterEvent<'static> {
     let kind = TestEventKind::RunFinished {
         run_id: Uuid::from_u128(8),

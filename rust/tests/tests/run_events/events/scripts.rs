@@ -1,4 +1,4 @@
-//! Setup scripts start, are slow and finish.
+//! Setup scripts are started, slow and finished.
 
 use super::{THIRD, are, event_of, is_result, is_silent, kind_of, owned, script_id};
 use deodarsieve::{
@@ -101,7 +101,8 @@ fn finished() -> ReporterEvent<'static> {
     event_of(kind)
 }
 
-/// Returns true if the script leaked, which fails, and is in all else as `finished_script` makes it.
+/// Returns true if the script leaked, which counts as failed, and is otherwise the one that
+/// `finished_script` makes.
 fn is_leak(status: &SetupScriptExecuteStatus<LiveSpec>) -> bool {
     is_silent(&status.output, LEAK_FAIL)
         && is_result(&status.result, LEAK_FAIL)

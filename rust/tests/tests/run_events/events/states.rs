@@ -1,4 +1,4 @@
-//! What units are doing.
+//! The states of units.
 
 use deodarsieve::{
     ExecutionResultDescription, UnitState, UnitTerminateMethod, UnitTerminateReason,
@@ -6,7 +6,7 @@ use deodarsieve::{
 };
 use std::time::Duration;
 
-/// A unit that is being ended for its time, by the request to end.
+/// A unit that ran out of time and that the runner ends by a request to end.
 pub(super) fn ending() -> UnitTerminatingState {
     UnitTerminatingState {
         pid: 4_003,

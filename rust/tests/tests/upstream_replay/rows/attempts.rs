@@ -19,7 +19,7 @@ fn results_in(words: &str) -> Option<Vec<ExecutionResult>> {
     }
 }
 
-/// Returns attempts that ended so, the last one slow or not.
+/// Returns attempts with these results, the last one slow or not.
 fn attempts_of(results: &[ExecutionResult], is_slow: bool) -> Vec<ExecuteStatus<LiveSpec>> {
     (1..)
         .zip(results)
@@ -61,8 +61,8 @@ fn of_test(results: &str, setting: &str, is_slow: &str) -> Option<String> {
     )
 }
 
-/// Returns whether a success that is made of an attempt which ended so is consistent, and whether its
-/// output is that of a success.
+/// Returns whether a success that is made of an attempt with this result is consistent, and whether
+/// its output is that of a success.
 fn of_success(word: &str) -> Option<String> {
     let single_status = &attempt(result_in(word)?, 1, true);
     let description = ExecutionDescription::Success { single_status };
@@ -93,7 +93,7 @@ fn of_retry_data(attempt: &str, total: &str) -> Option<String> {
     Some(format!("{data:?}, {on_several}"))
 }
 
-/// Returns how a test ended: `job object` for an end by that of Windows, or a result.
+/// Returns the result that words name, or `job object` for the end by the Windows job object.
 fn described_in(word: &str) -> Option<ExecutionResultDescription> {
     if word != "job object" {
         let result = result_in(word)?;
@@ -106,7 +106,7 @@ fn described_in(word: &str) -> Option<ExecutionResultDescription> {
     })
 }
 
-/// Returns what is shown of a test that ended so, by the levels and the display that are set.
+/// Returns what is shown of a test with this result, by the levels and the display of the reporter.
 fn shown(levels: &[&str], reason: &str, word: &str) -> Option<String> {
     let [own, own_final, display, of_test, final_of_test] = levels else {
         return None;

@@ -12,8 +12,8 @@ use deodarsieve::{
 };
 use serde_json::Value;
 
-/// Returns the texts of an error that a JSON text is read as, and the JSON text of it again; or why
-/// the text is no error.
+/// Returns the texts of an error that a JSON text is read as, and the JSON text that is written for
+/// it, or why the text is not an error.
 fn of_json(json: &str) -> Option<String> {
     let value: Value = serde_json::from_str(json).ok()?;
     let error = match SerializableError::from_value(&value) {
@@ -72,8 +72,8 @@ fn list_text(list: Option<ErrorList<UnitError<'_>>>) -> String {
     text
 }
 
-/// Returns whether anything went wrong with a unit; the slice of its errors, all of them, those that
-/// keep it from being run, and those of its process.
+/// Returns whether a unit has errors, its slice, all its errors, those in running it, and those of
+/// its process.
 fn errors_text(kind: UnitKind, output: &ChildExecutionOutputDescription<LiveSpec>) -> String {
     if !UnitErrorDescription::can_describe(kind, output) {
         return String::from("cannot be described");
@@ -131,14 +131,14 @@ fn end_in(word: &str) -> Option<Option<ExecutionResult>> {
     }
 }
 
-/// Returns the answer for a unit that left this, described with the name of a signal.
+/// Returns the answer for a unit with this output, described with the name of a signal.
 fn of_left(kind: UnitKind, left: ChildExecutionOutput, name: &str) -> String {
     let described = ChildExecutionOutputDescription::from_output(left, text_in(name));
     errors_text(kind, &described)
 }
 
-/// Returns the errors of a unit by its end, the name of its signal, an error in reading from it, and
-/// its output.
+/// Returns the errors of a unit by its result, the name of its signal, an error in reading from it,
+/// and its output.
 fn of_unit(kind: UnitKind, words: &[&str]) -> Option<String> {
     let [end, name, error, output @ ..] = words else {
         return None;
@@ -151,7 +151,7 @@ fn of_unit(kind: UnitKind, words: &[&str]) -> Option<String> {
     Some(of_left(kind, left, name))
 }
 
-/// Returns the errors of a unit that ended so, and whose output is not loaded.
+/// Returns the errors of a unit with this result whose output is not loaded.
 fn of_unit_not_loaded(kind: UnitKind, end: &str) -> Option<String> {
     let left = ChildExecutionOutputDescription::Output {
         result: end_in(end)?.map(|end| ExecutionResultDescription::from_status(end, None)),
@@ -182,8 +182,8 @@ fn has_cause(error: &UnitError<'_>, number: usize) -> bool {
         if described.cause().message() == format!("cause {number}"))
 }
 
-/// Returns the description of a list, the number of its errors, and how many of them have the cause
-/// whose number is their place, from 0; `none` for no list.
+/// Returns the description of a list, the number of its errors, and how many of them have a cause
+/// with their position as its number, counted from 0; `none` for no list.
 fn counted_text(list: Option<ErrorList<UnitError<'_>>>) -> String {
     let Some(list) = list else {
         return String::from("none");
@@ -200,8 +200,8 @@ fn counted_text(list: Option<ErrorList<UnitError<'_>>>) -> String {
     )
 }
 
-/// Returns how many errors the lists of a test have that passed, and could not be read from `count`
-/// times: all of them, those that keep it from being run, and those of its process.
+/// Returns the numbers of errors in the lists of a test that passed and could not be read from
+/// `count` times: all errors, those in running it, and those of its process.
 fn of_many_errors(count: &str) -> Option<String> {
     let left = ChildExecutionOutput::Output {
         result: Some(ExecutionResult::Pass),

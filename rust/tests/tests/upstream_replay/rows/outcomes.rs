@@ -8,7 +8,8 @@ use deodarsieve::{
     StressIndex, StressRunStats,
 };
 
-/// Returns the summary of counters under a reason. It must also be that of the end of a single run.
+/// Returns the summary of counters with a reason. The summary of the end of a single run must be
+/// the same.
 fn summary_of(reason: &str, counters: &str) -> Option<String> {
     let stats = RunStats {
         cancel_reason: named_reason(reason)?,
@@ -105,8 +106,8 @@ fn combined(first: &str, second: &str) -> Option<String> {
     Some(format!("{:?}", first.combine(second)))
 }
 
-/// Returns the summary of a repeated run, by the number of its failed sub-runs and how the last
-/// sub-run ended.
+/// Returns the summary of a repeated run, from the number of its failed sub-runs and the summary of
+/// the last sub-run.
 fn repeated(failed_count: &str, last: &str) -> Option<String> {
     let last_final_stats = summary_in(last)?;
     let stats = StressRunStats {

@@ -23,7 +23,8 @@ fn extracted(stdout: &str, stderr: &str) -> String {
     slice_text(found)
 }
 
-/// Returns the slice of two streams that has at most as many bytes as `limit` says, and these in hex.
+/// Returns the slice of two streams, cut to its first `limit` bytes, and these bytes in
+/// hexadecimal.
 fn extracted_capped(limit: &str, stdout: &str, stderr: &str) -> Option<String> {
     let limit: NonZero<usize> = limit.parse().ok()?;
     let (stdout, stderr) = (bytes_in(stdout), bytes_in(stderr));

@@ -1,4 +1,4 @@
-//! Repeated runs: what is left of them, and the ids of their sub-runs.
+//! Repeated runs: what remains of them, and the ids of their sub-runs.
 
 use deodarsieve::{NonZeroDuration, StressCount, StressIndex, StressProgress};
 use std::num::NonZero;
@@ -29,7 +29,7 @@ fn timed_in(total: &str, elapsed: &str) -> Option<StressProgress> {
     })
 }
 
-/// Returns what is left of a run.
+/// Returns what remains of a run.
 fn left_of(progress: Option<StressProgress>) -> Option<String> {
     Some(format!("{:?}", progress?.remaining()))
 }
@@ -39,7 +39,7 @@ fn id_of(progress: Option<StressProgress>, run: &str) -> Option<String> {
     Some(progress?.unique_id(Uuid::from_u128(run.parse().ok()?)))
 }
 
-/// Returns the nanoseconds of a duration, if it is above zero.
+/// Returns the nanoseconds of a duration, if it is above 0.
 fn above_zero(nanos: &str) -> Option<String> {
     let duration = NonZeroDuration::new(Duration::from_nanos(nanos.parse().ok()?));
     Some(format!(

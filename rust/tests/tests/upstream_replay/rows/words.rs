@@ -25,8 +25,8 @@ pub fn shown<T: fmt::Display>(value: &T) -> String {
     format!("{text} or {under_sharp}")
 }
 
-/// Returns how a process ended and whether it leaked, by words such as `exit 3`, `signal 15` and
-/// `leaked signal 15`.
+/// Returns the result of a process and whether it leaked, from words such as `exit 3`, `signal 15`
+/// and `leaked signal 15`.
 fn failure_in(word: &str) -> Option<(FailureStatus, bool)> {
     let (kind, number) = word.rsplit_once(' ')?;
     let number = number.parse().ok()?;

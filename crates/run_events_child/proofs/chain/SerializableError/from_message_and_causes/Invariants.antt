@@ -3,7 +3,7 @@ use Rattle.std.specs.Option.{option_map_or}
 use Rattle.run_events_child.specs.ErrorChain.{texts}
 use Rattle.run_events_child.proofs.chain.SerializableError.from_message_and_causes.Given as goal
 
--- the causes are those still to come, and then those that are linked
+-- the causes are those that are not linked yet, and then those that are linked
 abbrev pub invariant-link : goal.invariant-link
 invariant-link l = map string_bytes l.fn.causes.items ≡ map string_bytes l.causes.items ++ option_map_or (λ b. texts b.value) l.source []
 

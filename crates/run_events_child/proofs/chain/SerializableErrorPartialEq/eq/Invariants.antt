@@ -4,7 +4,7 @@ use Rattle.std.specs.Cmp.Lexicographic.{pointwise}
 use Rattle.run_events_child.specs.ErrorChain.{texts}
 use Rattle.run_events_child.proofs.chain.SerializableErrorPartialEq.eq.Given as goal
 
--- what is compared so far is equal, so the rest decides
+-- the parts compared so far are equal, so the rest decides
 abbrev pub invariant-compare : goal.invariant-compare
 invariant-compare l = pointwise bytes_eq (texts l.initial.left) (texts l.initial.right) ≡ pointwise bytes_eq (texts l.left) (texts l.right)
 
