@@ -28,6 +28,7 @@ class Arm:
         """Writes the message of the arm."""
         if self.function:
             function = next((f for f in functions_of(source) if f.path == self.function), function)
+            _after_documentation(source, function, [TRACKED])
         found = [i for i in source.between(*function.body) if source.reads(i, "unreachable", "!", "(", ")")]
         if len(found) != 1:
             source.refuse(function.fn_token, f"`{function.name}` has not one arm that is never reached")
@@ -61,6 +62,7 @@ class Elsewhere:
         """Changes nothing."""
 
 
+TRACKED = "#[track_caller]"  # a panic then names the place of the call
 FAILURES_FIT = "the failures do not fit `usize`: `failed_counts_fit` tests it"
 NOT_LOADED = "output was not loaded"
 NO_SUCCESS = "the attempt of a `Success` did not succeed: `is_consistent` tests it"
@@ -198,10 +200,15 @@ def with_conditions(text, name, table=CONDITIONS):
 
 def _document(source, function, panics):
     """Writes the section `Panics` into the documentation of a function."""
+    section = ["///", "/// # Panics", "///"]
+    section += [f"/// {line}" for line in textwrap.wrap(f"Panics if {panics}", 92)]
+    _after_documentation(source, function, [*section, TRACKED])
+
+
+def _after_documentation(source, function, added):
+    """Writes lines after the documentation of a function, which must have one."""
     start = source.item_start(function.first)
     lines = [i for i in range(start, function.first) if source.text[i].startswith("///")]
     if not lines:
         source.refuse(function.fn_token, f"`{function.path}` has no documentation")
-    section = ["///", "/// # Panics", "///"]
-    section += [f"/// {line}" for line in textwrap.wrap(f"Panics if {panics}", 92)]
-    source.new[lines[-1]] += "\n" + "\n".join(section)
+    source.new[lines[-1]] += "\n" + "\n".join(added)

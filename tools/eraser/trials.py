@@ -15,7 +15,7 @@ CONDITION_SAMPLES = (
     (
         Assertion("x > 0", "x is 0", "`x` is 0."),
         "/// F.\npub fn f(x: u8) -> u8 { x }",
-        "/// F.\n///\n/// # Panics\n///\n/// Panics if `x` is 0.\n"
+        "/// F.\n///\n/// # Panics\n///\n/// Panics if `x` is 0.\n#[track_caller]\n"
         'pub fn f(x: u8) -> u8 { assert!(x > 0, "x is 0"); x }',
     ),
     (

@@ -54,6 +54,7 @@ impl<'a> UnitErrorDescription<'a> {
     /// # Panics
     ///
     /// Panics if the unit is a failed test and its output was not loaded.
+    #[track_caller]
     #[must_use]
     pub fn new(
         kind: UnitKind,
@@ -173,6 +174,7 @@ fn abort_of(status: &ExecutionResultDescription) -> Option<UnitAbortDescription<
 }
 
 /// Returns the part of loaded output that explains the failure of a test.
+#[track_caller]
 fn extracted(output: &ChildOutputDescription) -> Option<TestOutputErrorSlice<'_>> {
     match output {
         ChildOutputDescription::Split { stdout, stderr } => {

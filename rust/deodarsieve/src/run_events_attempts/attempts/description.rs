@@ -94,6 +94,7 @@ impl<'a, S: OutputSpec> ExecutionDescription<'a, S> {
     /// # Panics
     ///
     /// Panics if the attempt of a `Success` did not succeed.
+    #[track_caller]
     #[must_use]
     pub fn status_level(&self) -> StatusLevel {
         match self {
@@ -116,6 +117,7 @@ impl<'a, S: OutputSpec> ExecutionDescription<'a, S> {
     /// # Panics
     ///
     /// Panics if the attempt of a `Success` did not succeed and was not slow.
+    #[track_caller]
     #[must_use]
     pub fn final_status_level(&self) -> FinalStatusLevel {
         match self {

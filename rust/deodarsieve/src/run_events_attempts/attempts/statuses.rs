@@ -27,6 +27,7 @@ impl<S: OutputSpec> ExecutionStatuses<S> {
     /// # Panics
     ///
     /// Panics if `statuses` is empty.
+    #[track_caller]
     #[must_use]
     pub fn new(statuses: Vec<ExecuteStatus<S>>, flaky_result: FlakyResult) -> Self {
         assert!(

@@ -87,6 +87,7 @@ impl ChildOutputDescription {
     /// # Panics
     ///
     /// Panics if the output was not loaded.
+    #[track_caller]
     #[must_use]
     pub fn stdout_stderr_len(&self) -> (Option<u64>, Option<u64>) {
         match self {

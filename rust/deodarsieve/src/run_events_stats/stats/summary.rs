@@ -14,6 +14,7 @@ impl RunStats {
     /// # Panics
     ///
     /// Panics if the sum does not fit `usize`.
+    #[track_caller]
     #[must_use]
     pub fn failed_count(&self) -> usize {
         self.failed
@@ -30,6 +31,7 @@ impl RunStats {
     /// # Panics
     ///
     /// Panics if the sum does not fit `usize`.
+    #[track_caller]
     #[must_use]
     pub fn failed_setup_script_count(&self) -> usize {
         self.setup_scripts_failed

@@ -17,6 +17,7 @@ impl RunStats {
     /// # Panics
     ///
     /// Panics if a counter that the test raises is full.
+    #[track_caller]
     #[inline]
     pub fn on_test_view(&mut self, test: &TestView<'_>) {
         assert!(
@@ -115,6 +116,7 @@ impl RunStats {
     /// # Panics
     ///
     /// Panics if a counter that the test raises is full.
+    #[track_caller]
     pub fn on_test_finished(&mut self, test: &ExecutionStatuses<LiveSpec>) {
         let test = test.view();
         assert!(
@@ -152,6 +154,7 @@ impl RunStats {
     /// # Panics
     ///
     /// Panics if a counter that the script raises is full.
+    #[track_caller]
     pub fn on_script_result(&mut self, script: &ExecutionResultDescription) {
         assert!(
             self.can_count_script_result(script),
@@ -211,6 +214,7 @@ impl RunStats {
     /// # Panics
     ///
     /// Panics if a counter that the script raises is full.
+    #[track_caller]
     pub fn on_setup_script_finished(&mut self, script: &SetupScriptExecuteStatus<LiveSpec>) {
         let script = &script.result;
         assert!(
