@@ -117,7 +117,8 @@ pub enum ExecutionResultDescription {
 }
 
 impl ExecutionResultDescription {
-    /// Describes a result. `name` is the name of the signal, and is dropped if there is no signal.
+    /// Describes a result. `name` is the name of the signal without `SIG`, such as `TERM`. It is dropped
+    /// if there is no signal.
     pub fn from_status(status: ExecutionResult, name: Option<String>) -> Self
         ensures { result ≡ described_result status name }
     {

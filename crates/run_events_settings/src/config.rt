@@ -3,8 +3,7 @@
 ghost use Rattle.std.specs.Prelude.{◌≡◌};
 ghost use Rattle.run_events_settings.specs.Config.{is_final_display, is_immediate_display};
 
-/// How a flaky test counts. A test is flaky if its last attempt succeeded after at least one that
-/// did not.
+/// How a flaky test counts. A test is flaky if its last attempt succeeded and is not its first.
 #[derive(Clone, Copy, Debug, Default, PartialEq, Eq)]
 pub enum FlakyResult {
     /// It counts as passed.

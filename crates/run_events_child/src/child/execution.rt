@@ -36,13 +36,13 @@ pub struct Refused {
     /// The output and the errors of the child process.
     pub output: ChildExecutionOutput,
 
-    /// The name of the signal that ended the process.
+    /// The name of the signal that ended the process, without `SIG`.
     pub name: Option<String>,
 }
 
 impl ChildExecutionOutputDescription<LiveSpec> {
     /// Describes the output and the errors of a child process. `name` is the name of the signal that
-    /// ended the process, and is dropped if there is no signal.
+    /// ended the process, without `SIG`, such as `TERM`. It is dropped if there is no signal.
     pub fn from_output(
         alloc: Global,
         output: ChildExecutionOutput,

@@ -59,7 +59,8 @@ pub enum FailureDescription {
 }
 
 impl FailureDescription {
-    /// Describes a failure. `name` is the name of the signal, and is dropped for an exit code.
+    /// Describes a failure. `name` is the name of the signal without `SIG`, such as `TERM`. It is dropped
+    /// for an exit code.
     pub fn from_status(status: FailureStatus, name: Option<String>) -> Self
         ensures { result ≡ described_failure status name }
     {
@@ -113,7 +114,7 @@ pub enum AbortDescription {
 }
 
 impl AbortDescription {
-    /// Describes an abort. `name` is the name of the signal.
+    /// Describes an abort. `name` is the name of the signal without `SIG`, such as `TERM`.
     pub fn from_status(status: AbortStatus, name: Option<String>) -> Self
         ensures { result ≡ described_abort status name }
     {

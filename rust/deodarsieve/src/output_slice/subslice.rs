@@ -69,8 +69,8 @@ impl<'a> TestOutputErrorSlice<'a> {
         }
     }
 
-    /// Returns the part, whichever stream it is from. Use it for output whose two streams were
-    /// captured as one.
+    /// Returns the part, whichever stream it is from. It is never `None`. Use it for output whose two
+    /// streams were captured as one.
     #[must_use]
     pub fn combined_subslice(&self) -> Option<ByteSubslice<'a>> {
         Some(self.part())

@@ -1,8 +1,7 @@
 // Made by tools/erase from crates/run_events_settings/src/config.rt. Do not edit.
 //! The settings that decide how results count and what a reporter shows.
 
-/// How a flaky test counts. A test is flaky if its last attempt succeeded after at least one that
-/// did not.
+/// How a flaky test counts. A test is flaky if its last attempt succeeded and is not its first.
 #[derive(Clone, Copy, Debug, Default, PartialEq, Eq)]
 pub enum FlakyResult {
     /// It counts as passed.

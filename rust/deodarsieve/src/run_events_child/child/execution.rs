@@ -29,7 +29,7 @@ pub enum ChildExecutionOutput {
 
 impl ChildExecutionOutputDescription<LiveSpec> {
     /// Describes the output and the errors of a child process. `name` is the name of the signal that
-    /// ended the process, and is dropped if there is no signal.
+    /// ended the process, without `SIG`, such as `TERM`. It is dropped if there is no signal.
     #[must_use]
     pub fn from_output(output: ChildExecutionOutput, name: Option<String>) -> Self {
         match output {
