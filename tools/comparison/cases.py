@@ -131,14 +131,16 @@ def failing_devices():
         for path in ("no/such/file", "", "/", "/dev/full"):
             yield Case("test-report", [option, path], b"", "a file that cannot be written", rule="system")
         yield Case("test-report", [option, "/dev/null"], b"", "a device that is written")
-    yield Case("test-report", ["--help"], b"", "help on a full device", "system", {"stdout": "full"})
+    for program in ("run-digest", "test-report"):
+        yield Case(program, ["--help"], b"", "help on a full device", "system", {"stdout": "full"})
 
 
 def fixed_cases():
     """Yields the cases that are not generated: failures, several files, and `--version`."""
     yield from failing_devices()
     for flag in ("--version", "-V"):
-        yield Case("test-report", [flag], b"", "version")
+        for program in ("run-digest", "test-report"):
+            yield Case(program, [flag], b"", "version")
     for name, text in examples("examples/test-report/*.jsonl"):
         for form in FORMS:
             yield Case("test-report", ["--format", form], text, f"{name} as {form}")

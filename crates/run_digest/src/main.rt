@@ -3,6 +3,7 @@
 #![tactic(auto)]
 
 use program_io::std_device::{StdSink, StdSource};
+use program_io::transfer::write_all;
 use run_digest_engine::command::Command;
 use run_digest_engine::count::count;
 use run_digest_engine::extract::extract;
@@ -12,7 +13,50 @@ use std::io::{self, ErrorKind};
 use std::process::ExitCode;
 use std::rt::Env;
 
-/// Does what the words after the program's name ask for, from standard input to standard output.
+/// What `--help` prints.
+const HELP: &str = "\
+Counts a test run, or finds why a test failed
+
+Usage: run-digest [COMMAND]
+
+Commands:
+  count    Count the finished tests and setup scripts of a run, one per line
+  extract  Find the part of a test's output that explains its failure
+
+Options:
+  -h, --help     Print help
+  -V, --version  Print version
+
+Both commands read standard input. Without a command, `count` is run.
+
+Input of `count`, for example, in which `pass` and `fail` are the results of attempts:
+  run 2 0 -
+  test fail,pass
+  test fail slow
+
+Exit status:
+  0  the run succeeded, or a part was found
+  1  the run did not succeed, or no part was found
+  2  an argument or a line is invalid
+  3  reading or writing failed, or there was not enough memory
+";
+
+/// What `--version` prints.
+const VERSION: &str = "run-digest 0.1.0\n";
+
+/// Returns the text that the arguments ask for instead of a command, if they do.
+fn text_for(words: &[String]) -> Option<&'static str> {
+    match words {
+        [word] => match word.as_str() {
+            "-h" | "--help" => Some(HELP),
+            "-V" | "--version" => Some(VERSION),
+            _ => None,
+        },
+        _ => None,
+    }
+}
+
+/// Does what the arguments ask for, from standard input to standard output.
 fn run<R: Env + AllocGlobal + Input + Print>(rt: &R) -> Result<bool, Fault> {
     let mut args = env::args(rt).map_err(|error| match error.kind() {
         ErrorKind::InvalidData => Fault::BadWord,
@@ -23,9 +67,13 @@ fn run<R: Env + AllocGlobal + Input + Print>(rt: &R) -> Result<bool, Fault> {
     for word in args {
         words.push(word)?;
     }
+    let mut sink = StdSink::new(io::writer(rt));
+    if let Some(text) = text_for(words.as_slice()) {
+        write_all(&mut sink, text.as_bytes())?;
+        return Ok(true);
+    }
     let command = Command::from_words(words.as_slice())?;
     let mut source = StdSource::new(rt.reader());
-    let mut sink = StdSink::new(io::writer(rt));
     match command {
         Command::Extract => extract(rt.alloc(), &mut source, &mut sink),
         Command::Count => count(rt.alloc(), &mut source, &mut sink),
