@@ -6,6 +6,8 @@
 #![forbid(unsafe_code)]
 
 #[doc(hidden)]
+pub mod commands;
+#[doc(hidden)]
 pub mod program;
 #[doc(hidden)]
 pub mod program_io;

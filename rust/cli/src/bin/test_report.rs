@@ -1,8 +1,9 @@
 //! `test-report`: reports which tests of a run failed, and why, from the JSON lines that Rust's test
 //! harness or cargo nextest writes.
 
-use clap::{Arg, ArgAction, ArgMatches, Command, value_parser};
+use clap::ArgMatches;
 use deodarsieve::RunOutcome;
+use deodarsieve_cli::commands::test_report;
 use deodarsieve_cli::program::{BAD_ARGUMENT, DEVICE_FAILED, Failure, KeepError, print_clap};
 use deodarsieve_cli::program_io::std_device::{StdSink, StdSource};
 use deodarsieve_cli::replaced_file::{append, replace};
@@ -22,86 +23,6 @@ use std::ffi::OsString;
 use std::fs::File;
 use std::io::{self, ErrorKind, IsTerminal, Read, Write};
 use std::process::ExitCode;
-
-/// How many bytes of why a test failed are shown if `--limit` is absent.
-const LIMIT: &str = "4096";
-
-/// The values of `--format`.
-const FORMS: [&str; 6] = ["text", "github", "names", "junit", "html", "markdown"];
-
-/// What `--help` says after the options.
-const AFTER_HELP: &str = "\
-Examples (with `set -o pipefail` a pipe also fails if the test command does):
-  cargo test --no-fail-fast -- -Z unstable-options --format json 2>&1 | test-report
-  cargo nextest run --message-format libtest-json 2>&1 | test-report
-  .. | test-report --format github                      annotations of a workflow on GitHub
-  .. | test-report --format names                       the names of failed tests, to run them again
-  .. | test-report --junit junit.xml                    the text, and a file for a build server
-  .. | test-report --html report.html                   the text, and a page for a browser
-  .. | test-report --markdown \"$GITHUB_STEP_SUMMARY\"    the text, and a summary on GitHub
-  test-report --format junit first.jsonl second.jsonl   two files, as one run
-
-Exit status:
-  0  the run succeeded
-  1  the run did not succeed: a test failed or did not run, or there was no test
-  2  an argument is invalid
-  3  reading or writing failed, or a number is too large to count";
-
-/// Returns the arguments that the program takes.
-fn command() -> Command {
-    Command::new("test-report")
-        .version(env!("CARGO_PKG_VERSION"))
-        .about("Reports which tests of a run failed, and why, from the JSON output of the run")
-        .arg(Arg::new("file").value_name("FILE").num_args(0..).help(
-            "The JSON lines of the run, in one file or several; standard input if absent or `-`",
-        ))
-        .arg(choice("format", "FORM", "text", FORMS).help("Write the report in this form"))
-        .arg(file("junit").help("Write JUnit's XML to FILE as well"))
-        .arg(file("html").help("Write a page for a browser to FILE as well"))
-        .arg(file("markdown").help("Append Markdown to FILE as well, such as $GITHUB_STEP_SUMMARY"))
-        .arg(
-            choice("no-tests", "ACTION", "fail", ["fail", "pass"])
-                .help("How the run ends if it has no tests"),
-        )
-        .arg(
-            choice("color", "WHEN", "auto", ["auto", "always", "never"])
-                .help("Colour the words for results"),
-        )
-        .arg(
-            Arg::new("limit")
-                .long("limit")
-                .value_name("BYTES")
-                .value_parser(value_parser!(usize))
-                .default_value(LIMIT)
-                .help("Show at most BYTES bytes of why a test failed"),
-        )
-        .arg(
-            Arg::new("raw")
-                .long("raw")
-                .action(ArgAction::SetTrue)
-                .help("Print control characters as the tests wrote them, not as escapes"),
-        )
-        .after_help(AFTER_HELP)
-}
-
-/// Returns an option that has one of several values.
-fn choice<const N: usize>(
-    name: &'static str,
-    value: &'static str,
-    default: &'static str,
-    values: [&'static str; N],
-) -> Arg {
-    Arg::new(name)
-        .long(name)
-        .value_name(value)
-        .value_parser(values)
-        .default_value(default)
-}
-
-/// Returns an option that names a file.
-fn file(name: &'static str) -> Arg {
-    Arg::new(name).long(name).value_name("FILE")
-}
 
 /// Returns the program's name and its arguments.
 fn arguments() -> Result<Vec<String>, Failure> {
@@ -255,7 +176,7 @@ fn report_of(matches: &ArgMatches) -> Result<ExitCode, Failure> {
 
 /// Does what the arguments ask for, and returns the exit status.
 fn run() -> Result<ExitCode, Failure> {
-    match command().try_get_matches_from(arguments()?) {
+    match test_report().try_get_matches_from(arguments()?) {
         Ok(matches) => report_of(&matches),
         Err(message) => print_clap(&message),
     }

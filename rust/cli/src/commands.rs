@@ -1,0 +1,113 @@
+//! The arguments of the programs.
+
+use clap::{Arg, ArgAction, Command, value_parser};
+
+/// What `run-digest --help` says after the options.
+const AFTER_DIGEST_HELP: &str = "\
+Both commands read standard input. Without a command, `count` is run.
+
+Input of `count`, for example, in which `pass` and `fail` are the results of attempts:
+  run 2 0 -
+  test fail,pass
+  test fail slow
+
+Exit status:
+  0  the run succeeded, or a part was found
+  1  the run did not succeed, or no part was found
+  2  an argument or a line is invalid
+  3  reading or writing failed";
+
+/// How many bytes of why a test failed are shown if `--limit` is absent.
+const LIMIT: &str = "4096";
+
+/// The values of `--format`.
+const FORMS: [&str; 6] = ["text", "github", "names", "junit", "html", "markdown"];
+
+/// What `test-report --help` says after the options.
+const AFTER_REPORT_HELP: &str = "\
+Examples (with `set -o pipefail` a pipe also fails if the test command does):
+  cargo test --no-fail-fast -- -Z unstable-options --format json 2>&1 | test-report
+  cargo nextest run --message-format libtest-json 2>&1 | test-report
+  .. | test-report --format github                      annotations of a workflow on GitHub
+  .. | test-report --format names                       the names of failed tests, to run them again
+  .. | test-report --junit junit.xml                    the text, and a file for a build server
+  .. | test-report --html report.html                   the text, and a page for a browser
+  .. | test-report --markdown \"$GITHUB_STEP_SUMMARY\"    the text, and a summary on GitHub
+  test-report --format junit first.jsonl second.jsonl   two files, as one run
+
+Exit status:
+  0  the run succeeded
+  1  the run did not succeed: a test failed or did not run, or there was no test
+  2  an argument is invalid
+  3  reading or writing failed, or a number is too large to count";
+
+/// Returns the arguments that `run-digest` takes.
+pub fn run_digest() -> Command {
+    let count = Command::new("count")
+        .about("Count the finished tests and setup scripts of a run, one per line");
+    let extract =
+        Command::new("extract").about("Find the part of a test's output that explains its failure");
+    Command::new("run-digest")
+        .version(env!("CARGO_PKG_VERSION"))
+        .about("Counts a test run, or finds why a test failed")
+        .subcommand(count)
+        .subcommand(extract)
+        .disable_help_subcommand(true)
+        .after_help(AFTER_DIGEST_HELP)
+}
+
+/// Returns the arguments that `test-report` takes.
+pub fn test_report() -> Command {
+    Command::new("test-report")
+        .version(env!("CARGO_PKG_VERSION"))
+        .about("Reports which tests of a run failed, and why, from the JSON output of the run")
+        .arg(Arg::new("file").value_name("FILE").num_args(0..).help(
+            "The JSON lines of the run, in one file or several; standard input if absent or `-`",
+        ))
+        .arg(choice("format", "FORM", "text", FORMS).help("Write the report in this form"))
+        .arg(file("junit").help("Write JUnit's XML to FILE as well"))
+        .arg(file("html").help("Write a page for a browser to FILE as well"))
+        .arg(file("markdown").help("Append Markdown to FILE as well, such as $GITHUB_STEP_SUMMARY"))
+        .arg(
+            choice("no-tests", "ACTION", "fail", ["fail", "pass"])
+                .help("How the run ends if it has no tests"),
+        )
+        .arg(
+            choice("color", "WHEN", "auto", ["auto", "always", "never"])
+                .help("Colour the words for results"),
+        )
+        .arg(
+            Arg::new("limit")
+                .long("limit")
+                .value_name("BYTES")
+                .value_parser(value_parser!(usize))
+                .default_value(LIMIT)
+                .help("Show at most BYTES bytes of why a test failed"),
+        )
+        .arg(
+            Arg::new("raw")
+                .long("raw")
+                .action(ArgAction::SetTrue)
+                .help("Print control characters as the tests wrote them, not as escapes"),
+        )
+        .after_help(AFTER_REPORT_HELP)
+}
+
+/// Returns an option that has one of several values.
+fn choice<const N: usize>(
+    name: &'static str,
+    value: &'static str,
+    default: &'static str,
+    values: [&'static str; N],
+) -> Arg {
+    Arg::new(name)
+        .long(name)
+        .value_name(value)
+        .value_parser(values)
+        .default_value(default)
+}
+
+/// Returns an option that names a file.
+fn file(name: &'static str) -> Arg {
+    Arg::new(name).long(name).value_name("FILE")
+}
