@@ -1,7 +1,7 @@
 //! Laws of reports, for the proofs of callers. Each is a function that does nothing, and its contract is
 //! the law.
 
-ghost use Rattle.test_report_engine.specs.Laws.{OneReport};
+ghost use Rattle.test_report_engine.specs.Laws.{FailureHasReason, FilesNameReason, GithubNamesReason, HtmlNamesReason, MarkdownNamesReason, OneReport, OneRun, SuccessMeans, TextNamesReason};
 
 /// Inputs have at most one report in a form, and one end of the run.
 pub fn one_report()
@@ -9,4 +9,35 @@ pub fn one_report()
 {
     test_report_events::laws::one_event_of_line();
     test_report_forms::laws::one_entry();
+}
+
+/// The entries and the end of a report are those of the run of which the laws of `test_report_run`
+/// speak.
+pub fn one_run()
+    ensures { OneRun }
+{}
+
+/// What status 0 means. If the outcome in a report is `Success`, a test passed and nothing is wrong with
+/// the lines of the inputs, as `test_report_run::laws::success_is_in_order` lists it. If the outcome is
+/// `NoTestsRun`, no test passed, and nothing is wrong either.
+pub fn success_means()
+    ensures { SuccessMeans }
+{
+    test_report_run::laws::success_is_in_order();
+}
+
+/// What status 1 means. If the outcome in a report is not `Success`, an entry is of a failed test, of a
+/// disagreement, or of a suite whose tests were not all run; or no test ran. Each of these forms then
+/// has the name of a failed test, the line of a disagreement or of such a suite, or says that no test
+/// ran.
+pub fn failure_has_reason()
+    ensures reason { FailureHasReason }
+    ensures text { TextNamesReason }
+    ensures github { GithubNamesReason }
+    ensures html { HtmlNamesReason }
+    ensures markdown { MarkdownNamesReason }
+    ensures files { FilesNameReason }
+{
+    test_report_run::laws::failure_has_reason();
+    test_report_forms::laws::names_causes();
 }

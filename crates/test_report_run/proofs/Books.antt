@@ -275,7 +275,7 @@ module _ {loose : ℕ} {w v : NoteView → ℕ} {h : Kept → ℕ} {Fine : Kept 
       keeps-set r at (with_start (suite_at r at) name) [] f (place-in r name) (fine-at r at f (place-in r name)) (omega arith)
   keeps-line r (TestEnds e) f = keeps-test r e (place_of_end r.running e.name) f
   keeps-line r OtherLine f = keeps-same r [] f refl refl
-  keeps-line r (HeadingLine suite) f = keeps-print r (AHeading suite) [] f refl refl
+  keeps-line r (HeadingLine suite) f = keeps-print r AHeading [] f refl refl
   keeps-line r (CargoFails k line plain) f =
       let d = CargoSays plain in
       let counts = length r.suites == 0 && not (is_explained r k) in

@@ -27,9 +27,9 @@ early_rest s = record { skipped = s.skipped; left = 0; time = s.time }
 -- what becomes known of a suite that ends by its last line, which explains this
 abbrev pub last_by : SuiteState → Explanation → List (List ℕ) → List NoteView
 last_by s e names =
-    failed_notes s HasNoEnd (lost e names)
+    map (skipped_note s) (take e.skipped names)
+    ++ (failed_notes s HasNoEnd (lost e names)
     ++ (flaky_notes s e.flaky_failed
-    ++ (map (skipped_note s) (take e.skipped names)
     ++ (last_disagreement (last_state s e names)
     ++ number_notes (last_state s e names) (rest_of s e names))))
 
@@ -48,9 +48,9 @@ module _ (w : NoteView → ℕ) (not_run : (suite : List ℕ) (n of : ℕ) → w
 
   -- what becomes known of a suite that ends by its last line
   pub of-last-all : (s : SuiteState) (e : Explanation) (names : List (List ℕ)) → sum_by w (last_by s e names)
-      ≡ sum_by (λ name. w (failed_note s HasNoEnd name)) (lost e names)
+      ≡ sum_by (λ name. w (skipped_note s name)) (take e.skipped names)
+      + (sum_by (λ name. w (failed_note s HasNoEnd name)) (lost e names)
       + (sum_by (λ f. w (flaky_note s e.flaky_failed f)) s.flaky
-      + (sum_by (λ name. w (skipped_note s name)) (take e.skipped names)
       + (sum_by w (last_disagreement (last_state s e names)) + w (suite_note (last_state s e names) (rest_of s e names)))))
   of-last-all s e names =
       simp (sum_by-append, sum-map) (omega (arith, simp sum_by-append at (of-numbers (last_state s e names) (rest_of s e names))))

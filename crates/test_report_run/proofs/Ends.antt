@@ -18,12 +18,12 @@ early-notes s s1 s2 names n crashed old n1 n2 n3 n4 count same after failed rele
 pub last-notes : (s s1 s2 : SuiteState) (names front back : List (List ℕ)) (e : Explanation) (n left : ℕ) (time : Option ℕ) (old n1 n2 n3 n4 n5 : List NoteView)
     → n ≡ length names → e ≡ explained_of s n → front ≡ take e.skipped names → back ≡ drop e.skipped names
     → left ≡ (if e.others_failed then 0 else length back) → s1 ≡ record s { stats = with_failed s.stats (if e.others_failed then back else []) }
-    → n1 ≡ old ++ failed_notes s HasNoEnd (if e.others_failed then back else [])
-    → s2 ≡ record s1 { stats = with_all_flaky e.flaky_failed s1.stats s1.flaky; flaky = [] } → n2 ≡ n1 ++ flaky_notes s1 e.flaky_failed
-    → n3 ≡ n2 ++ map (skipped_note s2) front → n4 ≡ n3 ++ last_disagreement s2
+    → n1 ≡ old ++ map (skipped_note s) front → n2 ≡ n1 ++ failed_notes s HasNoEnd (if e.others_failed then back else [])
+    → s2 ≡ record s1 { stats = with_all_flaky e.flaky_failed s1.stats s1.flaky; flaky = [] } → n3 ≡ n2 ++ flaky_notes s1 e.flaky_failed
+    → n4 ≡ n3 ++ last_disagreement s2
     → time ≡ option_or s2.said.time s2.time
     → n5 ≡ n4 ++ number_notes s2 record { skipped = s2.skipped + e.skipped + e.nameless; left = left; time = time }
     → n5 ≡ old ++ last_notes s names
-last-notes s s1 s2 names front back e n left time old n1 n2 n3 n4 n5 count explained first others some after failed released flaky skipped said is
+last-notes s s1 s2 names front back e n left time old n1 n2 n3 n4 n5 count explained first others some after skipped failed released flaky said is
     numbers =
-    rw (numbers, is, said, skipped, flaky, failed, released, after, some, first, others, explained, count) (simp append_assoc)
+    rw (numbers, is, said, flaky, failed, skipped, released, after, some, first, others, explained, count) (simp append_assoc)

@@ -29,7 +29,7 @@ told-note : (note : NoteView) → cond (is_told_failure note) 1 0 ≤ cond (is_t
 told-note (TestIs t) = told-outcome t.outcome
 told-note note = omega arith
 
-told-failed : (notes : List NoteView) → told notes ≤ failed_in notes
+pub told-failed : (notes : List NoteView) → told notes ≤ failed_in notes
 told-failed notes = sum_by-le-sum_by (λ x. cond (is_told_failure x) 1 0) (λ x. cond (is_test (λ t. has_failed t.outcome) x) 1 0) notes told-note
 
 unclean : (files : List (List EventView)) → 0 < failed_lines_of files → IsClean (all_notes files) → ⊥

@@ -1,15 +1,20 @@
+pub mod Announced
 pub mod Attempts
 pub mod Books
 pub mod Causes
 pub mod CleanEnds
 pub mod Counters
 pub mod Cuts
-pub mod EndSums
 pub mod Ends
+pub mod EndSums
 pub mod FailedLines
+pub mod InOrder
+pub mod LineParts
+pub mod NotRun
 pub mod Outcomes
 pub mod OverRuns
 pub mod Places
+pub mod Reasons
 pub mod Runs
 pub mod Shown
 pub mod Sound
@@ -17,3 +22,4 @@ pub mod Sums
 pub mod Tallies
 pub mod ToldFailures
 pub mod Verdicts
+pub mod Weights

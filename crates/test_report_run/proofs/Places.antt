@@ -1,5 +1,5 @@
 -- Places in a list of views.
-use Rattle.std.proofs.Common.{◌≡◌, ◌∙◌, ℕ, zero, suc, List, [], ◌∷◌, ◌++◌, ◌+◌, ◌<◌, Bool, not, cond, map, refl, ap, sym, arith, length, get_or, take, drop, string_bytes, unwrap_or}
+use Rattle.std.proofs.Common.{◌≡◌, ℕ, zero, suc, List, [], ◌∷◌, ◌++◌, ◌+◌, ◌<◌, Bool, not, cond, map, refl, ap, sym, arith, length, get_or, take, drop, string_bytes, unwrap_or}
 use Rattle.test_report_run.specs.Running.{names_of, running_view}
 use Rattle.test_report_run.specs.declared.running.RunningTest.{RunningTest}
 use Rattle.std.specs.List.{insert, position, position_or_len, prefix_len, remove}

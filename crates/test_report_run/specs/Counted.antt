@@ -1,5 +1,5 @@
 -- How a test that finished counts.
-use Rattle.std.specs.Prelude.{ℕ, Bool, false, pos}
+use Rattle.std.specs.Prelude.{ℕ, false, pos}
 use Rattle.run_events_levels.specs.TestView.{TestView}
 use Rattle.run_events_results.specs.declared.results.ExecutionResultDescription.{ExecutionResultDescription}
 use Rattle.run_events_results.specs.declared.results.ExecutionResultDescription.TheVariants as described

@@ -1,5 +1,5 @@
 -- The end of a test of a suite.
-use Rattle.std.specs.Prelude.{◌+◌, ◌∷◌, [], ℕ, List, Bool, true, false, codes, nat_lt, if◌then◌else◌, Option, Some, None}
+use Rattle.std.specs.Prelude.{◌+◌, ◌∷◌, [], ℕ, List, Bool, false, codes, nat_lt, if◌then◌else◌, Option}
 use Rattle.std.specs.List.{insert, position_or_len}
 use Rattle.std.specs.Option.{option_map_or}
 use Rattle.std.specs.Str.{bytes_eq}

@@ -1,5 +1,5 @@
 -- What the last line of a suite explains.
-use Rattle.std.specs.Prelude.{◌+◌, ◌-◌, ◌==◌, ◌&&◌, ◌||◌, ℕ, Bool, true, false, not, if◌then◌else◌, nat_lt, nat_le, min, Option, Some, None}
+use Rattle.std.specs.Prelude.{◌+◌, ◌-◌, ◌==◌, ◌&&◌, ◌||◌, ℕ, Bool, false, not, if◌then◌else◌, nat_lt, nat_le, min}
 use Rattle.std.specs.Option.{option_map_or}
 use Rattle.test_report_run.specs.declared.last_line.Explanation.{Explanation}
 use Rattle.test_report_run.specs.declared.last_line.Tally.{Tally}

@@ -8,6 +8,7 @@ pub mod Prints
 pub mod Run
 pub mod Running
 pub mod Said
+pub mod Status
 pub mod Suite
 pub mod Totals
 pub mod Whole

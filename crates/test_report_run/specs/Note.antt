@@ -1,5 +1,5 @@
 -- What becomes known of a run.
-use Rattle.std.specs.Prelude.{ℕ, List, Bool, map, Option, Some, None, option_map, String, string_bytes}
+use Rattle.std.specs.Prelude.{ℕ, List, Bool, map, Option, option_map, String, string_bytes}
 use Rattle.std.specs.declared.alloc.Global.{Global}
 use Rattle.run_events_stats.specs.declared.stats.RunStats.{RunStats}
 use Rattle.test_report_events.specs.declared.event.TestResult.{TestResult}

@@ -1,5 +1,5 @@
 -- A suite that is over.
-use Rattle.std.specs.Prelude.{◌+◌, ◌-◌, ◌++◌, ◌==◌, ◌∷◌, ◌^◌, [], ℕ, zero, suc, List, Bool, true, false, drop, length, map, max, nat_lt, take, if◌then◌else◌, is_some, Option, Some, None, unwrap_or}
+use Rattle.std.specs.Prelude.{◌+◌, ◌-◌, ◌++◌, ◌==◌, ◌∷◌, ◌^◌, [], ℕ, List, Bool, true, false, drop, length, map, max, nat_lt, take, if◌then◌else◌, is_some, None, unwrap_or}
 use Rattle.std.specs.List.{fold}
 use Rattle.std.specs.Option.{option_map_or, option_or}
 use Rattle.run_events_stats.specs.Counters.{with_test}
@@ -139,8 +139,8 @@ skipped_note s name = test_note s (over_of name) IsSkipped
 abbrev pub last_notes : SuiteState → List (List ℕ) → List NoteView
 last_notes s names =
     let e = explained_of s (length names) in
-    failed_notes s HasNoEnd (lost e names)
+    map (skipped_note s) (take e.skipped names)
+    ++ (failed_notes s HasNoEnd (lost e names)
     ++ (flaky_notes s e.flaky_failed
-    ++ (map (skipped_note s) (take e.skipped names)
     ++ (last_disagreement (last_state s e names)
     ++ number_notes (last_state s e names) (rest_of s e names))))

@@ -1,5 +1,5 @@
 -- What may say why a suite ended early.
-use Rattle.std.specs.Prelude.{◌==◌, ◌&&◌, ◌||◌, ◌++◌, ◌∷◌, [], ℕ, zero, suc, List, Bool, codes, if◌then◌else◌, length, map, nat_le, nat_lt, slice_index, string_bytes, true, false}
+use Rattle.std.specs.Prelude.{◌==◌, ◌&&◌, ◌||◌, ◌++◌, ◌∷◌, [], ℕ, zero, suc, List, Bool, codes, if◌then◌else◌, length, map, nat_le, nat_lt, slice_index, string_bytes}
 use Rattle.std.specs.List.{remove, slice_range}
 use Rattle.std.specs.Str.{bytes_eq, trim}
 use Rattle.test_report_run.specs.declared.prints.Printed.{Printed}
@@ -12,13 +12,13 @@ use Rattle.test_report_run.specs.declared.prints.Stage.TheVariants.{Open, Failed
 -- a line that is no event of a harness
 pub data PrintedView : Type 0 where
   APrint : List ℕ → List ℕ → PrintedView
-  AHeading : List ℕ → PrintedView
+  AHeading : PrintedView
   AFailure : List ℕ → PrintedView
 
 -- what such a line says
 abbrev pub printed_view : Printed → PrintedView
 printed_view (printed.Print line plain) = APrint line.now plain.now
-printed_view (printed.Heading line) = AHeading line.now
+printed_view printed.Heading = AHeading
 printed_view (printed.CargoFailed line) = AFailure line.now
 
 -- the lines that are kept, and how far the others were read
@@ -58,19 +58,19 @@ last_two lines = if nat_lt 2 (length lines) then remove lines 0 else lines
 -- the stage after a line that comes after the first failure
 abbrev pub after_failure : PrintedView → Stage
 after_failure (APrint line plain) = if bytes_eq plain (codes "Caused by:") then stage.CausedBy else stage.Failed
-after_failure (AHeading line) = stage.Over
+after_failure AHeading = stage.Over
 after_failure (AFailure line) = stage.Over
 
--- a line as it is kept
-abbrev pub line_of : PrintedView → List ℕ
-line_of (APrint line plain) = line
-line_of (AHeading line) = line
-line_of (AFailure line) = line
+-- what is kept of the line right after `Caused by:`: the line, unless it is a heading
+abbrev pub caused_by : PrintedView → List (List ℕ)
+caused_by (APrint line plain) = line ∷ []
+caused_by AHeading = []
+caused_by (AFailure line) = line ∷ []
 
 -- what is kept after a line before the first heading or failure
 abbrev pub with_print : PrintsView → PrintedView → PrintsView
 with_print p (APrint line plain) = if is_blank line then p else record p { lines = last_two p.lines ++ cut line ∷ [] }
-with_print p (AHeading line) = record p { stage = stage.Over }
+with_print p AHeading = record p { stage = stage.Over }
 with_print p (AFailure line) = record p { stage = stage.Failed }
 
 -- what is kept after a line
@@ -78,6 +78,6 @@ abbrev pub after_line : PrintsView → PrintedView → PrintsView
 after_line p line = elim p.stage as (λ _. PrintsView) [
   | Open ↦ with_print p line
   | Failed ↦ record p { stage = after_failure line }
-  | CausedBy ↦ record { lines = p.lines ++ line_of line ∷ []; stage = stage.Over }
+  | CausedBy ↦ record { lines = p.lines ++ caused_by line; stage = stage.Over }
   | Over ↦ p
 ]

@@ -222,7 +222,7 @@ printed_to r line = record r { outside = suite_prints line r.outside; suites = m
 
 -- a heading
 abbrev pub headed : RunState → List ℕ → RunState
-headed r suite = record (printed_to r (AHeading suite)) { heading = Some suite }
+headed r suite = record (printed_to r AHeading) { heading = Some suite }
 
 -- a failed test or a disagreement before it explains a failure of cargo
 abbrev pub is_explained : RunState → CargoFailure → Bool

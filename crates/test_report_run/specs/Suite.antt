@@ -1,5 +1,5 @@
 -- A suite of a run.
-use Rattle.std.specs.Prelude.{◌+◌, ◌-◌, ◌++◌, ◌==◌, ◌∷◌, [], ℕ, List, Bool, codes, false, is_none, length, map, not, take, if◌then◌else◌, Option, Some, None, option_and_then, option_map, string_bytes, unwrap_or}
+use Rattle.std.specs.Prelude.{◌+◌, ◌-◌, ◌++◌, ◌==◌, [], ℕ, List, Bool, codes, false, is_none, length, map, take, if◌then◌else◌, Option, Some, None, option_and_then, option_map, string_bytes, unwrap_or}
 use Rattle.std.specs.Fmt.{decimal}
 use Rattle.std.specs.List.{position}
 use Rattle.std.specs.Option.{option_map_or, option_or}

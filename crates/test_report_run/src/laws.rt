@@ -2,6 +2,7 @@
 //! the law.
 
 ghost use Rattle.test_report_run.specs.Laws.{CargoFailureShows, CleanEndIsWhole, EarlyEndShows, FailedLineShows, FailedLinesAreTold, FailedVerdictShows, FailureIsTold, FailuresAreKnown, LastLineAgrees, NoFailureOfFileEnd, OneFailureOfLine, OutcomeMeans, StrayEndShows, SuitesAreSound, TotalsAreCounts};
+ghost use Rattle.test_report_run.specs.Status.{AnnouncedAreCounted, FailureHasReason, NotRunIsNamed, SuccessIsInOrder};
 
 /// A line that says that a test failed makes one failed test known, which has the name, the time and
 /// the reason of the line. No other line does, nor the end of a file.
@@ -47,4 +48,23 @@ pub fn success_means()
     ensures verdicts { FailedVerdictShows }
     ensures whole { CleanEndIsWhole }
     ensures cargo { CargoFailureShows }
+{}
+
+/// A run that does not succeed has a reason that becomes known: a failed test, a disagreement, or a
+/// suite whose tests were not all run, which a note names. Otherwise its outcome is `NoTestsRun`, and no
+/// test passed.
+pub fn failure_has_reason()
+    ensures named { NotRunIsNamed }
+    ensures reason { FailureHasReason }
+{}
+
+/// If the outcome is `Success`, a test passed, and nothing is wrong with the lines of the run: no line
+/// says that a test failed, and no last line of a suite has a failed verdict. Each last line says how
+/// many tests passed and that none failed, and each test of its suite has ended or was skipped. Each
+/// suite has its last line, and no test starts outside of a suite. At least as many tests finished or
+/// were skipped as were announced. No failure of cargo is read while no suite is open. If the outcome
+/// is `NoTestsRun`, no test passed, and nothing is wrong either.
+pub fn success_is_in_order()
+    ensures announced { AnnouncedAreCounted }
+    ensures in_order { SuccessIsInOrder }
 {}

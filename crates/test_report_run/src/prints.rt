@@ -1,7 +1,7 @@
 //! What a crash may have printed.
 
 ghost use Rattle.std.specs.Prelude.{◌≡◌, IfOk, OnOk, map, string_bytes, ◌++◌, ◌∷◌, []};
-ghost use Rattle.test_report_run.specs.Prints.{after_failure, after_line, cut, last_two, line_of, no_prints, printed_view, prints_view, with_print};
+ghost use Rattle.test_report_run.specs.Prints.{after_failure, after_line, caused_by, cut, last_two, no_prints, printed_view, prints_view, with_print};
 
 use std::alloc::{AllocError, Global};
 
@@ -18,7 +18,7 @@ pub(crate) enum Printed<'a> {
     Print { line: &'a str, plain: &'a str },
 
     /// A heading of cargo.
-    Heading { line: &'a str },
+    Heading,
 
     /// A line in which cargo or nextest reports a failure.
     CargoFailed { line: &'a str },
@@ -73,7 +73,7 @@ impl Prints {
             }
             Stage::CausedBy => {
                 self.stage = Stage::Over;
-                self.push(alloc, text_of(printed))
+                self.on_cause(alloc, printed)
             }
             Stage::Over => Ok(()),
         }
@@ -90,7 +90,7 @@ impl Prints {
                 self.make_room();
                 self.push(alloc, shortened(line))
             }
-            Printed::Heading { .. } => {
+            Printed::Heading => {
                 self.stage = Stage::Over;
                 Ok(())
             }
@@ -98,6 +98,18 @@ impl Prints {
                 self.stage = Stage::Failed;
                 Ok(())
             }
+        }
+    }
+
+    /// Takes the line right after `Caused by:`, which says why, unless it is a heading.
+    fn on_cause(&mut self, alloc: Global, printed: Printed<'_>) -> Result<(), AllocError>
+        ensures { OnOk result (prints_view self.new ≡ record (prints_view self.old) {
+          lines = (prints_view self.old).lines ++ caused_by (printed_view printed.entry);
+        }) }
+    {
+        match printed {
+            Printed::Print { line, .. } | Printed::CargoFailed { line } => self.push(alloc, line),
+            Printed::Heading => Ok(()),
         }
     }
 
@@ -145,18 +157,7 @@ fn stage_after_failure(printed: Printed<'_>) -> Stage
             ..
         } => Stage::CausedBy,
         Printed::Print { .. } => Stage::Failed,
-        Printed::Heading { .. } | Printed::CargoFailed { .. } => Stage::Over,
-    }
-}
-
-/// Returns a line as it is kept.
-fn text_of(printed: Printed<'_>) -> &str
-    ensures { result.now ≡ line_of (printed_view printed.entry) }
-{
-    match printed {
-        Printed::Print { line, .. } | Printed::Heading { line } | Printed::CargoFailed { line } => {
-            line
-        }
+        Printed::Heading | Printed::CargoFailed { .. } => Stage::Over,
     }
 }
 

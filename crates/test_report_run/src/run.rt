@@ -63,8 +63,8 @@ impl TestRun {
         }
     }
 
-    /// Takes the next line of the file, and returns what it makes known: first failed tests, then
-    /// disagreements, then tests that were not run, suite by suite.
+    /// Takes the next line of the file, and returns what it makes known: first tests, those without an
+    /// end before flaky ones, then disagreements, then tests that were not run, suite by suite.
     pub fn on_event(&mut self, alloc: Global, event: Event<'_>) -> Result<Vec<Note>, RunError>
         ensures tells { IfOk result (λ notes. map note_view notes.items
             ≡ spec.notes_at (run_state self.old) (event_view event.entry)) }
@@ -361,9 +361,10 @@ impl TestRun {
             Some((key, _)) => self.open_suite(Some(key)),
             None => None,
         };
-        named
-            .or(self.open_suite(None))
-            .or(self.suites.len().checked_sub(1))
+        if named.is_some() {
+            return named;
+        }
+        self.open_suite(None).or(self.suites.len().checked_sub(1))
     }
 
     /// Takes the start of a test.
@@ -524,7 +525,7 @@ impl TestRun {
     fn on_heading(&mut self, alloc: Global, suite: &str) -> Result<(), RunError>
         ensures { OnOk result (run_state self.new ≡ spec.headed (run_state self.old) suite.now) }
     {
-        self.on_print(alloc, Printed::Heading { line: suite })?;
+        self.on_print(alloc, Printed::Heading)?;
         self.heading = Some(String::from_str(alloc, suite)?);
         Ok(())
     }

@@ -144,9 +144,9 @@ impl Suite {
         let explained = self.explained(left.len())?;
         let mut skipped = left;
         let others = skipped.split_off(explained.skipped);
+        self.skip_all(skipped, notes)?;
         let left = self.fail_lost(explained.others_failed, others, notes)?;
         self.release_flaky(explained.flaky_failed, notes)?;
-        self.skip_all(skipped, notes)?;
         self.push_disagreement(notes)?;
         let rest = Rest {
             skipped: self.skipped as u128 + explained.skipped as u128 + explained.nameless,

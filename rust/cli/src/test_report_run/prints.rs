@@ -14,7 +14,7 @@ pub(crate) enum Printed<'a> {
     Print { line: &'a str, plain: &'a str },
 
     /// A heading of cargo.
-    Heading { line: &'a str },
+    Heading,
 
     /// A line in which cargo or nextest reports a failure.
     CargoFailed { line: &'a str },
@@ -63,7 +63,7 @@ impl Prints {
             }
             Stage::CausedBy => {
                 self.stage = Stage::Over;
-                self.push(text_of(printed));
+                self.on_cause(printed);
             }
             Stage::Over => {}
         }
@@ -77,12 +77,20 @@ impl Prints {
                 self.make_room();
                 self.push(shortened(line));
             }
-            Printed::Heading { .. } => {
+            Printed::Heading => {
                 self.stage = Stage::Over;
             }
             Printed::CargoFailed { .. } => {
                 self.stage = Stage::Failed;
             }
+        }
+    }
+
+    /// Takes the line right after `Caused by:`, which says why, unless it is a heading.
+    fn on_cause(&mut self, printed: Printed<'_>) {
+        match printed {
+            Printed::Print { line, .. } | Printed::CargoFailed { line } => self.push(line),
+            Printed::Heading => {}
         }
     }
 
@@ -116,16 +124,7 @@ fn stage_after_failure(printed: Printed<'_>) -> Stage {
             ..
         } => Stage::CausedBy,
         Printed::Print { .. } => Stage::Failed,
-        Printed::Heading { .. } | Printed::CargoFailed { .. } => Stage::Over,
-    }
-}
-
-/// Returns a line as it is kept.
-fn text_of(printed: Printed<'_>) -> &str {
-    match printed {
-        Printed::Print { line, .. } | Printed::Heading { line } | Printed::CargoFailed { line } => {
-            line
-        }
+        Printed::Heading | Printed::CargoFailed { .. } => Stage::Over,
     }
 }
 

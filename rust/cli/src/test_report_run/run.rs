@@ -52,8 +52,8 @@ impl TestRun {
         }
     }
 
-    /// Takes the next line of the file, and returns what it makes known: first failed tests, then
-    /// disagreements, then tests that were not run, suite by suite.
+    /// Takes the next line of the file, and returns what it makes known: first tests, those without an
+    /// end before flaky ones, then disagreements, then tests that were not run, suite by suite.
     pub fn on_event(&mut self, event: Event<'_>) -> Result<Vec<Note>, RunError> {
         let mut notes = Vec::new();
         self.tell(event, &mut notes)?;
@@ -246,9 +246,10 @@ impl TestRun {
             Some((key, _)) => self.open_suite(Some(key)),
             None => None,
         };
-        named
-            .or(self.open_suite(None))
-            .or(self.suites.len().checked_sub(1))
+        if named.is_some() {
+            return named;
+        }
+        self.open_suite(None).or(self.suites.len().checked_sub(1))
     }
 
     /// Takes the start of a test.
@@ -369,7 +370,7 @@ impl TestRun {
 
     /// Takes a heading of cargo.
     fn on_heading(&mut self, suite: &str) -> Result<(), RunError> {
-        self.on_print(Printed::Heading { line: suite });
+        self.on_print(Printed::Heading);
         self.heading = Some(String::from(suite));
         Ok(())
     }

@@ -1,5 +1,5 @@
 -- At most 200 bytes of a line.
-use Rattle.std.proofs.Common.{◌≡◌, ◌∙◌, ap}
+use Rattle.std.proofs.Common.{◌∙◌, ap}
 use Rattle.std.specs.List.{slice_range}
 use Rattle.test_report_run.proofs.Cuts.{floor-is}
 use Rattle.test_report_run.proofs.prints.shortened.Goals as goal

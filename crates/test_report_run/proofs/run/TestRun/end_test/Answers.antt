@@ -1,5 +1,5 @@
 -- A test that runs is taken out, and counts in its suite.
-use Rattle.std.proofs.Common.{◌≡◌, ◌++◌, ap, map, sym}
+use Rattle.std.proofs.Common.{◌++◌, ap, map, sym}
 use Rattle.std.proofs.lemmas.Result.{IfOk-equal}
 use Rattle.test_report_events.specs.Event.{test_end_view}
 use Rattle.test_report_run.specs.Note.{note_view}

@@ -1,5 +1,5 @@
 -- The notes of a suite that ends by its last line.
-use Rattle.std.proofs.Common.{◌≡◌, ◌∙◌, List, ℕ, ap, arith, drop, length, sym, string_bytes, take, if◌then◌else◌}
+use Rattle.std.proofs.Common.{◌∙◌, List, ℕ, ap, arith, sym, string_bytes}
 use Rattle.std.proofs.lemmas.List.{drop-map, length-map, take-map}
 use Rattle.std.proofs.lemmas.Result.{on_ok_weaker}
 use Rattle.test_report_run.specs.Running.{names_of}
@@ -19,5 +19,5 @@ returns c =
     (grind (arith, c.len.ensures, c.args.left.ok, length-map tests name)) c.in_ok-explained.ensures.0
     (ap names_of c.in_ok-others.ensures.items ∙ sym (take-map name e.skipped tests))
     (ap names_of c.in_ok-others.ensures.tail ∙ sym (drop-map name e.skipped tests)) (rw (length-map c.in_ok-others.others.items name) lost.left)
-    lost.counts lost.tells flaky.counts flaky.tells c.in_ok-skip_all.ensures c.in_ok-push_disagreement.ensures c.or.ensures)
+    lost.counts c.in_ok-skip_all.ensures lost.tells flaky.counts flaky.tells c.in_ok-push_disagreement.ensures c.or.ensures)
     c.push_numbers.ensures

@@ -1,5 +1,5 @@
 -- The notes of a suite that ends early.
-use Rattle.std.proofs.Common.{◌≡◌, arith, length, sym, string_bytes}
+use Rattle.std.proofs.Common.{arith, sym, string_bytes}
 use Rattle.std.proofs.lemmas.List.{length-map}
 use Rattle.std.proofs.lemmas.Result.{on_ok_weaker}
 use Rattle.test_report_run.specs.Running.{names_of}

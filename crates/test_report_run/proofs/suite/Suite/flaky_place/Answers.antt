@@ -1,5 +1,5 @@
 -- The place of a flaky test.
-use Rattle.std.proofs.Common.{◌≡◌, arith}
+use Rattle.std.proofs.Common.{arith}
 use Rattle.test_report_run.specs.Ended.{starts_later}
 use Rattle.test_report_run.specs.Suite.{flaky_view}
 use Rattle.test_report_run.specs.declared.suite.FlakyTest.{FlakyTest}
