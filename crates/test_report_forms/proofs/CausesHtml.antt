@@ -36,24 +36,28 @@ in-element {e} {part} h =
 
 -- how an element gets its children
 tree-kept : {e : ElementView} {part : List ℕ} → (t : TreeView) → Says e part → Says (with_tree e t) part
+unfolding with_tree
 tree-kept {e} {part} t h =
     record { is = subst (λ text. HasPart text part) (sym (flat_map-append text_of_tree e.children (t ∷ []))) (in-left (text_of_tree t ++ []) h.is) }
 
 tree-says : {part : List ℕ} → (e : ElementView) (t : TreeView) → HasPart (text_of_tree t) part → Says (with_tree e t) part
+unfolding with_tree
 tree-says {part} e t h =
     let last = in-right (flat_map text_of_tree e.children) (in-left [] h) in
     record { is = subst (λ text. HasPart text part) (sym (flat_map-append text_of_tree e.children (t ∷ []))) last }
 
 text-kept : {e : ElementView} {part : List ℕ} → (bytes : List ℕ) → Says e part → Says (with_text e bytes) part
+unfolding with_text
 text-kept [] h = h
 text-kept (b ∷ bytes) h = tree-kept (TextTree (b ∷ bytes)) h
 
 text-says : (e : ElementView) (bytes : List ℕ) → Says (with_text e bytes) (data_text bytes)
-unfolding text_of_tree data_text
+unfolding text_of_tree data_text with_text
 text-says e [] = record { is = empty-part _ (whole-part []) }
 text-says e (b ∷ bytes) = tree-says e (TextTree (b ∷ bytes)) (whole-part (data_text (b ∷ bytes)))
 
 child-says : {c : ElementView} {part : List ℕ} → (e : ElementView) → Says c part → Says (with_child e c) part
+unfolding with_child
 child-says {c} e h = tree-says e (tree_of c) (in-element h)
 
 first-kept : (ts : List TreeView) (part : List ℕ) → HasPart (flat_map text_of_tree ts) part → HasPart (flat_map text_of_tree (first_line ts)) part
@@ -64,17 +68,20 @@ abbrev with_first : ElementView → ElementView
 with_first e = record e { children = first_line e.children }
 
 pub line-kept : {e : ElementView} {part : List ℕ} → (c : ElementView) → Says e part → Says (with_line e c) part
+unfolding with_line with_tree
 line-kept {e} {part} c h =
     let first : Says (with_first e) part = record { is = first-kept e.children part h.is } in
     tree-kept {e = with_tree (with_first e) (tree_of c)} line_end (tree-kept {e = with_first e} (tree_of c) first)
 
 pub line-has : {part : List ℕ} → (e c : ElementView) → HasPart (text_of_tree (tree_of c)) part → Says (with_line e c) part
+unfolding with_line with_tree
 line-has e c h = tree-kept {e = with_tree (with_first e) (tree_of c)} line_end (tree-says (with_first e) (tree_of c) h)
 
 line-says : {c : ElementView} {part : List ℕ} → (e : ElementView) → Says c part → Says (with_line e c) part
 line-says {c} e h = line-has e c (in-element h)
 
 lines-kept : {X : Type 0} (f : X → ElementView) {e : ElementView} {part : List ℕ} → (xs : List X) → Says e part → Says (with_lines f e xs) part
+unfolding with_line
 lines-kept f [] h = h
 lines-kept f (x ∷ xs) h = lines-kept f xs (line-kept (f x) h)
 
@@ -90,7 +97,7 @@ kept-if false p q = q
 
 -- failed tests
 name-in-heading : (t : FailedView) → Says (failed_heading t) (data_text t.name)
-unfolding failed_heading with_note
+unfolding failed_heading with_note with_child
 name-in-heading t =
     let before = with_suite (with_span (new_element (codes "h3")) (codes "status") t.status) t.suite in
     let named = child-says before (text-says (new_element (codes "span")) t.name) in

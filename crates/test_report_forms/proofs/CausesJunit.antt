@@ -8,7 +8,7 @@ use Rattle.test_report_forms.specs.Collected.{no_tests_ran}
 use Rattle.test_report_forms.specs.Junit.{JunitState, cause_case, close_cases, ended, junit_state, junit_text, junit_tree, own_cases, run_element, with_own, xml_header}
 use Rattle.test_report_forms.specs.JunitSuite.{CasesView, suite_element, suite_start, with_lines, xml_text}
 use Rattle.test_report_forms.specs.Laws.{HasPart, JunitSaysNoTests}
-use Rattle.test_report_forms.specs.Tree.{ElementView, start_text, text_of_tree, tree_of, value_text}
+use Rattle.test_report_forms.specs.Tree.{ElementView, new_element, start_text, text_of_tree, tree_of, value_text, with_attribute, with_line}
 use Rattle.test_report_forms.specs.declared.options.Options.{Options}
 use Rattle.test_report_run.specs.declared.note.RunEnd.{RunEnd}
 
@@ -17,20 +17,21 @@ abbrev Has : List ℕ → ElementView → Type 0
 Has part e = HasPart (text_of_tree (tree_of e)) part
 
 name-in-case : (line type_of : List ℕ) → Has (value_text (xml_text line)) (cause_case line type_of).element
-unfolding cause_case text_of_tree start_text
+unfolding cause_case text_of_tree start_text with_line with_attribute new_element
 name-in-case line type_of =
     in-left _ (in-right (codes "<") (in-right (codes "testcase") (in-left _ (in-right (codes " ") (in-right (codes "name") (in-right (codes "=\"")
     (in-left (codes "\"") (whole-part (value_text (xml_text line))))))))))
 
 -- elements on lines of their own
 lines-kept : {e : ElementView} {part : List ℕ} → (es : List ElementView) → Says e part → Says (with_lines e es) part
+unfolding with_line
 lines-kept [] h = h
 lines-kept (e ∷ es) h = lines-kept es (line-kept e h)
 
 lines-have : (e : ElementView) (part : List ℕ) (es : List ElementView) → OneHas (Has part) es → Says (with_lines e es) part
 lines-have e part [] h = absurd h
 lines-have e part (c ∷ es) (inl h) = lines-kept es (line-has e c h)
-lines-have e part (c ∷ es) (inr h) = lines-have _ part es h
+lines-have e part (c ∷ es) (inr h) = lines-have (with_line e c) part es h
 
 last-has : {X : Type 0} (P : X → Type 0) (xs : List X) (x : X) → P x → OneHas P (xs ++ x ∷ [])
 last-has P [] x h = inl h

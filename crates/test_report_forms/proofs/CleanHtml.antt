@@ -17,7 +17,7 @@ use Rattle.test_report_forms.specs.HtmlParts.{RowView, are_zero, bar, causes_sec
 use Rattle.test_report_forms.specs.Laws.{HtmlHasNoControls}
 use Rattle.test_report_forms.specs.List.{KeyedLine, put_falling}
 use Rattle.test_report_forms.specs.Title.{title}
-use Rattle.test_report_forms.specs.Tree.{ElementView}
+use Rattle.test_report_forms.specs.Tree.{ElementView, with_line}
 use Rattle.test_report_forms.specs.Words.{outcome_word, summary_sentence}
 use Rattle.test_report_forms.specs.declared.html_parts.Numbers.{Numbers}
 use Rattle.test_report_forms.specs.declared.html_parts.TheConstants.{POLICY}
@@ -41,6 +41,7 @@ clean-styled style bytes h s b = text bytes (attribute h (word (codes "style") r
 -- elements in a list, each on a line of its own
 lines : {X : Type 0} (f : X → ElementView) (P : X → Type 0) → ((x : X) → P x → CleanElement (f x)) → {e : ElementView} → (xs : List X) → CleanElement e
     → All P xs → CleanElement (with_lines f e xs)
+unfolding with_line
 lines f P is [] h are = h
 lines f P is (x ∷ xs) h are = lines f P is xs (line h (is x (All-head P x xs are))) (All-tail P x xs are)
 

@@ -7,7 +7,7 @@ use Rattle.test_report_forms.proofs.Controls.{Clean, also, clean-char, clean-cha
 use Rattle.test_report_forms.proofs.JunitElements.{Holds, in-junit}
 use Rattle.test_report_forms.specs.Collected.{FailedView, cause_of_entry, shown_failure_of}
 use Rattle.test_report_forms.specs.Entry.{EntryView, LinesDisagree, SuiteNotRun, SuiteOver, TestFailed, TestPassed, TestSkipped}
-use Rattle.test_report_forms.specs.Junit.{cause_case, failed_case, failed_name, failed_type, flaky_failure, junit_text, junit_tree, output_element, passed_case, run_start, skipped_case, test_element, why_element, with_flaky, with_output, xml_header}
+use Rattle.test_report_forms.specs.Junit.{cause_case, cause_error, failed_case, failed_name, failed_type, flaky_failure, junit_text, junit_tree, output_element, passed_case, run_start, skipped_case, test_element, why_element, with_flaky, with_output, xml_header}
 use Rattle.test_report_forms.specs.JunitSuite.{CasesView, suite_name, suite_start, with_number, with_sums, with_time, xml_char, xml_name, xml_text}
 use Rattle.test_report_forms.specs.Laws.{JunitHasNoControls}
 use Rattle.test_report_forms.specs.Shown.{front, is_escaped, shown_text}
@@ -26,6 +26,7 @@ unfolding xml_text
 clean-xml h = clean-chars xml_char clean-xml_char h
 
 clean-xml_name : (name : List ℕ) → Clean (xml_name name)
+unfolding xml_name
 clean-xml_name name = clean-xml (clean-name name)
 
 clean-suite_name : (name : Option (List ℕ)) → Clean (suite_name name)
@@ -33,13 +34,16 @@ unfolding suite_name
 clean-suite_name name = clean-xml_name (unwrap_or name (codes "(no suite)"))
 
 time-attribute : {e : ElementView} → (time : Option ℕ) → CleanElement e → CleanElement (with_time e time)
+unfolding with_time
 time-attribute None h = h
 time-attribute (Some micros) h = attribute h (word (codes "time") refl) (clean-seconds micros)
 
 number : {e : ElementView} {name : List ℕ} → (n : ℕ) → CleanElement e → Clean name → CleanElement (with_number e name n)
+unfolding with_number
 number n h name = attribute h name (clean-decimal n)
 
 sums : {e : ElementView} → (n : JunitCounts) → CleanElement e → CleanElement (with_sums e n)
+unfolding with_sums
 sums n h =
     number n.errors (number n.failures (number n.tests h (word (codes "tests") refl)) (word (codes "failures") refl)) (word (codes "errors") refl)
 
@@ -102,7 +106,7 @@ clean-failed t f w limit =
     clean-output f.stdout (line (clean-test t) why)
 
 clean-cause : (cause type_of : List ℕ) → Clean cause → Clean type_of → CleanElement (cause_case cause type_of).element
-unfolding cause_case
+unfolding cause_case cause_error
 clean-cause cause type_of c t =
     let named = attribute (new (word (codes "testcase") refl)) (word (codes "name") refl) (clean-xml c) in
     let message = attribute (new (word (codes "error") refl)) (word (codes "message") refl) (clean-xml c) in

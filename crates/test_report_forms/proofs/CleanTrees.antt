@@ -93,21 +93,26 @@ pub clean-element : {e : ElementView} → CleanElement e → Clean (text_of_tree
 clean-element {e} h = clean-tree (tree_of e) (clean-tree_of h)
 
 pub new : {name : List ℕ} → Clean name → CleanElement (new_element name)
+unfolding new_element
 new h = record { name = h; attributes = All-nil CleanAttribute; children = All-nil CleanTree }
 
 pub attribute : {e : ElementView} {name value : List ℕ} → CleanElement e → Clean name → Clean value → CleanElement (with_attribute e name value)
+unfolding with_attribute
 attribute {e} {name} {value} h n v =
     let more = All-push CleanAttribute e.attributes (record { name = name; value = value }) h.attributes (record { name = n; value = v }) in
     record { name = h.name; attributes = more; children = h.children }
 
 tree : {e : ElementView} → (t : TreeView) → CleanElement e → CleanTree t → CleanElement (with_tree e t)
+unfolding with_tree
 tree {e} t h c = record { name = h.name; attributes = h.attributes; children = All-push CleanTree e.children t h.children c }
 
 pub text : {e : ElementView} → (bytes : List ℕ) → CleanElement e → Clean bytes → CleanElement (with_text e bytes)
+unfolding with_text
 text [] h c = h
 text (b ∷ bytes) h c = tree (TextTree (b ∷ bytes)) h c
 
 pub child : {e c : ElementView} → CleanElement e → CleanElement c → CleanElement (with_child e c)
+unfolding with_child
 child {e} {c} h d = tree (tree_of c) h (clean-tree_of d)
 
 clean-line_end : CleanTree line_end
@@ -118,6 +123,7 @@ clean-first [] h = All-cons CleanTree line_end [] clean-line_end (All-nil CleanT
 clean-first (t ∷ ts) h = h
 
 pub line : {e c : ElementView} → CleanElement e → CleanElement c → CleanElement (with_line e c)
+unfolding with_line
 line {e} {c} h d =
     let before = All-push CleanTree (first_line e.children) (tree_of c) (clean-first e.children h.children) (clean-tree_of d) in
     let all = All-push CleanTree (first_line e.children ++ (tree_of c ∷ [])) line_end before clean-line_end in

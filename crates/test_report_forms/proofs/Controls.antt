@@ -89,6 +89,7 @@ seen-in-name false true unseen e = absurd (true≢false e)
 seen-in-name false false unseen e = e
 
 lacks-name_char : (c : ℕ) → Lacks is_unseen (name_char c)
+unfolding name_char
 lacks-name_char c =
     let test = c == 9 || (c == 10 || is_escaped c) in
     elim test as (λ b. test ≡ b → Lacks is_unseen (if b then escape c else encode_utf8 c)) [
@@ -168,6 +169,7 @@ clean-number {ds} n = record { is = (digits-seen ds n.digits).is }
 
 -- a text as it is shown
 clean-text_char : (c : ℕ) → Clean (text_char false c)
+unfolding text_char
 clean-text_char c =
     elim (is_escaped c) as (λ b. is_escaped c ≡ b → Clean (if b then escape c else encode_utf8 c))
     [ true ↦ λ e. weaker (lacks-escape c) | false ↦ λ e. clean-char c e ] refl
@@ -199,12 +201,12 @@ by-bytes P c one two three four =
     by-test P c 128 _ _ one (λ a. by-test P c 2048 _ _ (λ b. two b a) (λ b. by-test P c 65536 _ _ (λ d. three d b) four))
 
 -- what is written of the characters of such a text
-whole : (c : ℕ) (bs : List ℕ) → chars_after zero c bs ≡ c ∷ chars bs
+pub whole : (c : ℕ) (bs : List ℕ) → chars_after zero c bs ≡ c ∷ chars bs
 unfolding chars
 whole c [] = refl
 whole c (b ∷ bs) = refl
 
-led : (a n v : ℕ) (bs : List ℕ) → n ≡ continuation_len a → v ≡ lead_bits a → chars (a ∷ bs) ≡ chars_after n v bs
+pub led : (a n v : ℕ) (bs : List ℕ) → n ≡ continuation_len a → v ≡ lead_bits a → chars (a ∷ bs) ≡ chars_after n v bs
 unfolding chars
 led a n v bs p q = λ i. chars_after (sym p i) (sym q i) bs
 

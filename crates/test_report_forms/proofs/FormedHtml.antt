@@ -8,7 +8,7 @@ use Rattle.test_report_forms.specs.Html.{html_of, html_tree, main_part, page, pa
 use Rattle.test_report_forms.specs.HtmlParts.{RowView, are_zero, bar, causes_section, cell_text, charset, classed, color_scheme, column, empty_bar, failed_heading, failed_section, failed_test, head, header, heading, item, meta, metas, note_text, numbers_cell, numbers_of_run, outcome_element, part, policy, row, row_header, section, share_bar, share_of, share_part, slow_row, slow_table, style_element, styled, suites_section, summary, table, table_head, time_cell, title_element, viewport, why_element, with_lines, with_note, with_part, with_span, with_suite, words, words_text}
 use Rattle.test_report_forms.specs.Laws.{HtmlReadsBack}
 use Rattle.test_report_forms.specs.List.{KeyedLine}
-use Rattle.test_report_forms.specs.Tree.{ElementView, with_text}
+use Rattle.test_report_forms.specs.Tree.{ElementView, new_element, with_attribute, with_line, with_text}
 use Rattle.test_report_forms.specs.Words.{outcome_word, summary_sentence}
 use Rattle.test_report_forms.specs.declared.html_parts.Numbers.{Numbers}
 use Rattle.test_report_forms.specs.declared.html_parts.TheConstants.{POLICY}
@@ -21,16 +21,17 @@ formed-classed name class is = attribute (codes "class") class refl (new name is
 
 -- an element with a class and a text
 formed-spoken : (name class bytes : List ℕ) → is_name name ≡ true → Formed (with_text (classed name class) bytes)
-unfolding classed
+unfolding classed new_element with_attribute
 formed-spoken name class bytes is = text bytes (attribute (codes "class") class refl (new name is)) refl
 
 lines : {X : Type 0} (f : X → ElementView) → ((x : X) → Formed (f x)) → {e : ElementView} → (xs : List X) → Formed e → Formed (with_lines f e xs)
+unfolding with_line
 lines f is [] h = h
 lines f is (x ∷ xs) h = lines f is xs (line h (is x))
 
 -- bars
 add-part : {e : ElementView} → (class : List ℕ) (n : ℕ) → Formed e → Formed (with_part e class n)
-unfolding with_part part styled classed
+unfolding with_part part styled classed new_element with_attribute
 add-part class n h =
     let span = attribute (codes "class") class refl (new (codes "span") refl) in
     element-if _ h (child h (text (decimal n) (attribute (codes "style") _ refl span) refl))
@@ -49,7 +50,7 @@ formed-cell n =
     child (element-if (are_zero n) cell (child cell (formed-bar n))) (formed-spoken (codes "div") (codes "words") (words_text n) refl)
 
 formed-row_header : (name : List ℕ) → Formed (row_header name)
-unfolding row_header
+unfolding row_header new_element with_attribute
 formed-row_header name = text name (attribute (codes "scope") (codes "row") refl (new (codes "th") refl)) refl
 
 formed-time_cell : (time : Option ℕ) → Formed (time_cell time)
@@ -57,7 +58,7 @@ unfolding time_cell
 formed-time_cell time = formed-spoken (codes "td") (codes "time") (cell_text time) refl
 
 formed-column : (name : List ℕ) → Formed (column name)
-unfolding column
+unfolding column new_element with_attribute
 formed-column name = text name (attribute (codes "scope") (codes "col") refl (new (codes "th") refl)) refl
 
 formed-table_head : (first second : List ℕ) → Formed (table_head first second)
@@ -67,7 +68,7 @@ formed-table_head first second =
     child (new (codes "thead") refl) (child (child (child (new (codes "tr") refl) (formed-column first)) (formed-column second)) time)
 
 formed-section : (title : List ℕ) → Formed (section title)
-unfolding section
+unfolding section new_element
 formed-section title = line (new (codes "section") refl) (text title (new (codes "h2") refl) refl)
 
 formed-table : (first second : List ℕ) {rows : ElementView} → Formed rows → Formed (table first second rows)
@@ -99,14 +100,14 @@ formed-metas =
     line (line (line (line (new (codes "head") refl) charset) policy) viewport) colors
 
 formed-head : (outcome : RunOutcome) → Formed (head outcome)
-unfolding head title_element style_element
+unfolding head title_element style_element new_element
 formed-head outcome =
     let title = text (codes "Test report: " ++ outcome_word outcome) (new (codes "title") refl) refl in
     line (line formed-metas title) (text STYLE.now (new (codes "style") refl) refl)
 
 -- the outcome and the summary of the run
 formed-heading : (outcome : RunOutcome) → Formed (heading outcome)
-unfolding heading outcome_element
+unfolding heading outcome_element new_element with_attribute
 formed-heading outcome =
     let word = text (outcome_word outcome) (attribute (codes "class") (codes "word " ++ outcome_word outcome) refl (new (codes "span") refl)) refl in
     child (text (codes "Test report: ") (new (codes "h1") refl) refl) word
@@ -120,7 +121,7 @@ formed-header end =
 
 -- causes
 formed-item : (bytes : List ℕ) → Formed (item bytes)
-unfolding item
+unfolding item new_element
 formed-item bytes = text bytes (new (codes "li") refl) refl
 
 formed-causes_section : (causes : List (List ℕ)) (no_tests : Bool) → Formed (causes_section causes no_tests)
@@ -140,14 +141,14 @@ add-suite None h = h
 add-suite (Some suite) h = add-span (codes "suite") suite h
 
 formed-failed_heading : (t : FailedView) → Formed (failed_heading t)
-unfolding failed_heading with_note
+unfolding failed_heading with_note new_element
 formed-failed_heading t =
     let suite = add-suite t.suite (add-span (codes "status") t.status (new (codes "h3") refl)) in
     let name = child suite (text t.name (new (codes "span") refl) refl) in
     element-if _ name (child name (formed-spoken (codes "span") (codes "note") (note_text t) refl))
 
 formed-failed_test : (t : FailedView) → Formed (failed_test t)
-unfolding failed_test why_element
+unfolding failed_test why_element new_element
 formed-failed_test t =
     let why = child (new (codes "pre") refl) (text t.why (new (codes "code") refl) refl) in
     let opened = attribute (codes "open") (codes "open") refl (new (codes "details") refl) in
@@ -155,7 +156,7 @@ formed-failed_test t =
 
 -- the slowest tests
 formed-share : (share : ℕ) → Formed (share_bar share)
-unfolding share_bar share_part styled
+unfolding share_bar share_part styled new_element with_attribute
 formed-share share =
     let span = attribute (codes "style") (codes "flex-basis: " ++ (decimal share ++ codes "%")) refl (new (codes "span") refl) in
     child (formed-classed (codes "div") (codes "bar") refl) (text (decimal share ++ codes " %") span refl)

@@ -5,8 +5,8 @@ use Rattle.std.specs.Option.{IfSome}
 use Rattle.test_report_forms.proofs.FormedTrees.{Formed, attribute, document, is_name, line, new, text}
 use Rattle.test_report_forms.proofs.JunitElements.{Holds, in-junit}
 use Rattle.test_report_forms.specs.Collected.{CauseView, FailedView, cause_of_entry, shown_failure_of}
-use Rattle.test_report_forms.specs.Junit.{cause_case, failed_case, failed_name, failed_type, flaky_failure, junit_text, junit_tree, output_element, own_name, passed_case, run_start, skipped_case, test_element, why_element, with_flaky, with_output, xml_header}
-use Rattle.test_report_forms.specs.JunitSuite.{CasesView, suite_name, suite_start, with_sums, with_time, xml_name, xml_text}
+use Rattle.test_report_forms.specs.Junit.{cause_case, cause_error, failed_case, failed_name, failed_type, flaky_failure, junit_text, junit_tree, output_element, own_name, passed_case, run_start, skipped_case, test_element, why_element, with_flaky, with_output, xml_header}
+use Rattle.test_report_forms.specs.JunitSuite.{CasesView, suite_name, suite_start, with_number, with_sums, with_time, xml_name, xml_text}
 use Rattle.test_report_forms.specs.Laws.{JunitReadsBack}
 use Rattle.test_report_forms.specs.Shown.{seconds, shown_text}
 use Rattle.test_report_forms.specs.Title.{title_name}
@@ -16,10 +16,12 @@ use Rattle.test_report_forms.specs.declared.junit_suite.JunitCounts.{JunitCounts
 use Rattle.test_report_run.specs.Note.{FailureView, HasCrashed, HasFailed, HasNoEnd, HasTimedOut, IsFlaky, KindView, TestNoteView}
 
 add-time : {e : ElementView} → (time : Option ℕ) → Formed e → Formed (with_time e time)
+unfolding with_time
 add-time None h = h
 add-time (Some micros) h = attribute (codes "time") (seconds micros) refl h
 
 add-sums : {e : ElementView} → (n : JunitCounts) → Formed e → Formed (with_sums e n)
+unfolding with_sums with_number
 add-sums n h = attribute (codes "errors") _ refl (attribute (codes "failures") _ refl (attribute (codes "tests") _ refl h))
 
 -- the element of a message, which has a type
@@ -57,11 +59,11 @@ failed-named IsFlaky = refl
 failed-named (HasCrashed crash) = refl
 
 formed-why : (kind : KindView) (failed : FailedView) → Formed (why_element kind failed)
-unfolding why_element
+unfolding why_element new_element with_attribute
 formed-why kind failed = text (xml_text failed.why) (formed-message (failed_name kind) (xml_text failed.short) (failed_type kind) (failed-named kind)) refl
 
 add-output : {e : ElementView} → (out : Option (List ℕ)) → Formed e → Formed (with_output e out)
-unfolding output_element
+unfolding output_element new_element
 add-output None h = h
 add-output (Some out) h = line h (text (xml_text (shown_text false (without_returns out))) (new (codes "system-out") refl) refl)
 
@@ -70,7 +72,7 @@ unfolding failed_case
 formed-failed t f w limit = add-output f.stdout (line (formed-test t) (formed-why f.kind (shown_failure_of t f.kind w limit)))
 
 formed-cause : (cause type_of : List ℕ) → Formed (cause_case cause type_of).element
-unfolding cause_case
+unfolding cause_case cause_error
 formed-cause cause type_of =
     line (formed-case (xml_text cause) own_name) (formed-message (codes "error") (xml_text cause) type_of refl)
 
@@ -80,7 +82,7 @@ formed-cause_of (Some cause) = formed-cause cause.line cause.kind
 
 -- suites and runs
 formed-suite : (s : CasesView) (time : Option ℕ) → Formed (suite_start s time)
-unfolding suite_start
+unfolding suite_start with_number
 formed-suite s time =
     let named = attribute (codes "name") (suite_name s.name) refl (new (codes "testsuite") refl) in
     add-time time (attribute (codes "skipped") (decimal s.counts.skipped) refl (add-sums s.counts named))

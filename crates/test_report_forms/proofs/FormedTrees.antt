@@ -46,24 +46,30 @@ pub formed-tree : {e : ElementView} → Formed e → IsWellFormed (tree_of e)
 formed-tree h = (h.name, h.attributes, h.children)
 
 pub new : (name : List ℕ) → is_name name ≡ true → Formed (new_element name)
+unfolding new_element
 new name is = record { name = named name is; attributes = All-nil (λ a. IsName a.name); children = tt }
 
 pub attribute : {e : ElementView} → (name value : List ℕ) → is_name name ≡ true → Formed e → Formed (with_attribute e name value)
+unfolding with_attribute
 attribute {e} name value is h =
     let more = All-push (λ a. IsName a.name) e.attributes (record { name = name; value = value }) h.attributes (named name is) in
     record { name = h.name; attributes = more; children = h.children }
 
 tree : {e : ElementView} → (t : TreeView) → Formed e → IsWellFormed t → (ends_text false e.children && is_text t) ≡ false → Formed (with_tree e t)
+unfolding with_tree
 tree {e} t h is apart = record { name = h.name; attributes = h.attributes; children = push-formed false e.children t h.children is apart }
 
 pub text : {e : ElementView} → (bytes : List ℕ) → Formed e → ends_text false e.children ≡ false → Formed (with_text e bytes)
+unfolding with_text
 text [] h last = h
 text (b ∷ bytes) h last = tree (TextTree (b ∷ bytes)) h tt (ap (λ b. b && true) last)
 
 pub child : {e c : ElementView} → Formed e → Formed c → Formed (with_child e c)
+unfolding with_child
 child {e} {c} h d = tree (tree_of c) h (formed-tree d) (no-text (ends_text false e.children))
 
 pub child-text : {e c : ElementView} → (bytes : List ℕ) → Formed e → Formed c → Formed (with_text (with_child e c) bytes)
+unfolding with_child with_tree
 child-text {e} {c} bytes h d = text bytes (child h d) (push-ends false e.children (tree_of c))
 
 first-formed : (ts : List TreeView) → AreWellFormed false (trees_of ts) → AreWellFormed false (trees_of (first_line ts))
@@ -71,6 +77,7 @@ first-formed [] h = (tt, refl, tt)
 first-formed (t ∷ ts) h = h
 
 pub line : {e c : ElementView} → Formed e → Formed c → Formed (with_line e c)
+unfolding with_line
 line {e} {c} h d =
     let ts = first_line e.children in
     let before = push-formed false ts (tree_of c) (first-formed e.children h.children) (formed-tree d) (no-text (ends_text false ts)) in

@@ -27,6 +27,7 @@ pub record Holds (P : ElementView → Type 0) : Type 0 where
 
 module _ (P : ElementView → Type 0) (is : Holds P) where
   lines : {e : ElementView} → (es : List ElementView) → P e → All P es → P (with_lines e es)
+  unfolding with_line
   lines [] h are = h
   lines (e ∷ es) h are = lines es (is.line h (All-head P e es are)) (All-tail P e es are)
 

@@ -20,6 +20,7 @@ pub mod FormedTrees
 pub mod Heads
 pub mod Joins
 pub mod JunitElements
+pub mod Kept
 pub mod Lines
 pub mod Numbers
 pub mod Numerals

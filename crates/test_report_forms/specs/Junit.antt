@@ -93,12 +93,16 @@ failed_case t f w limit = record {
 abbrev pub own_name : List ℕ
 own_name = codes "test-report"
 
+-- the element that says why a cause is one
+unfoldable pub cause_error : List ℕ → List ℕ → ElementView
+cause_error line type_of = with_attribute (with_attribute (new_element (codes "error")) (codes "message") line) (codes "type") type_of
+
 -- the element of a cause that is no failed test: its line is the name and the message
 abbrev pub cause_element : List ℕ → List ℕ → ElementView
 cause_element line type_of =
     with_line
     (with_attribute (with_attribute (new_element (codes "testcase")) (codes "name") (xml_text line)) (codes "classname") own_name)
-    (with_attribute (with_attribute (new_element (codes "error")) (codes "message") (xml_text line)) (codes "type") type_of)
+    (cause_error (xml_text line) type_of)
 
 -- the test case of such a cause
 unfoldable pub cause_case : List ℕ → List ℕ → CaseView

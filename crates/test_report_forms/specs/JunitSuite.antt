@@ -22,16 +22,16 @@ unfoldable pub xml_text : List ℕ → List ℕ
 xml_text text = flat_map xml_char (chars text)
 
 -- a name as XML shows it
-abbrev pub xml_name : List ℕ → List ℕ
+unfoldable pub xml_name : List ℕ → List ℕ
 xml_name name = xml_text (shown_name name)
 
 -- an element with a time, if it is known
-abbrev pub with_time : ElementView → Option ℕ → ElementView
+unfoldable pub with_time : ElementView → Option ℕ → ElementView
 with_time e None = e
 with_time e (Some micros) = with_attribute e (codes "time") (seconds micros)
 
 -- an element with a number
-abbrev pub with_number : ElementView → List ℕ → ℕ → ElementView
+unfoldable pub with_number : ElementView → List ℕ → ℕ → ElementView
 with_number e name n = with_attribute e name (decimal n)
 
 -- a test case, and of which kind it is
@@ -68,7 +68,7 @@ with_counts m n = record {
 }
 
 -- an element with the numbers of test cases
-abbrev pub with_sums : ElementView → JunitCounts → ElementView
+unfoldable pub with_sums : ElementView → JunitCounts → ElementView
 with_sums e n = with_number (with_number (with_number e (codes "tests") n.tests) (codes "failures") n.failures) (codes "errors") n.errors
 
 -- a suite and its test cases. It has no name if it is of the tests outside of a suite

@@ -19,12 +19,20 @@ turns_writing c = c == 1564 || (c == 8206 || (c == 8207 || (is_within 8234 8238 
 abbrev pub is_escaped : ℕ → Bool
 is_escaped c = not (c == 9) && (not (c == 10) && (turns_writing c || is_control c))
 
+-- a printable ASCII character
+abbrev pub is_printable : ℕ → Bool
+is_printable b = is_within 32 126 b
+
+-- a printable ASCII character, a tab or a line feed
+abbrev pub is_printable_or_blank : ℕ → Bool
+is_printable_or_blank b = is_printable b || (b == 9 || b == 10)
+
 -- the escape of a character
 unfoldable pub escape : ℕ → List ℕ
 escape c = codes "\\u{" ++ (digits 16 false c ++ codes "}")
 
 -- a character of a name: tab and line feed are escapes, too
-abbrev pub name_char : ℕ → List ℕ
+unfoldable pub name_char : ℕ → List ℕ
 name_char c = if c == 9 || (c == 10 || is_escaped c) then escape c else encode_utf8 c
 
 -- a name as it is shown
@@ -40,7 +48,7 @@ unfoldable pub name_and_space : Option (List ℕ) → List ℕ
 name_and_space name = option_map_or and_space name []
 
 -- a character of a text, of which the control characters are kept if `raw` is true
-abbrev pub text_char : Bool → ℕ → List ℕ
+unfoldable pub text_char : Bool → ℕ → List ℕ
 text_char raw c = if not raw && is_escaped c then escape c else encode_utf8 c
 
 -- a text as it is shown, in which control characters are kept if `raw` is true

@@ -1,5 +1,5 @@
 -- Trees of elements and texts, and how they are written.
-use Rattle.std.specs.Prelude.{ℕ, Bool, ◌||◌, ◌==◌, bytes_eq, true, false, List, [], ◌∷◌, ◌++◌, codes, if◌then◌else◌, map, string_bytes}
+use Rattle.std.specs.Prelude.{ℕ, Bool, ◌&&◌, ◌||◌, ◌==◌, bytes_eq, not, true, false, List, [], ◌∷◌, ◌++◌, codes, if◌then◌else◌, map, string_bytes}
 use Rattle.std.specs.List.{flat_map}
 use Rattle.test_report_forms.specs.declared.element.Attribute.{Attribute}
 use Rattle.test_report_forms.specs.declared.element.Element.{Element}
@@ -38,24 +38,24 @@ abbrev pub tree_of : ElementView → TreeView
 tree_of e = ElementTree e.name e.attributes (trees_of e.children)
 
 -- an element without attributes and children
-abbrev pub new_element : List ℕ → ElementView
+unfoldable pub new_element : List ℕ → ElementView
 new_element name = record { name = name; attributes = []; children = [] }
 
 -- an element with one more attribute
-abbrev pub with_attribute : ElementView → List ℕ → List ℕ → ElementView
+unfoldable pub with_attribute : ElementView → List ℕ → List ℕ → ElementView
 with_attribute e name value = record e { attributes = e.attributes ++ (record { name = name; value = value } ∷ []) }
 
 -- an element with one more child
-abbrev pub with_tree : ElementView → TreeView → ElementView
+unfoldable pub with_tree : ElementView → TreeView → ElementView
 with_tree e t = record e { children = e.children ++ (t ∷ []) }
 
 -- a text is no child if it is empty
-abbrev pub with_text : ElementView → List ℕ → ElementView
+unfoldable pub with_text : ElementView → List ℕ → ElementView
 with_text e [] = e
 with_text e (b ∷ text) = with_tree e (TextTree (b ∷ text))
 
 -- an element with one more element as its child
-abbrev pub with_child : ElementView → ElementView → ElementView
+unfoldable pub with_child : ElementView → ElementView → ElementView
 with_child e child = with_tree e (tree_of child)
 
 -- a line feed
@@ -68,7 +68,7 @@ first_line [] = line_end ∷ []
 first_line (t ∷ ts) = t ∷ ts
 
 -- an element with one more child on a line of its own
-abbrev pub with_line : ElementView → ElementView → ElementView
+unfoldable pub with_line : ElementView → ElementView → ElementView
 with_line e child = record e { children = (first_line e.children ++ (tree_of child ∷ [])) ++ (line_end ∷ []) }
 
 -- an attribute that is kept
@@ -85,7 +85,7 @@ abbrev pub tree_view : Node → TreeView
 tree_view = fold-Node TreeView tree_step
 
 -- an element that is kept
-abbrev pub element_view : Element → ElementView
+unfoldable pub element_view : Element → ElementView
 element_view e = record {
   name = e.name.now;
   attributes = map attribute_view e.attributes.items;
@@ -120,6 +120,14 @@ value_byte b = value_or (b ∷ []) b
 -- a byte of a text
 abbrev pub data_byte : ℕ → List ℕ
 data_byte b = data_or (b ∷ []) b
+
+-- a byte of a text that is written as it is
+abbrev pub is_kept : ℕ → Bool
+is_kept b = not (b == 38 || (b == 60 || (b == 62 || b == 13)))
+
+-- a byte of the value of an attribute that is written as it is
+abbrev pub is_kept_in_value : ℕ → Bool
+is_kept_in_value b = not (b == 34 || (b == 9 || b == 10)) && is_kept b
 
 -- the value of an attribute as it is written
 unfoldable pub value_text : List ℕ → List ℕ

@@ -2,6 +2,7 @@
 
 ghost use Rattle.std.specs.Prelude.{◌≡◌, ◌++◌, IfOk, OnOk, map, string_bytes};
 ghost use Rattle.std.specs.Char.{encode_utf8};
+ghost use Rattle.std.specs.List.{list_all};
 ghost use Rattle.test_report_forms.specs.Tree as spec;
 ghost use Rattle.test_report_forms.specs.Tree.{attribute_view, element_view, tree_view};
 
@@ -43,6 +44,7 @@ pub(crate) struct Element {
 
 impl Element {
     /// Returns an element without attributes and children.
+    #[tactic(auto, unfolding(crate::specs::Tree::new_element, crate::specs::Tree::element_view))]
     pub(crate) fn new(alloc: Global, name: &'static str) -> Element
         ensures { element_view result ≡ spec.new_element name.now }
     {
@@ -55,7 +57,7 @@ impl Element {
 
     /// Adds an attribute.
     pub(crate) fn with_attribute(
-        mut self,
+        self,
         alloc: Global,
         name: &'static str,
         value: &str,
@@ -63,12 +65,25 @@ impl Element {
         ensures { IfOk result (λ e. element_view e
             ≡ spec.with_attribute (element_view self) name.now value.now) }
     {
-        let value = String::from_str(alloc, value)?;
+        self.with_value(name, String::from_str(alloc, value)?)
+    }
+
+    /// Adds an attribute with a value of its own.
+    #[tactic(auto, unfolding(crate::specs::Tree::with_attribute, crate::specs::Tree::element_view))]
+    pub(crate) fn with_value(
+        mut self,
+        name: &'static str,
+        value: String,
+    ) -> Result<Element, AllocError>
+        ensures { IfOk result (λ e. element_view e
+            ≡ spec.with_attribute (element_view self) name.now (string_bytes value)) }
+    {
         self.attributes.push(Attribute { name, value })?;
         Ok(self)
     }
 
     /// Adds a text as the last child, unless it is empty.
+    #[tactic(auto, unfolding(crate::specs::Tree::with_text))]
     pub(crate) fn with_text(self, alloc: Global, text: &str) -> Result<Element, AllocError>
         ensures { IfOk result (λ e. element_view e ≡ spec.with_text (element_view self) text.now) }
     {
@@ -80,6 +95,7 @@ impl Element {
     }
 
     /// Adds an element as the last child.
+    #[tactic(auto, unfolding(crate::specs::Tree::with_child))]
     pub(crate) fn with_child(self, child: Element) -> Result<Element, AllocError>
         ensures { IfOk result (λ e. element_view e
             ≡ spec.with_child (element_view self) (element_view child)) }
@@ -88,6 +104,7 @@ impl Element {
     }
 
     /// Adds a tree as the last child.
+    #[tactic(auto, unfolding(crate::specs::Tree::with_tree, crate::specs::Tree::element_view))]
     fn with_node(mut self, node: Node) -> Result<Element, AllocError>
         ensures { IfOk result (λ e. element_view e ≡ spec.with_tree (element_view self) (tree_view node)) }
     {
@@ -96,6 +113,7 @@ impl Element {
     }
 
     /// Returns the element as a tree.
+    #[tactic(auto, unfolding(crate::specs::Tree::element_view))]
     pub(crate) fn into_node(self) -> Node
         ensures { tree_view result ≡ spec.tree_of (element_view self) }
     {
@@ -112,6 +130,7 @@ impl Element {
     }
 
     /// Adds an element as the last child, on a line of its own.
+    #[tactic(auto, unfolding(crate::specs::Tree::with_line, crate::specs::Tree::element_view))]
     pub(crate) fn with_line(mut self, alloc: Global, child: Element) -> Result<Element, AllocError>
         ensures { IfOk result (λ e. element_view e
             ≡ spec.with_line (element_view self) (element_view child)) }
@@ -194,8 +213,48 @@ fn push_attribute(text: &mut String, attribute: &Attribute) -> Result<(), AllocE
     text.push('"')
 }
 
+/// Returns true for a byte of a text that is written as it is.
+fn is_kept(byte: u8) -> bool
+    ensures { result ≡ spec.is_kept byte }
+{
+    !matches!(byte, b'&' | b'<' | b'>' | b'\r')
+}
+
+/// Returns true for a byte of the value of an attribute that is written as it is.
+fn is_kept_in_value(byte: u8) -> bool
+    ensures { result ≡ spec.is_kept_in_value byte }
+{
+    !matches!(byte, b'"' | b'\t' | b'\n') && is_kept(byte)
+}
+
+/// Returns true if a text is written as it is.
+fn is_plain_data(shown: &[u8]) -> bool
+    ensures { result ≡ list_all spec.is_kept shown.now }
+{
+    shown.iter().all(|byte| is_kept(*byte))
+}
+
+/// Returns true if the value of an attribute is written as it is.
+fn is_plain_value(value: &[u8]) -> bool
+    ensures { result ≡ list_all spec.is_kept_in_value value.now }
+{
+    value.iter().all(|byte| is_kept_in_value(*byte))
+}
+
 /// Appends the value of an attribute.
+#[tactic(auto, using(crate::proofs::Kept::kept_value))]
 fn push_value(text: &mut String, value: &str) -> Result<(), AllocError>
+    ensures { OnOk result (string_bytes text.new ≡ string_bytes text.old ++ spec.value_text value.now) }
+{
+    if is_plain_value(value.as_bytes()) {
+        text.push_str(value)
+    } else {
+        push_value_chars(text, value)
+    }
+}
+
+/// Appends the value of an attribute, character by character.
+fn push_value_chars(text: &mut String, value: &str) -> Result<(), AllocError>
     ensures { OnOk result (string_bytes text.new ≡ string_bytes text.old ++ spec.value_text value.now) }
 {
     for c in value.chars() {
@@ -219,7 +278,19 @@ fn push_value_char(text: &mut String, c: char) -> Result<(), AllocError>
 }
 
 /// Appends a text.
+#[tactic(auto, using(crate::proofs::Kept::kept_data))]
 pub(crate) fn push_data(text: &mut String, shown: &str) -> Result<(), AllocError>
+    ensures { OnOk result (string_bytes text.new ≡ string_bytes text.old ++ spec.data_text shown.now) }
+{
+    if is_plain_data(shown.as_bytes()) {
+        text.push_str(shown)
+    } else {
+        push_data_chars(text, shown)
+    }
+}
+
+/// Appends a text, character by character.
+fn push_data_chars(text: &mut String, shown: &str) -> Result<(), AllocError>
     ensures { OnOk result (string_bytes text.new ≡ string_bytes text.old ++ spec.data_text shown.now) }
 {
     for c in shown.chars() {

@@ -1,6 +1,7 @@
 //! The parts of the page.
 
-ghost use Rattle.std.specs.Prelude.{◌≡◌, ◌++◌, IfOk, OnOk, map, option_map, string_bytes};
+ghost use Rattle.std.specs.Prelude.{◌≡◌, ◌++◌, [], IfOk, OnOk, map, option_map, string_bytes};
+ghost use Rattle.std.specs.Option.{option_map_or};
 ghost use Rattle.test_report_forms.specs.Collected.{failed_view};
 ghost use Rattle.test_report_forms.specs.HtmlParts as spec;
 ghost use Rattle.test_report_forms.specs.HtmlParts.{row_view};
@@ -131,12 +132,11 @@ impl Numbers {
     }
 
     /// Returns the numbers as a bar. Its text is not read aloud.
-    #[tactic(auto, unfolding(crate::specs::HtmlParts::bar, crate::specs::HtmlParts::empty_bar))]
+    #[tactic(auto, unfolding(crate::specs::HtmlParts::bar))]
     fn bar(&self, alloc: Global) -> Result<Element, AllocError>
         ensures { IfOk result (λ e. element_view e ≡ spec.bar self.now) }
     {
-        let bar = classed(alloc, "div", "bar")?.with_attribute(alloc, "aria-hidden", "true")?;
-        let bar = with_part(alloc, bar, "passed", self.passed)?;
+        let bar = with_part(alloc, empty_bar(alloc)?, "passed", self.passed)?;
         let bar = with_part(alloc, bar, "failed", self.failed)?;
         let bar = with_part(alloc, bar, "skipped", self.skipped)?;
         with_part(alloc, bar, "rest", self.not_run)
@@ -194,6 +194,14 @@ fn classed(alloc: Global, name: &'static str, class: &'static str) -> Result<Ele
     ensures { IfOk result (λ e. element_view e ≡ spec.classed name.now class.now) }
 {
     Element::new(alloc, name).with_attribute(alloc, "class", class)
+}
+
+/// Returns a bar without parts. Its text is not read aloud.
+#[tactic(auto, unfolding(crate::specs::HtmlParts::empty_bar))]
+fn empty_bar(alloc: Global) -> Result<Element, AllocError>
+    ensures { IfOk result (λ e. element_view e ≡ spec.empty_bar) }
+{
+    classed(alloc, "div", "bar")?.with_attribute(alloc, "aria-hidden", "true")
 }
 
 /// Adds a part to a bar, as long as its number, unless the number is 0.
@@ -613,12 +621,23 @@ fn note_text(alloc: Global, test: &FailedTest) -> Result<String, AllocError>
 {
     let mut note = String::new(alloc);
     push_attempts(&mut note, test.attempts)?;
-    if let Some(micros) = test.time {
-        note.push(' ')?;
-        push_seconds(&mut note, micros)?;
-        note.push('s')?;
-    }
+    push_time_note(&mut note, test.time)?;
     Ok(note)
+}
+
+/// Appends a space and a time. Appends nothing without a time.
+fn push_time_note(text: &mut String, time: Option<u64>) -> Result<(), AllocError>
+    ensures { OnOk result (string_bytes text.new
+        ≡ string_bytes text.old ++ option_map_or spec.time_note time []) }
+{
+    match time {
+        Some(micros) => {
+            text.push(' ')?;
+            push_seconds(text, micros)?;
+            text.push('s')
+        }
+        None => Ok(()),
+    }
 }
 
 /// Adds a note to a heading, unless it is empty.

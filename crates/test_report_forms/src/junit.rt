@@ -21,7 +21,7 @@ use crate::options::Options;
 use crate::shown::push_text;
 use crate::title::shown_name;
 use crate::why::{Why, without_returns};
-use crate::xml::{with_time, xml_name, xml_text};
+use crate::xml::{with_time, xml_name, xml_string, xml_text};
 use run_events_stats::outcome::RunOutcome;
 use std::alloc::{AllocError, Global};
 use test_report_run::note::{Failure, FailureKind, RunEnd, SuiteNote, TestNote};
@@ -292,8 +292,8 @@ fn test_case(alloc: Global, test: &TestNote) -> Result<Element, AllocError>
     let suite = JunitSuite::shown(alloc, text_of(&test.suite))?;
     let name = xml_name(alloc, shown_name(test))?;
     let case = Element::new(alloc, "testcase")
-        .with_attribute(alloc, "name", name.as_str())?
-        .with_attribute(alloc, "classname", suite.as_str())?;
+        .with_value("name", name)?
+        .with_value("classname", suite)?;
     with_time(alloc, case, test.time)
 }
 
@@ -429,7 +429,7 @@ fn output_element(alloc: Global, stdout: &str) -> Result<Element, AllocError>
     let output = without_returns(alloc, stdout)?;
     let mut shown = String::new(alloc);
     push_text(&mut shown, output.as_str(), false)?;
-    let text = xml_text(alloc, shown.as_str())?;
+    let text = xml_string(alloc, shown)?;
     Element::new(alloc, "system-out").with_text(alloc, text.as_str())
 }
 
@@ -439,9 +439,7 @@ fn cause_case(alloc: Global, line: &str, type_of: &'static str) -> Result<Case, 
     ensures { IfOk result (λ c. case_view c ≡ spec.cause_case line.now type_of.now) }
 {
     let line = xml_text(alloc, line)?;
-    let error = Element::new(alloc, "error")
-        .with_attribute(alloc, "message", line.as_str())?
-        .with_attribute(alloc, "type", type_of)?;
+    let error = cause_error(alloc, line.as_str(), type_of)?;
     let element = Element::new(alloc, "testcase")
         .with_attribute(alloc, "name", line.as_str())?
         .with_attribute(alloc, "classname", OWN_NAME)?
@@ -450,4 +448,14 @@ fn cause_case(alloc: Global, line: &str, type_of: &'static str) -> Result<Case, 
         kind: CaseKind::Error,
         element,
     })
+}
+
+/// Returns the element that says why a cause is one.
+#[tactic(auto, unfolding(crate::specs::Junit::cause_error))]
+fn cause_error(alloc: Global, line: &str, type_of: &'static str) -> Result<Element, AllocError>
+    ensures { IfOk result (λ e. element_view e ≡ spec.cause_error line.now type_of.now) }
+{
+    Element::new(alloc, "error")
+        .with_attribute(alloc, "message", line)?
+        .with_attribute(alloc, "type", type_of)
 }

@@ -74,6 +74,7 @@ impl JunitCounts {
     }
 
     /// Adds the numbers to the element of the run.
+    #[tactic(auto, unfolding(crate::specs::JunitSuite::with_sums))]
     pub(crate) fn with_sums(&self, alloc: Global, element: Element) -> Result<Element, AllocError>
         ensures { IfOk result (λ e. element_view e ≡ spec.with_sums (element_view element) self.now) }
     {
@@ -174,7 +175,7 @@ impl JunitSuite {
         ensures { IfOk result (λ e. element_view e ≡ spec.suite_start (cases_view self.now) time) }
     {
         let name = JunitSuite::shown(alloc, text_of(&self.name))?;
-        let suite = Element::new(alloc, "testsuite").with_attribute(alloc, "name", name.as_str())?;
+        let suite = Element::new(alloc, "testsuite").with_value("name", name)?;
         let suite = self.counts.with_sums(alloc, suite)?;
         let suite = with_number(alloc, suite, "skipped", self.counts.skipped)?;
         with_time(alloc, suite, time)

@@ -1,11 +1,12 @@
 //! How text of the input is shown.
 
-ghost use Rattle.std.specs.Prelude.{◌≡◌, ◌≤◌, ◌++◌, OnOk, length, string_bytes, if◌then◌else◌};
+ghost use Rattle.std.specs.Prelude.{◌≡◌, ◌≤◌, ◌++◌, IfOk, OnOk, length, string_bytes, if◌then◌else◌};
 ghost use Rattle.std.specs.Char.{encode_utf8};
+ghost use Rattle.std.specs.List.{list_all};
 ghost use Rattle.test_report_forms.specs.Shown as spec;
 ghost use Rattle.test_report_run.specs.Note.{text_view};
 
-use std::alloc::AllocError;
+use std::alloc::{AllocError, Global};
 use std::fmt::Write;
 
 /// Returns true for a character that is shown as an escape in every text: a control character other than
@@ -35,8 +36,49 @@ pub(crate) fn push_char(text: &mut String, c: char, escaped: bool) -> Result<(),
     }
 }
 
+/// Returns true for a printable ASCII character.
+fn is_printable(byte: u8) -> bool
+    ensures { result ≡ spec.is_printable byte }
+{
+    matches!(byte, b' '..=b'~')
+}
+
+/// Returns true for a printable ASCII character, a tab or a line feed.
+fn is_printable_or_blank(byte: u8) -> bool
+    ensures { result ≡ spec.is_printable_or_blank byte }
+{
+    is_printable(byte) || byte == b'\t' || byte == b'\n'
+}
+
+/// Returns true if a name has nothing but printable ASCII characters.
+fn is_plain_name(name: &[u8]) -> bool
+    ensures { result ≡ list_all spec.is_printable name.now }
+{
+    name.iter().all(|byte| is_printable(*byte))
+}
+
+/// Returns true if a text has nothing but printable ASCII characters, tabs and line feeds.
+fn is_plain_text(shown: &[u8]) -> bool
+    ensures { result ≡ list_all spec.is_printable_or_blank shown.now }
+{
+    shown.iter().all(|byte| is_printable_or_blank(*byte))
+}
+
 /// Appends a name. All control characters are shown as escapes.
+#[tactic(auto, using(crate::proofs::Kept::kept_name))]
 pub(crate) fn push_name(text: &mut String, name: &str) -> Result<(), AllocError>
+    ensures { OnOk result (string_bytes text.new ≡ string_bytes text.old ++ spec.shown_name name.now) }
+{
+    if is_plain_name(name.as_bytes()) {
+        text.push_str(name)
+    } else {
+        push_name_chars(text, name)
+    }
+}
+
+/// Appends a name, character by character.
+#[tactic(auto, unfolding(crate::specs::Shown::name_char))]
+fn push_name_chars(text: &mut String, name: &str) -> Result<(), AllocError>
     ensures { OnOk result (string_bytes text.new ≡ string_bytes text.old ++ spec.shown_name name.now) }
 {
     for c in name.chars() {
@@ -64,7 +106,21 @@ pub(crate) fn push_name_and_space(
 }
 
 /// Appends a text. `raw` keeps its control characters.
+#[tactic(auto, using(crate::proofs::Kept::kept_text))]
 pub(crate) fn push_text(text: &mut String, shown: &str, raw: bool) -> Result<(), AllocError>
+    ensures { OnOk result (string_bytes text.new
+        ≡ string_bytes text.old ++ spec.shown_text raw shown.now) }
+{
+    if is_plain_text(shown.as_bytes()) {
+        text.push_str(shown)
+    } else {
+        push_text_chars(text, shown, raw)
+    }
+}
+
+/// Appends a text, character by character.
+#[tactic(auto, unfolding(crate::specs::Shown::text_char))]
+fn push_text_chars(text: &mut String, shown: &str, raw: bool) -> Result<(), AllocError>
     ensures { OnOk result (string_bytes text.new
         ≡ string_bytes text.old ++ spec.shown_text raw shown.now) }
 {
@@ -115,6 +171,15 @@ pub(crate) fn push_indented(text: &mut String, shown: &str, raw: bool) -> Result
         text.push('\n')?;
     }
     Ok(())
+}
+
+/// Returns a time in seconds, with three digits after the point.
+#[tactic(auto, unfolding(crate::specs::Shown::seconds))]
+pub(crate) fn seconds_text(alloc: Global, micros: u64) -> Result<String, AllocError>
+    ensures { IfOk result (λ text. string_bytes text ≡ spec.seconds micros) }
+{
+    let (seconds, millis) = (micros / 1_000_000, micros / 1_000 % 1_000);
+    format!(in alloc; "{seconds}.{millis:03}")
 }
 
 /// Appends a time in seconds, with three digits after the point.

@@ -5,11 +5,30 @@ ghost use Rattle.test_report_forms.specs.JunitSuite as spec;
 ghost use Rattle.test_report_forms.specs.Tree.{element_view};
 
 use crate::element::Element;
-use crate::shown::{push_name, push_seconds};
+use crate::shown::{push_name, seconds_text};
 use std::alloc::{AllocError, Global};
 
 /// Returns a text with U+FFFD for the characters that XML has no place for, and that are not escaped.
 pub(crate) fn xml_text(alloc: Global, shown: &str) -> Result<String, AllocError>
+    ensures { IfOk result (λ text. string_bytes text ≡ spec.xml_text shown.now) }
+{
+    xml_string(alloc, String::from_str(alloc, shown)?)
+}
+
+/// Returns a text with U+FFFD for the characters that XML has no place for. A text in ASCII is returned as it is.
+#[tactic(auto, using(crate::proofs::Kept::kept_xml))]
+pub(crate) fn xml_string(alloc: Global, shown: String) -> Result<String, AllocError>
+    ensures { IfOk result (λ text. string_bytes text ≡ spec.xml_text (string_bytes shown)) }
+{
+    if shown.as_str().is_ascii() {
+        Ok(shown)
+    } else {
+        xml_chars(alloc, shown.as_str())
+    }
+}
+
+/// Returns a text with U+FFFD for these characters, character by character.
+fn xml_chars(alloc: Global, shown: &str) -> Result<String, AllocError>
     ensures { IfOk result (λ text. string_bytes text ≡ spec.xml_text shown.now) }
 {
     let mut text = String::new(alloc);
@@ -23,15 +42,17 @@ pub(crate) fn xml_text(alloc: Global, shown: &str) -> Result<String, AllocError>
 }
 
 /// Returns a name as XML shows it.
+#[tactic(auto, unfolding(crate::specs::JunitSuite::xml_name))]
 pub(crate) fn xml_name(alloc: Global, name: &str) -> Result<String, AllocError>
     ensures { IfOk result (λ shown. string_bytes shown ≡ spec.xml_name name.now) }
 {
     let mut shown = String::new(alloc);
     push_name(&mut shown, name)?;
-    xml_text(alloc, shown.as_str())
+    xml_string(alloc, shown)
 }
 
 /// Adds a time as an attribute.
+#[tactic(auto, unfolding(crate::specs::JunitSuite::with_time))]
 pub(crate) fn with_time(
     alloc: Global,
     element: Element,
@@ -40,16 +61,13 @@ pub(crate) fn with_time(
     ensures { IfOk result (λ e. element_view e ≡ spec.with_time (element_view element) time) }
 {
     match time {
-        Some(micros) => {
-            let mut seconds = String::new(alloc);
-            push_seconds(&mut seconds, micros)?;
-            element.with_attribute(alloc, "time", seconds.as_str())
-        }
+        Some(micros) => element.with_value("time", seconds_text(alloc, micros)?),
         None => Ok(element),
     }
 }
 
 /// Adds a number as an attribute.
+#[tactic(auto, unfolding(crate::specs::JunitSuite::with_number))]
 pub(crate) fn with_number(
     alloc: Global,
     element: Element,
@@ -59,5 +77,5 @@ pub(crate) fn with_number(
     ensures { IfOk result (λ e. element_view e ≡ spec.with_number (element_view element) name.now number) }
 {
     let number = format!(in alloc; "{number}")?;
-    element.with_attribute(alloc, name, number.as_str())
+    element.with_value(name, number)
 }

@@ -46,8 +46,12 @@ impl Element {
     }
 
     /// Adds an attribute.
-    pub(crate) fn with_attribute(mut self, name: &'static str, value: &str) -> Element {
-        let value = String::from(value);
+    pub(crate) fn with_attribute(self, name: &'static str, value: &str) -> Element {
+        self.with_value(name, String::from(value))
+    }
+
+    /// Adds an attribute with a value of its own.
+    pub(crate) fn with_value(mut self, name: &'static str, value: String) -> Element {
         self.attributes.push(Attribute { name, value });
         self
     }
@@ -150,8 +154,37 @@ fn push_attribute(text: &mut String, attribute: &Attribute) {
     text.push('"');
 }
 
+/// Returns true for a byte of a text that is written as it is.
+fn is_kept(byte: u8) -> bool {
+    !matches!(byte, b'&' | b'<' | b'>' | b'\r')
+}
+
+/// Returns true for a byte of the value of an attribute that is written as it is.
+fn is_kept_in_value(byte: u8) -> bool {
+    !matches!(byte, b'"' | b'\t' | b'\n') && is_kept(byte)
+}
+
+/// Returns true if a text is written as it is.
+fn is_plain_data(shown: &[u8]) -> bool {
+    shown.iter().all(|byte| is_kept(*byte))
+}
+
+/// Returns true if the value of an attribute is written as it is.
+fn is_plain_value(value: &[u8]) -> bool {
+    value.iter().all(|byte| is_kept_in_value(*byte))
+}
+
 /// Appends the value of an attribute.
 fn push_value(text: &mut String, value: &str) {
+    if is_plain_value(value.as_bytes()) {
+        text.push_str(value);
+    } else {
+        push_value_chars(text, value);
+    }
+}
+
+/// Appends the value of an attribute, character by character.
+fn push_value_chars(text: &mut String, value: &str) {
     for c in value.chars() {
         push_value_char(text, c);
     }
@@ -170,6 +203,15 @@ fn push_value_char(text: &mut String, c: char) {
 
 /// Appends a text.
 pub(crate) fn push_data(text: &mut String, shown: &str) {
+    if is_plain_data(shown.as_bytes()) {
+        text.push_str(shown);
+    } else {
+        push_data_chars(text, shown);
+    }
+}
+
+/// Appends a text, character by character.
+fn push_data_chars(text: &mut String, shown: &str) {
     for c in shown.chars() {
         push_data_char(text, c);
     }

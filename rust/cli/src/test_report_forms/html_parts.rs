@@ -104,8 +104,7 @@ impl Numbers {
 
     /// Returns the numbers as a bar. Its text is not read aloud.
     fn bar(&self) -> Element {
-        let bar = classed("div", "bar").with_attribute("aria-hidden", "true");
-        let bar = with_part(bar, "passed", self.passed);
+        let bar = with_part(empty_bar(), "passed", self.passed);
         let bar = with_part(bar, "failed", self.failed);
         let bar = with_part(bar, "skipped", self.skipped);
         with_part(bar, "rest", self.not_run)
@@ -148,6 +147,11 @@ impl Numbers {
 /// Returns an element with a class.
 fn classed(name: &'static str, class: &'static str) -> Element {
     Element::new(name).with_attribute("class", class)
+}
+
+/// Returns a bar without parts. Its text is not read aloud.
+fn empty_bar() -> Element {
+    classed("div", "bar").with_attribute("aria-hidden", "true")
 }
 
 /// Adds a part to a bar, as long as its number, unless the number is 0.
@@ -417,12 +421,19 @@ fn with_suite(heading: Element, suite: &Option<String>) -> Element {
 fn note_text(test: &FailedTest) -> String {
     let mut note = String::new();
     push_attempts(&mut note, test.attempts);
-    if let Some(micros) = test.time {
-        note.push(' ');
-        push_seconds(&mut note, micros);
-        note.push('s');
-    }
+    push_time_note(&mut note, test.time);
     note
+}
+
+/// Appends a space and a time. Appends nothing without a time.
+fn push_time_note(text: &mut String, time: Option<u64>) {
+    if let Some(micros) = time {
+        {
+            text.push(' ');
+            push_seconds(text, micros);
+            text.push('s');
+        }
+    }
 }
 
 /// Adds a note to a heading, unless it is empty.

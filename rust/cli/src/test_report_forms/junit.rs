@@ -12,7 +12,7 @@ use crate::test_report_forms::options::Options;
 use crate::test_report_forms::shown::push_text;
 use crate::test_report_forms::title::shown_name;
 use crate::test_report_forms::why::{Why, without_returns};
-use crate::test_report_forms::xml::{with_time, xml_name, xml_text};
+use crate::test_report_forms::xml::{with_time, xml_name, xml_string, xml_text};
 use crate::test_report_run::note::{Failure, FailureKind, RunEnd, SuiteNote, TestNote};
 use deodarsieve::RunOutcome;
 
@@ -184,8 +184,8 @@ fn test_case(test: &TestNote) -> Element {
     let suite = JunitSuite::shown(text_of(&test.suite));
     let name = xml_name(shown_name(test));
     let case = Element::new("testcase")
-        .with_attribute("name", name.as_str())
-        .with_attribute("classname", suite.as_str());
+        .with_value("name", name)
+        .with_value("classname", suite);
     with_time(case, test.time)
 }
 
@@ -284,16 +284,14 @@ fn output_element(stdout: &str) -> Element {
     let output = without_returns(stdout);
     let mut shown = String::new();
     push_text(&mut shown, output.as_str(), false);
-    let text = xml_text(shown.as_str());
+    let text = xml_string(shown);
     Element::new("system-out").with_text(text.as_str())
 }
 
 /// Returns the test case of a cause that is not a failed test. `line` is shown, and is its name.
 fn cause_case(line: &str, type_of: &'static str) -> Case {
     let line = xml_text(line);
-    let error = Element::new("error")
-        .with_attribute("message", line.as_str())
-        .with_attribute("type", type_of);
+    let error = cause_error(line.as_str(), type_of);
     let element = Element::new("testcase")
         .with_attribute("name", line.as_str())
         .with_attribute("classname", OWN_NAME)
@@ -302,4 +300,11 @@ fn cause_case(line: &str, type_of: &'static str) -> Case {
         kind: CaseKind::Error,
         element,
     }
+}
+
+/// Returns the element that says why a cause is one.
+fn cause_error(line: &str, type_of: &'static str) -> Element {
+    Element::new("error")
+        .with_attribute("message", line)
+        .with_attribute("type", type_of)
 }

@@ -134,7 +134,7 @@ impl JunitSuite {
     /// Returns the element of the suite without its test cases.
     fn start(&self, time: Option<u64>) -> Element {
         let name = JunitSuite::shown(text_of(&self.name));
-        let suite = Element::new("testsuite").with_attribute("name", name.as_str());
+        let suite = Element::new("testsuite").with_value("name", name);
         let suite = self.counts.with_sums(suite);
         let suite = with_number(suite, "skipped", self.counts.skipped);
         with_time(suite, time)

@@ -22,8 +22,37 @@ pub(crate) fn push_char(text: &mut String, c: char, escaped: bool) {
     }
 }
 
+/// Returns true for a printable ASCII character.
+fn is_printable(byte: u8) -> bool {
+    matches!(byte, b' '..=b'~')
+}
+
+/// Returns true for a printable ASCII character, a tab or a line feed.
+fn is_printable_or_blank(byte: u8) -> bool {
+    is_printable(byte) || byte == b'\t' || byte == b'\n'
+}
+
+/// Returns true if a name has nothing but printable ASCII characters.
+fn is_plain_name(name: &[u8]) -> bool {
+    name.iter().all(|byte| is_printable(*byte))
+}
+
+/// Returns true if a text has nothing but printable ASCII characters, tabs and line feeds.
+fn is_plain_text(shown: &[u8]) -> bool {
+    shown.iter().all(|byte| is_printable_or_blank(*byte))
+}
+
 /// Appends a name. All control characters are shown as escapes.
 pub(crate) fn push_name(text: &mut String, name: &str) {
+    if is_plain_name(name.as_bytes()) {
+        text.push_str(name);
+    } else {
+        push_name_chars(text, name);
+    }
+}
+
+/// Appends a name, character by character.
+fn push_name_chars(text: &mut String, name: &str) {
     for c in name.chars() {
         push_char(text, c, c == '\t' || c == '\n' || is_escaped(c));
     }
@@ -41,6 +70,15 @@ pub(crate) fn push_name_and_space(text: &mut String, name: &Option<String>) {
 
 /// Appends a text. `raw` keeps its control characters.
 pub(crate) fn push_text(text: &mut String, shown: &str, raw: bool) {
+    if is_plain_text(shown.as_bytes()) {
+        text.push_str(shown);
+    } else {
+        push_text_chars(text, shown, raw);
+    }
+}
+
+/// Appends a text, character by character.
+fn push_text_chars(text: &mut String, shown: &str, raw: bool) {
     for c in shown.chars() {
         push_char(text, c, !raw && is_escaped(c));
     }
@@ -74,6 +112,12 @@ pub(crate) fn push_indented(text: &mut String, shown: &str, raw: bool) {
         push_text(text, line, raw);
         text.push('\n');
     }
+}
+
+/// Returns a time in seconds, with three digits after the point.
+pub(crate) fn seconds_text(micros: u64) -> String {
+    let (seconds, millis) = (micros / 1_000_000, micros / 1_000 % 1_000);
+    format!("{seconds}.{millis:03}")
 }
 
 /// Appends a time in seconds, with three digits after the point.

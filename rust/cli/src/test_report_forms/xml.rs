@@ -2,10 +2,24 @@
 //! Texts and attributes of JUnit's XML.
 
 use crate::test_report_forms::element::Element;
-use crate::test_report_forms::shown::{push_name, push_seconds};
+use crate::test_report_forms::shown::{push_name, seconds_text};
 
 /// Returns a text with U+FFFD for the characters that XML has no place for, and that are not escaped.
 pub(crate) fn xml_text(shown: &str) -> String {
+    xml_string(String::from(shown))
+}
+
+/// Returns a text with U+FFFD for the characters that XML has no place for. A text in ASCII is returned as it is.
+pub(crate) fn xml_string(shown: String) -> String {
+    if shown.as_str().is_ascii() {
+        shown
+    } else {
+        xml_chars(shown.as_str())
+    }
+}
+
+/// Returns a text with U+FFFD for these characters, character by character.
+fn xml_chars(shown: &str) -> String {
     let mut text = String::new();
     for c in shown.chars() {
         match c {
@@ -20,17 +34,13 @@ pub(crate) fn xml_text(shown: &str) -> String {
 pub(crate) fn xml_name(name: &str) -> String {
     let mut shown = String::new();
     push_name(&mut shown, name);
-    xml_text(shown.as_str())
+    xml_string(shown)
 }
 
 /// Adds a time as an attribute.
 pub(crate) fn with_time(element: Element, time: Option<u64>) -> Element {
     match time {
-        Some(micros) => {
-            let mut seconds = String::new();
-            push_seconds(&mut seconds, micros);
-            element.with_attribute("time", seconds.as_str())
-        }
+        Some(micros) => element.with_value("time", seconds_text(micros)),
         None => element,
     }
 }
@@ -38,5 +48,5 @@ pub(crate) fn with_time(element: Element, time: Option<u64>) -> Element {
 /// Adds a number as an attribute.
 pub(crate) fn with_number(element: Element, name: &'static str, number: usize) -> Element {
     let number = format!("{number}");
-    element.with_attribute(name, number.as_str())
+    element.with_value(name, number)
 }

@@ -3,7 +3,7 @@ use Rattle.std.proofs.lemmas.Iterator.{YieldsList-from_chars}
 use Rattle.std.proofs.lemmas.Iterator.Consumers.{YieldsList-end}
 use Rattle.std.specs.List.{flat_map}
 use Rattle.test_report_forms.specs.JunitSuite.{xml_char, xml_text}
-use Rattle.test_report_forms.proofs.xml.xml_text.Goals as goal
+use Rattle.test_report_forms.proofs.xml.xml_chars.Goals as goal
 
 pub returns : goal.returns
 unfolding xml_text
