@@ -88,7 +88,7 @@ impl TestRun {
         let mut source = MemorySource::new(self.lines.as_bytes(), None);
         let mut sink = MemorySink::new(self.room.as_mut_slice(), None);
         let form = TextForm::new(self.alloc, OPTIONS);
-        let mut report = Report::new(self.alloc, form)?;
+        let mut report = Report::new(self.alloc, form);
         report.read_file(self.alloc, &mut source, &mut sink)?;
         report.finish(self.alloc, &mut sink)?;
         Ok(sink.written() == self.text.as_bytes())

@@ -14,7 +14,6 @@ use crate::output::Output;
 use clap::ArgMatches;
 use program_io::device::Sink;
 use program_io::std_device::{StdSink, StdSource};
-use run_events_stats::outcome::RunOutcome;
 use std::alloc::{AllocError, Global};
 use std::env;
 use std::fs::File;
@@ -23,6 +22,7 @@ use std::process::ExitCode;
 use std::rt::{Env, Files};
 use test_report_engine::fault::Fault;
 use test_report_engine::report::Report;
+use test_report_engine::status::exit_status;
 use test_report_forms::files::{FileForms, FileTexts};
 use test_report_forms::form::Form;
 use test_report_forms::github::GithubForm;
@@ -154,25 +154,16 @@ fn report_in<'a, R: Files + AllocGlobal + Input + Print, F: Form + Drop>(
     form: F,
 ) -> Result<u8, Failure<'a>> {
     let files = file_forms(rt.alloc(), matches, options)?;
-    let report = Report::with_files(rt.alloc(), form, files)?;
+    let report = Report::with_files(rt.alloc(), form, files);
     let mut output = Output::new(io::writer(rt));
     match report_to(rt, matches, report, &mut output) {
         Ok((end, texts)) => {
             write_files(rt, matches, &texts)?;
-            Ok(status_of(end.outcome, options))
+            Ok(exit_status(end.outcome, options.no_tests_pass))
         }
         Err(_) if output.is_closed() => Ok(FAILED),
         Err(failure) => Err(failure),
     }
-}
-
-/// Returns the exit status of a run with this outcome.
-fn status_of(outcome: RunOutcome, options: Options) -> u8 {
-    u8::from(!match outcome {
-        RunOutcome::Success => true,
-        RunOutcome::NoTestsRun => options.no_tests_pass,
-        RunOutcome::Cancelled { .. } | RunOutcome::Failed { .. } => false,
-    })
 }
 
 /// Writes the report that the arguments ask for, and returns the exit status.

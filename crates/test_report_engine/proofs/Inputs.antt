@@ -1,5 +1,5 @@
 -- What a report reads of an input.
-use Rattle.std.proofs.Common.{◌≡◌, ◌∙◌, ◌-◌, ◌<◌, ℕ, List, [], ◌∷◌, ◌++◌, Option, ap, append-nil, append_assoc, arith, drop, length, map, refl, subst, sym, take}
+use Rattle.std.proofs.Common.{◌≡◌, ◌∙◌, ◌-◌, ◌<◌, ℕ, List, [], ◌∷◌, ◌++◌, Option, ap, append_assoc, arith, drop, length, map, refl, subst, sym, take}
 use Rattle.std.specs.Prelude.{◌==◌, slice_index, true}
 use Rattle.test_report_events.specs.Event.{EventView}
 use Rattle.test_report_events.specs.Laws.{OneEventOfLine}
@@ -11,7 +11,7 @@ use Rattle.test_report_run.specs.Run.{RunState, after, after_file, file_notes, n
 use Rattle.test_report_run.specs.declared.note.Note.{Note}
 use Rattle.test_report_run.specs.declared.note.RunEnd.{RunEnd}
 use Rattle.test_report_run.specs.declared.run.TestRun.{TestRun}
-use Rattle.test_report_engine.specs.Lines.{AreEventsOf, IsOneLine, with_feed}
+use Rattle.test_report_engine.specs.Lines.{IsOneLine, with_feed}
 use Rattle.test_report_engine.specs.Reading.{AppendsLinesStart, LeadsTo, ReadsInput, ReadsLine, ReadsStart, WritesNotes}
 use Rattle.test_report_engine.specs.Report.{after_end, after_line, end_notes, line_notes, notes_of, notes_of_input, run_after, run_after_input, run_of}
 use Rattle.test_report_engine.specs.declared.report.Report.{Report}

@@ -3,7 +3,7 @@
 //! Calls that read the run of a source, write its report to a sink, and say whether the run succeeded:
 //!
 //! ```rust
-//! let mut report = Report::new(alloc, TextForm::new(alloc, options))?;
+//! let mut report = Report::new(alloc, TextForm::new(alloc, options));
 //! report.read_file(alloc, source, sink)?;
 //! let end = report.finish(alloc, sink)?;
 //! Ok(end.outcome == RunOutcome::Success)
@@ -13,3 +13,4 @@
 pub mod fault;
 pub mod laws;
 pub mod report;
+pub mod status;

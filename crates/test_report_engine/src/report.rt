@@ -1,6 +1,6 @@
 //! The report of a run, written during the run.
 
-ghost use Rattle.std.specs.Prelude.{◌≡◌, ◌≢◌, ◌↔◌, ◌⊎◌, ◌++◌, ◌∷◌, [], ℕ, true, false, List, Option, IfErr, IfOk, IfSome, OnOk, OnErr, IsErrOf, IsOk, map, string_bytes};
+ghost use Rattle.std.specs.Prelude.{◌≡◌, ◌≢◌, ◌↔◌, ◌⊎◌, ◌++◌, ◌∷◌, [], ℕ, true, false, List, Option, IfErr, IfOk, IfSome, OnOk, OnErr, IsErrOf, map, string_bytes};
 ghost use Rattle.std.specs.Io.KnownBytes.{Appends, IsAtEnd};
 ghost use Rattle.program_io.specs.Transfer.{AppendsStart};
 ghost use Rattle.test_report_events.specs.Event.{EventView};
@@ -39,27 +39,22 @@ impl<F: Form + Drop> Report<F> {
     ghost use Rattle.test_report_engine.specs.Reading as reading;
 
     /// Returns a report that has read and written nothing.
-    pub fn new(alloc: Global, form: F) -> Result<Report<F>, Fault>
-        ensures ok { IsOk result }
-        ensures reads { IfOk result (λ report. F.Knows form []
-            → reading.HasRead F.line F.last F.Knows form report [] []) }
+    pub fn new(alloc: Global, form: F) -> Report<F>
+        ensures reads { F.Knows form [] → reading.HasRead F.line F.last F.Knows form result [] [] }
     {
         Report::with_files(alloc, form, FileForms::none())
     }
 
     /// Returns a report that has read and written nothing, and that returns the texts of these files at its end.
-    pub fn with_files(alloc: Global, form: F, files: FileForms) -> Result<Report<F>, Fault>
-        ensures ok { IsOk result }
-        ensures reads { IfOk result (λ report. F.Knows form []
-            → reading.HasRead F.line F.last F.Knows form report [] []) }
-        ensures files { IfOk result (λ report. FilesKnow files []
-            → reading.FilesHaveRead files report []) }
+    pub fn with_files(alloc: Global, form: F, files: FileForms) -> Report<F>
+        ensures reads { F.Knows form [] → reading.HasRead F.line F.last F.Knows form result [] [] }
+        ensures files { FilesKnow files [] → reading.FilesHaveRead files result [] }
     {
-        Ok(Report {
+        Report {
             run: TestRun::new(alloc),
             form,
             files,
-        })
+        }
     }
 
     /// Reads a file of the run to its end. What its lines make known is written, and the sink flushed, as

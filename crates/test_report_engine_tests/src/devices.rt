@@ -72,7 +72,7 @@ pub(crate) fn reported<F: Form + Drop, R: Source, W: Sink>(
     requires source_works { R.failed source.old ≡ false }
     requires sink_works { W.failed sink.old ≡ false }
 {
-    let mut report = Report::new(alloc, form)?;
+    let mut report = Report::new(alloc, form);
     report.read_file(alloc, source, sink)?;
     report.finish(alloc, sink)
 }

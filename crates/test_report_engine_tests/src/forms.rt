@@ -112,7 +112,7 @@ fn has_files(alloc: Global) -> Result<bool, Fault> {
     let mut buffer = [0; 100];
     let mut source = MemorySource::new(RUN.as_bytes(), None);
     let mut sink = MemorySink::new(&mut buffer, None);
-    let mut report = Report::with_files(alloc, NamesForm, all_files(alloc)?)?;
+    let mut report = Report::with_files(alloc, NamesForm, all_files(alloc)?);
     report.read_file(alloc, &mut source, &mut sink)?;
     let texts = report.file_texts(alloc)?;
     let end = report.finish(alloc, &mut sink)?;
@@ -145,7 +145,7 @@ fn files_have_their_forms(rt: HostRuntime) {
 fn is_one_run(alloc: Global) -> Result<bool, Fault> {
     let mut buffer = [0; 100];
     let mut sink = MemorySink::new(&mut buffer, None);
-    let mut report = Report::new(alloc, NamesForm)?;
+    let mut report = Report::new(alloc, NamesForm);
     let cut = RUN.rfind("{").and_then(|at| RUN.get(..at)).unwrap_or("");
     report.read_file(
         alloc,

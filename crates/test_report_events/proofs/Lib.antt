@@ -1,6 +1,8 @@
 mod Colours
 mod Events
 mod Headings
+mod Keys
+mod MemberLists
 mod Objects
 mod Readings
 mod Times

@@ -3,6 +3,7 @@ pub mod Content
 pub mod Event
 pub mod Laws
 pub mod Line
+pub mod Members
 pub mod Plain
 pub mod Said
 pub mod Table

@@ -10,7 +10,7 @@ ghost use Rattle.test_report_events.specs.Table.{FindsLastObject, IsValueOf};
 
 use crate::cargo::{cargo_failure, heading};
 use crate::event::{CargoFailure, Event};
-use crate::members::{event_of, time_of};
+use crate::members::Members;
 use crate::plain::{line_text, plain_text};
 use bstr::ByteSlice;
 use serde_json::Value;
@@ -57,7 +57,9 @@ impl Line {
         ensures { event_view result ≡ kept.event_of self.now }
     {
         match &self.content {
-            Content::Event { value, time } => event_of(value, *time).unwrap_or(Event::Other),
+            Content::Event { value, time } => {
+                Members::of(value).event(*time).unwrap_or(Event::Other)
+            }
             Content::Heading(suite) => Event::Heading {
                 suite: suite.as_str(),
             },
@@ -135,8 +137,9 @@ fn value_content(alloc: Global, bytes: &[u8], value: Value) -> Result<Content, A
     requires { Holds bytes.now (view value) }
     ensures { IfOk result (λ content. LineSays bytes.now (kept.content_event content)) }
 {
-    let time = time_of(&value, bytes);
-    if event_of(&value, time).is_some() {
+    let members = Members::of(&value);
+    let time = members.time_in(bytes);
+    if members.event(time).is_some() {
         return Ok(Content::Event { value, time });
     }
     let plain = plain_text(alloc, bytes)?;

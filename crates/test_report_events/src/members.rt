@@ -1,8 +1,12 @@
 //! The members of the JSON object of an event.
 
-ghost use Rattle.std.specs.Prelude.{◌≡◌, Some, MatchOption, codes, option_and_then, option_map};
+ghost use Rattle.std.specs.Prelude.{◌≡◌, ℕ, List, Option, Some, MatchOption, codes, is_some, option_and_then, option_map, if◌then◌else◌};
+ghost use Rattle.std.specs.Str.{bytes_eq};
+ghost use Rattle.serde_json.specs.Data.{Members as MemberList, object, put};
+ghost use Rattle.serde_json.specs.Find.{as_number, as_str, get};
 ghost use Rattle.serde_json.specs.View.{view};
 ghost use Rattle.test_report_events.specs.Event.{EventView, TestEnds, event_view, suite_end_view, text_of_key};
+ghost use Rattle.test_report_events.specs.Members.{AreMembersOf};
 ghost use Rattle.test_report_events.specs.Said as said;
 ghost use Rattle.test_report_events.specs.Table.{bench_result, object_said, suite_end_said, suite_said, test_end_said, test_said, typed_said};
 
@@ -10,21 +14,33 @@ use crate::event::{Event, SuiteEnd, SuiteKey, TestDetails, TestResult};
 use crate::time::exec_time;
 use serde_json::Value;
 
+/// The members of an object that lines of tests have. They are found in one pass over the object.
+#[derive(Clone, Copy)]
+pub(crate) struct Members<'a> {
+    object: &'a Value,
+    kind: Option<&'a Value>,
+    event: Option<&'a Value>,
+    name: Option<&'a Value>,
+    stdout: Option<&'a Value>,
+    message: Option<&'a Value>,
+    reason: Option<&'a Value>,
+    time: Option<&'a Value>,
+}
+
+/// Keeps the value of a member if its key is this word.
+fn keep<'a>(kept: &mut Option<&'a Value>, word: &str, key: &str, value: &'a Value)
+    ensures { kept.new ≡ (if bytes_eq key.now word.now then Some value.entry else kept.old) }
+{
+    if key == word {
+        *kept = Some(value);
+    }
+}
+
 /// Returns the text of a member.
 fn text_of<'a>(value: &'a Value, key: &str) -> Option<&'a str>
     ensures { option_map (λ text. text.now) result ≡ said.text_of key.now (view value.now) }
 {
     value.get(key).and_then(Value::as_str)
-}
-
-/// Returns the text of a member, unless it is empty.
-fn words_of<'a>(value: &'a Value, key: &str) -> Option<&'a str>
-    ensures { option_map (λ text. text.now) result ≡ said.words_of key.now (view value.now) }
-{
-    match text_of(value, key) {
-        Some("") | None => None,
-        words => words,
-    }
 }
 
 /// Returns the number of a member.
@@ -34,15 +50,188 @@ fn number_of(value: &Value, key: &str) -> Option<u64>
     value.get(key).and_then(Value::as_u64)
 }
 
-/// Returns the time of an object. `line` is the text that the object was read from.
-#[tactic(auto, using(crate::proofs::Times::time_is))]
-pub(crate) fn time_of(value: &Value, line: &[u8]) -> Option<u64>
-    ensures { said.IsTime line.now (view value.now) result }
+/// Returns the text of a value that is a text.
+fn text_in(value: Option<&Value>) -> Option<&str>
+    ensures { option_map (λ text. text.now) result
+        ≡ option_and_then as_str (option_map (λ v. view v.now) value.entry) }
 {
-    if value.get("exec_time").is_some_and(Value::is_number) {
-        exec_time(line)
-    } else {
-        None
+    value.and_then(Value::as_str)
+}
+
+/// Returns the text of a value that is a text, unless it is empty.
+fn words_in(value: Option<&Value>) -> Option<&str>
+    ensures { option_map (λ text. text.now) result ≡ option_and_then said.unless_empty
+        (option_and_then as_str (option_map (λ v. view v.now) value.entry)) }
+{
+    match text_in(value) {
+        Some("") | None => None,
+        words => words,
+    }
+}
+
+impl<'a> Members<'a> {
+    /// Returns the members of an object.
+    pub(crate) fn of(object: &'a Value) -> Members<'a>
+        ensures object { result.object.now ≡ object.now }
+        ensures are { AreMembersOf (view object.now) result }
+    {
+        let mut members = Members {
+            object,
+            kind: None,
+            event: None,
+            name: None,
+            stdout: None,
+            message: None,
+            reason: None,
+            time: None,
+        };
+        if let Some(map) = object.as_object() {
+            for (key, value) in map.iter() {
+                members.take(key.as_str(), value);
+            }
+        }
+        members
+    }
+
+    /// Takes the next member.
+    fn take(&mut self, key: &str, value: &'a Value)
+        ensures object { self.new.object ≡ self.old.object }
+        ensures takes { (ms : MemberList) → AreMembersOf (object ms) self.old
+            → AreMembersOf (object (put key.now (view value.now) ms)) self.new }
+    {
+        keep(&mut self.kind, "type", key, value);
+        keep(&mut self.event, "event", key, value);
+        keep(&mut self.name, "name", key, value);
+        keep(&mut self.stdout, "stdout", key, value);
+        keep(&mut self.message, "message", key, value);
+        keep(&mut self.reason, "reason", key, value);
+        keep(&mut self.time, "exec_time", key, value);
+    }
+
+    /// Returns the text of `type`.
+    fn kind(&self) -> Option<&'a str>
+        requires { AreMembersOf (view self.now.object.now) self.now }
+        ensures { option_map (λ text. text.now) result
+            ≡ said.text_of (codes "type") (view self.now.object.now) }
+    {
+        text_in(self.kind)
+    }
+
+    /// Returns the text of `event`.
+    fn event_word(&self) -> Option<&'a str>
+        requires { AreMembersOf (view self.now.object.now) self.now }
+        ensures { option_map (λ text. text.now) result
+            ≡ said.text_of (codes "event") (view self.now.object.now) }
+    {
+        text_in(self.event)
+    }
+
+    /// Returns the text of `name`.
+    fn name(&self) -> Option<&'a str>
+        requires { AreMembersOf (view self.now.object.now) self.now }
+        ensures { option_map (λ text. text.now) result
+            ≡ said.text_of (codes "name") (view self.now.object.now) }
+    {
+        text_in(self.name)
+    }
+
+    /// Returns what the end of a test says about it.
+    fn details(&self, time: Option<u64>) -> TestDetails<'a>
+        requires { AreMembersOf (view self.now.object.now) self.now }
+        ensures stdout { option_map (λ text. text.now) result.stdout
+            ≡ said.text_of (codes "stdout") (view self.now.object.now) }
+        ensures message { option_map (λ text. text.now) result.message
+            ≡ said.words_of (codes "message") (view self.now.object.now) }
+        ensures reason { option_map (λ text. text.now) result.reason
+            ≡ said.words_of (codes "reason") (view self.now.object.now) }
+        ensures time { result.time ≡ time }
+    {
+        TestDetails {
+            stdout: text_in(self.stdout),
+            message: words_in(self.message),
+            reason: words_in(self.reason),
+            time,
+        }
+    }
+
+    /// Returns the time of the object. `line` is the text that the object was read from.
+    #[tactic(auto, using(crate::proofs::Times::time_is))]
+    pub(crate) fn time_in(&self, line: &[u8]) -> Option<u64>
+        requires { AreMembersOf (view self.now.object.now) self.now }
+        ensures { said.IsTime line.now (view self.now.object.now) result }
+    {
+        if self.time.is_some_and(Value::is_number) {
+            exec_time(line)
+        } else {
+            None
+        }
+    }
+
+    /// Returns the end of a test.
+    fn test_end(&self, time: Option<u64>, name: &'a str, outcome: TestResult) -> Event<'a>
+        requires { AreMembersOf (view self.now.object.now) self.now }
+        ensures { event_view result
+            ≡ TestEnds (test_end_said time (view self.now.object.now) name.now outcome) }
+    {
+        Event::TestEnded {
+            name,
+            result: outcome,
+            details: self.details(time),
+        }
+    }
+
+    /// Returns the event of a test's object.
+    #[tactic(auto, unfolding(crate::specs::Table::test_said))]
+    fn test_event(&self, time: Option<u64>, name: &'a str, event: &str) -> Option<Event<'a>>
+        requires { AreMembersOf (view self.now.object.now) self.now }
+        ensures { option_map event_view result
+            ≡ test_said time (view self.now.object.now) name.now event.now }
+    {
+        match event {
+            "started" => Some(Event::TestStarted { name }),
+            "ok" => Some(self.test_end(time, name, TestResult::Ok)),
+            "failed" => Some(self.test_end(time, name, TestResult::Failed)),
+            "ignored" => Some(self.test_end(time, name, TestResult::Ignored)),
+            _ => Some(Event::Other),
+        }
+    }
+
+    /// Returns the result of a benchmark, which passed unless it failed.
+    #[tactic(auto, unfolding(crate::specs::Table::bench_result))]
+    fn bench_result(&self) -> TestResult
+        requires { AreMembersOf (view self.now.object.now) self.now }
+        ensures { result ≡ bench_result (view self.now.object.now) }
+    {
+        match self.event_word() {
+            Some("failed") => TestResult::Failed,
+            _ => TestResult::Ok,
+        }
+    }
+
+    /// Returns the event of an object of a type.
+    #[tactic(auto, unfolding(crate::specs::Table::typed_said))]
+    fn typed_event(&self, time: Option<u64>, kind: &str) -> Option<Event<'a>>
+        requires { AreMembersOf (view self.now.object.now) self.now }
+        ensures { option_map event_view result ≡ typed_said time (view self.now.object.now) kind.now }
+    {
+        match kind {
+            "report" => Some(Event::Other),
+            "suite" => suite_event_of(self.object, time, self.event_word()?),
+            "test" => self.test_event(time, self.name()?, self.event_word()?),
+            "bench" => {
+                let name = self.name()?;
+                Some(self.test_end(time, name, self.bench_result()))
+            }
+            _ => None,
+        }
+    }
+
+    /// Returns the event of the object with a time.
+    pub(crate) fn event(&self, time: Option<u64>) -> Option<Event<'a>>
+        requires { AreMembersOf (view self.now.object.now) self.now }
+        ensures { option_map event_view result ≡ object_said time (view self.now.object.now) }
+    {
+        self.typed_event(time, self.kind()?)
     }
 }
 
@@ -87,84 +276,4 @@ fn suite_event_of<'a>(value: &'a Value, time: Option<u64>, event: &str) -> Optio
         "failed" => Some(Event::SuiteEnded(suite_end_of(value, time, true))),
         _ => Some(Event::Other),
     }
-}
-
-/// Returns the end of a test.
-fn test_end_of<'a>(
-    value: &'a Value,
-    time: Option<u64>,
-    name: &'a str,
-    outcome: TestResult,
-) -> Event<'a>
-    ensures { event_view result ≡ TestEnds (test_end_said time (view value.now) name.now outcome) }
-{
-    Event::TestEnded {
-        name,
-        result: outcome,
-        details: TestDetails {
-            stdout: text_of(value, "stdout"),
-            message: words_of(value, "message"),
-            reason: words_of(value, "reason"),
-            time,
-        },
-    }
-}
-
-/// Returns the event of a test's object.
-#[tactic(auto, unfolding(crate::specs::Table::test_said))]
-fn test_event_of<'a>(
-    value: &'a Value,
-    time: Option<u64>,
-    name: &'a str,
-    event: &str,
-) -> Option<Event<'a>>
-    ensures { option_map event_view result ≡ test_said time (view value.now) name.now event.now }
-{
-    match event {
-        "started" => Some(Event::TestStarted { name }),
-        "ok" => Some(test_end_of(value, time, name, TestResult::Ok)),
-        "failed" => Some(test_end_of(value, time, name, TestResult::Failed)),
-        "ignored" => Some(test_end_of(value, time, name, TestResult::Ignored)),
-        _ => Some(Event::Other),
-    }
-}
-
-/// Returns the result of a benchmark, which passed unless it failed.
-#[tactic(auto, unfolding(crate::specs::Table::bench_result))]
-fn bench_result_of(value: &Value) -> TestResult
-    ensures { result ≡ bench_result (view value.now) }
-{
-    match text_of(value, "event") {
-        Some("failed") => TestResult::Failed,
-        _ => TestResult::Ok,
-    }
-}
-
-/// Returns the event of an object of a type.
-#[tactic(auto, unfolding(crate::specs::Table::typed_said))]
-fn typed_event_of<'a>(value: &'a Value, time: Option<u64>, kind: &str) -> Option<Event<'a>>
-    ensures { option_map event_view result ≡ typed_said time (view value.now) kind.now }
-{
-    match kind {
-        "report" => Some(Event::Other),
-        "suite" => suite_event_of(value, time, text_of(value, "event")?),
-        "test" => test_event_of(
-            value,
-            time,
-            text_of(value, "name")?,
-            text_of(value, "event")?,
-        ),
-        "bench" => {
-            let name = text_of(value, "name")?;
-            Some(test_end_of(value, time, name, bench_result_of(value)))
-        }
-        _ => None,
-    }
-}
-
-/// Returns the event of an object with a time.
-pub(crate) fn event_of(value: &Value, time: Option<u64>) -> Option<Event<'_>>
-    ensures { option_map event_view result ≡ object_said time (view value.now) }
-{
-    typed_event_of(value, time, text_of(value, "type")?)
 }

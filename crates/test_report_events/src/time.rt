@@ -5,10 +5,14 @@ ghost use Rattle.std.specs.Char.{is_ascii_digit};
 ghost use Rattle.std.specs.List.{list_all, position};
 ghost use Rattle.std.specs.Option.{SomeIff};
 ghost use Rattle.std.specs.Str.Parse.{digits_value};
+ghost use Rattle.bstr.specs.Find.{FindsLastNeedle};
 ghost use Rattle.test_report_events.specs.Time as time;
 
 use crate::plain::without_spaces;
 use bstr::ByteSlice;
+
+/// The key of the member that holds a time.
+const KEY: &[u8] = b"\"exec_time\"";
 
 /// The greatest number of digits before the point of a time that is read.
 const MOST_DIGITS: usize = 9;
@@ -26,11 +30,24 @@ const MICROSECONDS: u64 = 1_000_000;
 pub(crate) fn exec_time(line: &[u8]) -> Option<u64>
     ensures { MatchOption result ((micros : ℕ) → ¬ time.GivesTime line.now micros) (time.GivesTime line.now) }
 {
-    let key = b"\"exec_time\":";
-    match line.rfind(key) {
-        Some(at) => microseconds(number_text(&line[at + key.len()..])),
+    match last_key(line) {
+        Some(at) => microseconds(number_text(&line[at + KEY.len() + 1..])),
         None => None,
     }
+}
+
+/// Returns the offset of the last key of a time, which a colon follows.
+fn last_key(line: &[u8]) -> Option<usize>
+    ensures { FindsLastNeedle line.now time.time_key result }
+{
+    let mut rest = line;
+    while let Some(colon) = rest.rfind_byte(b':') {
+        rest = &rest[..colon];
+        if rest.ends_with(KEY) {
+            return Some(colon - KEY.len());
+        }
+    }
+    None
 }
 
 /// Returns the offset of the first byte that is not of a number.

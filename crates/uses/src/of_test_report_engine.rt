@@ -32,7 +32,7 @@ pub fn succeeds<R: Source, W: Sink>(
     ensures read { IsErrOf result faults.Read ↔ (R.failed source.new ≡ true) }
     ensures write { IsErrOf result faults.Write ↔ (W.failed sink.new ≡ true) }
 {
-    let mut report = Report::new(alloc, TextForm::new(alloc, options))?;
+    let mut report = Report::new(alloc, TextForm::new(alloc, options));
     report.read_file(alloc, source, sink)?;
     let end = report.finish(alloc, sink)?;
     Ok(end.outcome == RunOutcome::Success)

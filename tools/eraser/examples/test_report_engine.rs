@@ -7,7 +7,7 @@ let lines = b"{ \"type\": \"test\", \"name\": \"adds\", \"event\": \"failed\" }\
 let mut source = MemorySource::new(lines, None);
 let mut buffer = [0; 1_000];
 let mut sink = MemorySink::new(&mut buffer, None);
-let mut report = Report::new(NamesForm)?;
+let mut report = Report::new(NamesForm);
 report.read_file(&mut source, &mut sink)?;
 let end = report.finish(&mut sink)?;
 assert!(end.outcome != RunOutcome::Success);

@@ -2,12 +2,12 @@
 //! harness or cargo nextest writes.
 
 use clap::ArgMatches;
-use deodarsieve::RunOutcome;
 use deodarsieve_cli::commands::test_report;
 use deodarsieve_cli::program::{BAD_ARGUMENT, DEVICE_FAILED, Failure, KeepError, print_clap};
 use deodarsieve_cli::program_io::std_device::{StdSink, StdSource};
 use deodarsieve_cli::replaced_file::{append, replace};
 use deodarsieve_cli::test_report_engine::report::Report;
+use deodarsieve_cli::test_report_engine::status::exit_status;
 use deodarsieve_cli::test_report_forms::files::{FileForms, FileTexts};
 use deodarsieve_cli::test_report_forms::form::Form;
 use deodarsieve_cli::test_report_forms::github::GithubForm;
@@ -136,13 +136,13 @@ fn report_in<F: Form>(
     if files.is_empty() {
         files.push("-");
     }
-    let report = Report::with_files(form, file_forms(matches, options))?;
+    let report = Report::with_files(form, file_forms(matches, options));
     let mut writer = KeepError::new(io::stdout().lock());
     let written = report_files(&files, report, &mut StdSink::new(&mut writer));
     match (written, writer.into_error()) {
         (Ok((end, texts)), _) => {
             write_files(matches, &texts)?;
-            Ok(ExitCode::from(status_of(end.outcome, options)))
+            Ok(ExitCode::from(exit_status(end.outcome, options.no_tests_pass)))
         }
         (Err(_), Some(error)) if error.kind() == ErrorKind::BrokenPipe => {
             Ok(ExitCode::from(DEVICE_FAILED))
@@ -150,15 +150,6 @@ fn report_in<F: Form>(
         (Err(failure), Some(error)) => Err(failure.caused_by(Some(error))),
         (Err(failure), None) => Err(failure),
     }
-}
-
-/// Returns the exit status of a run with this outcome.
-fn status_of(outcome: RunOutcome, options: Options) -> u8 {
-    u8::from(!match outcome {
-        RunOutcome::Success => true,
-        RunOutcome::NoTestsRun => options.no_tests_pass,
-        RunOutcome::Cancelled { .. } | RunOutcome::Failed { .. } => false,
-    })
 }
 
 /// Writes the report that the arguments ask for, and returns the exit status.

@@ -24,17 +24,17 @@ pub struct Report<F: Form> {
 
 impl<F: Form> Report<F> {
     /// Returns a report that has read and written nothing.
-    pub fn new(form: F) -> Result<Report<F>, Fault> {
+    pub fn new(form: F) -> Report<F> {
         Report::with_files(form, FileForms::none())
     }
 
     /// Returns a report that has read and written nothing, and that returns the texts of these files at its end.
-    pub fn with_files(form: F, files: FileForms) -> Result<Report<F>, Fault> {
-        Ok(Report {
+    pub fn with_files(form: F, files: FileForms) -> Report<F> {
+        Report {
             run: TestRun::new(),
             form,
             files,
-        })
+        }
     }
 
     /// Reads a file of the run to its end. What its lines make known is written, and the sink flushed, as

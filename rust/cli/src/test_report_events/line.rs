@@ -3,7 +3,7 @@
 
 use crate::test_report_events::cargo::{cargo_failure, heading};
 use crate::test_report_events::event::{CargoFailure, Event};
-use crate::test_report_events::members::{event_of, time_of};
+use crate::test_report_events::members::Members;
 use crate::test_report_events::plain::{line_text, plain_text};
 use bstr::ByteSlice;
 use serde_json::Value;
@@ -42,7 +42,9 @@ impl Line {
     /// Returns what the line says.
     pub fn event(&self) -> Event<'_> {
         match &self.content {
-            Content::Event { value, time } => event_of(value, *time).unwrap_or(Event::Other),
+            Content::Event { value, time } => {
+                Members::of(value).event(*time).unwrap_or(Event::Other)
+            }
             Content::Heading(suite) => Event::Heading {
                 suite: suite.as_str(),
             },
@@ -103,8 +105,9 @@ fn last_object(line: &[u8]) -> Option<usize> {
 
 /// Returns what a line that holds a value is: an event, or a print if the value is none.
 fn value_content(bytes: &[u8], value: Value) -> Content {
-    let time = time_of(&value, bytes);
-    if event_of(&value, time).is_some() {
+    let members = Members::of(&value);
+    let time = members.time_in(bytes);
+    if members.event(time).is_some() {
         return Content::Event { value, time };
     }
     let plain = plain_text(bytes);

@@ -4,6 +4,9 @@
 use crate::test_report_events::plain::without_spaces;
 use bstr::ByteSlice;
 
+/// The key of the member that holds a time.
+const KEY: &[u8] = b"\"exec_time\"";
+
 /// The greatest number of digits before the point of a time that is read.
 const MOST_DIGITS: usize = 9;
 
@@ -17,11 +20,22 @@ const MICROSECONDS: u64 = 1_000_000;
 /// rounded down. The number is one of seconds without exponent, with at most nine digits before the
 /// point.
 pub(crate) fn exec_time(line: &[u8]) -> Option<u64> {
-    let key = b"\"exec_time\":";
-    match line.rfind(key) {
-        Some(at) => microseconds(number_text(&line[at + key.len()..])),
+    match last_key(line) {
+        Some(at) => microseconds(number_text(&line[at + KEY.len() + 1..])),
         None => None,
     }
+}
+
+/// Returns the offset of the last key of a time, which a colon follows.
+fn last_key(line: &[u8]) -> Option<usize> {
+    let mut rest = line;
+    while let Some(colon) = rest.rfind_byte(b':') {
+        rest = &rest[..colon];
+        if rest.ends_with(KEY) {
+            return Some(colon - KEY.len());
+        }
+    }
+    None
 }
 
 /// Returns the offset of the first byte that is not of a number.

@@ -119,8 +119,7 @@ fn reported_with(files: fn() -> FileForms, lines: String, expected: String) -> W
             let mut written = Vec::with_capacity(expected.len());
             let mut source = StdSource::new(black_box(lines.as_bytes()));
             let mut sink = StdSink::new(&mut written);
-            let mut report =
-                Report::with_files(TextForm::new(OPTIONS), files()).expect("the report begins");
+            let mut report = Report::with_files(TextForm::new(OPTIONS), files());
             report
                 .read_file(&mut source, &mut sink)
                 .expect("the run is read");

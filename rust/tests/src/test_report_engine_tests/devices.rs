@@ -66,7 +66,7 @@ pub(crate) fn reported<F: Form, R: Source, W: Sink>(
     source: &mut R,
     sink: &mut W,
 ) -> Result<RunEnd, Fault> {
-    let mut report = Report::new(form)?;
+    let mut report = Report::new(form);
     report.read_file(source, sink)?;
     report.finish(sink)
 }

@@ -104,7 +104,7 @@ fn has_files() -> Result<bool, Fault> {
     let mut buffer = [0; 100];
     let mut source = MemorySource::new(RUN.as_bytes(), None);
     let mut sink = MemorySink::new(&mut buffer, None);
-    let mut report = Report::with_files(NamesForm, all_files())?;
+    let mut report = Report::with_files(NamesForm, all_files());
     report.read_file(&mut source, &mut sink)?;
     let texts = report.file_texts()?;
     let end = report.finish(&mut sink)?;
@@ -135,7 +135,7 @@ fn files_have_their_forms() {
 fn is_one_run() -> Result<bool, Fault> {
     let mut buffer = [0; 100];
     let mut sink = MemorySink::new(&mut buffer, None);
-    let mut report = Report::new(NamesForm)?;
+    let mut report = Report::new(NamesForm);
     let cut = RUN.rfind("{").and_then(|at| RUN.get(..at)).unwrap_or("");
     report.read_file(&mut MemorySource::new(cut.as_bytes(), None), &mut sink)?;
     report.read_file(&mut MemorySource::new(RUN.as_bytes(), None), &mut sink)?;

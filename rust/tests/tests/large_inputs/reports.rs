@@ -21,7 +21,7 @@ fn reported(input: &str) -> String {
     let mut buffer = vec![0; 1_000_000];
     let mut source = MemorySource::new(input.as_bytes(), None);
     let mut sink = MemorySink::new(&mut buffer, None);
-    let mut report = Report::new(form).expect("the report begins");
+    let mut report = Report::new(form);
     report
         .read_file(&mut source, &mut sink)
         .expect("the run is read");

@@ -23,7 +23,7 @@ const OPTIONS: Options = Options {
 fn reported<F: Form>(form: F, files: &[&str]) -> (String, bool) {
     let mut buffer = vec![0; 50_000];
     let mut sink = MemorySink::new(&mut buffer, None);
-    let mut report = Report::new(form).expect("the report begins");
+    let mut report = Report::new(form);
     for file in files {
         let mut source = MemorySource::new(file.as_bytes(), None);
         report
