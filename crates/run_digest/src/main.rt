@@ -20,7 +20,7 @@ Counts a test run, or finds why a test failed
 Usage: run-digest [COMMAND]
 
 Commands:
-  count    Count the finished tests and setup scripts of a run, one per line
+  count    Count the tests and setup scripts of a run that the input describes, one per line
   extract  Find the part of a test's output that explains its failure
 
 Options:
@@ -29,7 +29,7 @@ Options:
 
 Both commands read standard input. Without a command, `count` is run.
 
-Input of `count`, for example, in which `pass` and `fail` are the results of attempts:
+An example of the input of `count`; `pass` and `fail` are the results of attempts:
   run 2 0 -
   test fail,pass
   test fail slow

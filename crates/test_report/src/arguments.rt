@@ -21,6 +21,7 @@ const AFTER_HELP: &str = "\
 Examples (with `set -o pipefail` a pipe also fails if the test command does):
   cargo test --no-fail-fast -- -Z unstable-options --format json 2>&1 | test-report
   cargo nextest run --message-format libtest-json 2>&1 | test-report
+  (cargo test needs a nightly toolchain or RUSTC_BOOTSTRAP=1, nextest NEXTEST_EXPERIMENTAL_LIBTEST_JSON=1)
   .. | test-report --format github                      annotations of a workflow on GitHub
   .. | test-report --format names                       the names of failed tests, to run them again
   .. | test-report --junit junit.xml                    the text, and a file for a build server
@@ -30,9 +31,9 @@ Examples (with `set -o pipefail` a pipe also fails if the test command does):
 
 Exit status:
   0  the run succeeded
-  1  the run did not succeed: a test failed or did not run, or there was no test
+  1  the run did not succeed: a test failed or did not run, lines contradict each other, or there was no test
   2  an argument is invalid
-  3  reading or writing failed, or a number is too large to count";
+  3  reading or writing failed, a file cannot be opened or written, or a number is too large to count";
 
 /// Returns the arguments that the program takes.
 pub(crate) fn command<'a>(alloc: Global) -> Result<Command<'a>, AllocError> {
@@ -61,7 +62,7 @@ pub(crate) fn command<'a>(alloc: Global) -> Result<Command<'a>, AllocError> {
             "Append Markdown to FILE as well, such as $GITHUB_STEP_SUMMARY",
         ))?
         .arg(choice(alloc, "no-tests", "ACTION", ACTIONS).help(
-            "How the run ends if it has no tests",
+            "Whether a run without tests fails or passes",
         ))?
         .arg(choice(alloc, "color", "WHEN", COLORS).help("Colour the words for results"))?
         .arg(limit)?

@@ -6,7 +6,7 @@ use clap::{Arg, ArgAction, Command, value_parser};
 const AFTER_DIGEST_HELP: &str = "\
 Both commands read standard input. Without a command, `count` is run.
 
-Input of `count`, for example, in which `pass` and `fail` are the results of attempts:
+An example of the input of `count`; `pass` and `fail` are the results of attempts:
   run 2 0 -
   test fail,pass
   test fail slow
@@ -28,6 +28,7 @@ const AFTER_REPORT_HELP: &str = "\
 Examples (with `set -o pipefail` a pipe also fails if the test command does):
   cargo test --no-fail-fast -- -Z unstable-options --format json 2>&1 | test-report
   cargo nextest run --message-format libtest-json 2>&1 | test-report
+  (cargo test needs a nightly toolchain or RUSTC_BOOTSTRAP=1, nextest NEXTEST_EXPERIMENTAL_LIBTEST_JSON=1)
   .. | test-report --format github                      annotations of a workflow on GitHub
   .. | test-report --format names                       the names of failed tests, to run them again
   .. | test-report --junit junit.xml                    the text, and a file for a build server
@@ -37,14 +38,14 @@ Examples (with `set -o pipefail` a pipe also fails if the test command does):
 
 Exit status:
   0  the run succeeded
-  1  the run did not succeed: a test failed or did not run, or there was no test
+  1  the run did not succeed: a test failed or did not run, lines contradict each other, or there was no test
   2  an argument is invalid
-  3  reading or writing failed, or a number is too large to count";
+  3  reading or writing failed, a file cannot be opened or written, or a number is too large to count";
 
 /// Returns the arguments that `run-digest` takes.
 pub fn run_digest() -> Command {
     let count = Command::new("count")
-        .about("Count the finished tests and setup scripts of a run, one per line");
+        .about("Count the tests and setup scripts of a run that the input describes, one per line");
     let extract =
         Command::new("extract").about("Find the part of a test's output that explains its failure");
     Command::new("run-digest")
@@ -70,7 +71,7 @@ pub fn test_report() -> Command {
         .arg(file("markdown").help("Append Markdown to FILE as well, such as $GITHUB_STEP_SUMMARY"))
         .arg(
             choice("no-tests", "ACTION", "fail", ["fail", "pass"])
-                .help("How the run ends if it has no tests"),
+                .help("Whether a run without tests fails or passes"),
         )
         .arg(
             choice("color", "WHEN", "auto", ["auto", "always", "never"])

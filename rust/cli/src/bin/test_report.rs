@@ -142,7 +142,10 @@ fn report_in<F: Form>(
     match (written, writer.into_error()) {
         (Ok((end, texts)), _) => {
             write_files(matches, &texts)?;
-            Ok(ExitCode::from(exit_status(end.outcome, options.no_tests_pass)))
+            Ok(ExitCode::from(exit_status(
+                end.outcome,
+                options.no_tests_pass,
+            )))
         }
         (Err(_), Some(error)) if error.kind() == ErrorKind::BrokenPipe => {
             Ok(ExitCode::from(DEVICE_FAILED))
