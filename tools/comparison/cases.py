@@ -16,7 +16,7 @@ REFUSED = [
     ["--limit", "18446744073709551616"], ["--raw=yes"], ["--raw", "--raw"], ["--limit", "1", "--limit", "2"],
     ["--lim", "7"], ["--limit", "0x10"], ["--limit", " 7"], ["--", "--raw"], ["--format"], ["--format", "xml"],
     ["--format="], ["--format", "Text"], ["--format", "text", "--format", "text"], ["--no-tests", "warn"],
-    ["--no-tests"], ["--color", "yes"], ["--color=always", "--color=always"], ["--junit"], ["--html"],
+    ["--no-tests"], ["--color", "yes"], ["--progress", "yes"], ["--color=always", "--color=always"], ["--junit"], ["--html"],
     ["--markdown"], ["--junit", "a", "--junit", "b"], ["--form", "text"],
 ]
 FORMS = ["text", "github", "names", "junit", "html", "markdown"]
@@ -26,7 +26,7 @@ LIMITS = [0, 1, 2, 10, 50, 68, 100, 1000, 4096, 2**64 - 1]
 OPTIONS = [
     (0.6, "format", FORMS), (0.5, "limit", LIMITS), (0.2, "no-tests", ["fail", "pass"]),
     (0.2, "color", ["auto", "always", "never"]), (0.2, "junit", ["run.xml", "old.txt"]),
-    (0.2, "html", ["run.html", "old.txt"]), (0.2, "markdown", ["run.md", "old.txt"]),
+    (0.1, "progress", ["auto", "never"]), (0.2, "html", ["run.html", "old.txt"]), (0.2, "markdown", ["run.md", "old.txt"]),
 ]
 WORDS = [["frob"], ["count", "count"], ["extract", "count"], ["Count"], ["-"], [""], ["--nothing"], ["coun"],
          ["extract", ""], [b"caf\xe9"], ["count", b"\xff"]]

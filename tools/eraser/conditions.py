@@ -165,6 +165,7 @@ CONDITIONS = {
     "run_digest_engine/src/extract.rt": {"extract": Elsewhere(FAILED_DEVICE)},
     "test_report_engine/src/report.rt": {
         "Report::read_file": Elsewhere(FAILED_DEVICE),
+        "Report::read_piece": Elsewhere(FAILED_DEVICE),
         "Report::finish": Elsewhere(FAILED_DEVICE),
     },
 }

@@ -13,8 +13,8 @@ const FORMS: &[&str] = &["text", "github", "names", "junit", "html", "markdown"]
 /// The values of `--no-tests`.
 const ACTIONS: &[&str] = &["fail", "pass"];
 
-/// The values of `--color`.
-const COLORS: &[&str] = &["auto", "always", "never"];
+/// The values of `--color` and `--progress`.
+const TIMES: &[&str] = &["auto", "always", "never"];
 
 /// What `--help` says after the options.
 const AFTER_HELP: &str = "\
@@ -64,7 +64,10 @@ pub(crate) fn command<'a>(alloc: Global) -> Result<Command<'a>, AllocError> {
         .arg(choice(alloc, "no-tests", "ACTION", ACTIONS).help(
             "Whether a run without tests fails or passes",
         ))?
-        .arg(choice(alloc, "color", "WHEN", COLORS).help("Colour the words for results"))?
+        .arg(choice(alloc, "color", "WHEN", TIMES).help("Colour the words for results"))?
+        .arg(choice(alloc, "progress", "WHEN", TIMES).help(
+            "Show on standard error how far the run is",
+        ))?
         .arg(limit)?
         .arg(raw)?;
     Ok(command.after_help(AFTER_HELP))
@@ -97,5 +100,15 @@ pub(crate) fn options_of(matches: &ArgMatches<'_>, colors: bool) -> Options {
             _ => colors,
         },
         no_tests_pass: matches.get_str("no-tests") == Some("pass"),
+    }
+}
+
+/// Returns true if a line on standard error says how far the run is. `is_terminal` is true if standard error is
+/// a terminal.
+pub(crate) fn shows_progress(matches: &ArgMatches<'_>, is_terminal: bool) -> bool {
+    match matches.get_str("progress") {
+        Some("always") => true,
+        Some("never") => false,
+        _ => is_terminal,
     }
 }

@@ -6,21 +6,24 @@ mod arguments;
 mod failure;
 mod files;
 mod output;
+mod progress;
 
-use crate::arguments::{command, options_of};
+use crate::arguments::{command, options_of, shows_progress};
 use crate::failure::Failure;
 use crate::files::{append, replace};
 use crate::output::Output;
+use crate::progress::ProgressLine;
 use clap::ArgMatches;
-use program_io::device::Sink;
+use program_io::device::Source;
 use program_io::std_device::{StdSink, StdSource};
 use std::alloc::{AllocError, Global};
 use std::env;
 use std::fs::File;
 use std::io::{self, ErrorKind, IsTerminal, Read, Write};
 use std::process::ExitCode;
-use std::rt::{Env, Files};
+use std::rt::{Clock, Env, Files};
 use test_report_engine::fault::Fault;
+use test_report_engine::pieces::Pieces;
 use test_report_engine::report::Report;
 use test_report_engine::status::exit_status;
 use test_report_forms::files::{FileForms, FileTexts};
@@ -39,6 +42,15 @@ const BAD_ARGUMENT: u8 = 2;
 
 /// The exit status after a failure.
 const FAILED: u8 = 3;
+
+/// How the report is written.
+#[derive(Clone, Copy)]
+struct Settings {
+    options: Options,
+
+    /// True if a line on standard error says how far the run is.
+    shows_progress: bool,
+}
 
 /// Returns the program's name and its arguments, or `None` if one of them is not UTF-8.
 fn words_of<R: Env + AllocGlobal>(rt: &R) -> Result<Option<Vec<String>>, Fault> {
@@ -92,74 +104,109 @@ fn write_files<'a, R: Files + AllocGlobal>(
 }
 
 /// Reads a file of the run, or standard input if its name is `-`.
-fn read_file<'a, R: Files + AllocGlobal + Input, F: Form + Drop, W: Sink>(
+fn read_file<'a, R: Files + AllocGlobal + Input + Clock, F: Form + Drop, W: Write>(
     rt: &R,
     path: &'a str,
     report: &mut Report<F>,
-    sink: &mut W,
+    pieces: &mut Pieces,
+    output: &mut Output<W>,
 ) -> Result<(), Failure<'a>> {
     if path == "-" {
-        read_from(rt.alloc(), rt.reader(), report, sink)?;
+        read_from(rt, rt.reader(), report, pieces, output)?;
         return Ok(());
     }
     match File::open(rt, path) {
-        Ok(file) => Ok(read_from(rt.alloc(), file, report, sink)?),
+        Ok(file) => Ok(read_from(rt, file, report, pieces, output)?),
         Err(_) => Err(Failure::Open(path)),
     }
 }
 
-/// Reads a file of the run from a reader.
-fn read_from<S: Read + Drop, F: Form + Drop, W: Sink>(
-    alloc: Global,
+/// Reads a file of the run from a reader, and shows after each piece how far the run is.
+fn read_from<S: Read + Drop, R: AllocGlobal + Clock, F: Form + Drop, W: Write>(
+    rt: &R,
     reader: S,
     report: &mut Report<F>,
-    sink: &mut W,
+    pieces: &mut Pieces,
+    output: &mut Output<W>,
 ) -> Result<(), Fault> {
-    if sink.has_failed() {
-        return Err(Fault::Write);
+    let mut source = StdSource::new(reader);
+    for _piece in 0..u64::MAX {
+        if !read_piece(rt.alloc(), &mut source, report, pieces, output)? {
+            return Ok(());
+        }
+        if let Some(progress) = pieces.progress() {
+            if output.line.is_due(rt) {
+                output.line.show(progress.text(rt.alloc())?.as_str());
+            }
+        }
     }
-    report.read_file(alloc, &mut StdSource::new(reader), sink)
+    Err(Fault::CounterFull)
+}
+
+/// Reads the next piece of a file, and returns false at its end.
+fn read_piece<S: Read + Drop, F: Form + Drop, W: Write>(
+    alloc: Global,
+    source: &mut StdSource<S>,
+    report: &mut Report<F>,
+    pieces: &mut Pieces,
+    output: &mut Output<W>,
+) -> Result<bool, Fault> {
+    if source.has_failed() {
+        return Err(Fault::Read);
+    }
+    report.read_piece(alloc, source, pieces, &mut StdSink::new(output))
 }
 
 /// Reads the files of the run, and writes the report. Returns the end of the run, and the texts of the files
 /// that are written as well.
-fn report_to<'a, R: Files + AllocGlobal + Input, F: Form + Drop, W: Write>(
+fn report_to<'a, R: Files + AllocGlobal + Input + Clock, F: Form + Drop, W: Write>(
     rt: &R,
     matches: &ArgMatches<'a>,
     mut report: Report<F>,
+    mut pieces: Pieces,
     output: &mut Output<W>,
 ) -> Result<(RunEnd, FileTexts), Failure<'a>> {
-    let mut sink = StdSink::new(output);
     match matches.get_strs("file") {
         Some(paths) if !paths.is_empty() => {
             for path in paths {
-                read_file(rt, path, &mut report, &mut sink)?;
+                read_file(rt, path, &mut report, &mut pieces, output)?;
             }
         }
-        _ => read_file(rt, "-", &mut report, &mut sink)?,
+        _ => read_file(rt, "-", &mut report, &mut pieces, output)?,
     }
     let texts = report.file_texts(rt.alloc())?;
-    if sink.has_failed() {
-        return Err(Failure::Fault(Fault::Write));
+    let end = report.finish(rt.alloc(), &mut StdSink::new(output))?;
+    Ok((end, texts))
+}
+
+/// Returns what is kept while the files are read.
+fn pieces_of(alloc: Global, settings: Settings) -> Pieces {
+    if settings.shows_progress {
+        Pieces::with_progress(alloc)
+    } else {
+        Pieces::without_progress(alloc)
     }
-    Ok((report.finish(rt.alloc(), &mut sink)?, texts))
 }
 
 /// Writes the report to standard output in a form, and then the files. Returns the exit status. A reader of
 /// standard output that has gone needs no message.
-fn report_in<'a, R: Files + AllocGlobal + Input + Print, F: Form + Drop>(
+fn report_in<'a, R: Files + AllocGlobal + Input + Clock + Print, F: Form + Drop>(
     rt: &R,
     matches: &ArgMatches<'a>,
-    options: Options,
+    settings: Settings,
+    line: ProgressLine,
     form: F,
 ) -> Result<u8, Failure<'a>> {
-    let files = file_forms(rt.alloc(), matches, options)?;
+    let files = file_forms(rt.alloc(), matches, settings.options)?;
     let report = Report::with_files(rt.alloc(), form, files);
-    let mut output = Output::new(io::writer(rt));
-    match report_to(rt, matches, report, &mut output) {
+    let pieces = pieces_of(rt.alloc(), settings);
+    let mut output = Output::new(io::writer(rt), line);
+    let written = report_to(rt, matches, report, pieces, &mut output);
+    output.line.hide();
+    match written {
         Ok((end, texts)) => {
             write_files(rt, matches, &texts)?;
-            Ok(exit_status(end.outcome, options.no_tests_pass))
+            Ok(exit_status(end.outcome, settings.options.no_tests_pass))
         }
         Err(_) if output.is_closed() => Ok(FAILED),
         Err(failure) => Err(failure),
@@ -167,19 +214,26 @@ fn report_in<'a, R: Files + AllocGlobal + Input + Print, F: Form + Drop>(
 }
 
 /// Writes the report that the arguments ask for, and returns the exit status.
-fn report_of<'a, R: Files + AllocGlobal + Input + Print>(
+fn report_of<'a, R: Files + AllocGlobal + Input + Clock + Print>(
     rt: &R,
     matches: &ArgMatches<'a>,
-    options: Options,
+    settings: Settings,
+    line: ProgressLine,
 ) -> Result<u8, Failure<'a>> {
-    let alloc = rt.alloc();
+    let (alloc, options) = (rt.alloc(), settings.options);
     match matches.get_str("format") {
-        Some("github") => report_in(rt, matches, options, GithubForm::new(options)),
-        Some("names") => report_in(rt, matches, options, NamesForm),
-        Some("junit") => report_in(rt, matches, options, JunitForm::new(alloc, options)?),
-        Some("html") => report_in(rt, matches, options, HtmlForm::new(alloc, options)),
-        Some("markdown") => report_in(rt, matches, options, MarkdownForm::new(alloc, options)),
-        _ => report_in(rt, matches, options, TextForm::new(alloc, options)),
+        Some("github") => report_in(rt, matches, settings, line, GithubForm::new(options)),
+        Some("names") => report_in(rt, matches, settings, line, NamesForm),
+        Some("junit") => report_in(rt, matches, settings, line, JunitForm::new(alloc, options)?),
+        Some("html") => report_in(rt, matches, settings, line, HtmlForm::new(alloc, options)),
+        Some("markdown") => report_in(
+            rt,
+            matches,
+            settings,
+            line,
+            MarkdownForm::new(alloc, options),
+        ),
+        _ => report_in(rt, matches, settings, line, TextForm::new(alloc, options)),
     }
 }
 
@@ -196,8 +250,11 @@ fn run(rt: &HostRuntime) -> Result<u8, Fault> {
     };
     match command(rt.alloc())?.try_get_matches_from(words.as_slice()) {
         Ok(matches) => {
-            let options = options_of(&matches, has_colors(rt));
-            match report_of(rt, &matches, options) {
+            let settings = Settings {
+                options: options_of(&matches, has_colors(rt)),
+                shows_progress: shows_progress(&matches, rt.stderr().is_terminal()),
+            };
+            match report_of(rt, &matches, settings, ProgressLine::new(rt.stderr())) {
                 Ok(status) => Ok(status),
                 Err(failure) => {
                     let _ = eprintln!(rt; "test-report: {failure}");

@@ -1,20 +1,25 @@
 //! Standard output.
 
+use crate::progress::ProgressLine;
 use std::io::{self, ErrorKind, Write};
 
-/// A writer that remembers whether its reader has gone.
+/// A writer that remembers whether its reader has gone, and takes the line of progress away before it writes.
 #[derive(Drop)]
 pub(crate) struct Output<W> {
     writer: W,
     is_closed: bool,
+
+    /// The line that says how far the run is.
+    pub(crate) line: ProgressLine,
 }
 
 impl<W: Write> Output<W> {
     /// Returns a writer that has not failed.
-    pub(crate) fn new(writer: W) -> Output<W> {
+    pub(crate) fn new(writer: W, line: ProgressLine) -> Output<W> {
         Output {
             writer,
             is_closed: false,
+            line,
         }
     }
 
@@ -32,6 +37,7 @@ impl<W: Write> Output<W> {
 
 impl<W: Write> Write for Output<W> {
     fn write(&mut self, buffer: &[u8]) -> io::Result<usize> {
+        self.line.hide();
         match self.writer.write(buffer) {
             Ok(n) => Ok(n),
             Err(error) => Err(self.noted(error)),

@@ -4,7 +4,7 @@ use Rattle.std.proofs.KnownBytes.{Appends-nil, Consumes-nil, Consumes-trans}
 use Rattle.std.proofs.lemmas.List.{append_cancel_left}
 use Rattle.std.proofs.lemmas.List.Concat.{flat_map-append}
 use Rattle.std.specs.Io.KnownBytes.{Appends, Consumes, IsAtEnd}
-use Rattle.std.specs.List.{AllZip, flat_map}
+use Rattle.std.specs.List.{AllZip, flat_map, fold}
 use Rattle.program_io.specs.Transfer.{AppendsStart}
 use Rattle.test_report_events.specs.Event.{EventView}
 use Rattle.test_report_events.specs.Laws.{OneEventOfLine}
@@ -18,10 +18,10 @@ use Rattle.test_report_run.specs.Run.{RunState, end_of, run_start, run_state}
 use Rattle.test_report_run.specs.declared.note.RunEnd.{RunEnd}
 use Rattle.test_report_run.specs.declared.run.TestRun.{TestRun}
 use Rattle.test_report_engine.specs.Lines.{AreEventsOf}
-use Rattle.test_report_engine.specs.Reading.{BreaksOff, BreaksOffEnd, FilesHaveRead, Finishes, HasRead, LeadsTo, ReadsInput, ReadsOneMore, ReadsStart}
-use Rattle.test_report_engine.specs.Report.{AreEntriesOf, AreTexts, IsReport, notes_of_input, notes_of_inputs, run_after_input, run_after_inputs, run_of}
+use Rattle.test_report_engine.specs.Reading.{BreaksOff, BreaksOffEnd, FilesHaveRead, Finishes, HasRead, LeadsTo, ReadsInput, ReadsOneMore, ReadsPiece, ReadsStart}
+use Rattle.test_report_engine.specs.Report.{AreEntriesOf, AreLinesOf, AreTexts, IsReport, notes_of_input, notes_of_inputs, run_after_input, run_after_inputs, run_of}
 use Rattle.test_report_engine.specs.declared.report.Report.{Report}
-use Rattle.test_report_engine.proofs.Inputs.{leads-none, leads-then}
+use Rattle.test_report_engine.proofs.Inputs.{input-none, leads-none, leads-then}
 use Rattle.test_report_engine.proofs.Lines.{one-events}
 use Rattle.test_report_engine.proofs.Lists.{zip-append, zip-one, zip-split}
 
@@ -123,6 +123,34 @@ end-known : (run : TestRun) (end : RunEnd) → end ≡ end_of (run_state run) �
 unfolding run_of
 end-known run end is = is
 
+-- what comes before the end of an input is all that is left of it
+nothing-left : (x y xs ys : List ℕ) (k : ℕ) (bytes : List ℕ) → xs ≡ take k bytes ++ ys → k ≡ 0 → ys ≡ [] → y ≡ x → y ≡ x ++ xs
+nothing-left x y xs ys k bytes consumed none end same =
+    let empty : xs ≡ [] = consumed ∙ (ap (λ i. take i bytes ++ ys) none ∙ end) in
+    same ∙ (sym (append-nil x) ∙ ap (λ l. x ++ l) (sym empty))
+
+-- nothing is read of what is left
+pub rest-none : {F : Type 0} (line : F → EntryView → List ℕ) (old : Report F) (x : List ℕ) (m b : Option (List ℕ))
+    → IfSome m (λ rest. ReadsStart line old (x ++ rest) b b)
+rest-none line old x None b = tt
+rest-none line old x (Some xs) b = input-none line old (x ++ xs) b
+
+-- a beginning of what the next bytes make known
+pub rest-starts : {F : Type 0} (line : F → EntryView → List ℕ) (old : Report F) (x y bytes : List ℕ) (m n v w : Option (List ℕ)) → y ≡ x → Consumes m n bytes
+    → ((rest : List ℕ) → ReadsStart line old (y ++ (bytes ++ rest)) v w) → IfSome m (λ rest. ReadsStart line old (x ++ rest) v w)
+rest-starts line old x y bytes None n v w same consumed starts = tt
+rest-starts line old x y bytes (Some xs) None v w same consumed starts = absurd consumed
+rest-starts line old x y bytes (Some xs) (Some ys) v w same consumed starts =
+    subst (λ l. ReadsStart line old l v w) (ap (λ l. l ++ (bytes ++ ys)) same ∙ ap (λ l. x ++ l) (sym consumed)) (starts ys)
+
+-- a beginning of what the end of an input makes known
+pub rest-end-starts : {F : Type 0} (line : F → EntryView → List ℕ) (old : Report F) (x y : List ℕ) (k : ℕ) (bytes : List ℕ) (m n v w : Option (List ℕ))
+    → Consumes m n (take k bytes) → k ≡ 0 → IsAtEnd n → y ≡ x → ReadsStart line old y v w → IfSome m (λ rest. ReadsStart line old (x ++ rest) v w)
+rest-end-starts line old x y k bytes None n v w consumed none end same starts = tt
+rest-end-starts line old x y k bytes (Some xs) None v w consumed none end same starts = absurd consumed
+rest-end-starts line old x y k bytes (Some xs) (Some ys) v w consumed none end same starts =
+    subst (λ l. ReadsStart line old l v w) (nothing-left x y xs ys k bytes consumed none end same) starts
+
 module _ {F : Type 0} (line : F → EntryView → List ℕ) (last : F → List EntryView → RunEnd → List ℕ) (Knows : F → List EntryView → Type 0) where
   -- a report read one more input
   pub reads-more : (old new : Report F) (input : List ℕ) (b w : Option (List ℕ)) → ReadsInput line last Knows old new input b w
@@ -155,57 +183,51 @@ module _ {F : Type 0} (line : F → EntryView → List ℕ) (last : F → List E
         say = λ entries end texts say. has.say entries end texts (took.files.say entries end texts say);
       }
 
-  -- pieces of a source were taken
-  pub record ReadsPieces (old new : Report F) (begun : List ℕ) (at_first left : Option (List ℕ)) (b w : Option (List ℕ)) : Type 0 where
-    pub done : List ℕ
-    pub consumed : Consumes at_first left done
-    pub leads : LeadsTo line last Knows old new [] begun done b w
-
-  -- none
-  pub pieces-none : (old : Report F) (begun : List ℕ) (a b : Option (List ℕ)) → begun ≡ [] → ReadsPieces old old begun a a b b
+  -- no piece of a source was taken
+  pub pieces-none : (old : Report F) (begun : List ℕ) (a b : Option (List ℕ)) → begun ≡ [] → ReadsPiece line last Knows old old [] begun a a b b
   pieces-none old begun a b none = record {
-    done = [];
+    bytes = [];
     consumed = Consumes-nil a;
     leads = subst (λ l. LeadsTo line last Knows old old [] l [] b b) (sym none) (leads-none line last Knows old [] b);
   }
 
-  -- one more
-  pub pieces-more : (old mid new : Report F) (x y bytes : List ℕ) (a m n b v w : Option (List ℕ)) → ReadsPieces old mid x a m b v → Consumes m n bytes
-      → LeadsTo line last Knows mid new x y bytes v w → ReadsPieces old new y a n b w
-  pieces-more old mid new x y bytes a m n b v w pieces consumed leads = record {
-    done = pieces.done ++ bytes;
-    consumed = Consumes-trans a m n pieces.done bytes pieces.consumed consumed;
-    leads = leads-then line last Knows old mid new [] x y pieces.done bytes b v w pieces.leads leads;
+  -- pieces, and one more
+  pub pieces-more : (old mid new : Report F) (x y : List ℕ) (a m n b v w : Option (List ℕ)) → ReadsPiece line last Knows old mid [] x a m b v
+      → ReadsPiece line last Knows mid new x y m n v w → ReadsPiece line last Knows old new [] y a n b w
+  pieces-more old mid new x y a m n b v w pieces next = record {
+    bytes = pieces.bytes ++ next.bytes;
+    consumed = Consumes-trans a m n pieces.bytes next.bytes pieces.consumed next.consumed;
+    leads = leads-then line last Knows old mid new [] x y pieces.bytes next.bytes b v w pieces.leads next.leads;
   }
 
-  -- an empty one
-  pub pieces-empty : (old new : Report F) (x y bytes : List ℕ) (k : ℕ) (a m n b w : Option (List ℕ)) → ReadsPieces old new x a m b w
-      → Consumes m n (take k bytes) → k ≡ 0 → y ≡ x → ReadsPieces old new y a n b w
-  pieces-empty old new x y bytes k a m n b w pieces consumed none same =
-      subst (λ l. ReadsPieces old new l a n b w) (sym same)
-      (pieces-more old new new x x [] a m n b w w pieces (subst (λ i. Consumes m n (take i bytes)) none consumed) (leads-none line last Knows new x w))
+  -- pieces, and the rest of the input
+  pub pieces-end : (old mid new : Report F) (x : List ℕ) (a m b v w : Option (List ℕ)) → ReadsPiece line last Knows old mid [] x a m b v
+      → IfSome m (λ rest. ReadsInput line last Knows mid new (x ++ rest) v w) → IfSome a (λ input. ReadsInput line last Knows old new input b w)
+  pieces-end old mid new x None m b v w pieces read = tt
+  pieces-end old mid new x (Some xs) None b v w pieces read = absurd pieces.consumed
+  pieces-end old mid new x (Some xs) (Some ys) b v w pieces read =
+      subst (λ l. ReadsInput line last Knows old new l b w) (sym pieces.consumed) (pieces.leads.reads ys new w read)
 
-  -- pieces up to the end of the source, and the end of the input
-  pub pieces-end : (old mid new : Report F) (x : List ℕ) (a n b v w : Option (List ℕ)) → ReadsPieces old mid x a n b v → IsAtEnd n
-      → ReadsInput line last Knows mid new x v w → IfSome a (λ input. ReadsInput line last Knows old new input b w)
-  pieces-end old mid new x None n b v w pieces end read = tt
-  pieces-end old mid new x (Some xs) None b v w pieces end read = absurd pieces.consumed
-  pieces-end old mid new x (Some xs) (Some ys) b v w pieces end read =
-      subst (λ l. ReadsInput line last Knows old new l b w) (sym (pieces.consumed ∙ ap (λ l. pieces.done ++ l) end))
-      (pieces.leads.reads [] new w (subst (λ l. ReadsInput line last Knows mid new l v w) (sym (append-nil x)) read))
+  pub pieces-reads : (old mid new : Report F) (x : List ℕ) (a m b v w : Option (List ℕ)) → ReadsPiece line last Knows old mid [] x a m b v
+      → IfSome m (λ rest. ReadsInput line last Knows mid new (x ++ rest) v w) → IfSome a (λ input. ReadsOneMore line last Knows old new input b w)
+  pieces-reads old mid new x None m b v w pieces read = tt
+  pieces-reads old mid new x (Some xs) m b v w pieces read =
+      reads-more old new xs b w (pieces-end old mid new x (Some xs) m b v w pieces read)
 
-  pub pieces-reads : (old mid new : Report F) (x : List ℕ) (a n b v w : Option (List ℕ)) → ReadsPieces old mid x a n b v → IsAtEnd n
-      → ReadsInput line last Knows mid new x v w → IfSome a (λ input. ReadsOneMore line last Knows old new input b w)
-  pieces-reads old mid new x None n b v w pieces end read = tt
-  pieces-reads old mid new x (Some xs) n b v w pieces end read =
-      reads-more old new xs b w (pieces-end old mid new x (Some xs) n b v w pieces end read)
-
-  pub pieces-files : (old mid new : Report F) (x : List ℕ) (a n b v w : Option (List ℕ)) → ReadsPieces old mid x a n b v → IsAtEnd n
-      → ReadsInput line last Knows mid new x v w
+  pub pieces-files : (old mid new : Report F) (x : List ℕ) (a m b v w : Option (List ℕ)) → ReadsPiece line last Knows old mid [] x a m b v
+      → IfSome m (λ rest. ReadsInput line last Knows mid new (x ++ rest) v w)
       → IfSome a (λ input. (files : FileForms) (inputs : List (List ℕ)) → FilesHaveRead files old inputs → FilesHaveRead files new (inputs ++ input ∷ []))
-  pieces-files old mid new x None n b v w pieces end read = tt
-  pieces-files old mid new x (Some xs) n b v w pieces end read =
-      files-more old new xs b w (pieces-end old mid new x (Some xs) n b v w pieces end read)
+  pieces-files old mid new x None m b v w pieces read = tt
+  pieces-files old mid new x (Some xs) m b v w pieces read =
+      files-more old new xs b w (pieces-end old mid new x (Some xs) m b v w pieces read)
+
+  -- the end of an input, after which nothing is left
+  pub rest-read : (old new : Report F) (x y : List ℕ) (k : ℕ) (bytes : List ℕ) (m n v w : Option (List ℕ)) → Consumes m n (take k bytes) → k ≡ 0 → IsAtEnd n
+      → y ≡ x → ReadsInput line last Knows old new y v w → IfSome m (λ rest. ReadsInput line last Knows old new (x ++ rest) v w)
+  rest-read old new x y k bytes None n v w consumed none end same read = tt
+  rest-read old new x y k bytes (Some xs) None v w consumed none end same read = absurd consumed
+  rest-read old new x y k bytes (Some xs) (Some ys) v w consumed none end same read =
+      subst (λ l. ReadsInput line last Knows old new l v w) (nothing-left x y xs ys k bytes consumed none end same) read
 
   -- a report that has read nothing
   pub read-none : (report : Report F) → run_state report.run ≡ run_start → Knows report.form [] → HasRead line last Knows report.form report [] []
@@ -266,34 +288,12 @@ module _ (one-event-of-line : OneEventOfLine) (one_entry : OneEntry) {F : Type 0
       subst (AppendsStart b w) is (starts one.events one.say one.more one.are)
 
   -- pieces, and a beginning of what comes of the rest
-  pub pieces-break : (old mid : Report F) (x : List ℕ) (a n b v w : Option (List ℕ)) → ReadsPieces line last Knows old mid x a n b v
-      → ((rest : List ℕ) → ReadsStart line mid (x ++ rest) v w) → IfSome a (λ input. BreaksOff line last Knows old input b w)
-  pieces-break old mid x None n b v w pieces starts = tt
+  pub pieces-break : (old mid : Report F) (x : List ℕ) (a m b v w : Option (List ℕ)) → ReadsPiece line last Knows old mid [] x a m b v
+      → IfSome m (λ rest. ReadsStart line mid (x ++ rest) v w) → IfSome a (λ input. BreaksOff line last Knows old input b w)
+  pieces-break old mid x None m b v w pieces starts = tt
   pieces-break old mid x (Some xs) None b v w pieces starts = absurd pieces.consumed
   pieces-break old mid x (Some xs) (Some ys) b v w pieces starts =
-      breaks-off old xs b w (subst (λ l. ReadsStart line old l b w) (sym pieces.consumed) (pieces.leads.starts ys w (starts ys)))
-
-  -- and one more, of which a beginning is written
-  pub pieces-break-more : (old mid : Report F) (x bytes : List ℕ) (a m n b v w : Option (List ℕ)) → ReadsPieces line last Knows old mid x a m b v
-      → Consumes m n bytes
-      → ((rest : List ℕ) → ReadsStart line mid (x ++ (bytes ++ rest)) v w) → IfSome a (λ input. BreaksOff line last Knows old input b w)
-  pieces-break-more old mid x bytes None m n b v w pieces consumed starts = tt
-  pieces-break-more old mid x bytes (Some xs) None n b v w pieces consumed starts = absurd pieces.consumed
-  pieces-break-more old mid x bytes (Some xs) (Some ys) None b v w pieces consumed starts = absurd consumed
-  pieces-break-more old mid x bytes (Some xs) (Some ys) (Some zs) b v w pieces consumed starts =
-      breaks-off old xs b w
-      (subst (λ l. ReadsStart line old l b w) (sym pieces.consumed)
-      (pieces.leads.starts ys w (subst (λ l. ReadsStart line mid (x ++ l) v w) (sym consumed) (starts zs))))
-
-  -- and a beginning of what the end of the input makes known
-  pub pieces-break-end : (old mid : Report F) (x : List ℕ) (a n b v w : Option (List ℕ)) → ReadsPieces line last Knows old mid x a n b v → IsAtEnd n
-      → ReadsStart line mid x v w → IfSome a (λ input. BreaksOff line last Knows old input b w)
-  pieces-break-end old mid x None n b v w pieces end starts = tt
-  pieces-break-end old mid x (Some xs) None b v w pieces end starts = absurd pieces.consumed
-  pieces-break-end old mid x (Some xs) (Some ys) b v w pieces end starts =
-      breaks-off old xs b w
-      (subst (λ l. ReadsStart line old l b w) (sym (pieces.consumed ∙ ap (λ l. pieces.done ++ l) end))
-      (pieces.leads.starts [] w (subst (λ l. ReadsStart line mid l v w) (sym (append-nil x)) starts)))
+      breaks-off old xs b w (subst (λ l. ReadsStart line old l b w) (sym pieces.consumed) (pieces.leads.starts ys w starts))
 
   -- a beginning of the end
   pub ends-off : (report : Report F) (end : RunEnd) (text : List ℕ) (b w : Option (List ℕ)) → end ≡ end_of (run_state report.run)

@@ -1,5 +1,6 @@
 pub mod Fault
 pub mod Laws
 pub mod Lines
+pub mod Progress
 pub mod Reading
 pub mod Report

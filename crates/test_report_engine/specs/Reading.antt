@@ -1,6 +1,6 @@
 -- What a report has read and written.
 use Rattle.std.specs.Prelude.{◌≡◌, ℕ, List, [], ◌∷◌, ◌++◌, Option}
-use Rattle.std.specs.Io.KnownBytes.{Appends}
+use Rattle.std.specs.Io.KnownBytes.{Appends, Consumes}
 use Rattle.std.specs.List.{AllZip, flat_map}
 use Rattle.program_io.specs.Transfer.{AppendsStart}
 use Rattle.test_report_events.specs.Event.{EventView}
@@ -90,6 +90,12 @@ module _ {F : Type 0} (line : F → EntryView → List ℕ) (last : F → List E
         → ReadsInput old end (begun ++ (bytes ++ rest)) before written
     pub starts : (rest : List ℕ) (written : Option (List ℕ)) → ReadsStart line new (begun_then ++ rest) behind written
         → ReadsStart line old (begun ++ (bytes ++ rest)) before written
+
+  -- A report took the next bytes of an input. The bytes of a line that has begun come before them.
+  pub record ReadsPiece (old new : Report F) (begun begun_then : List ℕ) (at_first left before behind : Option (List ℕ)) : Type 0 where
+    pub bytes : List ℕ
+    pub consumed : Consumes at_first left bytes
+    pub leads : LeadsTo old new begun begun_then bytes before behind
 
   -- a report that has read some inputs has then read this one too, and its lines were appended
   abbrev pub ReadsOneMore : Report F → Report F → List ℕ → Option (List ℕ) → Option (List ℕ) → Type 0

@@ -12,5 +12,7 @@
 
 pub mod fault;
 pub mod laws;
+pub mod pieces;
+pub mod progress;
 pub mod report;
 pub mod status;

@@ -13,6 +13,8 @@ ghost use Rattle.test_report_engine.specs.Report.{AreTexts, line_notes, run_of};
 ghost use Rattle.test_report_engine.specs.declared.fault.Fault.TheVariants as faults;
 
 use crate::fault::Fault;
+use crate::pieces::Pieces;
+use crate::progress::{Progress, take_line};
 use bstr::ByteSlice;
 use program_io::device::{Sink, Source};
 use program_io::transfer::write_all;
@@ -91,19 +93,65 @@ impl<F: Form + Drop> Report<F> {
     {
         test_report_events::laws::one_event_of_line();
         test_report_forms::laws::one_entry();
-        let mut begun = Vec::new(alloc);
-        let mut chunk = [0u8; CHUNK];
+        let mut pieces = Pieces::without_progress(alloc);
         for _piece in 0..u64::MAX {
-            let n = match source.read(&mut chunk) {
-                Ok(n) => n,
-                Err(_) => return Err(Fault::Read),
-            };
-            if n == 0 {
-                return self.end_file(alloc, begun.as_slice(), sink);
+            let more = self.read_piece(alloc, source, &mut pieces, sink)?;
+            if !more {
+                return Ok(());
             }
-            self.on_bytes(alloc, &mut begun, &chunk[..n], sink)?;
         }
         Err(Fault::CounterFull)
+    }
+
+    /// Reads the next bytes of a file of the run, and returns false if the file has ended. What the lines
+    /// that end in these bytes make known is written, and the sink flushed. At the end of the file this is
+    /// what its last line and its end make known. Read each file until the result is false, all files with
+    /// the same `pieces`.
+    ///
+    /// Neither device may have failed before. After a fault a beginning of what the rest of the file makes
+    /// known was written.
+    ///
+    /// - [`Fault::Read`] if and only if the source fails, and [`Fault::Write`] if and only if the sink
+    ///   fails.
+    /// - [`Fault::CounterFull`] if a number does not fit its counter.
+    /// - [`Fault::OutOfMemory`] if there is not enough memory.
+    pub fn read_piece<R: Source, W: Sink>(
+        &mut self,
+        alloc: Global,
+        source: &mut R,
+        pieces: &mut Pieces,
+        sink: &mut W,
+    ) -> Result<bool, Fault>
+        requires source_works { R.failed source.old ≡ false }
+        requires sink_works { W.failed sink.old ≡ false }
+        ensures read { IsErrOf result faults.Read ↔ (R.failed source.new ≡ true) }
+        ensures write { IsErrOf result faults.Write ↔ (W.failed sink.new ≡ true) }
+        ensures end { IfOk result (λ more. more ≡ false → IsAtEnd (R.left source.new)) }
+        ensures empty { IfOk result (λ more. more ≡ false → pieces.new.line.items ≡ []) }
+        ensures flushed { OnOk result (W.flushed sink.old ≡ true → W.flushed sink.new ≡ true) }
+        ensures piece { IfOk result (λ more. more ≡ true → reading.ReadsPiece F.line F.last F.Knows
+            self.old self.new pieces.old.line.items pieces.new.line.items (R.left source.old) (R.left source.new)
+            (W.written sink.old) (W.written sink.new)) }
+        ensures rest { IfOk result (λ more. more ≡ false → IfSome (R.left source.old)
+            (λ rest. reading.ReadsInput F.line F.last F.Knows self.old self.new (pieces.old.line.items ++ rest)
+            (W.written sink.old) (W.written sink.new))) }
+        ensures breaks_off { OnErr result (IfSome (R.left source.old)
+            (λ rest. reading.ReadsStart F.line self.old (pieces.old.line.items ++ rest)
+            (W.written sink.old) (W.written sink.new))) }
+    {
+        let mut chunk = [0u8; CHUNK];
+        let n = match source.read(&mut chunk) {
+            Ok(n) => n,
+            Err(_) => return Err(Fault::Read),
+        };
+        let mut line = std::mem::replace(&mut pieces.line, Vec::new(alloc));
+        if n == 0 {
+            self.end_file(alloc, line.as_slice(), &mut pieces.progress, sink)?;
+            return Ok(false);
+        }
+        self.on_bytes(alloc, &mut line, &mut pieces.progress, &chunk[..n], sink)?;
+        pieces.line = line;
+        Ok(true)
     }
 
     /// Returns the texts of the files, after the last file of the run was read.
@@ -150,6 +198,7 @@ impl<F: Form + Drop> Report<F> {
         &mut self,
         alloc: Global,
         begun: &mut Vec<u8>,
+        progress: &mut Option<Progress>,
         bytes: &[u8],
         sink: &mut W,
     ) -> Result<(), Fault>
@@ -170,7 +219,7 @@ impl<F: Form + Drop> Report<F> {
         while let Some(at) = rest.find_byte(b'\n') {
             let (end, after) = rest.split_at(at);
             begun.extend_from_slice(end)?;
-            self.on_line(alloc, begun.as_slice(), sink)?;
+            self.on_line(alloc, begun.as_slice(), progress, sink)?;
             begun.clear();
             rest = &after[1..];
         }
@@ -179,7 +228,13 @@ impl<F: Form + Drop> Report<F> {
     }
 
     /// Takes a line.
-    fn on_line<W: Sink>(&mut self, alloc: Global, bytes: &[u8], sink: &mut W) -> Result<(), Fault>
+    fn on_line<W: Sink>(
+        &mut self,
+        alloc: Global,
+        bytes: &[u8],
+        progress: &mut Option<Progress>,
+        sink: &mut W,
+    ) -> Result<(), Fault>
         requires sink_works { W.failed sink.old ≡ false }
         ensures write { IsErrOf result faults.Write ↔ (W.failed sink.new ≡ true) }
         ensures errors { IfErr result (λ e. e ≢ faults.Read) }
@@ -193,11 +248,18 @@ impl<F: Form + Drop> Report<F> {
         test_report_events::laws::one_event_of_line();
         let line = Line::read(alloc, bytes)?;
         let notes = self.run.on_event(alloc, line.event())?;
+        take_line(alloc, progress, &line, notes.as_slice())?;
         self.write(alloc, notes.as_slice(), sink)
     }
 
     /// Takes the end of a file. If there are bytes after the last line feed, they are a line.
-    fn end_file<W: Sink>(&mut self, alloc: Global, begun: &[u8], sink: &mut W) -> Result<(), Fault>
+    fn end_file<W: Sink>(
+        &mut self,
+        alloc: Global,
+        begun: &[u8],
+        progress: &mut Option<Progress>,
+        sink: &mut W,
+    ) -> Result<(), Fault>
         requires sink_works { W.failed sink.old ≡ false }
         requires one_line { IsOneLine begun.now }
         ensures write { IsErrOf result faults.Write ↔ (W.failed sink.new ≡ true) }
@@ -211,7 +273,7 @@ impl<F: Form + Drop> Report<F> {
         test_report_events::laws::one_event_of_line();
         test_report_forms::laws::one_entry();
         if !begun.is_empty() {
-            self.on_line(alloc, begun, sink)?;
+            self.on_line(alloc, begun, progress, sink)?;
         }
         let notes = self.run.end_file(alloc)?;
         self.write(alloc, notes.as_slice(), sink)

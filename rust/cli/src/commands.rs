@@ -78,6 +78,10 @@ pub fn test_report() -> Command {
                 .help("Colour the words for results"),
         )
         .arg(
+            choice("progress", "WHEN", "auto", ["auto", "always", "never"])
+                .help("Show on standard error how far the run is"),
+        )
+        .arg(
             Arg::new("limit")
                 .long("limit")
                 .value_name("BYTES")

@@ -12,6 +12,8 @@ pub mod program;
 #[doc(hidden)]
 pub mod program_io;
 #[doc(hidden)]
+pub mod progress_line;
+#[doc(hidden)]
 pub mod replaced_file;
 #[doc(hidden)]
 pub mod run_digest_engine;

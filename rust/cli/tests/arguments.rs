@@ -38,7 +38,7 @@ fn not_utf8() -> std::ffi::OsString {
 
 #[test]
 fn test_report_refuses_arguments() {
-    let refused: [&[&str]; 15] = [
+    let refused: [&[&str]; 16] = [
         &["--nothing"],
         &["-x"],
         &["--format", "xml"],
@@ -46,6 +46,7 @@ fn test_report_refuses_arguments() {
         &["--format", "text", "--format", "text"],
         &["--no-tests", "warn"],
         &["--color", "yes"],
+        &["--progress", "yes"],
         &["--junit"],
         &["--html", "a", "--html", "b"],
         &["--markdown=a", "--markdown=b"],
@@ -65,13 +66,15 @@ fn test_report_refuses_arguments() {
 
 #[test]
 fn test_report_takes_arguments() {
-    let taken: [&[&str]; 12] = [
+    let taken: [&[&str]; 14] = [
         &[],
         &["--format", "text"],
         &["--format=text", "--color=never", "--no-tests=fail"],
         &["--color", "auto"],
         &["--color", "always"],
         &["--no-tests", "pass"],
+        &["--progress", "auto"],
+        &["--progress=never"],
         &["-"],
         &["--raw"],
         &["--limit", "0"],
@@ -180,6 +183,7 @@ fn help_names_all_arguments() {
             "--markdown <FILE>",
             "--no-tests <ACTION>",
             "--color <WHEN>",
+            "--progress <WHEN>",
             "--limit <BYTES>",
             "4096",
             "--raw",

@@ -1,8 +1,9 @@
-//! What `test-report` writes while its input is open, and how it ends if its reader stops early.
+//! What `test-report` writes while its input is open, its line of progress, and how it ends if its reader
+//! stops early.
 
 mod common;
 
-use common::command;
+use common::{command, run};
 use std::io::{BufRead, BufReader, Read, Write};
 use std::process::{Child, ChildStdin, ChildStdout};
 use std::sync::mpsc;
@@ -13,6 +14,21 @@ use std::time::Duration;
 const FAILED: &str = r#"{ "type": "suite", "event": "started", "test_count": 9 }
 { "type": "test", "event": "started", "name": "adds" }
 { "type": "test", "name": "adds", "event": "failed", "stdout": "Error: no such currency\n" }
+"#;
+
+/// A heading of cargo.
+const HEADING: &str = "     Running unittests src/lib.rs (deps/ledger-0123456789abcdef)\n";
+
+/// The start of a test with a control character in its name.
+const STARTED: &str = r#"{ "type": "test", "event": "started", "name": "a\u001b[2J" }
+"#;
+
+/// The first line of a suite of nextest, a test of it that starts, and the last line of the suite.
+const FIRST: &str = r#"{"type":"suite","event":"started","test_count":3,"nextest":{"crate":"ledger","test_binary":"pays"}}
+"#;
+const RUNNING: &str = r#"{"type":"test","event":"started","name":"ledger::pays$tests::at_once"}
+"#;
+const RETRIED: &str = r#"{"type":"test","event":"ok","name":"ledger::pays$tests::at_once#2"}
 "#;
 
 /// How long the program may take until it has written a line.
@@ -86,5 +102,57 @@ fn a_reader_that_stops_early_ends_the_program_quietly() {
             .expect("the text is UTF-8");
         let status = child.wait().expect("the program ends");
         assert_eq!((status.code(), message.as_str()), (Some(3), ""), "{form}");
+    }
+}
+
+/// The line of progress, as it is written and taken away.
+fn line(text: &str) -> String {
+    format!("\r\u{1b}[K\u{1b}[?7l{text}\u{1b}[?7h\r\u{1b}[K")
+}
+
+#[test]
+fn the_line_of_progress_is_gone_at_the_end() {
+    let cases = [
+        ("".to_string(), None),
+        ("{}\n".to_string(), Some("0 of 0 tests, 0 failed")),
+        (FAILED.to_string(), Some("1 of 9 tests, 1 failed")),
+        (
+            [FAILED, STARTED].concat(),
+            Some("1 of 9 tests, 1 failed: a\\u{1b}[2J"),
+        ),
+        (
+            [HEADING, FAILED, STARTED].concat(),
+            Some("1 of 9 tests, 1 failed: ledger (unittests src/lib.rs) a\\u{1b}[2J"),
+        ),
+        (
+            [FIRST, RUNNING].concat(),
+            Some("0 of 3 tests, 0 failed: ledger::pays tests::at_once"),
+        ),
+        (
+            [FIRST, RUNNING, RETRIED].concat(),
+            Some("1 of 3 tests, 0 failed"),
+        ),
+        (
+            [FIRST, RUNNING, FAILED].concat(),
+            Some("1 of 12 tests, 1 failed"),
+        ),
+        (RETRIED.to_string(), Some("1 tests, 0 failed")),
+    ];
+    for (input, wanted) in cases {
+        for form in ["text", "names", "junit"] {
+            let arguments = ["--progress", "always", "--format", form];
+            let output = run("test-report", &arguments, input.as_bytes());
+            let shown = String::from_utf8_lossy(&output.stderr).into_owned();
+            assert_eq!(output.status.code(), Some(1), "{input}");
+            assert_eq!(shown, wanted.map(line).unwrap_or_default(), "{input}");
+        }
+    }
+}
+
+#[test]
+fn there_is_no_line_of_progress_in_a_pipe() {
+    for progress in ["auto", "never"] {
+        let output = run("test-report", &["--progress", progress], FAILED.as_bytes());
+        assert_eq!(String::from_utf8_lossy(&output.stderr), "", "{progress}");
     }
 }

@@ -5,7 +5,10 @@ use clap::ArgMatches;
 use deodarsieve_cli::commands::test_report;
 use deodarsieve_cli::program::{BAD_ARGUMENT, DEVICE_FAILED, Failure, KeepError, print_clap};
 use deodarsieve_cli::program_io::std_device::{StdSink, StdSource};
+use deodarsieve_cli::progress_line::Output;
 use deodarsieve_cli::replaced_file::{append, replace};
+use deodarsieve_cli::test_report_engine::fault::Fault;
+use deodarsieve_cli::test_report_engine::pieces::Pieces;
 use deodarsieve_cli::test_report_engine::report::Report;
 use deodarsieve_cli::test_report_engine::status::exit_status;
 use deodarsieve_cli::test_report_forms::files::{FileForms, FileTexts};
@@ -23,6 +26,7 @@ use std::ffi::OsString;
 use std::fs::File;
 use std::io::{self, ErrorKind, IsTerminal, Read, Write};
 use std::process::ExitCode;
+use std::time::Instant;
 
 /// Returns the program's name and its arguments.
 fn arguments() -> Result<Vec<String>, Failure> {
@@ -48,6 +52,21 @@ fn options_of(matches: &ArgMatches) -> Options {
             _ => io::stdout().is_terminal() && env::var_os("NO_COLOR").is_none(),
         },
         no_tests_pass: value(matches, "no-tests") == "pass",
+    }
+}
+
+/// Returns what is kept while the files are read. If a line on standard error says how far the run is, this
+/// is kept as well.
+fn pieces(matches: &ArgMatches) -> Pieces {
+    let shows_progress = match value(matches, "progress") {
+        "always" => true,
+        "never" => false,
+        _ => io::stderr().is_terminal(),
+    };
+    if shows_progress {
+        Pieces::with_progress()
+    } else {
+        Pieces::without_progress()
     }
 }
 
@@ -90,12 +109,29 @@ fn write_files(matches: &ArgMatches, texts: &FileTexts) -> Result<(), Failure> {
 fn read_file<F: Form, W: Write>(
     report: &mut Report<F>,
     reader: impl Read,
-    sink: &mut StdSink<&mut KeepError<W>>,
+    pieces: &mut Pieces,
+    output: &mut Output<W>,
 ) -> Result<(), Failure> {
     let mut reader = KeepError::new(reader);
-    let mut source = StdSource::new(&mut reader);
-    let read = report.read_file(&mut source, sink);
+    let read = read_pieces(report, &mut StdSource::new(&mut reader), pieces, output);
     read.map_err(|fault| Failure::from(fault).caused_by(reader.into_error()))
+}
+
+/// Reads one file of the run, and shows after each piece how far the run is.
+fn read_pieces<F: Form, W: Write>(
+    report: &mut Report<F>,
+    source: &mut StdSource<impl Read>,
+    pieces: &mut Pieces,
+    output: &mut Output<W>,
+) -> Result<(), Fault> {
+    while report.read_piece(source, pieces, &mut StdSink::new(&mut *output))? {
+        if let Some(progress) = pieces.progress()
+            && output.line.is_due(Instant::now())
+        {
+            output.line.show(&progress.text());
+        }
+    }
+    Ok(())
 }
 
 /// Reads all files of the run, and writes the report. Returns the end of the run, and the texts of the files
@@ -103,15 +139,16 @@ fn read_file<F: Form, W: Write>(
 fn report_files<F: Form, W: Write>(
     files: &[&str],
     mut report: Report<F>,
-    sink: &mut StdSink<&mut KeepError<W>>,
+    mut pieces: Pieces,
+    output: &mut Output<W>,
 ) -> Result<(RunEnd, FileTexts), Failure> {
     for &path in files {
         if path == "-" {
-            read_file(&mut report, io::stdin().lock(), sink)?;
+            read_file(&mut report, io::stdin().lock(), &mut pieces, output)?;
             continue;
         }
         match File::open(path) {
-            Ok(file) => read_file(&mut report, file, sink)?,
+            Ok(file) => read_file(&mut report, file, &mut pieces, output)?,
             Err(error) => {
                 let message = format!("{path} cannot be opened");
                 return Err(Failure::new(DEVICE_FAILED, message).caused_by(Some(error)));
@@ -119,7 +156,7 @@ fn report_files<F: Form, W: Write>(
         }
     }
     let texts = report.file_texts()?;
-    Ok((report.finish(sink)?, texts))
+    Ok((report.finish(&mut StdSink::new(output))?, texts))
 }
 
 /// Writes the report to standard output in a form, and then the files. A reader of standard output that has
@@ -137,9 +174,10 @@ fn report_in<F: Form>(
         files.push("-");
     }
     let report = Report::with_files(form, file_forms(matches, options));
-    let mut writer = KeepError::new(io::stdout().lock());
-    let written = report_files(&files, report, &mut StdSink::new(&mut writer));
-    match (written, writer.into_error()) {
+    let mut output = Output::new(KeepError::new(io::stdout().lock()));
+    let written = report_files(&files, report, pieces(matches), &mut output);
+    output.line.hide();
+    match (written, output.into_writer().into_error()) {
         (Ok((end, texts)), _) => {
             write_files(matches, &texts)?;
             Ok(ExitCode::from(exit_status(

@@ -22,5 +22,7 @@
 //! ```
 
 pub mod fault;
+pub mod pieces;
+pub mod progress;
 pub mod report;
 pub mod status;

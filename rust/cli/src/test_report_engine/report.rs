@@ -4,6 +4,8 @@
 use crate::program_io::device::{Sink, Source};
 use crate::program_io::transfer::write_all;
 use crate::test_report_engine::fault::Fault;
+use crate::test_report_engine::pieces::Pieces;
+use crate::test_report_engine::progress::{Progress, take_line};
 use crate::test_report_events::line::Line;
 use crate::test_report_forms::entry::Entry;
 use crate::test_report_forms::files::{FileForms, FileTexts};
@@ -51,15 +53,42 @@ impl<F: Form> Report<F> {
         source: &mut R,
         sink: &mut W,
     ) -> Result<(), Fault> {
-        let mut begun = Vec::new();
-        let mut chunk = [0u8; CHUNK];
+        let mut pieces = Pieces::without_progress();
         loop {
-            let n = source.read(&mut chunk).map_err(|_| Fault::Read)?;
-            if n == 0 {
-                return self.end_file(begun.as_slice(), sink);
+            let more = self.read_piece(source, &mut pieces, sink)?;
+            if !more {
+                return Ok(());
             }
-            self.on_bytes(&mut begun, &chunk[..n], sink)?;
         }
+    }
+
+    /// Reads the next bytes of a file of the run, and returns false if the file has ended. What the lines
+    /// that end in these bytes make known is written, and the sink flushed. At the end of the file this is
+    /// what its last line and its end make known. Read each file until the result is false, all files with
+    /// the same `pieces`.
+    ///
+    /// Neither device may have failed before. After a fault a beginning of what the rest of the file makes
+    /// known was written.
+    ///
+    /// - [`Fault::Read`] if and only if the source fails, and [`Fault::Write`] if and only if the sink
+    ///   fails.
+    /// - [`Fault::CounterFull`] if a number does not fit its counter.
+    pub fn read_piece<R: Source, W: Sink>(
+        &mut self,
+        source: &mut R,
+        pieces: &mut Pieces,
+        sink: &mut W,
+    ) -> Result<bool, Fault> {
+        let mut chunk = [0u8; CHUNK];
+        let n = source.read(&mut chunk).map_err(|_| Fault::Read)?;
+        let mut line = std::mem::take(&mut pieces.line);
+        if n == 0 {
+            self.end_file(line.as_slice(), &mut pieces.progress, sink)?;
+            return Ok(false);
+        }
+        self.on_bytes(&mut line, &mut pieces.progress, &chunk[..n], sink)?;
+        pieces.line = line;
+        Ok(true)
     }
 
     /// Returns the texts of the files, after the last file of the run was read.
@@ -86,6 +115,7 @@ impl<F: Form> Report<F> {
     fn on_bytes<W: Sink>(
         &mut self,
         begun: &mut Vec<u8>,
+        progress: &mut Option<Progress>,
         bytes: &[u8],
         sink: &mut W,
     ) -> Result<(), Fault> {
@@ -93,7 +123,7 @@ impl<F: Form> Report<F> {
         while let Some(at) = rest.find_byte(b'\n') {
             let (end, after) = rest.split_at(at);
             begun.extend_from_slice(end);
-            self.on_line(begun.as_slice(), sink)?;
+            self.on_line(begun.as_slice(), progress, sink)?;
             begun.clear();
             rest = &after[1..];
         }
@@ -102,16 +132,27 @@ impl<F: Form> Report<F> {
     }
 
     /// Takes a line.
-    fn on_line<W: Sink>(&mut self, bytes: &[u8], sink: &mut W) -> Result<(), Fault> {
+    fn on_line<W: Sink>(
+        &mut self,
+        bytes: &[u8],
+        progress: &mut Option<Progress>,
+        sink: &mut W,
+    ) -> Result<(), Fault> {
         let line = Line::read(bytes);
         let notes = self.run.on_event(line.event())?;
+        take_line(progress, &line, notes.as_slice());
         self.write(notes.as_slice(), sink)
     }
 
     /// Takes the end of a file. If there are bytes after the last line feed, they are a line.
-    fn end_file<W: Sink>(&mut self, begun: &[u8], sink: &mut W) -> Result<(), Fault> {
+    fn end_file<W: Sink>(
+        &mut self,
+        begun: &[u8],
+        progress: &mut Option<Progress>,
+        sink: &mut W,
+    ) -> Result<(), Fault> {
         if !begun.is_empty() {
-            self.on_line(begun, sink)?;
+            self.on_line(begun, progress, sink)?;
         }
         let notes = self.run.end_file()?;
         self.write(notes.as_slice(), sink)

@@ -1,6 +1,5 @@
-use Rattle.std.proofs.Common.{◌≡◌, false, true}
-use Rattle.test_report_engine.specs.Lines.{IsOneLine}
-use Rattle.test_report_engine.proofs.Reports.{ReadsPieces}
+use Rattle.std.proofs.Common.{◌≡◌, [], false, true}
+use Rattle.test_report_engine.specs.Reading.{ReadsPiece}
 use Rattle.test_report_engine.proofs.report.Report.read_file.Given as goal
 
 -- what was read of the source was taken
@@ -8,8 +7,7 @@ abbrev pub invariant-loop-piece : goal.invariant-loop-piece
 invariant-loop-piece g l = record {
   source_works : g.R.Source.failed l.source ≡ false;
   sink_works : g.W.Sink.failed l.sink ≡ false;
-  one_line : IsOneLine l.begun.items;
   flushed : g.W.Sink.flushed l.fn.sink ≡ true → g.W.Sink.flushed l.sink ≡ true;
-  reads : ReadsPieces g.F.Form.line g.F.Form.last g.F.Form.Knows l.fn.self l.self l.begun.items (g.R.Source.left l.fn.source) (g.R.Source.left l.source)
+  reads : ReadsPiece g.F.Form.line g.F.Form.last g.F.Form.Knows l.fn.self l.self [] l.pieces.line.items (g.R.Source.left l.fn.source) (g.R.Source.left l.source)
       (g.W.Sink.written l.fn.sink) (g.W.Sink.written l.sink);
 }

@@ -1,0 +1,17 @@
+use Rattle.std.proofs.Common.{◌∙◌, ap}
+use Rattle.test_report_engine.proofs.Notes.{on_err}
+use Rattle.test_report_engine.proofs.Reports.{rest-end-starts, rest-starts}
+use Rattle.test_report_engine.proofs.report.Report.read_piece.Goals as goal
+
+pub returns-in_err-end_file-clause-breaks_off : goal.returns-in_err-end_file-clause-breaks_off
+returns-in_err-end_file-clause-breaks_off g c =
+    on_err c.from_residual.result
+    (rest-end-starts g.F.Form.line c.args.self.now c.args.pieces.now.line.items c.as_slice.result.now c.in-Ok.n _ _ _ _ _
+    c.in-Ok.ensures.bytes c.if-n-eq0.true (c.in-Ok.ensures.end c.if-n-eq0.true)
+    (c.as_slice.ensures.value ∙ ap (λ v. v.items) c.replace-line.ensures.value) c.in_err-end_file.ensures.starts)
+
+pub returns-in_err-on_bytes-clause-breaks_off : goal.returns-in_err-on_bytes-clause-breaks_off
+returns-in_err-on_bytes-clause-breaks_off g c =
+    on_err c.from_residual-in_err-on_bytes.result
+    (rest-starts g.F.Form.line c.args.self.now c.args.pieces.now.line.items c.replace-line.result.items _ _ _ _ _
+    (ap (λ v. v.items) c.replace-line.ensures.value) c.in-Ok.ensures.bytes c.in_err-on_bytes.ensures.starts)

@@ -1,0 +1,165 @@
+//! How far a run is.
+
+ghost use Rattle.std.specs.Prelude.{◌≡◌, ◌<◌, IfSome, OnOk, vec_len};
+ghost use Rattle.test_report_events.specs.Event.{event_view};
+ghost use Rattle.test_report_engine.specs.Progress.{announced_after, ended_after};
+
+use std::alloc::{AllocError, Global};
+use test_report_events::event::Event;
+use test_report_events::line::Line;
+use test_report_run::note::{Note, TestOutcome};
+
+/// How far a run is, by the lines that were read so far.
+#[derive(Debug, Drop)]
+pub struct Progress {
+    /// The number of tests that suites announced.
+    announced: u64,
+
+    /// The number of tests that ended.
+    ended: u64,
+
+    /// The number of tests that failed.
+    failed: u64,
+
+    /// The name of the suites that the last heading announced.
+    heading: Option<String>,
+
+    /// The names of the tests that are running, in the order in which they started.
+    running: Vec<String>,
+}
+
+impl Progress {
+    /// Returns the progress of a run of which nothing was read.
+    pub(crate) fn new(alloc: Global) -> Progress {
+        Progress {
+            announced: 0,
+            ended: 0,
+            failed: 0,
+            heading: None,
+            running: Vec::new(alloc),
+        }
+    }
+
+    /// Returns how far the run is in one line, such as
+    /// `12 of 40 tests, 1 failed: ledger::ledger tests::asks_the_bank`. Control characters of names are escapes.
+    pub fn text(&self, alloc: Global) -> Result<String, AllocError> {
+        let mut text = self.counts(alloc)?;
+        if let Some(name) = self.running.last() {
+            push_test(&mut text, self.heading.as_deref(), name.as_str())?;
+        }
+        Ok(text)
+    }
+
+    /// Returns how many tests ended, of how many if that is known, and how many failed.
+    fn counts(&self, alloc: Global) -> Result<String, AllocError> {
+        let (ended, announced, failed) = (self.ended, self.announced, self.failed);
+        if ended <= announced {
+            format!(in alloc; "{ended} of {announced} tests, {failed} failed")
+        } else {
+            format!(in alloc; "{ended} tests, {failed} failed")
+        }
+    }
+
+    /// Takes an event.
+    pub(crate) fn take_event(&mut self, alloc: Global, event: Event<'_>) -> Result<(), AllocError>
+        ensures ended { OnOk result (self.new.ended ≡ ended_after self.old.ended (event_view event.entry)) }
+        ensures announced { OnOk result (self.new.announced
+            ≡ announced_after self.old.announced (event_view event.entry)) }
+    {
+        match event {
+            Event::SuiteStarted { key, test_count } => {
+                self.announced = self.announced.saturating_add(test_count.unwrap_or(0));
+                if key.is_none() {
+                    self.running.clear();
+                }
+            }
+            Event::TestStarted { name } => self.running.push(String::from_str(alloc, name)?)?,
+            Event::TestEnded { name, .. } => {
+                self.ended = self.ended.saturating_add(1);
+                self.end(name);
+            }
+            Event::Heading { suite } => self.heading = Some(String::from_str(alloc, suite)?),
+            _ => {}
+        }
+        Ok(())
+    }
+
+    /// Takes what a line makes known.
+    pub(crate) fn take_notes(&mut self, notes: &[Note])
+        ensures ended { self.new.ended ≡ self.old.ended }
+        ensures announced { self.new.announced ≡ self.old.announced }
+    {
+        for note in notes {
+            if is_failed(note) {
+                self.failed = self.failed.saturating_add(1);
+            }
+        }
+    }
+
+    /// Removes the test that ends with this written name.
+    fn end(&mut self, written: &str)
+        ensures ended { self.new.ended ≡ self.old.ended }
+        ensures announced { self.new.announced ≡ self.old.announced }
+    {
+        let base = match written.rsplit_once('#') {
+            Some((name, _)) => name,
+            None => written,
+        };
+        if let Some(at) = self.position(written).or(self.position(base)) {
+            drop(self.running.remove(at));
+        }
+    }
+
+    /// Returns the position of the first running test with a name.
+    fn position(&self, name: &str) -> Option<usize>
+        ensures { IfSome result (λ at. at < vec_len self.now.running) }
+    {
+        self.running
+            .iter()
+            .position(|running| running.as_str() == name)
+    }
+}
+
+/// Takes a line, of which these notes are known, if there is something to keep.
+pub(crate) fn take_line(
+    alloc: Global,
+    progress: &mut Option<Progress>,
+    line: &Line,
+    notes: &[Note],
+) -> Result<(), AllocError> {
+    if let Some(progress) = progress {
+        progress.take_event(alloc, line.event())?;
+        progress.take_notes(notes);
+    }
+    Ok(())
+}
+
+/// Returns true if a test failed.
+fn is_failed(note: &Note) -> bool {
+    match note {
+        Note::Test(test) => matches!(&test.outcome, TestOutcome::Failed(_)),
+        _ => false,
+    }
+}
+
+/// Appends a name, with escapes in place of control characters.
+fn push_name(text: &mut String, name: &str) -> Result<(), AllocError> {
+    for c in name.escape_debug() {
+        text.push(c)?;
+    }
+    Ok(())
+}
+
+/// Appends the name of a test, after that of its suite if one is known. A written name of nextest has both.
+fn push_test(text: &mut String, heading: Option<&str>, written: &str) -> Result<(), AllocError> {
+    let (suite, name) = match written.split_once('$') {
+        Some((suite, name)) => (Some(suite), name),
+        None => (heading, written),
+    };
+    text.push_str(": ")?;
+    if let Some(suite) = suite {
+        push_name(text, suite)?;
+        text.push(' ')?;
+    }
+    push_name(text, name)
+}

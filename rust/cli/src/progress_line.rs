@@ -1,0 +1,105 @@
+//! The line of a terminal that says how far the run is.
+
+use std::io::{self, Write};
+use std::time::{Duration, Instant};
+
+/// How often the line is written within a second at most.
+const MOST_WRITES: u32 = 10;
+
+/// A line on standard error. While it is shown, the cursor is at its end.
+#[derive(Debug, Default)]
+pub struct ProgressLine {
+    is_shown: bool,
+
+    /// When the second began, and how often the line was written since.
+    since: Option<Instant>,
+    writes: u32,
+}
+
+impl ProgressLine {
+    /// Shows a text in place of what the line says. The terminal cuts it at its width.
+    pub fn show(&mut self, text: &str) {
+        self.write(&format!("\r\u{1b}[K\u{1b}[?7l{text}\u{1b}[?7h"));
+        self.is_shown = true;
+    }
+
+    /// Returns true if the line may be written once more at this time, and counts that.
+    pub fn is_due(&mut self, now: Instant) -> bool {
+        let second = Duration::from_secs(1);
+        if self
+            .since
+            .is_none_or(|since| now.duration_since(since) >= second)
+        {
+            self.since = Some(now);
+            self.writes = 0;
+        }
+        let is_due = self.writes < MOST_WRITES;
+        self.writes += u32::from(is_due);
+        is_due
+    }
+
+    /// Takes the line away.
+    pub fn hide(&mut self) {
+        if self.is_shown {
+            self.write("\r\u{1b}[K");
+            self.is_shown = false;
+        }
+    }
+
+    /// Writes a text to standard error. A line that cannot be written is no failure of the report.
+    fn write(&self, text: &str) {
+        let _ = io::stderr().write_all(text.as_bytes());
+    }
+}
+
+/// A writer that takes the line away before it writes.
+#[derive(Debug)]
+pub struct Output<W> {
+    writer: W,
+
+    /// The line.
+    pub line: ProgressLine,
+}
+
+impl<W> Output<W> {
+    /// Returns a writer that shares a terminal with a line.
+    pub fn new(writer: W) -> Output<W> {
+        Output {
+            writer,
+            line: ProgressLine::default(),
+        }
+    }
+
+    /// Returns the writer.
+    pub fn into_writer(self) -> W {
+        self.writer
+    }
+}
+
+impl<W: Write> Write for Output<W> {
+    fn write(&mut self, buffer: &[u8]) -> io::Result<usize> {
+        self.line.hide();
+        self.writer.write(buffer)
+    }
+
+    fn flush(&mut self) -> io::Result<()> {
+        self.writer.flush()
+    }
+}
+
+#[cfg(test)]
+mod tests {
+    use super::*;
+
+    #[test]
+    fn the_line_is_written_ten_times_a_second_at_most() {
+        let (mut line, start) = (ProgressLine::default(), Instant::now());
+        let at = |milliseconds| start + Duration::from_millis(milliseconds);
+        let times: Vec<u64> = (0..2_000)
+            .step_by(10)
+            .filter(|&time| line.is_due(at(time)))
+            .collect();
+        let second = |first: u64| (0..10).map(move |number| first + 10 * number);
+        assert_eq!(times, second(0).chain(second(1_000)).collect::<Vec<_>>());
+    }
+}

@@ -1,0 +1,141 @@
+// Made by tools/erase from crates/test_report_engine/src/progress.rt. Do not edit.
+//! How far a run is.
+
+use crate::test_report_events::event::Event;
+use crate::test_report_events::line::Line;
+use crate::test_report_run::note::{Note, TestOutcome};
+
+/// How far a run is, by the lines that were read so far.
+#[derive(Clone, Debug)]
+pub struct Progress {
+    /// The number of tests that suites announced.
+    announced: u64,
+
+    /// The number of tests that ended.
+    ended: u64,
+
+    /// The number of tests that failed.
+    failed: u64,
+
+    /// The name of the suites that the last heading announced.
+    heading: Option<String>,
+
+    /// The names of the tests that are running, in the order in which they started.
+    running: Vec<String>,
+}
+
+impl Progress {
+    /// Returns the progress of a run of which nothing was read.
+    pub(crate) fn new() -> Progress {
+        Progress {
+            announced: 0,
+            ended: 0,
+            failed: 0,
+            heading: None,
+            running: Vec::new(),
+        }
+    }
+
+    /// Returns how far the run is in one line, such as
+    /// `12 of 40 tests, 1 failed: ledger::ledger tests::asks_the_bank`. Control characters of names are escapes.
+    pub fn text(&self) -> String {
+        let mut text = self.counts();
+        if let Some(name) = self.running.last() {
+            push_test(&mut text, self.heading.as_deref(), name.as_str());
+        }
+        text
+    }
+
+    /// Returns how many tests ended, of how many if that is known, and how many failed.
+    fn counts(&self) -> String {
+        let (ended, announced, failed) = (self.ended, self.announced, self.failed);
+        if ended <= announced {
+            format!("{ended} of {announced} tests, {failed} failed")
+        } else {
+            format!("{ended} tests, {failed} failed")
+        }
+    }
+
+    /// Takes an event.
+    pub(crate) fn take_event(&mut self, event: Event<'_>) {
+        match event {
+            Event::SuiteStarted { key, test_count } => {
+                self.announced = self.announced.saturating_add(test_count.unwrap_or(0));
+                if key.is_none() {
+                    self.running.clear();
+                }
+            }
+            Event::TestStarted { name } => self.running.push(String::from(name)),
+            Event::TestEnded { name, .. } => {
+                self.ended = self.ended.saturating_add(1);
+                self.end(name);
+            }
+            Event::Heading { suite } => self.heading = Some(String::from(suite)),
+            _ => {}
+        }
+    }
+
+    /// Takes what a line makes known.
+    pub(crate) fn take_notes(&mut self, notes: &[Note]) {
+        for note in notes {
+            if is_failed(note) {
+                self.failed = self.failed.saturating_add(1);
+            }
+        }
+    }
+
+    /// Removes the test that ends with this written name.
+    fn end(&mut self, written: &str) {
+        let base = match written.rsplit_once('#') {
+            Some((name, _)) => name,
+            None => written,
+        };
+        if let Some(at) = self.position(written).or(self.position(base)) {
+            drop(self.running.remove(at));
+        }
+    }
+
+    /// Returns the position of the first running test with a name.
+    fn position(&self, name: &str) -> Option<usize> {
+        self.running
+            .iter()
+            .position(|running| running.as_str() == name)
+    }
+}
+
+/// Takes a line, of which these notes are known, if there is something to keep.
+pub(crate) fn take_line(progress: &mut Option<Progress>, line: &Line, notes: &[Note]) {
+    if let Some(progress) = progress {
+        progress.take_event(line.event());
+        progress.take_notes(notes);
+    }
+}
+
+/// Returns true if a test failed.
+fn is_failed(note: &Note) -> bool {
+    match note {
+        Note::Test(test) => matches!(&test.outcome, TestOutcome::Failed(_)),
+        _ => false,
+    }
+}
+
+/// Appends a name, with escapes in place of control characters.
+fn push_name(text: &mut String, name: &str) {
+    for c in name.escape_debug() {
+        text.push(c);
+    }
+}
+
+/// Appends the name of a test, after that of its suite if one is known. A written name of nextest has both.
+fn push_test(text: &mut String, heading: Option<&str>, written: &str) {
+    let (suite, name) = match written.split_once('$') {
+        Some((suite, name)) => (Some(suite), name),
+        None => (heading, written),
+    };
+    text.push_str(": ");
+    if let Some(suite) = suite {
+        push_name(text, suite);
+        text.push(' ');
+    }
+    push_name(text, name);
+}
