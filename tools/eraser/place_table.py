@@ -43,8 +43,8 @@ pub struct ExecutionStatusesIter<'a, S: OutputSpec> {
     # The crates are modules.
     (
         "run_events/src/lib.rt",
-        """//! The layers below are in crates of their own, `run_events_..`. This crate re-exports them, so a
-//! user needs only this crate.
+        """//! Most of it is in the crates `run_events_..`, which this crate re-exports. A user needs only this
+//! crate.
 //!
 """,
         "",

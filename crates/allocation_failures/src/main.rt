@@ -1,11 +1,12 @@
-//! Makes calls that allocate, to see what they do if an allocation fails.
+//! Makes calls that allocate, and prints what they returned. `./allocation-failures` runs it with a
+//! small library loaded before it, which makes one allocation fail.
 //!
 //! `allocation_failures all` makes each call once, and prints a line for each. `allocation_failures
-//! NAME` makes one call, and prints one line: it allocates the argument, then the values for the
-//! call, then makes the call. It allocates nothing after a call with the right result. Only
-//! `long-error` and `many-errors`, the calls with values of many parts, allocate after it: they
-//! test that such calls succeed, and not that they fail well. The line has the name of the call and
-//! its result:
+//! NAME` allocates its argument, then the values that it passes to the call, and then makes the
+//! call. It prints one line. After a call with the right result it allocates nothing, so the
+//! allocation that failed is one of the call or one before it. Only `long-error` and `many-errors`,
+//! whose values are large, allocate after the call. They are run without failing allocations, and
+//! test that such calls succeed. A line has the name of the call and its result:
 //!
 //! - `not reached`: an allocation failed before the call;
 //! - `out of memory`: the call returned this error, and what it borrowed is unchanged;

@@ -1,17 +1,18 @@
 //! Measures the speed of the library, on inputs that it makes itself.
 //!
-//! `bench MEGABYTES` prints a line `NAME RATIO GROWTH VERDICT` for each row, and at the end how
-//! many rows are within their limits. RATIO is the time of a call as a multiple of the time of one
-//! pass over its input: a search for a byte that does not occur. For units and summaries the pass
-//! is one read of each, and for reports of test runs `serde_json` reads each line. GROWTH is the
-//! time of the call as a multiple of its time at half the size. It is judged if the call takes a
-//! millisecond or more. Each time is the least of 15. RATIO does not include the time in which an
-//! engine of `run-digest` reads its input.
+//! `bench MEGABYTES` measures a fixed list of calls, and prints a line `NAME RATIO GROWTH VERDICT`
+//! for each. RATIO is the time of the call divided by the time of a pass. A pass searches the input
+//! for a byte that does not occur. For finished tests and for summaries, a pass reads each of them
+//! once. For reports of test runs, a pass reads each line with `serde_json`. GROWTH is the time of
+//! the call divided by its time at half the size. It has a limit only if the call takes a
+//! millisecond or more. VERDICT is `within`, or the limit that was exceeded. Each time is the
+//! shortest of 15 measurements. For the commands of `run-digest`, RATIO leaves out the time for
+//! reading the input. The last line says how many calls are within their limits.
 //!
 //! `bench small` makes the same calls on small inputs, and prints `NAME ok` for each row.
 //!
 //! Each call must return the right answer. If one does not, `NAME wrong answer` is printed and the
-//! exit status is 1. It is also 1 if memory is refused. No ratio changes the exit status.
+//! exit status is 1. It is also 1 if an allocation fails. No ratio changes the exit status.
 #![tactic(auto)]
 
 use crate::engines::Digest;

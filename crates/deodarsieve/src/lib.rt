@@ -1,9 +1,9 @@
-//! The functions of the layer for C, and for any language that can call C.
+//! The C interface of the libraries in this repository, for any language that can call C.
 //!
 //! The header `deodarsieve.h` declares every function, with its result and its preconditions. A
-//! function makes one call of the layer if its arguments meet the preconditions of that call, and
-//! writes the result through a pointer. It returns a status of [`status`]. An enumeration is passed
-//! as a code.
+//! function checks its arguments, makes one call of these libraries, and writes the result through
+//! a pointer. If a code, a number or a counter is not allowed, it makes no call. It returns a
+//! status of [`status`]. An enumeration is passed as a code.
 //!
 //! [`counters::deodarsieve_run_stats_failed_counts`] makes two calls, and the functions of
 //! [`version`] make none and return no status.

@@ -1,10 +1,10 @@
 //! Finds the part of a test's output that explains why the test failed.
 //!
-//! [`TestOutputErrorSlice::heuristic_extract`] looks for the message of the last panic, or else for a
-//! line that begins with `Error: `, or else for the note that a test did not panic. Output is any
-//! bytes; it need not be UTF-8.
+//! [`TestOutputErrorSlice::heuristic_extract`] looks for the last panic message in standard error, or
+//! else for the first line there that begins with `Error: `, or else for the note in standard output
+//! that a test did not panic. Output is any bytes; it need not be UTF-8.
 //!
-//! For output whose two streams were captured as one:
+//! If standard output and standard error were captured as one, the same bytes are passed twice:
 //!
 //! ```rust
 //! pub fn failure_in(output: &[u8]) -> Option<TestOutputErrorSlice<'_>>

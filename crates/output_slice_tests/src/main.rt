@@ -1,27 +1,32 @@
-//! Tests of `output_slice` through its public calls only. Worked inputs with their answers are rows
-//! of the replay in `rust/tests`. This program has the tests that cannot be such rows. Its output
-//! is compared with the file `stdout`.
+//! Tests of `output_slice` through its public calls only. Tests of one call on one short input are
+//! lines of `rust/tests/data/upstream_replay.txt`. This program has the other tests. Its output is
+//! compared with the file `stdout`.
 //!
-//! The program compares the searches for the last taken head with slow functions that follow the
-//! rules to the letter. It does so on worked inputs, for which it prints the heads that the slow
-//! functions list, on all inputs of a few pieces, on every beginning of a few outputs, and on
-//! damaged outputs.
+//! The program compares the searches for the last head of a panic message (`last_head`,
+//! `last_panic_head`, `heuristic_panic_message`) with slow functions that are written as the
+//! definitions are. It does so on
+//!
+//! - inputs that were chosen by hand, whose heads it prints;
+//! - all inputs that are made of a few pieces;
+//! - every beginning of a few outputs;
+//! - damaged outputs.
 //!
 //! Standard input is a list of outputs in hexadecimal, one on each line. Each is tried with every
 //! byte replaced in turn by a quote, a line feed, a byte 0xFF and a space.
 //!
-//! For each set of inputs it prints how many of each kind there were. If the searches do not agree
-//! on an input, or if a line is not hexadecimal, it prints that input first. The exit status is 0
-//! if the searches agree on all inputs, and otherwise 1.
+//! For each set it prints the number of inputs without heads, with one head, with several, with
+//! heads that overlap, and so on. If the searches do not agree on an input, or if a line is not
+//! hexadecimal, it prints that input first. The exit status is 0 if the searches agree on all
+//! inputs, and otherwise 1.
 //!
-//! It also prints the parts of each stream with their text, the reads that a source counts, and the
-//! results of searches in long inputs. If the time of a search grew faster than its input, such a
-//! search would not end in time.
+//! It also prints what the extraction finds in standard error, in standard output and in both as
+//! one, how many reads a `CountedBytes` counts, and the results of searches in long inputs. A
+//! search whose time grows faster than its input would not finish in a reasonable time on these.
 //!
 //! The expected heads in the file `stdout` were worked out by hand. The expected numbers of inputs
-//! are those of a search by upstream's pattern with a regular expression engine, so that no kind of
-//! input can be missing unnoticed. The greatest numbers of reads are as measured. Every input is
-//! tested to take few reads.
+//! of each kind were computed with a regular expression engine and upstream's pattern, so the test
+//! notices if a kind of input is missing. The expected greatest numbers of reads are the measured
+//! ones. For every input the program also checks that a search takes few reads.
 #![tactic(auto)]
 
 use crate::beginnings::beginnings;

@@ -1,5 +1,5 @@
-//! `run-digest`: counts the run of tests that standard input describes, or finds the part of a
-//! test's output, on standard input, that explains the failure of the test.
+//! `run-digest`. Both commands read standard input. `count` counts the tests of the run that it
+//! describes. `extract` finds the part of it that explains why a test failed.
 #![tactic(auto)]
 
 use program_io::std_device::{StdSink, StdSource};
@@ -15,12 +15,12 @@ use std::rt::Env;
 
 /// What `--help` prints.
 const HELP: &str = "\
-Counts a test run, or finds why a test failed
+Counts the tests of a run, or finds why a test failed
 
 Usage: run-digest [COMMAND]
 
 Commands:
-  count    Count the tests and setup scripts of a run that the input describes, one per line
+  count    Count the tests and setup scripts of a run. The input has a line for each
   extract  Find the part of a test's output that explains its failure
 
 Options:
@@ -29,14 +29,15 @@ Options:
 
 Both commands read standard input. Without a command, `count` is run.
 
-An example of the input of `count`; `pass` and `fail` are the results of attempts:
+The input of `count` for a run of 2 tests and no setup scripts that was not
+cancelled (`-`). Each test has the results of its attempts:
   run 2 0 -
   test fail,pass
   test fail slow
 
 Exit status:
-  0  the run succeeded, or a part was found
-  1  the run did not succeed, or no part was found
+  0  count: the run succeeded; extract: an explanation was found
+  1  count: the run did not succeed; extract: none was found
   2  an argument or a line is invalid
   3  reading or writing failed, or there was not enough memory
 ";

@@ -1,11 +1,11 @@
 //! The events that a test runner sends to its reporters, and the types in them: results, output and
 //! errors of child processes, attempts, levels, counters, summaries and outcomes.
 //!
-//! The layers below are in crates of their own, `run_events_..`. This crate re-exports them, so a
-//! user needs only this crate.
+//! Most of it is in the crates `run_events_..`, which this crate re-exports. A user needs only this
+//! crate.
 //!
-//! A function that returns the part of a test's output that explains its failure, if the output is
-//! loaded:
+//! This returns the part of a test's output that explains its failure, or `None`. `new` must not be
+//! called for a failed test whose output was not loaded, which `can_describe` tests:
 //!
 //! ```rust
 //! fn message_of(

@@ -1,4 +1,4 @@
-//! The attempts of a finished test, and their description.
+//! The attempts of a finished test, the case that they make (success, flaky or failure), and times.
 //!
 //! A function that returns the result of a test in one word:
 //!

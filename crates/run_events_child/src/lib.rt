@@ -1,5 +1,5 @@
-//! The output and the errors of the child process of a test or a setup script, and errors with their
-//! chains of causes.
+//! What the child process of a test or a setup script leaves: its output, and the errors of
+//! starting it and of reading from it. The module `chain` has the type of an error with its causes.
 //!
 //! A function that writes an error with its causes as JSON text:
 //!

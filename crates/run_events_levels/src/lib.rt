@@ -1,7 +1,7 @@
-//! The levels of finished tests, and what a reporter shows of a test at its levels.
+//! How urgently a finished test is to be shown (its levels), and what a reporter shows of it.
 //!
-//! A method of a displayer that decides what it shows of a finished test. `reason` is the reason to
-//! cancel the run, if there is one:
+//! A reporter's method that decides what to show of a finished test. `reason` is why the run was
+//! cancelled, or `None`:
 //!
 //! ```rust
 //! let view = test.view();

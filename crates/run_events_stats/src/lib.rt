@@ -1,6 +1,6 @@
 //! The counters of a run, its summary and its outcome.
 //!
-//! A function that returns the exit status of a run, given its finished units:
+//! A function that returns the exit status of a run, given its finished tests and setup scripts:
 //!
 //! ```rust
 //! pub fn of_run(units: &[FinishedUnit<'_>], start: RunStart) -> u8

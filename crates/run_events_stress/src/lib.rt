@@ -1,4 +1,5 @@
-//! The progress of a repeated run, what remains of it, and the ids of its sub-runs.
+//! The progress of a repeated run, which nextest calls a stress run: what remains of it, and the
+//! ids of its runs.
 //!
 //! A function that returns true if nothing remains of a repeated run:
 //!

@@ -1,6 +1,6 @@
-//! Tests of `test_report_engine` and of the crates below it through their public calls alone: what
-//! is written if a device fails, cut and damaged runs, long lines, several files, and each form. Whole
-//! reports of hostile runs are in `rust/tests/tests/reports`.
+//! Tests of `test_report_engine` and of the crates below it through their public calls alone: what is
+//! written if reading or writing fails, input that is truncated or damaged, long lines, several files,
+//! and each form. Tests with hostile input and whole reports are in `rust/tests/tests/reports`.
 #![tactic(auto)]
 
 #[cfg(test)]

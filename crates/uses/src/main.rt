@@ -1,7 +1,7 @@
-//! Examples of use of the layer, each on a small input: a runner, a displayer, a JUnit writer, a
-//! recorder and the exit status of a run. The callers that the pages on calling the libraries show
-//! are in the files `of_LIBRARY`. The libraries' first pages show some of these callers, and those
-//! of `first_pages`.
+//! Examples of use of the libraries, each on a small input: a runner, a reporter, a JUnit writer, a
+//! recorder and the exit status of a run. The example in the page CALLING.md of a library is in the
+//! file `of_LIBRARY.rt`. The examples on the first pages of the libraries are from these files too;
+//! `first_pages.rt` has those that no other file has.
 #![tactic(auto)]
 
 mod demo;

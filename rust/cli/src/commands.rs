@@ -6,14 +6,15 @@ use clap::{Arg, ArgAction, Command, value_parser};
 const AFTER_DIGEST_HELP: &str = "\
 Both commands read standard input. Without a command, `count` is run.
 
-An example of the input of `count`; `pass` and `fail` are the results of attempts:
+The input of `count` for a run of 2 tests and no setup scripts that was not
+cancelled (`-`). Each test has the results of its attempts:
   run 2 0 -
   test fail,pass
   test fail slow
 
 Exit status:
-  0  the run succeeded, or a part was found
-  1  the run did not succeed, or no part was found
+  0  count: the run succeeded; extract: an explanation was found
+  1  count: the run did not succeed; extract: none was found
   2  an argument or a line is invalid
   3  reading or writing failed";
 
@@ -45,12 +46,12 @@ Exit status:
 /// Returns the arguments that `run-digest` takes.
 pub fn run_digest() -> Command {
     let count = Command::new("count")
-        .about("Count the tests and setup scripts of a run that the input describes, one per line");
+        .about("Count the tests and setup scripts of a run. The input has a line for each");
     let extract =
         Command::new("extract").about("Find the part of a test's output that explains its failure");
     Command::new("run-digest")
         .version(env!("CARGO_PKG_VERSION"))
-        .about("Counts a test run, or finds why a test failed")
+        .about("Counts the tests of a run, or finds why a test failed")
         .subcommand(count)
         .subcommand(extract)
         .disable_help_subcommand(true)

@@ -1,6 +1,7 @@
 // Made by tools/erase from crates/program_io/src/lib.rt. Do not edit.
-//! Sources and sinks of bytes for programs: the traits, devices over memory and over `std`, and calls
-//! that read all of a source and write all of a text.
+//! Input and output of programs: the traits `Source` and `Sink`, implementations of them for byte
+//! slices and for readers and writers of `std`, and calls that read all of a source and write all of a
+//! text.
 //!
 //! A function that copies all bytes of a source to a sink:
 //!

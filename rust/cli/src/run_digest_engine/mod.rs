@@ -1,9 +1,8 @@
 // Made by tools/erase from crates/run_digest_engine/src/lib.rt. Do not edit.
-//! The commands of `run-digest`, over any source and any sink of bytes. Sources and sinks are in
-//! `program_io`.
+//! The commands of `run-digest`. They read from any `Source` and write to any `Sink` of `program_io`.
 //!
-//! A call that counts the runs of a source and writes their reports to a sink. It returns the number
-//! of the first bad line, if there is one, and ignores a failed write:
+//! This calls `count`, and returns the number of the first bad line, or `None`. It treats a failed
+//! write as success:
 //!
 //! ```
 //! use deodarsieve_cli::program_io::device::{Sink, Source};

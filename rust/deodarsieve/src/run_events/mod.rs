@@ -2,8 +2,8 @@
 //! The events that a test runner sends to its reporters, and the types in them: results, output and
 //! errors of child processes, attempts, levels, counters, summaries and outcomes.
 //!
-//! A function that returns the part of a test's output that explains its failure, if the output is
-//! loaded:
+//! This returns the part of a test's output that explains its failure, or `None`. `new` must not be
+//! called for a failed test whose output was not loaded, which `can_describe` tests:
 //!
 //! ```
 //! use deodarsieve::{

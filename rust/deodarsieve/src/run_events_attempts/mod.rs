@@ -1,5 +1,5 @@
 // Made by tools/erase from crates/run_events_attempts/src/lib.rt. Do not edit.
-//! The attempts of a finished test, and their description.
+//! The attempts of a finished test, the case that they make (success, flaky or failure), and times.
 //!
 //! A function that returns the result of a test in one word:
 //!

@@ -1,7 +1,7 @@
 // Made by tools/erase from crates/run_events_stats/src/lib.rt. Do not edit.
 //! The counters of a run, its summary and its outcome.
 //!
-//! A function that returns the exit status of a run, given its finished units:
+//! A function that returns the exit status of a run, given its finished tests and setup scripts:
 //!
 //! ```
 //! use deodarsieve::{FinishedUnit, RunOutcome, RunStart, RunStats};

@@ -1,5 +1,6 @@
 // Made by tools/erase from crates/run_events_stress/src/lib.rt. Do not edit.
-//! The progress of a repeated run, what remains of it, and the ids of its sub-runs.
+//! The progress of a repeated run, which nextest calls a stress run: what remains of it, and the
+//! ids of its runs.
 //!
 //! A function that returns true if nothing remains of a repeated run:
 //!

@@ -1,8 +1,8 @@
 // Made by tools/erase from crates/run_digest_engine_tests/src/lib.rt. Do not edit.
 //! Tests of `run_digest_engine` and of the crates below it through their public calls only:
 //! arguments and faults, devices that fail, runs of many lines, the report of finished runs, and
-//! the calls that devices make of readers and writers of `std`. Whole inputs with their texts are
-//! data of the replay in `rust/tests`.
+//! how `StdSource` and `StdSink` call the readers and writers of `std`. Whole inputs, with the
+//! output for each, are in `rust/tests/data/upstream_replay.txt`.
 
 #[cfg(test)]
 mod engine;
