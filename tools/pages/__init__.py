@@ -1,1 +1,1 @@
-"""What `tools/documents` and `tools/promises` are made of: pages, and what they must agree with."""
+"""The modules of `tools/documents` and `tools/promises`: they read pages and compare them with the sources."""

@@ -1,7 +1,7 @@
 """The commands that a page shows in blocks marked as tested.
 
 A block `console tested` has lines `$ COMMAND`, each with what the command prints: its standard output, and
-then its standard error. A line `[...]` stands for any lines. A block `sh tested` is a script that ends with
+then its standard error. A line `[...]` matches any number of lines. A block `sh tested` is a script that ends with
 status 0. Both run in the folder at the top of the repository, and find its programs on PATH.
 """
 

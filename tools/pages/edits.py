@@ -1,4 +1,4 @@
-"""The names of must-fail edits: FUNCTION.what.edit or TYPE.FUNCTION.what.edit, after a public function."""
+"""Checks the names of must-fail edits: FUNCTION.what.edit or TYPE.FUNCTION.what.edit. FUNCTION is public."""
 
 import re
 

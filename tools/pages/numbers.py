@@ -1,8 +1,8 @@
-"""The numbers of a page that say something about the sources.
+"""Checks numbers of a page against what a command prints.
 
 A comment right after a number, `<!-- count: COMMAND -->`, has the command that prints it. With `about:` in
-place of `count:` the number may differ by a twentieth of what the command prints. The number has digits,
-perhaps with commas, or is a word up to twelve. A reader of the page does not see the comment.
+place of `count:` the number may differ by a twentieth of what the command prints. The number is
+written in digits, with or without commas, or as a word from `zero` to `twelve`. A reader of the page does not see the comment.
 """
 
 import re

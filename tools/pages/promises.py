@@ -5,7 +5,7 @@ The subject of a clause is a call, such as `Count::of`, or an impl of a trait, s
 
 import re
 
-# What these members of an impl say is what contracts see of a value. They promise nothing by themselves.
+# These ghost members define how contracts see a value. They are no promises, so they need no row.
 VIEWS = {
     "Value", "view", "invariant", "inverse", "size", "size_decreases", "laws", "remaining",
     "bytes", "count", "left", "failed", "written", "flushed", "Knows",

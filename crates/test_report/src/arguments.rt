@@ -21,7 +21,7 @@ const AFTER_HELP: &str = "\
 Examples (with `set -o pipefail` a pipe also fails if the test command does):
   cargo test --no-fail-fast -- -Z unstable-options --format json 2>&1 | test-report
   cargo nextest run --message-format libtest-json 2>&1 | test-report
-  (cargo test needs a nightly toolchain or RUSTC_BOOTSTRAP=1, nextest NEXTEST_EXPERIMENTAL_LIBTEST_JSON=1)
+  (cargo test needs a nightly toolchain or RUSTC_BOOTSTRAP=1. nextest needs NEXTEST_EXPERIMENTAL_LIBTEST_JSON=1)
   .. | test-report --format github                      annotations of a workflow on GitHub
   .. | test-report --format names                       the names of failed tests, to run them again
   .. | test-report --junit junit.xml                    the text, and a file for a build server
@@ -30,10 +30,12 @@ Examples (with `set -o pipefail` a pipe also fails if the test command does):
   test-report --format junit first.jsonl second.jsonl   two files, as one run
 
 Exit status:
-  0  the run succeeded
-  1  the run did not succeed: a test failed or did not run, lines contradict each other, or there was no test
+  0  the run succeeded, or there was no test and `--no-tests` is `pass`
+  1  the run did not succeed: a test failed, an announced test neither ended nor was ignored, lines contradict
+     each other, or there was no test
   2  an argument is invalid
-  3  reading or writing failed, a file cannot be opened or written, or a number is too large to count";
+  3  reading or writing failed, a file cannot be opened or written, a number is too large to count, or there was not
+     enough memory";
 
 /// Returns the arguments that the program takes.
 pub(crate) fn command<'a>(alloc: Global) -> Result<Command<'a>, AllocError> {
@@ -50,7 +52,7 @@ pub(crate) fn command<'a>(alloc: Global) -> Result<Command<'a>, AllocError> {
     let raw = Arg::new(alloc, "raw")
         .long("raw")
         .action(ArgAction::SetTrue)
-        .help("Print control characters as the tests wrote them, not as escapes");
+        .help("Print control characters in reasons as the tests wrote them, in the form `text`");
     let command = Command::new(alloc, "test-report")
         .version("0.1.0")
         .about("Reports which tests of a run failed, and why, from the JSON output of the run")
@@ -64,9 +66,9 @@ pub(crate) fn command<'a>(alloc: Global) -> Result<Command<'a>, AllocError> {
         .arg(choice(alloc, "no-tests", "ACTION", ACTIONS).help(
             "Whether a run without tests fails or passes",
         ))?
-        .arg(choice(alloc, "color", "WHEN", TIMES).help("Colour the words for results"))?
+        .arg(choice(alloc, "color", "WHEN", TIMES).help("Colour words such as FAIL; `auto` does so on a terminal if NO_COLOR is not set"))?
         .arg(choice(alloc, "progress", "WHEN", TIMES).help(
-            "Show on standard error how far the run is",
+            "Show the progress in a line on standard error; `auto` does so if that is a terminal",
         ))?
         .arg(limit)?
         .arg(raw)?;

@@ -1,11 +1,12 @@
 /*
- * The run statistics, outcomes and output slices of a test runner.
+ * Counts the tests of a run, decides its outcome, and finds the part of a failed test's output that
+ * explains the failure.
  *
  * Two libraries have these functions. Rattle builds libdeodarsieve.a from proved sources, for Linux on
  * x86-64. Cargo builds libdeodarsieve_c.a and libdeodarsieve_c.so from the same sources without their
- * contracts. The comment of a function describes its status and its result. In libdeodarsieve.a both
- * are proved, as clauses of the function's contract. This header and the libraries that cargo builds
- * are not proved. Tests compare them with libdeodarsieve.a.
+ * contracts. In libdeodarsieve.a each function has a proved contract. The comments of this header say
+ * in words what the contracts say. Tests compare the header with the sources, and the libraries that
+ * cargo builds with libdeodarsieve.a.
  *
  * Every function except deodarsieve_version and deodarsieve_layouts_1
  *
@@ -15,18 +16,19 @@
  *
  * The caller must make sure of these preconditions, which no function checks:
  *
- * - A pointer to a struct, a bool or a number is aligned and points to a whole one. All members of a
- *   struct that is read are set, even those that are ignored, and a bool is true or false.
- * - `out`, `err` and `bytes` point to `out_length`, `err_length` and `length` bytes, and `sub_runs`
- *   points to `length` structs: at most PTRDIFF_MAX bytes. Such a pointer may be null if its length
- *   is 0. No other pointer is null.
- * - The memory that the function writes does not overlap with the memory that it reads. While it
- *   runs, no other thread writes either of them, and none reads the memory that it writes. Two
- *   threads may read the same bytes at once.
+ * - A pointer to a struct, to a bool or to a number is aligned, and points to memory for all of it.
+ * - Every member of a struct that a function reads is initialized, even if it is ignored. Every bool
+ *   is true or false.
+ * - `out` points to `out_length` bytes, `err` to `err_length` bytes, `bytes` to `length` bytes, and
+ *   `sub_runs` to `length` structs. Each of these arrays has at most PTRDIFF_MAX bytes. Such a
+ *   pointer may be null if its length is 0. No other pointer is null.
+ * - What `answer` points to overlaps no other argument, and `stats` of a function that counts overlaps
+ *   no other argument. While a function runs, no other thread writes the memory of its arguments, and
+ *   none reads the memory that it writes. Two threads may read the same bytes at once.
  *
- * Lengths, offsets and limits are in bytes. An enumeration is a uint32_t with a code of the tables
- * below. Any number may be passed as a code: if it is not in the table and not ignored, the function
- * returns DEODARSIEVE_BAD_CODE.
+ * Lengths, offsets and limits are in bytes. An enumeration is a uint32_t. Its table is the list of
+ * constants with its prefix. Any number may be passed as a code: if it is not in the table and not
+ * ignored, the function returns DEODARSIEVE_BAD_CODE.
  */
 #ifndef DEODARSIEVE_H
 #define DEODARSIEVE_H
@@ -49,13 +51,13 @@ extern "C" {
     (DEODARSIEVE_VERSION_MAJOR * 1000000u + DEODARSIEVE_VERSION_MINOR * 1000u +                    \
      DEODARSIEVE_VERSION_PATCH)
 
-/* Returns the version of the library that is linked, as DEODARSIEVE_VERSION writes it. */
+/* Returns the version of the linked library, in the form of DEODARSIEVE_VERSION. */
 uint32_t deodarsieve_version(void);
 
 /*
- * Does nothing. The number in its name changes whenever a struct or a function below does. Every
- * object that includes this header refers to it, so a program does not link with a library that has
- * the layouts of another version.
+ * Does nothing. The number in its name changes with the layout of a struct and the signature of a
+ * function. With GCC, Clang and compatible compilers, every file that includes this header refers to
+ * it. So a program does not link with a library that has other layouts.
  */
 void deodarsieve_layouts_1(void);
 
@@ -73,32 +75,32 @@ __attribute__((used)) static void (*const deodarsieve_layouts)(void) = deodarsie
 
 /* The status that a function returns. */
 #define DEODARSIEVE_OK 0u
-#define DEODARSIEVE_BAD_CODE 1u     /* a code is not in its table, or a number is not allowed */
+#define DEODARSIEVE_BAD_CODE 1u     /* a code is not in its table, or a number is not allowed: see the function */
 #define DEODARSIEVE_COUNTER_FULL 2u /* a counter, or a sum of counters, does not fit size_t */
 
 /* The kind of a slice. */
 #define DEODARSIEVE_SLICE_NONE 0u          /* nothing was found */
 #define DEODARSIEVE_SLICE_PANIC_MESSAGE 1u /* a panic message in standard error */
 #define DEODARSIEVE_SLICE_ERROR_STR 2u     /* `Error: ..` and what follows, in standard error */
-#define DEODARSIEVE_SLICE_SHOULD_PANIC 3u  /* a test did not panic: a line of standard output */
+#define DEODARSIEVE_SLICE_SHOULD_PANIC 3u  /* the note that a test did not panic, in standard output */
 
 /* The result of an attempt or of a setup script. */
 #define DEODARSIEVE_RESULT_PASS 0u
-#define DEODARSIEVE_RESULT_LEAK_PASS 1u          /* left a handle open; counts as passed */
-#define DEODARSIEVE_RESULT_LEAK_FAIL 2u          /* left a handle open; counts as failed */
+#define DEODARSIEVE_RESULT_LEAK_PASS 1u          /* passed and left a handle open; counts as passed */
+#define DEODARSIEVE_RESULT_LEAK_FAIL 2u          /* passed and left a handle open; counts as failed */
 #define DEODARSIEVE_RESULT_EXIT_CODE 3u          /* failed; the number is the exit code */
 #define DEODARSIEVE_RESULT_UNIX_SIGNAL 4u        /* failed; the number is that of the signal */
-#define DEODARSIEVE_RESULT_WINDOWS_NT_STATUS 5u  /* failed; the number is the status */
+#define DEODARSIEVE_RESULT_WINDOWS_NT_STATUS 5u  /* failed; the number is the NTSTATUS code */
 #define DEODARSIEVE_RESULT_WINDOWS_JOB_OBJECT 6u /* failed: its job object was terminated */
 #define DEODARSIEVE_RESULT_EXEC_FAIL 7u          /* could not be executed */
-#define DEODARSIEVE_RESULT_TIMEOUT_PASS 8u       /* timed out; counts as passed */
+#define DEODARSIEVE_RESULT_TIMEOUT_PASS 8u       /* timed out; counts as passed for a test */
 #define DEODARSIEVE_RESULT_TIMEOUT_FAIL 9u       /* timed out; counts as failed */
 
 /* How a flaky test counts. A test is flaky if it succeeded after at least one failed attempt. */
 #define DEODARSIEVE_FLAKY_PASS 0u
 #define DEODARSIEVE_FLAKY_FAIL 1u
 
-/* Why a run is cancelled. A higher reason replaces a lower one. */
+/* Why a run is cancelled, from the least to the most severe reason. */
 #define DEODARSIEVE_REASON_NONE 0u /* it is not cancelled */
 #define DEODARSIEVE_REASON_SETUP_SCRIPT_FAILURE 1u
 #define DEODARSIEVE_REASON_TEST_FAILURE 2u
@@ -110,7 +112,7 @@ __attribute__((used)) static void (*const deodarsieve_layouts)(void) = deodarsie
 #define DEODARSIEVE_REASON_INTERRUPT 8u
 #define DEODARSIEVE_REASON_SECOND_SIGNAL 9u
 
-/* The status level of a test that finishes: lower levels are more urgent. */
+/* The status level of a test that finishes, the most urgent first. NONE and ALL are settings. */
 #define DEODARSIEVE_STATUS_LEVEL_NONE 0u
 #define DEODARSIEVE_STATUS_LEVEL_FAIL 1u
 #define DEODARSIEVE_STATUS_LEVEL_RETRY 2u
@@ -120,7 +122,7 @@ __attribute__((used)) static void (*const deodarsieve_layouts)(void) = deodarsie
 #define DEODARSIEVE_STATUS_LEVEL_SKIP 6u
 #define DEODARSIEVE_STATUS_LEVEL_ALL 7u
 
-/* The status level of a test at the end of the run: lower levels are more urgent. */
+/* The status level of a test at the end of the run, in the same way. */
 #define DEODARSIEVE_FINAL_STATUS_LEVEL_NONE 0u
 #define DEODARSIEVE_FINAL_STATUS_LEVEL_FAIL 1u
 #define DEODARSIEVE_FINAL_STATUS_LEVEL_FLAKY 2u
@@ -151,7 +153,7 @@ __attribute__((used)) static void (*const deodarsieve_layouts)(void) = deodarsie
 #define DEODARSIEVE_STEP_TEST 0u
 #define DEODARSIEVE_STEP_SETUP_SCRIPT 1u
 
-/* The outcome of a run. Of two outcomes, the higher code is the worse one. */
+/* The outcome of a run. The outcome of several runs is the highest of theirs. */
 #define DEODARSIEVE_OUTCOME_NO_TESTS_RUN 0u
 #define DEODARSIEVE_OUTCOME_SUCCESS 1u
 #define DEODARSIEVE_OUTCOME_CANCELLED_AT_TESTS 2u
@@ -159,7 +161,7 @@ __attribute__((used)) static void (*const deodarsieve_layouts)(void) = deodarsie
 #define DEODARSIEVE_OUTCOME_FAILED_AT_TESTS 4u
 #define DEODARSIEVE_OUTCOME_FAILED_AT_SETUP_SCRIPTS 5u
 
-/* How long a run is repeated, and what remains of it. */
+/* The kind of a repeated run, or of what remains of it. */
 #define DEODARSIEVE_STRESS_COUNT 0u    /* a number of sub-runs */
 #define DEODARSIEVE_STRESS_INFINITE 1u /* until it is cancelled */
 #define DEODARSIEVE_STRESS_TIME 2u     /* for a time */
@@ -175,9 +177,12 @@ typedef struct deodarsieve_slice {
 } deodarsieve_slice;
 
 /*
- * Finds the part of a test's output that explains its failure: the message of the last panic in
- * standard error, or else standard error from its first line that begins with `Error: ` on, or else
- * the line of standard output which notes that a test did not panic as it should have.
+ * Finds the part of a test's output that explains its failure. This is the first of these that is
+ * there:
+ *
+ * - the message of the last panic in standard error;
+ * - standard error from its first line that begins with `Error: ` to its end;
+ * - the line of standard output that has `note: test did not panic as expected`.
  *
  * `out` is standard output and `err` standard error. The bytes of a stream that was not captured are
  * not read. Pass the same bytes twice if both streams were captured as one. The part lies within the
@@ -205,7 +210,8 @@ typedef struct deodarsieve_head {
 } deodarsieve_head;
 
 /*
- * Finds the last head of a panic message. Heads are matched from left to right and do not overlap.
+ * Matches heads of panic messages from left to right, each after the end of the one before, and finds
+ * the last of these.
  * `reads` is the number of times that the search read a byte: at least `length`, since it reads each
  * byte, and at most 3 * length + 8. The status is always DEODARSIEVE_OK.
  */
@@ -223,13 +229,13 @@ typedef struct deodarsieve_result {
 typedef struct deodarsieve_test_view {
     deodarsieve_result result; /* of the last attempt */
     size_t attempts;           /* the number of attempts; 0 counts as 1 */
-    bool is_slow;              /* whether the last attempt took longer than the slow timeout */
+    bool is_slow;              /* whether the last attempt took longer than the limit for slow tests */
     uint32_t flaky_result;     /* DEODARSIEVE_FLAKY_... */
 } deodarsieve_test_view;
 
 /*
- * The counters of a run. A flaky test that counts as failed is in `leaky` too if its last attempt
- * leaked and a leak counts as passed.
+ * The counters of a run. `leaky` also has tests that are in `failed`: flaky tests that count as failed
+ * and whose last result is LEAK_PASS.
  */
 typedef struct deodarsieve_run_stats {
     size_t initial_run_count;            /* tests that were to run */
@@ -244,7 +250,7 @@ typedef struct deodarsieve_run_stats {
     size_t passed_slow;                  /* slow tests among `passed`, except timeouts */
     size_t passed_timed_out;             /* timeouts among `passed` */
     size_t flaky;                        /* flaky tests among `passed` */
-    size_t failed;                       /* failed; or leaked, or flaky, and counts as failed */
+    size_t failed;                       /* failed; or leaked and counts as failed; or flaky and does */
     size_t failed_slow;                  /* slow tests among `failed` */
     size_t failed_timed_out;             /* timed out and counts as failed; not in `failed` */
     size_t leaky;                        /* leaked, and the leak counts as passed */
@@ -262,8 +268,8 @@ typedef struct deodarsieve_run_stats {
 #endif
 
 /*
- * Counts a finished test: adds 1 to `finished_count` and to every other counter whose comment
- * describes the test. Returns DEODARSIEVE_BAD_CODE if a code is not in its table, and
+ * Counts a finished test: adds 1 to `finished_count`, and to each of the counters from `passed` to
+ * `exec_failed` whose comment describes the test. Returns DEODARSIEVE_BAD_CODE if a code is not in its table, and
  * DEODARSIEVE_COUNTER_FULL if one of these counters is SIZE_MAX.
  */
 uint32_t deodarsieve_run_stats_count_test(deodarsieve_run_stats *stats,
@@ -300,8 +306,8 @@ uint32_t deodarsieve_run_stats_has_failures(const deodarsieve_run_stats *stats, 
 /* ---- Outcomes ---- */
 
 /*
- * The summary of a finished run. If a function writes it, members that its kind and step do not have
- * are 0. If a function reads it, they are ignored.
+ * The summary of a finished run. A member whose comment does not name the kind or the step is 0 when it
+ * is written, and ignored when it is read.
  */
 typedef struct deodarsieve_final_stats {
     uint32_t kind;            /* DEODARSIEVE_FINAL_... */
@@ -312,7 +318,8 @@ typedef struct deodarsieve_final_stats {
 } deodarsieve_final_stats;
 
 /*
- * Sums up the counters of a finished run, whatever their values. The first line that applies decides:
+ * Decides the summary of a finished run from its counters, for any values of them. The first line that
+ * applies decides:
  *
  * - A setup script did not pass: failed at the step of the setup scripts.
  * - Not all setup scripts finished: cancelled at the step of the setup scripts.
@@ -331,9 +338,13 @@ uint32_t deodarsieve_run_stats_summarize(const deodarsieve_run_stats *stats,
 
 /*
  * Sums up a repeated run, from the summary of its last sub-run and the number of its sub-runs that
- * were counted as failed. Writes a DEODARSIEVE_FINAL_...: failed if that number is not 0, or else
- * cancelled or no tests run if that is the last summary, or else success. Returns
- * DEODARSIEVE_BAD_CODE if a code is not in its table.
+ * were counted as failed. Writes a DEODARSIEVE_FINAL_...:
+ *
+ * - FAILED if that number is not 0;
+ * - otherwise CANCELLED or NO_TESTS_RUN if that is the kind of the last summary;
+ * - otherwise SUCCESS, even if the kind of the last summary is FAILED.
+ *
+ * Returns DEODARSIEVE_BAD_CODE if a code is not in its table.
  */
 uint32_t deodarsieve_final_stats_summarize_stress(const deodarsieve_final_stats *last,
                                                   uint32_t failed_count, uint32_t *answer);
@@ -386,16 +397,17 @@ typedef struct deodarsieve_output_on_test_finished {
 /*
  * Decides what a reporter does with a test that has just finished.
  *
- * - It writes a line if the test's status level is at most its own, whatever the cancel reason.
+ * - It writes a line if `test_status_level` is at most `status_level`, whatever the cancel reason.
  * - It displays the output at once if `display` is IMMEDIATE or IMMEDIATE_FINAL.
  * - It stores the test with its output if `display` is FINAL or IMMEDIATE_FINAL. Otherwise it stores
- *   the test without its output if the test's final level is at most its own.
+ *   the test without its output if `test_final_status_level` is at most `final_status_level`.
  *
  * With these cancel reasons it does less:
  *
- * - TEST_FAILURE_IMMEDIATE: a test that failed by SIGTERM or with its job object gets only its line.
+ * - TEST_FAILURE_IMMEDIATE: a test whose result is UNIX_SIGNAL with the number 15, or
+ *   WINDOWS_JOB_OBJECT, is neither displayed nor stored.
  * - SIGNAL: a test whose output is displayed at once is stored without it.
- * - INTERRUPT and SECOND_SIGNAL: every test gets only its line.
+ * - INTERRUPT and SECOND_SIGNAL: no test is displayed or stored.
  *
  * Returns DEODARSIEVE_BAD_CODE if a code is not in its table.
  */
@@ -409,8 +421,9 @@ uint32_t deodarsieve_finished_test_compute_output(const deodarsieve_finished_tes
 uint32_t deodarsieve_result_is_success(const deodarsieve_result *result, bool *answer);
 
 /*
- * Writes true if an attempt failed by SIGTERM (15) or with its job object, which is how a runner
- * terminates a test. Returns DEODARSIEVE_BAD_CODE if the kind is not in its table.
+ * Writes true if a result is UNIX_SIGNAL with the number 15 (SIGTERM), or WINDOWS_JOB_OBJECT. In these
+ * ways nextest ends a test, on Unix and on Windows. Returns DEODARSIEVE_BAD_CODE if the kind is not in
+ * its table.
  */
 uint32_t deodarsieve_result_is_termination_failure(const deodarsieve_result *result, bool *answer);
 
@@ -443,7 +456,8 @@ typedef struct deodarsieve_stress_remaining {
  * that has not elapsed, or DEODARSIEVE_STRESS_NOTHING if nothing remains.
  *
  * Returns DEODARSIEVE_BAD_CODE if the kind is not COUNT, INFINITE or TIME, if it is COUNT and
- * `total_count` is 0, or if `elapsed`, or for TIME `total`, has 1,000,000,000 nanoseconds or more.
+ * `total_count` is 0, or if the member `nanoseconds` of `elapsed`, or for TIME of `total`, is
+ * 1,000,000,000 or more.
  */
 uint32_t deodarsieve_stress_progress_remaining(const deodarsieve_stress_progress *progress,
                                                deodarsieve_stress_remaining *answer);

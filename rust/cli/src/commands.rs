@@ -29,7 +29,7 @@ const AFTER_REPORT_HELP: &str = "\
 Examples (with `set -o pipefail` a pipe also fails if the test command does):
   cargo test --no-fail-fast -- -Z unstable-options --format json 2>&1 | test-report
   cargo nextest run --message-format libtest-json 2>&1 | test-report
-  (cargo test needs a nightly toolchain or RUSTC_BOOTSTRAP=1, nextest NEXTEST_EXPERIMENTAL_LIBTEST_JSON=1)
+  (cargo test needs a nightly toolchain or RUSTC_BOOTSTRAP=1. nextest needs NEXTEST_EXPERIMENTAL_LIBTEST_JSON=1)
   .. | test-report --format github                      annotations of a workflow on GitHub
   .. | test-report --format names                       the names of failed tests, to run them again
   .. | test-report --junit junit.xml                    the text, and a file for a build server
@@ -38,10 +38,12 @@ Examples (with `set -o pipefail` a pipe also fails if the test command does):
   test-report --format junit first.jsonl second.jsonl   two files, as one run
 
 Exit status:
-  0  the run succeeded
-  1  the run did not succeed: a test failed or did not run, lines contradict each other, or there was no test
+  0  the run succeeded, or there was no test and `--no-tests` is `pass`
+  1  the run did not succeed: a test failed, an announced test neither ended nor was ignored, lines contradict
+     each other, or there was no test
   2  an argument is invalid
-  3  reading or writing failed, a file cannot be opened or written, or a number is too large to count";
+  3  reading or writing failed, a file cannot be opened or written, a number is too large to count, or there was not
+     enough memory";
 
 /// Returns the arguments that `run-digest` takes.
 pub fn run_digest() -> Command {
@@ -76,11 +78,11 @@ pub fn test_report() -> Command {
         )
         .arg(
             choice("color", "WHEN", "auto", ["auto", "always", "never"])
-                .help("Colour the words for results"),
+                .help("Colour words such as FAIL; `auto` does so on a terminal if NO_COLOR is not set"),
         )
         .arg(
             choice("progress", "WHEN", "auto", ["auto", "always", "never"])
-                .help("Show on standard error how far the run is"),
+                .help("Show the progress in a line on standard error; `auto` does so if that is a terminal"),
         )
         .arg(
             Arg::new("limit")
@@ -94,7 +96,7 @@ pub fn test_report() -> Command {
             Arg::new("raw")
                 .long("raw")
                 .action(ArgAction::SetTrue)
-                .help("Print control characters as the tests wrote them, not as escapes"),
+                .help("Print control characters in reasons as the tests wrote them, in the form `text`"),
         )
         .after_help(AFTER_REPORT_HELP)
 }
