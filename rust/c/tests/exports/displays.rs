@@ -25,7 +25,7 @@ pub fn finished_test(mut case: u32, result: FfiResult) -> FfiFinishedTest {
         status_level: digit(8),
         final_status_level: digit(8),
         display: digit(4),
-        cancel_reason: digit(10),
+        cancel_reason: digit(REASONS.len() as u32),
         test_status_level: digit(8),
         test_final_status_level: digit(8),
         result,
@@ -52,7 +52,7 @@ fn displays_are_those_of_the_layer() {
     // A pass, an exit code, SIGTERM, another signal and a job object.
     for (kind, number) in [(0, 0), (3, 15), (4, 15), (4, 9), (6, 0)] {
         let (_, result) = &results(number)[kind as usize];
-        for case in 0..8 * 8 * 4 * 10 * 8 * 8 {
+        for case in 0..8 * 8 * 4 * REASONS.len() as u32 * 8 * 8 {
             let test = finished_test(case, FfiResult { kind, number });
             let expected = output_of(&test, result);
             let mut output = NO_OUTPUT;

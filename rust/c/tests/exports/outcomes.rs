@@ -132,7 +132,7 @@ fn summaries_are_read() {
 
 /// Returns counters with small numbers, in the layer's form and in that of C.
 fn counters() -> impl Iterator<Item = (RunStats, FfiRunStats)> {
-    (0..64 * 10).map(|case: usize| {
+    (0..64 * REASONS.len()).map(|case: usize| {
         let digit = |at: usize| case >> at & 1;
         let (code, (_, reason)) = (0..).zip(REASONS).nth(case / 64).expect("a reason");
         let given = FfiRunStats {
