@@ -81,6 +81,9 @@ pub struct ExecutionStatusesIter<'a, S: OutputSpec> {
         }
     }""",
     ),
+    # A value leaves a box by `*`.
+    ("test_report_run/src/run.rt", "Box::into_inner(suite)", "*suite"),
+    ("test_report_run/src/run.rt", "Box::into_inner(self.suites.remove(at))", "*self.suites.remove(at)"),
     # Faults of memory are gone.
     ("run_digest_engine_tests/src/words.rt", '        (Fault::OutOfMemory, 3, "out of memory"),\n', ""),
     # The crate's own moments are made otherwise.

@@ -4,7 +4,7 @@ use clap::{Arg, ArgAction, ArgMatches, Command, value_parser};
 use std::alloc::{AllocError, Global};
 use test_report_forms::options::Options;
 
-/// How many bytes of why a test failed are shown if `--limit` is absent.
+/// The default of `--limit`: how many bytes of the reason of a failure are shown.
 const LIMIT: &str = "4096";
 
 /// The values of `--format`.
@@ -16,7 +16,7 @@ const ACTIONS: &[&str] = &["fail", "pass"];
 /// The values of `--color` and `--progress`.
 const TIMES: &[&str] = &["auto", "always", "never"];
 
-/// What `--help` says after the options.
+/// The text of `--help` after the options.
 const AFTER_HELP: &str = "\
 Examples (with `set -o pipefail` a pipe also fails if the test command does):
   cargo test --no-fail-fast -- -Z unstable-options --format json 2>&1 | test-report
@@ -85,13 +85,12 @@ fn choice<'a>(alloc: Global, name: &'a str, value: &'a str, values: &'a [&'a str
         .default_value(default)
 }
 
-/// Returns an option that names a file.
+/// Returns an option whose value is the path of a file.
 fn file<'a>(alloc: Global, name: &'a str) -> Arg<'a> {
     Arg::new(alloc, name).long(name).value_name("FILE")
 }
 
-/// Returns the options of the report. `colors` is true if standard output is to be coloured unless an
-/// argument says otherwise.
+/// Returns the options of the report. `colors` is true if standard output is coloured by default.
 pub(crate) fn options_of(matches: &ArgMatches<'_>, colors: bool) -> Options {
     Options {
         limit: matches.get_one::<usize>("limit").unwrap_or(0),
@@ -105,8 +104,8 @@ pub(crate) fn options_of(matches: &ArgMatches<'_>, colors: bool) -> Options {
     }
 }
 
-/// Returns true if a line on standard error says how far the run is. `is_terminal` is true if standard error is
-/// a terminal.
+/// Returns true if a line on standard error shows the progress of the run. `is_terminal` is true if standard
+/// error is a terminal.
 pub(crate) fn shows_progress(matches: &ArgMatches<'_>, is_terminal: bool) -> bool {
     match matches.get_str("progress") {
         Some("always") => true,

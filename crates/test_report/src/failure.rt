@@ -1,10 +1,10 @@
-//! Why the program ends without what was asked for.
+//! The failures of the program.
 
 use std::alloc::AllocError;
 use std::fmt;
 use test_report_engine::fault::Fault;
 
-/// Why the program ends without what was asked for. Its exit status is 3.
+/// The reason why the program failed. It is displayed as the message of the program. The exit status is 3.
 #[derive(Drop)]
 pub(crate) enum Failure<'a> {
     /// The report failed.

@@ -1,14 +1,15 @@
-//! Files that are complete or absent.
+//! Writes files so that a reader never sees a part of them.
 
 use std::fs::{self, OpenFile, OpenOptions};
 use std::io::{self, ErrorKind, Write};
 use std::rt::Files;
 
-/// How many names are tried for a file before it is renamed.
+/// How many names are tried for the new file.
 const NAMES: usize = 1_000;
 
-/// Replaces the file at `path`, or creates it. At no time is a part of the text at `path`, unless a device
-/// or a pipe is there, which is written itself. Of a symbolic link the file that it names is replaced.
+/// Replaces the file at `path`, or creates it. A reader finds the old file or the whole new one, because the
+/// text is written to a new file that is then renamed. If `path` is a device or a pipe, it is written
+/// directly. If it is a symbolic link, the file that it names is replaced.
 pub(crate) fn replace<R: Files + AllocGlobal>(rt: &R, path: &str, text: &str) -> io::Result<()> {
     match fs::metadata(rt, path) {
         Ok(found) if !found.is_file() => OpenOptions::new()

@@ -43,12 +43,12 @@ const BAD_ARGUMENT: u8 = 2;
 /// The exit status after a failure.
 const FAILED: u8 = 3;
 
-/// How the report is written.
+/// The settings of the program.
 #[derive(Clone, Copy)]
 struct Settings {
     options: Options,
 
-    /// True if a line on standard error says how far the run is.
+    /// True if a line on standard error shows the progress of the run.
     shows_progress: bool,
 }
 
@@ -66,7 +66,7 @@ fn words_of<R: Env + AllocGlobal>(rt: &R) -> Result<Option<Vec<String>>, Fault> 
     Ok(Some(words))
 }
 
-/// Returns the forms of the files that the arguments name.
+/// Returns the forms of the files that the arguments ask for.
 fn file_forms(
     alloc: Global,
     matches: &ArgMatches<'_>,
@@ -85,7 +85,7 @@ fn file_forms(
     Ok(forms)
 }
 
-/// Writes the files that the arguments name.
+/// Writes the files that the arguments ask for.
 fn write_files<'a, R: Files + AllocGlobal>(
     rt: &R,
     matches: &ArgMatches<'a>,
@@ -121,7 +121,7 @@ fn read_file<'a, R: Files + AllocGlobal + Input + Clock, F: Form + Drop, W: Writ
     }
 }
 
-/// Reads a file of the run from a reader, and shows after each piece how far the run is.
+/// Reads a file of the run from a reader, and shows the progress of the run after each piece.
 fn read_from<S: Read + Drop, R: AllocGlobal + Clock, F: Form + Drop, W: Write>(
     rt: &R,
     reader: S,
@@ -158,7 +158,7 @@ fn read_piece<S: Read + Drop, F: Form + Drop, W: Write>(
 }
 
 /// Reads the files of the run, and writes the report. Returns the end of the run, and the texts of the files
-/// that are written as well.
+/// that the arguments ask for.
 fn report_to<'a, R: Files + AllocGlobal + Input + Clock, F: Form + Drop, W: Write>(
     rt: &R,
     matches: &ArgMatches<'a>,
@@ -179,7 +179,7 @@ fn report_to<'a, R: Files + AllocGlobal + Input + Clock, F: Form + Drop, W: Writ
     Ok((end, texts))
 }
 
-/// Returns what is kept while the files are read.
+/// Returns the state of the reading before the first file.
 fn pieces_of(alloc: Global, settings: Settings) -> Pieces {
     if settings.shows_progress {
         Pieces::with_progress(alloc)
@@ -188,8 +188,8 @@ fn pieces_of(alloc: Global, settings: Settings) -> Pieces {
     }
 }
 
-/// Writes the report to standard output in a form, and then the files. Returns the exit status. A reader of
-/// standard output that has gone needs no message.
+/// Writes the report to standard output in a form, and then the files. Returns the exit status. If the reader
+/// of standard output has gone, nothing is written to standard error.
 fn report_in<'a, R: Files + AllocGlobal + Input + Clock + Print, F: Form + Drop>(
     rt: &R,
     matches: &ArgMatches<'a>,
@@ -237,7 +237,7 @@ fn report_of<'a, R: Files + AllocGlobal + Input + Clock + Print>(
     }
 }
 
-/// Returns true if standard output is coloured unless an argument says otherwise.
+/// Returns true if standard output is coloured by default.
 fn has_colors(rt: &HostRuntime) -> bool {
     rt.stdout().is_terminal() && env::var(rt, "NO_COLOR") == Err(env::VarError::NotPresent)
 }

@@ -3,13 +3,13 @@
 use crate::progress::ProgressLine;
 use std::io::{self, ErrorKind, Write};
 
-/// A writer that remembers whether its reader has gone, and takes the line of progress away before it writes.
+/// A writer that hides the line of progress before it writes, and remembers whether its reader has gone.
 #[derive(Drop)]
 pub(crate) struct Output<W> {
     writer: W,
     is_closed: bool,
 
-    /// The line that says how far the run is.
+    /// The line of progress.
     pub(crate) line: ProgressLine,
 }
 
@@ -23,7 +23,7 @@ impl<W: Write> Output<W> {
         }
     }
 
-    /// Returns true if a call has failed since the reader of a pipe has gone.
+    /// Returns true if a call failed because the reader of the pipe has gone.
     pub(crate) fn is_closed(&self) -> bool {
         self.is_closed
     }

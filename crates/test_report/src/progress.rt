@@ -1,10 +1,10 @@
-//! The line of a terminal that says how far the run is.
+//! The line on standard error that shows the progress of the run.
 
 use std::io::{Stderr, Write};
 use std::rt::Clock;
 use std::time::{Duration, Instant};
 
-/// How often the line is written within a second at most.
+/// The most times that the line is written in a second.
 const MOST_WRITES: u32 = 10;
 
 /// A line on standard error. While it is shown, the cursor is at its end.
@@ -13,7 +13,7 @@ pub(crate) struct ProgressLine {
     stderr: Stderr,
     is_shown: bool,
 
-    /// When the second began, and how often the line was written since.
+    /// When the current second began, and how often the line was written since then.
     since: Option<Instant>,
     writes: u32,
 }
@@ -29,15 +29,15 @@ impl ProgressLine {
         }
     }
 
-    /// Shows a text in place of what the line says. The terminal cuts it at its width.
+    /// Replaces the text of the line, and shows it. The terminal cuts it at its width.
     pub(crate) fn show(&mut self, text: &str) {
         // A line that cannot be written is no failure of the report.
         let _ = write!(self.stderr, "\r\u{1b}[K\u{1b}[?7l{text}\u{1b}[?7h");
         self.is_shown = true;
     }
 
-    /// Returns true if the line may be written once more in this second, and counts that. Without a clock it
-    /// may not.
+    /// Returns true if the line may be written once more in this second, and counts that as a write. Returns
+    /// false if there is no clock.
     pub(crate) fn is_due<R: Clock>(&mut self, rt: &R) -> bool {
         let Ok(now) = Instant::now(rt) else {
             return false;
@@ -53,7 +53,7 @@ impl ProgressLine {
         true
     }
 
-    /// Takes the line away.
+    /// Hides the line.
     pub(crate) fn hide(&mut self) {
         if self.is_shown {
             let _ = self.stderr.write_all(b"\r\x1b[K");

@@ -7,7 +7,7 @@ use std::alloc::{AllocError, AllocFailed};
 use std::fmt;
 use test_report_run::error::RunError;
 
-/// Why `test-report` ends without a report. It is displayed as a few words, such as `read failed`.
+/// The reason why there is no complete report. It is displayed as a few words, such as `read failed`.
 #[derive(Clone, Copy, Debug, PartialEq, Eq)]
 pub enum Fault {
     /// A read failed.
@@ -16,7 +16,7 @@ pub enum Fault {
     /// A write or a flush failed.
     Write,
 
-    /// A number does not fit its counter.
+    /// A number is too large for its counter.
     CounterFull,
 
     /// There was not enough memory.

@@ -3,7 +3,7 @@
 
 ghost use Rattle.test_report_engine.specs.Laws.{FailureHasReason, FilesNameReason, GithubNamesReason, HtmlNamesReason, MarkdownNamesReason, OneReport, OneRun, SuccessMeans, TextNamesReason};
 
-/// Inputs have at most one report in a form, and one end of the run.
+/// For the same inputs there is at most one report in a form, and one end of the run.
 pub fn one_report()
     ensures { OneReport }
 {
@@ -11,14 +11,13 @@ pub fn one_report()
     test_report_forms::laws::one_entry();
 }
 
-/// The entries and the end of a report are those of the run of which the laws of `test_report_run`
-/// speak.
+/// The entries and the end of a report are those of the run in the laws of `test_report_run`.
 pub fn one_run()
     ensures { OneRun }
 {}
 
-/// What status 0 means. If the outcome in a report is `Success`, a test passed and nothing is wrong with
-/// the lines of the inputs, as `test_report_run::laws::success_is_in_order` lists it. If the outcome is
+/// Says what status 0 means. If the outcome in a report is `Success`, a test passed and nothing is wrong with
+/// the lines of the inputs: `test_report_run::laws::success_is_in_order` has the list. If the outcome is
 /// `NoTestsRun`, no test passed, and nothing is wrong either.
 pub fn success_means()
     ensures { SuccessMeans }
@@ -26,7 +25,7 @@ pub fn success_means()
     test_report_run::laws::success_is_in_order();
 }
 
-/// What status 1 means. If the outcome in a report is not `Success`, an entry is of a failed test, of a
+/// Says what status 1 means. If the outcome in a report is not `Success`, an entry is of a failed test, of a
 /// disagreement, or of a suite whose tests were not all run; or no test ran. Each of these forms then
 /// has the name of a failed test, the line of a disagreement or of such a suite, or says that no test
 /// ran.

@@ -1,6 +1,10 @@
-//! The report of a test run, from the lines of Rust's test harness, cargo and cargo nextest.
+//! Writes the report of a test run while it reads the run. The run is the lines of Rust's test harness, cargo
+//! and cargo nextest, in one file or several.
 //!
-//! Calls that read the run of a source, write its report to a sink, and say whether the run succeeded:
+//! Make a `Report` in a form of `test_report_forms`, and call `read_file` for each file and then `finish`.
+//! Read a file by `read_piece` to do something between its lines, for example to show how far the run is.
+//!
+//! These calls report a run of one file, and return true if it succeeded:
 //!
 //! ```rust
 //! let mut report = Report::new(alloc, TextForm::new(alloc, options));

@@ -1,4 +1,4 @@
-//! What is kept while files are read piece by piece.
+//! The state between two pieces of a file that is read piece by piece.
 
 ghost use Rattle.std.specs.Prelude.{◌≡◌, []};
 ghost use Rattle.test_report_engine.specs.Lines.{IsOneLine};
@@ -6,8 +6,8 @@ ghost use Rattle.test_report_engine.specs.Lines.{IsOneLine};
 use crate::progress::Progress;
 use std::alloc::Global;
 
-/// What is kept from one piece of a file to the next: the bytes after the last line feed, and perhaps how far
-/// the run is.
+/// The state between two pieces of a file: the bytes after the last line feed, and the progress of the run if
+/// it is wanted.
 #[derive(Debug, Drop)]
 pub struct Pieces {
     pub(crate) line: Vec<u8>,
@@ -17,7 +17,7 @@ pub struct Pieces {
 }
 
 impl Pieces {
-    /// Returns what is kept before the first file, without how far the run is.
+    /// Returns the state before the first file. The progress of the run is not followed.
     pub fn without_progress(alloc: Global) -> Pieces
         ensures { result.line.items ≡ [] }
     {
@@ -27,7 +27,7 @@ impl Pieces {
         }
     }
 
-    /// Returns what is kept before the first file, with how far the run is.
+    /// Returns the state before the first file. The progress of the run is followed.
     pub fn with_progress(alloc: Global) -> Pieces
         ensures { result.line.items ≡ [] }
     {
@@ -37,7 +37,7 @@ impl Pieces {
         }
     }
 
-    /// Returns how far the run is, if that is kept.
+    /// Returns the progress of the run, or `None` if it is not followed.
     pub fn progress(&self) -> Option<&Progress> {
         self.progress.as_ref()
     }

@@ -1,4 +1,4 @@
-//! How far a run is.
+//! The progress of a run.
 
 ghost use Rattle.std.specs.Prelude.{◌≡◌, ◌<◌, IfSome, OnOk, vec_len};
 ghost use Rattle.test_report_events.specs.Event.{event_view};
@@ -9,10 +9,10 @@ use test_report_events::event::Event;
 use test_report_events::line::Line;
 use test_report_run::note::{Note, TestOutcome};
 
-/// How far a run is, by the lines that were read so far.
+/// The progress of a run, by the lines that were read.
 #[derive(Debug, Drop)]
 pub struct Progress {
-    /// The number of tests that suites announced.
+    /// The number of tests that the first lines of suites announced.
     announced: u64,
 
     /// The number of tests that ended.
@@ -29,7 +29,7 @@ pub struct Progress {
 }
 
 impl Progress {
-    /// Returns the progress of a run of which nothing was read.
+    /// Returns the progress of a run before its first line.
     pub(crate) fn new(alloc: Global) -> Progress {
         Progress {
             announced: 0,
@@ -40,8 +40,9 @@ impl Progress {
         }
     }
 
-    /// Returns how far the run is in one line, such as
-    /// `12 of 40 tests, 1 failed: ledger::ledger tests::asks_the_bank`. Control characters of names are escapes.
+    /// Returns the progress in one line, such as
+    /// `12 of 40 tests, 1 failed: ledger::ledger tests::asks_the_bank`. The test is the one that started last.
+    /// Control characters in names are replaced by escapes.
     pub fn text(&self, alloc: Global) -> Result<String, AllocError> {
         let mut text = self.counts(alloc)?;
         if let Some(name) = self.running.last() {
@@ -50,7 +51,8 @@ impl Progress {
         Ok(text)
     }
 
-    /// Returns how many tests ended, of how many if that is known, and how many failed.
+    /// Returns how many tests ended and how many failed. The number of announced tests is left out if more
+    /// tests ended.
     fn counts(&self, alloc: Global) -> Result<String, AllocError> {
         let (ended, announced, failed) = (self.ended, self.announced, self.failed);
         if ended <= announced {
@@ -84,7 +86,7 @@ impl Progress {
         Ok(())
     }
 
-    /// Takes what a line makes known.
+    /// Takes the notes of a line.
     pub(crate) fn take_notes(&mut self, notes: &[Note])
         ensures ended { self.new.ended ≡ self.old.ended }
         ensures announced { self.new.announced ≡ self.old.announced }
@@ -96,7 +98,7 @@ impl Progress {
         }
     }
 
-    /// Removes the test that ends with this written name.
+    /// Removes the test that ends. `written` is the name in the line of its end.
     fn end(&mut self, written: &str)
         ensures ended { self.new.ended ≡ self.old.ended }
         ensures announced { self.new.announced ≡ self.old.announced }
@@ -120,7 +122,7 @@ impl Progress {
     }
 }
 
-/// Takes a line, of which these notes are known, if there is something to keep.
+/// Takes a line and its notes, if the progress of the run is followed.
 pub(crate) fn take_line(
     alloc: Global,
     progress: &mut Option<Progress>,
@@ -134,7 +136,7 @@ pub(crate) fn take_line(
     Ok(())
 }
 
-/// Returns true if a test failed.
+/// Returns true for the note of a failed test.
 fn is_failed(note: &Note) -> bool {
     match note {
         Note::Test(test) => matches!(&test.outcome, TestOutcome::Failed(_)),
@@ -142,7 +144,7 @@ fn is_failed(note: &Note) -> bool {
     }
 }
 
-/// Appends a name, with escapes in place of control characters.
+/// Appends a name. Control characters are replaced by escapes.
 fn push_name(text: &mut String, name: &str) -> Result<(), AllocError> {
     for c in name.escape_debug() {
         text.push(c)?;
@@ -150,7 +152,8 @@ fn push_name(text: &mut String, name: &str) -> Result<(), AllocError> {
     Ok(())
 }
 
-/// Appends the name of a test, after that of its suite if one is known. A written name of nextest has both.
+/// Appends the name of a test, after the name of its suite if one is known. In the lines of nextest the name
+/// of a test has that of its suite before a `$`. For other tests it is the last heading.
 fn push_test(text: &mut String, heading: Option<&str>, written: &str) -> Result<(), AllocError> {
     let (suite, name) = match written.split_once('$') {
         Some((suite, name)) => (Some(suite), name),

@@ -1,4 +1,4 @@
-//! The report of a run, written during the run.
+//! A report that is written while its run is read.
 
 ghost use Rattle.std.specs.Prelude.{◌≡◌, ◌≢◌, ◌↔◌, ◌⊎◌, ◌++◌, ◌∷◌, [], ℕ, true, false, List, Option, IfErr, IfOk, IfSome, OnOk, OnErr, IsErrOf, map, string_bytes};
 ghost use Rattle.std.specs.Io.KnownBytes.{Appends, IsAtEnd};
@@ -29,7 +29,7 @@ use test_report_run::run::TestRun;
 /// The number of bytes that are read at once.
 const CHUNK: usize = 16_384;
 
-/// A report that is written in one form while its input is read.
+/// A report in one form, which is written while its run is read.
 #[derive(Drop)]
 pub struct Report<F: Form> {
     run: TestRun,
@@ -47,7 +47,8 @@ impl<F: Form + Drop> Report<F> {
         Report::with_files(alloc, form, FileForms::none())
     }
 
-    /// Returns a report that has read and written nothing, and that returns the texts of these files at its end.
+    /// Returns a report that has read and written nothing. It keeps what the texts of these files need, and
+    /// `file_texts` returns them after the last file of the run.
     pub fn with_files(alloc: Global, form: F, files: FileForms) -> Report<F>
         ensures reads { F.Knows form [] → reading.HasRead F.line F.last F.Knows form result [] [] }
         ensures files { FilesKnow files [] → reading.FilesHaveRead files result [] }
@@ -59,15 +60,15 @@ impl<F: Form + Drop> Report<F> {
         }
     }
 
-    /// Reads a file of the run to its end. What its lines make known is written, and the sink flushed, as
-    /// soon as a line is read.
+    /// Reads a file of the run to its end. If a line makes something known, the report writes it and flushes
+    /// the sink before it takes the next line.
     ///
-    /// Neither device may have failed before. After a fault a beginning of what the lines of the file make
-    /// known was written.
+    /// Neither device may have failed before. After a fault the sink has the start of the text that the file
+    /// would have added to the report.
     ///
     /// - [`Fault::Read`] if and only if the source fails, and [`Fault::Write`] if and only if the sink
     ///   fails.
-    /// - [`Fault::CounterFull`] if a number does not fit its counter.
+    /// - [`Fault::CounterFull`] if a number is too large for its counter.
     /// - [`Fault::OutOfMemory`] if there is not enough memory.
     pub fn read_file<R: Source, W: Sink>(
         &mut self,
@@ -103,17 +104,18 @@ impl<F: Form + Drop> Report<F> {
         Err(Fault::CounterFull)
     }
 
-    /// Reads the next bytes of a file of the run, and returns false if the file has ended. What the lines
-    /// that end in these bytes make known is written, and the sink flushed. At the end of the file this is
-    /// what its last line and its end make known. Read each file until the result is false, all files with
-    /// the same `pieces`.
+    /// Reads the next bytes of a file of the run, and takes the lines that end in them. Returns false if the
+    /// file has ended. Call it until it returns false, for each file with the same `pieces`.
     ///
-    /// Neither device may have failed before. After a fault a beginning of what the rest of the file makes
-    /// known was written.
+    /// If a line makes something known, the report writes it and flushes the sink before it takes the next
+    /// line. The call that returns false takes the rest of the last line and the end of the file.
+    ///
+    /// Neither device may have failed before. After a fault the sink has the start of the text that the rest
+    /// of the file would have added to the report.
     ///
     /// - [`Fault::Read`] if and only if the source fails, and [`Fault::Write`] if and only if the sink
     ///   fails.
-    /// - [`Fault::CounterFull`] if a number does not fit its counter.
+    /// - [`Fault::CounterFull`] if a number is too large for its counter.
     /// - [`Fault::OutOfMemory`] if there is not enough memory.
     pub fn read_piece<R: Source, W: Sink>(
         &mut self,
@@ -154,7 +156,7 @@ impl<F: Form + Drop> Report<F> {
         Ok(true)
     }
 
-    /// Returns the texts of the files, after the last file of the run was read.
+    /// Returns the texts of the files. Call it after the last file of the run was read.
     pub fn file_texts(&mut self, alloc: Global) -> Result<FileTexts, Fault>
         ensures texts { IfOk result (λ texts. (files : FileForms) (inputs : List (List ℕ))
             → reading.FilesHaveRead files self.old inputs → AreTexts files inputs texts) }
@@ -167,10 +169,9 @@ impl<F: Form + Drop> Report<F> {
         Ok(self.files.texts(alloc, &end)?)
     }
 
-    /// Writes the end of the report, and returns the sums and the outcome of the run.
+    /// Writes the end of the report, flushes the sink, and returns the sums and the outcome of the run.
     ///
-    /// The sink must not have failed before. After a fault a beginning of the end of the report was
-    /// written.
+    /// The sink must not have failed before. After a fault it has the start of the end of the report.
     ///
     /// - [`Fault::Write`] if and only if the sink fails.
     /// - [`Fault::OutOfMemory`] if there is not enough memory.
@@ -193,7 +194,7 @@ impl<F: Form + Drop> Report<F> {
         Ok(end)
     }
 
-    /// Takes the next bytes of a file. `begun` is what was read of the current line.
+    /// Takes the next bytes of a file. `begun` has the bytes of the current line that were read before.
     fn on_bytes<W: Sink>(
         &mut self,
         alloc: Global,
@@ -252,7 +253,8 @@ impl<F: Form + Drop> Report<F> {
         self.write(alloc, notes.as_slice(), sink)
     }
 
-    /// Takes the end of a file. If there are bytes after the last line feed, they are a line.
+    /// Takes the end of a file. `begun` has the bytes after the last line feed. They are a line unless there
+    /// are none.
     fn end_file<W: Sink>(
         &mut self,
         alloc: Global,
@@ -279,7 +281,7 @@ impl<F: Form + Drop> Report<F> {
         self.write(alloc, notes.as_slice(), sink)
     }
 
-    /// Writes what is known.
+    /// Writes the text of notes, and flushes the sink if there is text.
     fn write<W: Sink>(&mut self, alloc: Global, notes: &[Note], sink: &mut W) -> Result<(), Fault>
         requires sink_works { W.failed sink.old ≡ false }
         ensures write { IsErrOf result faults.Write ↔ (W.failed sink.new ≡ true) }
@@ -300,7 +302,7 @@ impl<F: Form + Drop> Report<F> {
         Ok(())
     }
 
-    /// Takes what is known, and returns the lines that are written of it.
+    /// Passes notes to the forms, and returns the text that is written at once.
     fn lines_of(&mut self, alloc: Global, notes: &[Note]) -> Result<String, AllocError>
         ensures same_run { self.new.run ≡ self.old.run }
         ensures takes { IfOk result (λ text. reading.TakesNotes F.line F.last F.Knows self.old self.new

@@ -1,13 +1,12 @@
 -- What is read of a line.
-use Rattle.std.proofs.Common.{◌≡◌, ◌∙◌, refl, true, sym, ap, ℕ, List, Option, Some, None, Result, Ok, Err, inl, inr, subst, false, MatchOption, IfOk, IfSome, option_map, unwrap_or}
+use Rattle.std.proofs.Common.{◌≡◌, ◌∙◌, refl, sym, ap, ℕ, List, Option, Some, None, Result, Ok, Err, inl, inr, subst, MatchOption, IfOk, IfSome, unwrap_or}
 use Rattle.std.proofs.Math.Logic.{◌⊎◌, ⊎_elim}
 use Rattle.std.proofs.lemmas.List.{take_rest}
-use Rattle.std.specs.Prelude.{◌-◌, drop, length, take, is_some}
+use Rattle.std.specs.Prelude.{◌-◌, drop, length, take}
 use Rattle.serde_json.specs.Data.{Data}
 use Rattle.serde_json.specs.View.{view}
 use Rattle.serde_json.specs.declared.value.Value.{Value}
 use Rattle.test_report_events.proofs.Colours.{one-plain}
-use Rattle.std.proofs.lemmas.Bool.{false≢true}
 use Rattle.test_report_events.proofs.Events.{object-only, object-says, one-object}
 use Rattle.test_report_events.proofs.Times.{one-time}
 use Rattle.test_report_events.proofs.Headings.{one-heading}
@@ -40,29 +39,25 @@ pub holds_later : {E : Type 0} (line : List ℕ) (at : ℕ) (r : Result (Option 
 holds_later line at (Err e) whole last ends = tt
 holds_later line at (Ok found) whole last ends = holds-end line at found whole last (subst (λ bytes. IsValueOf bytes found) (take_rest line at) ends)
 
-pub some_of_map : {A B : Type 0} (f : A → B) (r : Option A) (o : Option B) → option_map f r ≡ o → is_some o ≡ is_some r
-some_of_map f None o h = ap is_some (sym h)
-some_of_map f (Some a) o h = ap is_some (sym h)
-
 -- the event of an object, or a print
-pub object_is : (line : List ℕ) (d : Data) (time : Option ℕ) → Holds line d → IsTime line d time → is_some (object_said time d) ≡ true
-    → LineSays line (unwrap_or (object_said time d) OtherLine)
-object_is line d time holds timed some = event (object_said time d) some (object-says d time)
-  where
-    event : (o : Option EventView) → is_some o ≡ true → IfSome o (Says time d) → LineSays line (unwrap_or o OtherLine)
-    event None none says = absurd (false≢true none)
-    event (Some e) some says = inl (d, holds, inl (time, timed, says))
+pub object_is : (line : List ℕ) (d : Data) (time : Option ℕ) (e : EventView) → Holds line d → IsTime line d time → object_said time d ≡ Some e
+    → LineSays line e
+object_is line d time e holds timed is = inl (d, holds, inl (time, timed, subst (λ o. IfSome o (Says time d)) is (object-says d time)))
 
-pub object_none : (line : List ℕ) (d : Data) (time : Option ℕ) (text plain : List ℕ) → Holds line d → IsTime line d time
-    → is_some (object_said time d) ≡ false → text ≡ line_text line → IsPlain line plain → LineSays line (Prints text plain)
-object_none line d time text plain holds timed none is plainly = inl (
+pub object_some : (line : List ℕ) (d : Data) (time : Option ℕ) (e : EventView) → Holds line d → IsTime line d time → object_said time d ≡ Some e
+    → LineSays line (unwrap_or (object_said time d) OtherLine)
+object_some line d time e holds timed is = subst (λ o. LineSays line (unwrap_or o OtherLine)) (sym is) (object_is line d time e holds timed is)
+
+pub object_none : (line : List ℕ) (d : Data) (time : Option ℕ) (e : EventView) → Holds line d → IsTime line d time → object_said time d ≡ None
+    → IsPrint line e → LineSays line e
+object_none line d time e holds timed none prints = inl (
   d,
   holds,
   inr (
-    (λ e h.
-        let says = object-only d time e (subst (λ t. Says t d e) (one-time line d h.0 time h.1 timed) h.2) in
-        false≢true (sym none ∙ ap is_some says)),
-    (plain, plainly, ap (λ t. Prints t plain) is),
+    (λ other h.
+        let says = object-only d time other (subst (λ t. Says t d other) (one-time line d h.0 time h.1 timed) h.2) in
+        let both = sym none ∙ says in cc),
+    prints,
   ),
 )
 

@@ -1,4 +1,4 @@
-//! The lines of cargo and nextest.
+//! Recognizes the lines of cargo and nextest that are not JSON.
 
 ghost use Rattle.std.specs.Prelude.{◌≡◌, ◌↔◌, ◌++◌, ℕ, List, IfOk, IsTrue, MatchOption, codes, drop, length, nat_eq, ◌&&◌};
 ghost use Rattle.std.specs.Char.{is_ascii_hexdigit};
@@ -13,9 +13,9 @@ use std::alloc::{AllocError, Global};
 /// The number of hexadecimal digits at the end of the name of a test binary.
 const HASH_DIGITS: usize = 16;
 
-/// Returns the name of the suites that a heading announces, or `None` if the line is no heading. Of
-/// `Running X (PATH)` it is `F (X)`, with F the file name of PATH without its hash. Of `Doc-tests NAME`
-/// it is `NAME (doc tests)`.
+/// Returns the name of the suites that a heading announces, or `None` if the line is not a heading. For
+/// `Running X (PATH)` the name is `F (X)`. F is the file name of PATH, without `.exe` and the hash at its
+/// end. For `Doc-tests NAME` the name is `NAME (doc tests)`.
 pub(crate) fn heading(alloc: Global, line: &str) -> Result<Option<String>, AllocError>
     ensures { IfOk result (λ found. MatchOption found
         ((suite : List ℕ) → ¬ spec.IsHeading line.now suite)
@@ -30,7 +30,8 @@ pub(crate) fn heading(alloc: Global, line: &str) -> Result<Option<String>, Alloc
     }
 }
 
-/// Returns the name of the suites of a crate's documentation tests, if the crate's name has no space.
+/// Returns the name of the suites of a crate's documentation tests, or `None` if the crate's name has a
+/// space or is empty.
 fn doc_tests(alloc: Global, name: &str) -> Result<Option<String>, AllocError>
     ensures { IfOk result (λ found. MatchOption found
         (¬ spec.IsCrate name.now)
@@ -42,7 +43,7 @@ fn doc_tests(alloc: Global, name: &str) -> Result<Option<String>, AllocError>
     Ok(Some(format!(in alloc; "{name} (doc tests)")?))
 }
 
-/// Returns the name of the suites that `X (PATH)` announces.
+/// Returns the name of the suites that `X (PATH)` announces, or `None` if the text has another form.
 fn running(alloc: Global, text: &str) -> Result<Option<String>, AllocError>
     ensures { IfOk result (λ found. MatchOption found
         ((target path name : List ℕ) → spec.IsTarget text.now target path → ¬ spec.IsBinary path name)
@@ -70,7 +71,7 @@ fn target_and_path(text: &str) -> Option<(&str, &str)>
     }
 }
 
-/// Returns the name of the suites of a test binary, if its file name has a hash.
+/// Returns the name of the suites of a test binary, or `None` if its file name has no hash.
 fn binary_tests(alloc: Global, target: &str, path: &str) -> Result<Option<String>, AllocError>
     ensures { IfOk result (λ found. MatchOption found
         ((name : List ℕ) → ¬ spec.IsBinary path.now name)
@@ -104,7 +105,8 @@ fn without_exe(file: &str) -> &str
     }
 }
 
-/// Removes a hyphen and sixteen hexadecimal digits from the end of a file name.
+/// Removes a hyphen and sixteen hexadecimal digits from the end of a file name. Returns `None` if the name
+/// does not end so.
 fn without_hash(file: &str) -> Option<&str>
     ensures { MatchOption result
         ((name : List ℕ) → ¬ spec.IsHashed file.now name)
@@ -123,7 +125,7 @@ fn is_hash(text: &str) -> bool
     text.len() == HASH_DIGITS && text.bytes().all(|byte| byte.is_ascii_hexdigit())
 }
 
-/// Returns true if a line begins with these bytes.
+/// Returns true if a line starts with this text.
 #[tactic(auto, using(std::proofs::lemmas::Str::Pattern::starts_text))]
 fn begins(line: &str, front: &str) -> bool
     ensures { result ≡ spec.begins line.now front.now }
@@ -131,7 +133,7 @@ fn begins(line: &str, front: &str) -> bool
     line.starts_with(front)
 }
 
-/// Returns what a line of cargo or nextest reports as failed.
+/// Returns the failure that a line of cargo or nextest reports, or `None` if it reports none.
 #[tactic(auto, unfolding(crate::specs::Cargo::failure_of))]
 pub(crate) fn cargo_failure(line: &str) -> Option<CargoFailure>
     ensures { result ≡ spec.failure_of line.now }

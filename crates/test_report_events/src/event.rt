@@ -5,8 +5,8 @@ ghost use Rattle.test_report_events.specs.Event.{text_of_key};
 
 use std::fmt;
 
-/// The key of a suite: the test binary that cargo nextest names in the lines of the suite. It is displayed
-/// as `CRATE::BINARY`, followed by `@stress-N` for a suite of a stress run.
+/// The key of a suite: the crate and the test binary that cargo nextest names in the lines of the suite. It
+/// is displayed as `CRATE::BINARY`. In a stress run `@stress-N` follows.
 #[derive(Clone, Copy, Debug, PartialEq, Eq)]
 pub struct SuiteKey<'a> {
     /// The name of the crate.
@@ -15,7 +15,7 @@ pub struct SuiteKey<'a> {
     /// The name of the test binary.
     pub binary: &'a str,
 
-    /// The index of the run, if there are several runs of each test.
+    /// The index of the repetition, in a stress run. Such a run repeats each test.
     pub stress_index: Option<u64>,
 }
 
@@ -56,7 +56,7 @@ pub struct SuiteEnd<'a> {
     pub time: Option<u64>,
 }
 
-/// The result of a test, as the line of its end says it.
+/// The result of a test, from the line of its end.
 #[derive(Clone, Copy, Debug, PartialEq, Eq)]
 pub enum TestResult {
     /// The test passed.
@@ -69,23 +69,23 @@ pub enum TestResult {
     Ignored,
 }
 
-/// What the line of a test's end says about it.
+/// The output, the messages and the time in the line of a test's end.
 #[derive(Clone, Copy, Debug, PartialEq, Eq)]
 pub struct TestDetails<'a> {
-    /// The output of the test, with both streams as one, if it was captured.
+    /// The output of the test, if it was captured. Standard output and standard error are one text.
     pub stdout: Option<&'a str>,
 
-    /// The message of the harness, unless it is empty.
+    /// The message of the harness, or `None` if it is absent or empty.
     pub message: Option<&'a str>,
 
-    /// The reason that the harness gives for a failure, unless it is empty.
+    /// The reason that the harness gives for a failure, or `None` if it is absent or empty.
     pub reason: Option<&'a str>,
 
     /// The time that the test took, in microseconds.
     pub time: Option<u64>,
 }
 
-/// A line of the input.
+/// The event of a line.
 #[derive(Clone, Copy, Debug, PartialEq, Eq)]
 pub enum Event<'a> {
     /// A suite starts.
@@ -108,56 +108,56 @@ pub enum Event<'a> {
 
     /// A test ends, or a benchmark does.
     TestEnded {
-        /// The name as it is written, which may end in `#` and a number of attempts.
+        /// The name in the line. It may end with `#` and a number of attempts.
         name: &'a str,
 
-        /// How the test ended.
+        /// The result of the test.
         result: TestResult,
 
-        /// What the line says about the test.
+        /// The output, the messages and the time of the test.
         details: TestDetails<'a>,
     },
 
-    /// Another line of a test harness, which changes nothing: a test is slow, for example.
+    /// Another line of a test harness, for example that a test is slow. It changes nothing in the run.
     Other,
 
-    /// A line of cargo that names the test binary which runs next.
+    /// A line of cargo that names the test binary that runs next.
     Heading {
-        /// The name of the suites in that binary.
+        /// The name of the suites of that binary.
         suite: &'a str,
     },
 
-    /// A line of cargo or nextest that says that something failed.
+    /// A line in which cargo or nextest reports a failure.
     CargoFailed {
         /// What failed.
         failure: CargoFailure,
 
-        /// The line, without the carriage return at the end.
+        /// The text of the line, without the carriage return at its end. Bytes that are not UTF-8 are U+FFFD.
         line: &'a str,
 
-        /// The line, also without colours and without spaces at the front.
+        /// The same text without colours, and without spaces at its start.
         plain: &'a str,
     },
 
-    /// Any other line: a print.
+    /// A print: any other line.
     Print {
-        /// The line, without the carriage return at the end.
+        /// The text of the line, without the carriage return at its end. Bytes that are not UTF-8 are U+FFFD.
         line: &'a str,
 
-        /// The line, also without colours and without spaces at the front.
+        /// The same text without colours, and without spaces at its start.
         plain: &'a str,
     },
 }
 
-/// What cargo or nextest reports as failed.
+/// The failures that cargo and nextest report.
 #[derive(Clone, Copy, Debug, PartialEq, Eq)]
 pub enum CargoFailure {
-    /// A crate could not be compiled, or its build script failed. No test fails because of that.
+    /// A crate could not be compiled, or its build script failed. A failed test is never the cause.
     Build,
 
-    /// One test binary failed, or several.
+    /// One or several test binaries failed.
     Tests,
 
-    /// Some of all binaries failed: the last line of a run.
+    /// The run failed. It is reported once, after the last test binary.
     Run,
 }

@@ -1,6 +1,10 @@
-//! The events of a test run, from the lines of Rust's test harness, cargo and cargo nextest.
+//! Parses the lines of a test run, and returns the event of each line: a suite starts or ends, a test starts
+//! or ends, cargo announces a test binary, or cargo reports a failure. Every other line is a print.
 //!
-//! A function that reads the number of tests in a line that starts a suite:
+//! The lines are those of Rust's test harness (`--format json`), of cargo nextest (`--message-format
+//! libtest-json`) and of cargo. Any bytes are accepted, and they need not be UTF-8.
+//!
+//! This function returns the number of tests that the first line of a suite announces:
 //!
 //! ```rust
 //! let line = Line::read(alloc, bytes)?;

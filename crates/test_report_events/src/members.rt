@@ -14,7 +14,7 @@ use crate::event::{Event, SuiteEnd, SuiteKey, TestDetails, TestResult};
 use crate::time::exec_time;
 use serde_json::Value;
 
-/// The members of an object that lines of tests have. They are found in one pass over the object.
+/// The members of an object that lines of tests have. One pass over the object finds all of them.
 #[derive(Clone, Copy)]
 pub(crate) struct Members<'a> {
     object: &'a Value,
@@ -93,7 +93,7 @@ impl<'a> Members<'a> {
         members
     }
 
-    /// Takes the next member.
+    /// Keeps the next member of the object, if its key is one of those above.
     fn take(&mut self, key: &str, value: &'a Value)
         ensures object { self.new.object ≡ self.old.object }
         ensures takes { (ms : MemberList) → AreMembersOf (object ms) self.old
@@ -135,7 +135,7 @@ impl<'a> Members<'a> {
         text_in(self.name)
     }
 
-    /// Returns what the end of a test says about it.
+    /// Returns the output, the messages and the time of a test.
     fn details(&self, time: Option<u64>) -> TestDetails<'a>
         requires { AreMembersOf (view self.now.object.now) self.now }
         ensures stdout { option_map (λ text. text.now) result.stdout
@@ -154,7 +154,7 @@ impl<'a> Members<'a> {
         }
     }
 
-    /// Returns the time of the object. `line` is the text that the object was read from.
+    /// Returns the time of the object in microseconds. `line` is the line that has the object.
     #[tactic(auto, using(crate::proofs::Times::time_is))]
     pub(crate) fn time_in(&self, line: &[u8]) -> Option<u64>
         requires { AreMembersOf (view self.now.object.now) self.now }

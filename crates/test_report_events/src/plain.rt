@@ -20,21 +20,22 @@ fn without_return(line: &[u8]) -> &[u8]
     }
 }
 
-/// Returns the text of a line, without the carriage return at its end. What is not UTF-8 becomes U+FFFD.
+/// Returns the text of a line, without the carriage return at its end. Bytes that are not UTF-8 become
+/// U+FFFD.
 pub(crate) fn line_text(alloc: Global, line: &[u8]) -> Result<String, AllocError>
     ensures { IfOk result (λ text. string_bytes text ≡ plain.line_text line.now) }
 {
     String::from_utf8_lossy(alloc, without_return(line))
 }
 
-/// Returns the offset of the first byte that is no space.
+/// Returns the offset of the first byte that is not a space.
 fn spaces_end(text: &[u8]) -> Option<usize>
     ensures { result ≡ position (λ b. not (b == 32)) text.now }
 {
     text.iter().position(|byte| *byte != b' ')
 }
 
-/// Returns a text without the spaces at its front.
+/// Returns a text without the spaces at its start.
 pub(crate) fn without_spaces(text: &[u8]) -> &[u8]
     ensures { result.now ≡ time.without_spaces text.now }
 {
@@ -51,15 +52,15 @@ fn is_parameter(byte: u8) -> bool
     byte.is_ascii_digit() || byte == b';' || byte == b':'
 }
 
-/// Returns the offset of the first byte that is no parameter of a colour.
+/// Returns the offset of the first byte that is not part of a colour's parameters.
 fn parameters_end(text: &[u8]) -> Option<usize>
     ensures { result ≡ position (λ b. not (plain.is_parameter b)) text.now }
 {
     text.iter().position(|byte| !is_parameter(*byte))
 }
 
-/// Returns the number of parameters in front of an `m`: digits, semicolons and colons. Returns `None` if
-/// they are not followed by `m`.
+/// Returns the length of the parameters at the start of a text: digits, semicolons and colons. Returns
+/// `None` if no `m` follows them.
 fn parameters_size(text: &[u8]) -> Option<usize>
     ensures { MatchOption result
         ((parameters rest : List ℕ) → AllPass plain.is_parameter parameters → text.now ≢ parameters ++ (codes "m" ++ rest))
@@ -71,8 +72,8 @@ fn parameters_size(text: &[u8]) -> Option<usize>
     }
 }
 
-/// Returns the size of the colour at the start of a text: `ESC [`, then parameters, then `m`. Returns
-/// `None` if no colour begins there.
+/// Returns the length of the colour at the start of a text: `ESC [`, then parameters, then `m`. Returns
+/// `None` if the text does not start with a colour.
 fn colour_size(text: &[u8]) -> Option<usize>
     ensures { MatchOption result
         ((colour rest : List ℕ) → plain.IsColour colour → text.now ≢ colour ++ rest)
@@ -105,8 +106,8 @@ fn without_colours(alloc: Global, line: &[u8]) -> Result<Vec<u8>, AllocError>
     Ok(kept)
 }
 
-/// Returns a line as cargo's lines are looked for: without colours, without spaces at the front and
-/// without the carriage return at the end. What is not UTF-8 becomes U+FFFD.
+/// Returns the text of a line without colours, without spaces at its start and without the carriage return
+/// at its end. Bytes that are not UTF-8 become U+FFFD. Lines of cargo are recognized in this form.
 pub(crate) fn plain_text(alloc: Global, line: &[u8]) -> Result<String, AllocError>
     ensures { IfOk result (λ text. plain.IsPlain line.now (string_bytes text)) }
 {

@@ -14,7 +14,7 @@ use bstr::ByteSlice;
 /// The key of the member that holds a time.
 const KEY: &[u8] = b"\"exec_time\"";
 
-/// The greatest number of digits before the point of a time that is read.
+/// The most digits that a time may have before its point.
 const MOST_DIGITS: usize = 9;
 
 /// The number of digits of a second that are kept.
@@ -23,9 +23,9 @@ const KEPT_DIGITS: usize = 6;
 /// The number of microseconds in a second.
 const MICROSECONDS: u64 = 1_000_000;
 
-/// Returns the time that a line gives as the number after its last `"exec_time":`, in microseconds,
-/// rounded down. The number is one of seconds without exponent, with at most nine digits before the
-/// point.
+/// Returns the time of a line in microseconds, rounded down. The time is the number of seconds after the
+/// last `"exec_time":` of the line. Returns `None` if there is no such number, if it has an exponent or a
+/// sign, or if it has more than nine digits before the point.
 #[tactic(auto, using(crate::proofs::Times::time_after, crate::proofs::Times::no_time))]
 pub(crate) fn exec_time(line: &[u8]) -> Option<u64>
     ensures { MatchOption result ((micros : ℕ) → ¬ time.GivesTime line.now micros) (time.GivesTime line.now) }
@@ -36,7 +36,7 @@ pub(crate) fn exec_time(line: &[u8]) -> Option<u64>
     }
 }
 
-/// Returns the offset of the last key of a time, which a colon follows.
+/// Returns the offset of the last `"exec_time"` that a colon follows.
 fn last_key(line: &[u8]) -> Option<usize>
     ensures { FindsLastNeedle line.now time.time_key result }
 {
@@ -50,14 +50,14 @@ fn last_key(line: &[u8]) -> Option<usize>
     None
 }
 
-/// Returns the offset of the first byte that is not of a number.
+/// Returns the offset of the first byte that is not part of a number.
 fn number_end(text: &[u8]) -> Option<usize>
     ensures { result ≡ position (λ b. not (time.is_of_number b)) text.now }
 {
     text.iter().position(|byte| !is_of_number(*byte))
 }
 
-/// Returns the number at the start of a text, after spaces.
+/// Returns the number at the start of a text. Spaces before it are skipped.
 fn number_text(text: &[u8]) -> &[u8]
     ensures { result.now ≡ time.number_text text.now }
 {
@@ -101,7 +101,7 @@ pub(crate) fn are_digits(bytes: &[u8]) -> bool
     bytes.iter().all(|byte| byte.is_ascii_digit())
 }
 
-/// Parses a number of seconds.
+/// Parses a number of seconds, and returns microseconds.
 #[tactic(auto, using(crate::proofs::Values::value_short))]
 fn microseconds(number: &[u8]) -> Option<u64>
     ensures { SomeIff result (time.IsSeconds number.now) (time.microseconds number.now) }
@@ -116,7 +116,7 @@ fn microseconds(number: &[u8]) -> Option<u64>
     Some(digits_value(whole) * MICROSECONDS + fraction_value(fraction))
 }
 
-/// Returns the number that at most nine digits spell.
+/// Returns the value of at most nine digits.
 #[tactic(auto, using(crate::proofs::Values::value_next))]
 fn digits_value(digits: &[u8]) -> u64
     requires digits { time.AreDigits digits.now }
@@ -130,7 +130,7 @@ fn digits_value(digits: &[u8]) -> u64
     value
 }
 
-/// Returns the microseconds that the digits after a point spell.
+/// Returns the microseconds in the digits after a point, rounded down.
 #[tactic(auto, using(crate::proofs::Values::fraction_bound, crate::proofs::Values::fraction_floor))]
 fn fraction_value(digits: &[u8]) -> u64
     requires { time.AreDigits digits.now }

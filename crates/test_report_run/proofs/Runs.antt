@@ -1,32 +1,39 @@
 -- The steps of a run.
-use Rattle.std.proofs.Common.{◌==◌, ◌≡◌, ◌∙◌, ◌++◌, ◌<◌, [], ◌∷◌, List, ℕ, Option, None, Some, ap, cond, get_or, length, map, option_map, refl, sym, true}
-use Rattle.std.specs.List.{fold, remove}
-use Rattle.std.specs.Option.{option_map_or}
+use Rattle.std.proofs.Common.{Box, Global, ◌==◌, ◌≡◌, ◌∙◌, ◌++◌, ◌<◌, ◌+◌, [], ◌∷◌, Bool, List, ℕ, Option, None, Some, ap, arith, cond, false, nat_lt, not, option_and_then, get_or, length, map, option_map, refl, sym, true}
+use Rattle.std.specs.Box.{with_value}
+use Rattle.std.specs.List.{fold, position, remove}
+use Rattle.std.specs.Option.{option_map_or, option_or}
 use Rattle.std.proofs.Math.ListN.{set}
 use Rattle.std.proofs.lemmas.List.{get_or-map, get_or-set_same, map-set}
 use Rattle.test_report_events.specs.Event.{SuiteEndView, TestEndView}
 use Rattle.test_report_run.specs.Note.{NoteView}
 use Rattle.test_report_run.specs.Over.{early_notes, last_notes}
 use Rattle.test_report_run.proofs.Places.{remove-set}
-use Rattle.test_report_run.specs.Run.{RunState, Step, ended_at, ended_early, file_end, names_in, running_ends, step, stray_ends, suite_at, test_over, with_suite_at, without_tests}
+use Rattle.test_report_run.specs.Run.{RunState, Step, ended_at, ended_early, file_end, last_place, names_in, running_ends, step, stray_ends, suite_at, suite_place, test_over, with_suite_at, without_tests}
 use Rattle.test_report_run.specs.Running.{RunningView, ended_at as test_at}
-use Rattle.test_report_run.specs.Suite.{SuiteState, outside_start, state_of, with_line}
+use Rattle.test_report_run.specs.Suite.{SuiteState, before_dollar, has_key, outside_start, state_of, with_line}
 use Rattle.test_report_run.specs.declared.suite.Suite.{Suite}
 
 pub ended-early : (old run : RunState) (s : SuiteState) (names : List (List ℕ)) (notes after : List NoteView) → names ≡ names_in old s
     → run ≡ without_tests old s → after ≡ notes ++ early_notes s names → step run after ≡ ended_early (step old notes) s
 ended-early old run s names notes after name same told = rw (told, name, same)
 
--- a suite of a run changes, as its state says
-pub suite-at : (r : RunState) (suites : List Suite) (at : ℕ) (place : Option ℕ) (old : Suite) → r.suites ≡ map state_of suites → at < length suites
-    → Some at ≡ place → old ≡ get_or suites at old → suite_at r place ≡ state_of old
-suite-at r suites at place old same inside is found = rw (← is, same) (get_or-map state_of suites at old r.outside inside ∙ sym (ap state_of found))
+-- what a box of a suite keeps
+abbrev pub boxed_state : Box Suite Global → SuiteState
+boxed_state b = state_of b.value
 
-pub with_suite-at : (r run : RunState) (suites : List Suite) (at : ℕ) (place : Option ℕ) (old changed : Suite) (f : SuiteState → SuiteState)
-    → r.suites ≡ map state_of suites → run ≡ record r { suites = map state_of (set suites at changed) } → at < length suites → Some at ≡ place
-    → old ≡ get_or suites at old → state_of changed ≡ f (state_of old) → run ≡ with_suite_at r place (f (suite_at r place))
-with_suite-at r run suites at place old changed f same after inside is found change =
-    rw (suite-at r suites at place old same inside is found, ← is, ← change, same, ← map-set state_of suites at changed) after
+-- a suite of a run changes, as its state says
+pub suite-at : (r : RunState) (suites : List (Box Suite Global)) (at : ℕ) (place : Option ℕ) (old : Box Suite Global) → r.suites ≡ map boxed_state suites
+    → at < length suites → Some at ≡ place → old ≡ get_or suites at old → suite_at r place ≡ boxed_state old
+suite-at r suites at place old same inside is found = rw (← is, same) (get_or-map boxed_state suites at old r.outside inside ∙ sym (ap boxed_state found))
+
+pub with_suite-at : (r run : RunState) (suites : List (Box Suite Global)) (at : ℕ) (place : Option ℕ) (old : Box Suite Global) (inside changed : Suite)
+    (f : SuiteState → SuiteState) → r.suites ≡ map boxed_state suites
+    → run ≡ record r { suites = map boxed_state (set suites at (with_value old changed)) } → at < length suites → Some at ≡ place
+    → old ≡ get_or suites at old → inside ≡ old.value → state_of changed ≡ f (state_of inside) → run ≡ with_suite_at r place (f (suite_at r place))
+with_suite-at r run suites at place old inside changed f same after within is found opened change =
+    let changes : boxed_state (with_value old changed) ≡ f (boxed_state old) = change ∙ ap (λ (s : Suite). f (state_of s)) opened in
+    rw (suite-at r suites at place old same within is found, ← is, ← changes, same, ← map-set boxed_state suites at (with_value old changed)) after
 
 -- a suite is over by its last line
 pub suite-over : (r r1 r2 : RunState) (e : SuiteEndView) (at : ℕ) (s : SuiteState) → at < length r.suites
@@ -65,3 +72,21 @@ running-over r taken e None found is left = cc
 running-over r taken e (Some p) found is left =
     let same : found ≡ test_at r.running p = cc in
     rw (same, left) refl
+
+-- in a list of one suite, a test belongs to that suite
+first-of-one : {X : Type 0} (p : X → Bool) (x : X) → option_or (position p (x ∷ [])) (Some 0) ≡ Some 0
+first-of-one p x =
+    elim (p x) as (λ b. option_or (cond (nat_lt (cond (not b) (1 + 0) 0) 1) (Some (cond (not b) (1 + 0) 0)) None) (Some 0) ≡ Some 0) [
+      | true ↦ refl
+      | false ↦ refl
+    ]
+
+only-place : (suites : List SuiteState) (key : Option (List ℕ)) → length suites ≡ 1
+    → option_or (option_and_then (λ k. position (has_key (Some k)) suites) key) (option_or (position (has_key None) suites) (last_place suites)) ≡ Some 0
+only-place [] key is = absurd (omega (arith, is))
+only-place (s ∷ []) None is = first-of-one (has_key None) s
+only-place (s ∷ []) (Some k) is = rw (first-of-one (has_key None) s) (first-of-one (has_key (Some k)) s)
+only-place (s ∷ (t ∷ suites)) key is = absurd (omega (arith, is))
+
+pub place-of-one : (r : RunState) (name : List ℕ) → length r.suites ≡ 1 → suite_place r name ≡ Some 0
+place-of-one r name is = only-place r.suites (before_dollar name) is

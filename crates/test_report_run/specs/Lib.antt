@@ -2,6 +2,7 @@ pub mod Counted
 pub mod Ended
 pub mod LastLine
 pub mod Laws
+pub mod Name
 pub mod Note
 pub mod Over
 pub mod Prints

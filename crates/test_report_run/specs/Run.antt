@@ -40,7 +40,7 @@ pub record RunState : Type 0 where
 abbrev pub run_state : TestRun → RunState
 run_state r = record {
   outside = state_of r.outside;
-  suites = map state_of r.suites.items;
+  suites = map (λ suite. state_of suite.value) r.suites.items;
   suites_started = r.suites_started;
   heading = text_view r.heading;
   running = tests_of r.running;

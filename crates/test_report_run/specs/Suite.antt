@@ -60,10 +60,10 @@ flaky_view f = record { test = over_view f.test; order = f.order; stdout = text_
 -- what a suite keeps
 abbrev pub state_of : Suite → SuiteState
 state_of s = record {
-  number = s.number;
-  key = text_view s.key;
-  heading = text_view s.heading;
-  first_test = text_view s.first_test;
+  number = s.name.number;
+  key = text_view s.name.key;
+  heading = text_view s.name.heading;
+  first_test = text_view s.name.first_test;
   test_count = s.test_count;
   started = s.started;
   open_lines = s.open_lines;

@@ -1,4 +1,4 @@
-//! Counting a test that finished.
+//! Counts a test that finished.
 
 ghost use Rattle.std.specs.Prelude.{◌≡◌, ◌↔◌, IsOk, OnErr, OnOk};
 ghost use Rattle.run_events_stats.specs.Counters.{TestCountersFit, with_test};
@@ -28,8 +28,8 @@ pub(crate) enum Finish {
     TimedOut,
 }
 
-/// Describes the result of a test. The lines do not give the exit code of a failed test, so it is that
-/// of the harness.
+/// Returns the result of a test, as the statistics take it. Lines do not have the exit code of a failed
+/// test, so it is the one of Rust's test harness.
 fn described(finish: Finish) -> ExecutionResultDescription
     ensures { result ≡ result_of finish }
 {
@@ -47,7 +47,7 @@ fn described(finish: Finish) -> ExecutionResultDescription
     }
 }
 
-/// Counts a test that finished.
+/// Adds a test that finished to the statistics. Fails only if a counter is full, and changes nothing then.
 pub(crate) fn count(
     stats: &mut RunStats,
     finish: Finish,

@@ -29,7 +29,7 @@ fn owned(alloc: Global, text: Option<&str>) -> Result<Option<String>, AllocError
     }
 }
 
-/// Returns the failure of a test whose line says that it failed.
+/// Returns the failure of a test, from the line that says that it failed.
 fn failure_of(alloc: Global, details: TestDetails<'_>) -> Result<Failure, AllocError>
     ensures { IfOk result (λ failure.
         failure_view failure ≡ spec.failure_of (test_end_view [] ended.Failed details.entry)) }
@@ -45,7 +45,7 @@ fn failure_of(alloc: Global, details: TestDetails<'_>) -> Result<Failure, AllocE
     })
 }
 
-/// Returns how a test finished whose line says that it failed.
+/// Returns how a failed test finished: it failed, or it ran out of time.
 fn finish_of(details: TestDetails<'_>) -> Finish
     ensures { result ≡ spec.finish_of (test_end_view [] ended.Failed details.entry) }
 {
@@ -56,7 +56,8 @@ fn finish_of(details: TestDetails<'_>) -> Finish
 }
 
 impl Suite {
-    /// Takes the end of a test. `order` is the number of tests that started before it.
+    /// Takes the end of a test, and adds its note. `order` is the number of tests that started before it. A
+    /// test that passed after several attempts is kept, and has no note until its suite is over.
     pub(crate) fn on_end(
         &mut self,
         alloc: Global,
@@ -135,7 +136,7 @@ impl Suite {
         self.flaky.iter().position(|other| other.order > order)
     }
 
-    /// Returns the position of a flaky test among those that started before and after it.
+    /// Returns the position among the flaky tests of one that started after `order` tests.
     fn flaky_place(&self, order: usize) -> usize
         ensures place { result ≡ position_or_len (spec.starts_later order) (map flaky_view self.now.flaky.items) }
         ensures fits { result ≤ vec_len self.now.flaky }
@@ -143,7 +144,8 @@ impl Suite {
         self.later_flaky(order).unwrap_or(self.flaky.len())
     }
 
-    /// Keeps a flaky test until the suite is over, in the order in which such tests started.
+    /// Keeps a test that passed after several attempts until the suite is over. Such tests are kept in the
+    /// order in which they started.
     fn on_flaky(
         &mut self,
         alloc: Global,

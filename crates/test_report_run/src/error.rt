@@ -1,4 +1,4 @@
-//! Why a run cannot be counted.
+//! The errors of a run that cannot be counted.
 
 ghost use Rattle.std.specs.Prelude.{◌≡◌, ◌+◌, IfOk};
 
@@ -48,7 +48,7 @@ impl<T: Drop> From<AllocFailed<T>> for RunError {
     }
 }
 
-/// Increments a counter.
+/// Increments a counter. Fails only if it is `usize::MAX`.
 pub(crate) fn one_more(count: usize) -> Result<usize, RunError>
     ensures { IfOk result (λ more. more ≡ count + 1) }
 {

@@ -1,4 +1,4 @@
-//! What the last line of a suite explains.
+//! The tests that the last line of a suite explains.
 
 ghost use Rattle.std.specs.Prelude.{◌≡◌, ◌+◌, ◌-◌, ◌≤◌, ◌<◌, ◌^◌, ℕ, false, nat_le, min};
 ghost use Rattle.std.specs.Option.{option_map_or};
@@ -6,7 +6,7 @@ ghost use Rattle.test_report_run.specs.LastLine.{ended_of, room_of, not_started_
 
 use crate::note::SaidNumbers;
 
-/// The tests of a suite when its last line comes.
+/// The numbers of tests of a suite before its last line is looked at.
 #[derive(Clone, Copy)]
 pub(crate) struct Tally {
     /// The number of tests that the suite announced.
@@ -37,7 +37,7 @@ impl Tally {
         self.passed as u128 + self.failed as u128 + self.skipped as u128
     }
 
-    /// Returns how many tests may be skipped that have not ended.
+    /// Returns the most tests that can be skipped in addition to those that ended.
     fn room(self) -> u128
         ensures { result ≡ room_of self }
     {
@@ -58,7 +58,7 @@ impl Tally {
     }
 }
 
-/// Which tests the last line of a suite explains.
+/// The tests that the last line of a suite explains.
 #[derive(Clone, Copy)]
 pub(crate) struct Explanation {
     /// The number of skipped tests that have no line.
@@ -74,7 +74,8 @@ pub(crate) struct Explanation {
     pub(crate) flaky_failed: bool,
 }
 
-/// Returns which tests the last line of a suite explains: it says these numbers, and `ignored` tests.
+/// Returns which tests the last line of a suite explains. `said` are its numbers, and `ignored` is the
+/// number of tests that it counts as ignored.
 pub(crate) fn explained(tally: Tally, said: SaidNumbers, ignored: u128) -> Explanation
     ensures value { result ≡ explanation_of tally said ignored }
     ensures left { result.skipped ≤ tally.left }
@@ -110,7 +111,7 @@ fn skipped_left(tally: Tally, more: u128) -> usize
     }
 }
 
-/// Returns true if the last line counts at least so many tests as failed.
+/// Returns true if the last line counts at least `least` tests as failed.
 fn says_failed(said: SaidNumbers, least: u128) -> bool
     ensures { result ≡ option_map_or (λ failed. nat_le least failed) said.failed false }
 {
@@ -120,8 +121,8 @@ fn says_failed(said: SaidNumbers, least: u128) -> bool
     }
 }
 
-/// Returns true if the last line counts all flaky tests as failed. `failed` is the number of tests that
-/// failed otherwise.
+/// Returns true if the last line counts all flaky tests as failed. `failed` is the number of other failed
+/// tests.
 fn says_flaky_failed(tally: Tally, said: SaidNumbers, failed: u128) -> bool
     requires { failed < 2 ^ 66 }
     ensures { result ≡ flaky_failed tally said failed }
@@ -137,7 +138,8 @@ fn says_flaky_failed(tally: Tally, said: SaidNumbers, failed: u128) -> bool
     }
 }
 
-/// Returns true if the last line of a suite says other numbers than those of its tests.
+/// Returns true if the last line of a suite contradicts its tests: `passed` of them passed, and `failed`
+/// of them failed.
 pub(crate) fn disagrees(said: SaidNumbers, passed: usize, failed: usize) -> bool
     ensures { result ≡ is_contradicted said passed failed }
 {

@@ -4,8 +4,8 @@
 ghost use Rattle.test_report_run.specs.Laws.{CargoFailureShows, CleanEndIsWhole, EarlyEndShows, FailedLineShows, FailedLinesAreTold, FailedVerdictShows, FailureIsTold, FailuresAreKnown, LastLineAgrees, NoFailureOfFileEnd, OneFailureOfLine, OutcomeMeans, StrayEndShows, SuitesAreSound, TotalsAreCounts};
 ghost use Rattle.test_report_run.specs.Status.{AnnouncedAreCounted, FailureHasReason, NotRunIsNamed, SuccessIsInOrder};
 
-/// A line that says that a test failed makes one failed test known, which has the name, the time and
-/// the reason of the line. No other line does, nor the end of a file.
+/// A line that says that a test failed makes exactly one such failure known, with the name, the time and
+/// the reason of the line. No other line makes one known, and neither does the end of a file.
 pub fn one_failure_of_line()
     ensures lines { OneFailureOfLine }
     ensures file_ends { NoFailureOfFileEnd }
@@ -18,13 +18,14 @@ pub fn totals_are_counts()
 {}
 
 /// The outcome of a run is `Success` or `NoTestsRun` if and only if no test failed, no lines disagree and
-/// all tests of suites were run. It is `Success` if and only if a test passed, too.
+/// all tests of suites ran. It is `Success` if and only if also a test passed.
 pub fn outcome_means()
     ensures { OutcomeMeans }
 {}
 
-/// Nothing is hidden: the last line of a suite agrees with its tests, or a disagreement becomes known. A
-/// suite that ends early, and a last line of no open suite that counts tests, show too.
+/// No contradiction is hidden. The last line of a suite agrees with its tests, or a disagreement becomes
+/// known. The same is true of a suite that ends early, and of a last line that counts tests of a suite that
+/// is not open.
 pub fn nothing_is_hidden()
     ensures last_lines { LastLineAgrees }
     ensures early_ends { EarlyEndShows }

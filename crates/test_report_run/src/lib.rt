@@ -1,6 +1,11 @@
-//! A test run, line by line: how each test counts, and where lines contradict each other.
+//! Follows a test run line by line, and returns which tests passed, failed or were skipped, and where lines
+//! of the run contradict each other.
 //!
-//! A function that returns the sums and the outcome of a run that is one file with these lines:
+//! Make a `TestRun`, and pass it the event of each line. Call `end_file` after the last line of each file,
+//! and `end` after the last file. The first two calls return notes, for example that a test failed, and the
+//! last one returns the sums and the outcome of the run.
+//!
+//! This function does so for a run of one file that has these lines:
 //!
 //! ```rust
 //! pub fn end_of_lines(alloc: Global, lines: &[&[u8]]) -> Result<RunEnd, RunError>
@@ -31,4 +36,5 @@ pub mod run;
 mod running;
 mod said;
 mod suite;
+mod suite_name;
 mod totals;

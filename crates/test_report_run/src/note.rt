@@ -1,32 +1,32 @@
-//! What becomes known of a run.
+//! The notes that the lines of a run make known, and the end of a run.
 
 use run_events_stats::outcome::RunOutcome;
 use run_events_stats::stats::RunStats;
 use test_report_events::event::TestResult;
 
-/// What one line adds to what is known of a run.
+/// A fact about a run that a line, or the end of a file, makes known.
 #[derive(Debug, Drop)]
 pub enum Note {
-    /// How a test counts.
+    /// A test passed, failed or was skipped.
     Test(TestNote),
 
-    /// The lines of the run contradict each other.
+    /// Lines of the run contradict each other.
     Disagreement(Disagreement),
 
-    /// Some tests of a suite were not run.
+    /// Some tests of a suite did not run.
     NotRun(NotRun),
 
     /// A suite is over.
     Suite(SuiteNote),
 }
 
-/// A test, and how it counts.
+/// A test, and whether it passed, failed or was skipped.
 #[derive(Debug, Drop)]
 pub struct TestNote {
-    /// The name of its suite, or `None` if it started outside of a suite.
+    /// The name of the suite of the test, or `None` if the test started outside of a suite.
     pub suite: Option<String>,
 
-    /// The name of the test as it is written, without `#` and the number of attempts.
+    /// The name of the test in its lines, without `#` and the number of attempts.
     pub name: String,
 
     /// The number of attempts.
@@ -35,40 +35,39 @@ pub struct TestNote {
     /// The time that the test took, in microseconds.
     pub time: Option<u64>,
 
-    /// The number of tests that had ended before it ended, or `usize::MAX` if no line says that it
-    /// ended.
+    /// The number of tests that ended before this one, or `usize::MAX` if no line says that it ended.
     pub ended: usize,
 
-    /// How the test counts.
+    /// Whether the test passed, failed or was skipped.
     pub outcome: TestOutcome,
 }
 
-/// How a test counts.
+/// The outcome of a test.
 #[derive(Debug, Drop)]
 pub enum TestOutcome {
-    /// It passed. If it took several attempts, it is flaky.
+    /// The test passed. It is flaky if it took several attempts.
     Passed,
 
-    /// It was not run.
+    /// The test was skipped.
     Skipped,
 
-    /// It failed.
+    /// The test failed.
     Failed(Failure),
 }
 
-/// A failure of a test: its kind, and what is known about it.
+/// How a test failed, with the texts that its lines have about it.
 #[derive(Debug, Drop)]
 pub struct Failure {
     /// The kind of the failure.
     pub kind: FailureKind,
 
-    /// The output of the test, with both streams as one, if it was captured.
+    /// The output of the test, if it was captured. Standard output and standard error are one text.
     pub stdout: Option<String>,
 
-    /// The message of the harness.
+    /// The message of the harness, if there is one.
     pub message: Option<String>,
 
-    /// The reason that the harness gives.
+    /// The reason that the harness gives, if it gives one.
     pub reason: Option<String>,
 }
 
@@ -81,26 +80,27 @@ pub enum FailureKind {
     /// A line says that the test ran out of time.
     TimedOut,
 
-    /// No line says how the test ended, and the last line of its suite counts it as failed.
+    /// The test has no line of its end, and the last line of its suite counts it as failed.
     WithoutEnd,
 
-    /// The test is flaky, and the last line of its suite counts it as failed.
+    /// The test passed after several attempts, and the last line of its suite counts it as failed.
     Flaky,
 
-    /// The test was running when its suite ended early.
+    /// The test crashed: it was running when its suite ended without a last line.
     Crashed(Crash),
 }
 
 /// How a test crashed.
 #[derive(Debug, Drop)]
 pub struct Crash {
-    /// The number of tests of the suite that were running, including this one.
+    /// The number of tests of the suite that were running then, including this one.
     pub running: usize,
 
-    /// True if the suite has a key. Its tests then run in processes of their own.
+    /// True if the suite has a key. Then each of its tests ran in a process of its own.
     pub has_key: bool,
 
-    /// The last lines that something else printed, and the line in which cargo names the signal.
+    /// The last prints before the suite ended, and the line in which cargo names the signal, if there are
+    /// such lines.
     pub prints: Vec<String>,
 }
 
@@ -113,12 +113,12 @@ pub enum Disagreement {
         suite: String,
     },
 
-    /// The last line of a suite does not say what its tests say.
+    /// The last line of a suite has other numbers or another verdict than the lines of its tests.
     LastLine {
         /// The name of the suite.
         suite: String,
 
-        /// What the last line says.
+        /// The numbers and the verdict of the last line.
         said: SaidNumbers,
 
         /// The number of its tests that passed.
@@ -130,10 +130,10 @@ pub enum Disagreement {
 
     /// A test ended that was not running.
     StrayEnd {
-        /// The name of the test as it is written.
+        /// The name of the test in the line.
         name: String,
 
-        /// How it ended.
+        /// The result in the line.
         result: TestResult,
     },
 
@@ -159,7 +159,7 @@ pub enum Disagreement {
     },
 }
 
-/// What the last lines of a suite say. Several lines of one suite are added.
+/// The numbers and the verdict in the last line of a suite. If it has several, their numbers are added.
 #[derive(Clone, Copy, Debug, Default, PartialEq, Eq)]
 pub struct SaidNumbers {
     /// True if a line says that the suite failed.
@@ -172,32 +172,32 @@ pub struct SaidNumbers {
     pub failed: Option<u128>,
 }
 
-/// The tests of a suite that were not run.
+/// The number of tests of a suite that did not run.
 #[derive(Debug, Drop)]
 pub struct NotRun {
     /// The name of the suite.
     pub suite: String,
 
-    /// The number of tests that were not run.
+    /// The number of tests that did not run.
     pub not_run: u128,
 
     /// The number of tests that were to run.
     pub initial_run_count: u128,
 }
 
-/// A suite that is over.
+/// The numbers of a suite that is over.
 #[derive(Debug, Drop)]
 pub struct SuiteNote {
     /// The name of the suite, or `None` for the tests that started outside of a suite.
     pub name: Option<String>,
 
-    /// The statistics of the suite: its finished tests.
+    /// The statistics of its finished tests.
     pub stats: RunStats,
 
     /// The number of tests that were skipped.
     pub skipped: u128,
 
-    /// The number of tests that were not run.
+    /// The number of tests that did not run.
     pub not_run: u128,
 
     /// The number of failed tests that crashed.
@@ -207,16 +207,16 @@ pub struct SuiteNote {
     pub time: Option<u64>,
 }
 
-/// A whole run.
+/// The sums and the outcome of a whole run.
 #[derive(Clone, Copy, Debug, PartialEq, Eq)]
 pub struct RunEnd {
-    /// The sums of the statistics of all suites: their finished tests.
+    /// The statistics of the finished tests of all suites.
     pub stats: RunStats,
 
     /// The number of tests that were skipped.
     pub skipped: u128,
 
-    /// The number of tests that were not run.
+    /// The number of tests that did not run.
     pub not_run: u128,
 
     /// The number of failed tests that crashed.

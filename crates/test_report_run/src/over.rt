@@ -20,20 +20,20 @@ use crate::running::RunningTest;
 use crate::suite::{FlakyTest, OverTest, Suite};
 use std::alloc::{AllocError, Global};
 
-/// How many tests of a suite did not run, and the time that it took.
+/// The numbers of a suite that its finished tests do not give.
 #[derive(Clone, Copy)]
 pub(crate) struct Rest {
     /// The number of skipped tests.
     pub(crate) skipped: u128,
 
-    /// The number of tests that started and have no other line.
+    /// The number of tests that started, and that neither ended nor were skipped.
     pub(crate) left: usize,
 
     /// The time in microseconds.
     pub(crate) time: Option<u64>,
 }
 
-/// Returns what is known of a test without end.
+/// Returns a test that has no line of its end.
 fn over(test: RunningTest) -> OverTest
     ensures { over_view result ≡ spec.over_of (running_test_view test).name }
 {
@@ -46,7 +46,7 @@ fn over(test: RunningTest) -> OverTest
 }
 
 impl Suite {
-    /// Ends the suite early. `left` are its running tests, which crashed.
+    /// Ends the suite without a last line, and adds its notes. `left` are its running tests, which crashed.
     pub(crate) fn end_early(
         mut self,
         alloc: Global,
@@ -68,7 +68,7 @@ impl Suite {
         self.push_numbers(alloc, rest, notes)
     }
 
-    /// Counts the tests that were running when the suite ended early as crashed.
+    /// Counts all these tests as crashed.
     fn crash_all(
         &mut self,
         alloc: Global,
@@ -92,13 +92,13 @@ impl Suite {
         Ok(())
     }
 
-    /// Returns how a test crashed that ran beside others. `running` is their number.
+    /// Returns how a test of the suite crashed. `running` is the number of its running tests.
     fn crash(&self, alloc: Global, running: usize) -> Result<Crash, AllocError>
         ensures { IfOk result (λ crash. crash_view crash ≡ spec.crash_of (state_of self.now) running) }
     {
         Ok(Crash {
             running,
-            has_key: self.key.is_some(),
+            has_key: self.name.key.is_some(),
             prints: self.prints.lines(alloc)?,
         })
     }
@@ -136,7 +136,7 @@ impl Suite {
         ensures { OnOk result (map note_view notes.new.items ≡ map note_view notes.old.items
             ++ spec.early_disagreements (state_of self.now) crashed) }
     {
-        match self.name(alloc)? {
+        match self.shown_name(alloc)? {
             Some(suite) if crashed == 0 => {
                 notes.push(Note::Disagreement(Disagreement::EndedEarly { suite }))?;
             }
@@ -198,7 +198,7 @@ impl Suite {
         Ok(())
     }
 
-    /// Ends the suite by its last line. `left` are its running tests.
+    /// Ends the suite after its last line, and adds its notes. `left` are its running tests.
     pub(crate) fn end(
         mut self,
         alloc: Global,
@@ -223,7 +223,7 @@ impl Suite {
         self.push_numbers(alloc, rest, notes)
     }
 
-    /// Returns what the last line explains of the tests. `left` of them are running.
+    /// Returns which tests the last line explains. `left` is the number of running tests.
     fn explained(&self, left: usize) -> Result<Explanation, RunError>
         ensures { IfOk result (λ explained. (explained ≡ spec.explained_of (state_of self.now) left) × (explained.skipped ≤ left)) }
     {
@@ -232,7 +232,7 @@ impl Suite {
         Ok(explained(self.tally(left)?, said, ignored))
     }
 
-    /// Counts tests without end as failed if they have failed. Returns how many are left otherwise.
+    /// Counts tests without end as failed if `have_failed` is true. Returns how many are not counted.
     fn fail_lost(
         &mut self,
         alloc: Global,
@@ -290,14 +290,14 @@ impl Suite {
         Ok(())
     }
 
-    /// Adds the disagreement of the last line with the tests, if there is one.
+    /// Adds a disagreement if the last line contradicts the tests.
     fn push_disagreement(&self, alloc: Global, notes: &mut Vec<Note>) -> Result<(), RunError>
         ensures { OnOk result (map note_view notes.new.items ≡ map note_view notes.old.items
             ++ spec.last_disagreement (state_of self.now)) }
     {
         let said = self.said.numbers()?;
         let (passed, failed) = (self.stats.passed, self.failed());
-        let name = self.name(alloc)?;
+        let name = self.shown_name(alloc)?;
         if let (Some(suite), true) = (name, disagrees(said, passed, failed)) {
             notes.push(Note::Disagreement(Disagreement::LastLine {
                 suite,
@@ -309,7 +309,7 @@ impl Suite {
         Ok(())
     }
 
-    /// Adds how many tests of the suite were not run, and its numbers.
+    /// Adds the numbers of the suite, after how many of its tests did not run if that is not 0.
     fn push_numbers(&self, alloc: Global, rest: Rest, notes: &mut Vec<Note>) -> Result<(), RunError>
         ensures { OnOk result (map note_view notes.new.items ≡ map note_view notes.old.items
             ++ spec.number_notes (state_of self.now) rest) }
@@ -317,7 +317,7 @@ impl Suite {
         let finished = self.stats.finished_count as u128;
         let initial_run_count = self.initial_run_count(rest);
         let not_run = initial_run_count - finished;
-        if let (Some(suite), true) = (self.name(alloc)?, not_run > 0) {
+        if let (Some(suite), true) = (self.shown_name(alloc)?, not_run > 0) {
             notes.push(Note::NotRun(NotRun {
                 suite,
                 not_run,
@@ -325,7 +325,7 @@ impl Suite {
             }))?;
         }
         notes.push(Note::Suite(SuiteNote {
-            name: self.name(alloc)?,
+            name: self.shown_name(alloc)?,
             stats: self.stats,
             skipped: rest.skipped,
             not_run,

@@ -1,4 +1,4 @@
-//! What a crash may have printed.
+//! The lines that may explain why a suite ended early.
 
 ghost use Rattle.std.specs.Prelude.{◌≡◌, IfOk, OnOk, map, string_bytes, ◌++◌, ◌∷◌, []};
 ghost use Rattle.test_report_run.specs.Prints.{after_failure, after_line, caused_by, cut, last_two, no_prints, printed_view, prints_view, with_print};
@@ -8,7 +8,7 @@ use std::alloc::{AllocError, Global};
 /// The number of prints that are kept.
 const KEPT_PRINTS: usize = 3;
 
-/// The number of bytes of a print that are kept.
+/// The most bytes of a print that are kept.
 const KEPT_BYTES: usize = 200;
 
 /// A line that is no event of a harness.
@@ -24,7 +24,7 @@ pub(crate) enum Printed<'a> {
     CargoFailed { line: &'a str },
 }
 
-/// How far the lines have been read that say why a suite ended early.
+/// Which of the lines that may explain an early end has been read.
 #[derive(Clone, Copy, PartialEq, Eq)]
 enum Stage {
     /// Before the first heading or failure.
@@ -40,8 +40,8 @@ enum Stage {
     Over,
 }
 
-/// The lines that may say why a suite ended early: of the prints since it started, up to the first
-/// heading or failure, the last three that are not blank, and after a failure the line after
+/// The lines that may explain why a suite ended early. They are the last three prints before the first
+/// heading or failure of cargo, without blank ones. After a failure, they also have the line after
 /// `Caused by:`.
 #[derive(Drop)]
 pub(crate) struct Prints {
@@ -101,7 +101,7 @@ impl Prints {
         }
     }
 
-    /// Takes the line right after `Caused by:`, which says why, unless it is a heading.
+    /// Keeps the line right after `Caused by:`, unless it is a heading.
     fn on_cause(&mut self, alloc: Global, printed: Printed<'_>) -> Result<(), AllocError>
         ensures { OnOk result (prints_view self.new ≡ record (prints_view self.old) {
           lines = (prints_view self.old).lines ++ caused_by (printed_view printed.entry);
@@ -113,7 +113,7 @@ impl Prints {
         }
     }
 
-    /// Drops the first of three lines.
+    /// Drops the first line if there are three.
     fn make_room(&mut self)
         ensures { prints_view self.new ≡ record (prints_view self.old) {
           lines = last_two (prints_view self.old).lines;
@@ -161,7 +161,7 @@ fn stage_after_failure(printed: Printed<'_>) -> Stage
     }
 }
 
-/// Returns at most [`KEPT_BYTES`] bytes of a line.
+/// Returns the longest start of a line that has at most [`KEPT_BYTES`] bytes and ends between characters.
 fn shortened(line: &str) -> &str
     ensures { result.now ≡ cut line.now }
 {

@@ -1,4 +1,4 @@
-//! A run, line by line.
+//! A test run that is followed line by line.
 
 ghost use Rattle.std.specs.Prelude.{◌≡◌, ◌++◌, ◌<◌, ◌==◌, [], Some, IfOk, OnOk, length, map, option_map};
 ghost use Rattle.std.specs.List.{position, remove};
@@ -20,14 +20,15 @@ use crate::totals::Totals;
 use std::alloc::{AllocError, Global};
 use test_report_events::event::{CargoFailure, Event, SuiteEnd, SuiteKey, TestDetails, TestResult};
 
-/// A run of tests, up to the line that was read last.
+/// A test run, up to the line that was passed last.
 #[derive(Drop)]
 pub struct TestRun {
     /// The tests of the file that start outside of a suite.
     outside: Suite,
 
-    /// The open suites in the order of their first lines.
-    suites: Vec<Suite>,
+    /// The open suites in the order of their first lines. They are boxed because a suite that ends is removed
+    /// from among them, which moves all later ones.
+    suites: Vec<Box<Suite>>,
 
     suites_started: usize,
     heading: Option<String>,
@@ -36,15 +37,15 @@ pub struct TestRun {
     totals: Totals,
     disagreements: usize,
 
-    /// The number of failed tests and disagreements so far, at the start of the file, and at the last
-    /// failure of cargo that counted.
+    /// The number of failed tests and disagreements until now, until the file began, and until the last
+    /// failure of cargo outside of a suite. They decide whether a failure of cargo is explained.
     causes: usize,
     causes_at_file: usize,
     causes_at_cargo: usize,
 }
 
 impl TestRun {
-    /// Returns a run that has read no line.
+    /// Returns a run before its first line.
     pub fn new(alloc: Global) -> TestRun
         ensures { run_state result ≡ spec.run_start }
     {
@@ -63,8 +64,11 @@ impl TestRun {
         }
     }
 
-    /// Takes the next line of the file, and returns what it makes known: first tests, those without an
-    /// end before flaky ones, then disagreements, then tests that were not run, suite by suite.
+    /// Takes the event of the next line, and returns the notes that it makes known. The notes of a suite are
+    /// in this order: its tests without an end, its flaky tests, disagreements, tests that did not run, and
+    /// the numbers of the suite.
+    ///
+    /// After an error the run must not be used: a part of the line may be counted.
     pub fn on_event(&mut self, alloc: Global, event: Event<'_>) -> Result<Vec<Note>, RunError>
         ensures tells { IfOk result (λ notes. map note_view notes.items
             ≡ spec.notes_at (run_state self.old) (event_view event.entry)) }
@@ -78,7 +82,8 @@ impl TestRun {
         Ok(notes)
     }
 
-    /// Ends the file: its open suites end early. Returns what becomes known by that.
+    /// Ends the file, and returns the notes that this makes known. Suites that are still open end early: their
+    /// running tests crashed. After an error the run must not be used.
     pub fn end_file(&mut self, alloc: Global) -> Result<Vec<Note>, RunError>
         ensures tells { IfOk result (λ notes. map note_view notes.items
             ≡ spec.file_notes (run_state self.old)) }
@@ -86,7 +91,7 @@ impl TestRun {
     {
         let mut notes = Vec::new(alloc);
         for suite in std::mem::replace(&mut self.suites, Vec::new(alloc)) {
-            self.end_early(alloc, suite, &mut notes)?;
+            self.end_early(alloc, Box::into_inner(suite), &mut notes)?;
         }
         let outside = std::mem::replace(&mut self.outside, Suite::outside(alloc));
         self.end_early(alloc, outside, &mut notes)?;
@@ -97,14 +102,14 @@ impl TestRun {
         Ok(notes)
     }
 
-    /// Returns the sums over the whole run and its outcome, after the last file has ended.
+    /// Returns the sums and the outcome of the whole run. Call it after `end_file` of the last file.
     pub fn end(&self) -> RunEnd
         ensures { result ≡ spec.end_of (run_state self.now) }
     {
         self.totals.end(self.disagreements)
     }
 
-    /// Takes the next line of the file, but for the sums.
+    /// Takes the event of the next line, except that its notes are not added to the sums.
     fn tell(
         &mut self,
         alloc: Global,
@@ -138,7 +143,7 @@ impl TestRun {
         }
     }
 
-    /// Keeps the number of causes at a failure of cargo that counts.
+    /// Stores the number of causes if cargo reports a failure outside of a suite.
     fn mark(&mut self, event: Event<'_>)
         ensures { run_state self.new ≡ spec.marked (run_state self.old) (event_view event.entry) }
     {
@@ -147,7 +152,7 @@ impl TestRun {
         }
     }
 
-    /// Adds what is known to the sums.
+    /// Adds notes to the sums.
     fn learn(&mut self, notes: &[Note]) -> Result<(), RunError>
         ensures { OnOk result (run_state self.new
             ≡ spec.learned (run_state self.old) (map note_view notes.now)) }
@@ -191,8 +196,8 @@ impl TestRun {
         }
     }
 
-    /// Takes the first line of a suite whose key the open suite at a position has: that suite is joined, or
-    /// it ends early if it has no key.
+    /// Takes the first line of a suite that has the key of the open suite at a position. If they have a key,
+    /// the line is added to that suite. If they have none, that suite ends early and another one starts.
     fn start_again(
         &mut self,
         alloc: Global,
@@ -232,7 +237,7 @@ impl TestRun {
         ensures left { run_state self.new
             ≡ record (run_state self.old) { suites = remove (run_state self.old).suites at } }
     {
-        self.suites.remove(at)
+        Box::into_inner(self.suites.remove(at))
     }
 
     /// Opens a suite.
@@ -250,8 +255,8 @@ impl TestRun {
             Some(heading) => Some(heading.clone()?),
             None => None,
         };
-        let suite = Suite::new(alloc, self.suites_started, key, heading, test_count);
-        self.suites.push(suite)?;
+        let suite = Suite::new(alloc, self.suites_started, key, heading, test_count)?;
+        self.suites.push(Box::new(alloc, suite)?)?;
         Ok(())
     }
 
@@ -327,7 +332,7 @@ impl TestRun {
         ensures tells { OnOk result (map note_view notes.new.items ≡ map note_view notes.old.items
             ++ last_notes (state_of suite) (spec.names_in (run_state self.old) (state_of suite))) }
     {
-        let left = self.running.take_suite(alloc, suite.number)?;
+        let left = self.running.take_suite(alloc, suite.name.number)?;
         suite.end(alloc, left, notes)
     }
 
@@ -341,22 +346,25 @@ impl TestRun {
         ensures { OnOk result (spec.step (run_state self.new) (map note_view notes.new.items)
             ≡ spec.ended_early (spec.step (run_state self.old) (map note_view notes.old.items)) (state_of suite)) }
     {
-        let left = self.running.take_suite(alloc, suite.number)?;
+        let left = self.running.take_suite(alloc, suite.name.number)?;
         suite.end_early(alloc, left, notes)
     }
 
-    /// Returns the position of the open suite with a key, or without key.
+    /// Returns the position of the first open suite with a key, or without a key.
     fn open_suite(&self, key: Option<&str>) -> Option<usize>
         ensures { result ≡ spec.open_suite (run_state self.now) (option_map (λ key. key.now) key.entry) }
     {
         place_of_key(&self.suites, key)
     }
 
-    /// Returns the position of the suite that a test with this name belongs to if it starts now, or `None`
-    /// if no suite is open.
+    /// Returns the position of the open suite that a starting test with this name belongs to, or `None` if no
+    /// suite is open.
     fn suite_of(&self, name: &str) -> Option<usize>
         ensures { result ≡ spec.suite_place (run_state self.now) name.now }
     {
+        if self.suites.len() == 1 {
+            return Some(0);
+        }
         let named = match name.split_once('$') {
             Some((key, _)) => self.open_suite(Some(key)),
             None => None,
@@ -385,11 +393,11 @@ impl TestRun {
             Some(at) => {
                 let suite = &mut self.suites[at];
                 suite.on_start(alloc, name)?;
-                Ok(suite.number)
+                Ok(suite.name.number)
             }
             None => {
                 self.outside.on_start(alloc, name)?;
-                Ok(self.outside.number)
+                Ok(self.outside.name.number)
             }
         }
     }
@@ -408,12 +416,14 @@ impl TestRun {
         ensures tells { OnOk result (map note_view notes.new.items ≡ map note_view notes.old.items
             ++ (spec.test_ends (run_state self.old) (test_end_view name.now end details.entry)).notes) }
     {
+        // Most ends make one note known. Room for more would be slow.
+        notes.reserve_exact(1)?;
         self.end_test(alloc, name, end, details, notes)?;
         self.ended = one_more(self.ended)?;
         Ok(())
     }
 
-    /// Takes the end of a test, but for the number of tests that ended.
+    /// Takes the end of a test, except that the number of ended tests stays the same.
     fn end_test(
         &mut self,
         alloc: Global,
@@ -469,7 +479,7 @@ impl TestRun {
         place_of_number(&self.suites, number)
     }
 
-    /// Takes the end of a test that is not running. It counts as a test if it failed or was ignored.
+    /// Takes the end of a test that is not running. The test is counted unless it passed.
     fn on_stray_end(
         &mut self,
         alloc: Global,
@@ -592,18 +602,18 @@ impl TestRun {
     }
 }
 
-/// Returns the position of the first of these suites with a key, or without key.
-fn place_of_key(suites: &[Suite], key: Option<&str>) -> Option<usize>
-    ensures { result ≡ position (λ suite. has_key (option_map (λ key. key.now) key.entry) (state_of suite)) suites.now }
+/// Returns the position of the first of these suites with a key, or without a key.
+fn place_of_key(suites: &[Box<Suite>], key: Option<&str>) -> Option<usize>
+    ensures { result ≡ position (λ suite. has_key (option_map (λ key. key.now) key.entry) (state_of suite.value)) suites.now }
 {
     suites.iter().position(|suite| suite.has_key(key))
 }
 
 /// Returns the position of the first of these suites with a number.
-fn place_of_number(suites: &[Suite], number: usize) -> Option<usize>
-    ensures { result ≡ position (λ suite. (state_of suite).number == number) suites.now }
+fn place_of_number(suites: &[Box<Suite>], number: usize) -> Option<usize>
+    ensures { result ≡ position (λ suite. (state_of suite.value).number == number) suites.now }
 {
-    suites.iter().position(|suite| suite.number == number)
+    suites.iter().position(|suite| suite.name.number == number)
 }
 
 /// Returns the text of a key.
@@ -616,7 +626,7 @@ fn key_text(alloc: Global, key: Option<SuiteKey<'_>>) -> Result<Option<String>, 
     }
 }
 
-/// Returns true if the last line of a suite that is not open says that a test ran.
+/// Returns true if a last line says that the suite failed, or counts a test that ran.
 fn counts_tests(end: SuiteEnd<'_>) -> bool
     ensures { result ≡ spec.counts_tests (suite_end_view end.entry) }
 {

@@ -8,13 +8,13 @@ ghost use Rattle.test_report_run.specs.Running.{CountsAttempts, RunningView, end
 use crate::error::{RunError, one_more};
 use std::alloc::{AllocError, Global};
 
-/// The greatest number of attempts that a written name may give.
+/// The most attempts that a name may end with.
 const MOST_ATTEMPTS: usize = 1_000;
 
 /// A test that is running.
 #[derive(Drop)]
 pub(crate) struct RunningTest {
-    /// The name of the test, as the line of its start gives it.
+    /// The name in the line of its start.
     pub(crate) name: String,
 
     /// The number of its suite.
@@ -56,8 +56,8 @@ impl Running {
         Ok(())
     }
 
-    /// Removes the test that ends with this written name, and returns it with the number of its
-    /// attempts. Returns `None` if no such test is running.
+    /// Removes the test that ends, and returns it with the number of its attempts. `written` is the name in
+    /// the line of its end. Returns `None` if no such test is running.
     pub(crate) fn end(&mut self, written: &str) -> Option<(RunningTest, usize)>
         ensures found { option_map {U = RunningView × ℕ} (λ found. (running_test_view found.0, found.1)) result
             ≡ option_map (ended_at (tests_of self.old)) (place_of_end (tests_of self.old) written.now) }
@@ -69,7 +69,8 @@ impl Running {
         Some((self.tests.remove(at), attempts))
     }
 
-    /// Returns the position of the test that ends with this written name, and the number of its attempts.
+    /// Returns the position of the test that ends, and the number of its attempts. `written` is the name in
+    /// the line of its end.
     fn place_of_end(&self, written: &str) -> Option<(usize, usize)>
         ensures place { result ≡ place_of_end (tests_of self.now) written.now }
         ensures within { IfSome result (λ place. place.0 < vec_len self.now.tests) }
@@ -118,7 +119,7 @@ impl Running {
     }
 }
 
-/// Splits a written name into the name of a test and the number of its attempts.
+/// Splits a name that ends with `#` and a number of attempts into the name of the test and the number.
 fn name_and_attempts(written: &str) -> Option<(&str, usize)>
     ensures { option_map {U = List ℕ × ℕ} (λ found. (found.0.now, found.1)) result ≡ split_of written.now }
 {

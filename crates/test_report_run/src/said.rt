@@ -1,4 +1,4 @@
-//! What the last lines of a suite say.
+//! The numbers in the last lines of a suite.
 
 ghost use Rattle.std.specs.Prelude.{◌≡◌, IfOk};
 ghost use Rattle.test_report_events.specs.Event.{suite_end_view};
@@ -19,7 +19,7 @@ pub(crate) fn sum(a: Option<u128>, b: Option<u128>) -> Result<Option<u128>, RunE
     }
 }
 
-/// Adds a number of a line, which may be absent.
+/// Adds a number of a line. The sum is absent only if both numbers are.
 fn with_number(a: Option<u128>, b: Option<u64>) -> Result<Option<u128>, RunError>
     ensures { IfOk result (λ sum. sum ≡ sum_of a b) }
 {
@@ -40,7 +40,7 @@ pub(crate) fn time_sum(a: Option<u64>, b: Option<u64>) -> Result<Option<u64>, Ru
     }
 }
 
-/// What the last lines of a suite say. The numbers of several lines are added.
+/// The numbers and the verdict in the last lines of a suite. The numbers of several lines are added.
 #[derive(Clone, Copy, Default)]
 pub(crate) struct Said {
     pub(crate) failed_verdict: bool,
@@ -52,7 +52,7 @@ pub(crate) struct Said {
 }
 
 impl Said {
-    /// Returns what the lines say together with one more line.
+    /// Adds the numbers and the verdict of one more line.
     pub(crate) fn with_line(self, end: SuiteEnd<'_>) -> Result<Said, RunError>
         ensures { IfOk result (λ said. said ≡ with_said self (suite_end_view end.entry)) }
     {
@@ -66,7 +66,7 @@ impl Said {
         })
     }
 
-    /// Returns the numbers of tests that passed and that failed. Measured benchmarks have passed.
+    /// Returns the verdict, and how many tests passed and failed. Measured benchmarks count as passed.
     pub(crate) fn numbers(self) -> Result<SaidNumbers, RunError>
         ensures { IfOk result (λ said. said ≡ numbers_of self) }
     {

@@ -1,21 +1,22 @@
-//! A suite of a run.
+//! An open suite of a run.
 
 ghost use Rattle.std.specs.Prelude.{◌≡◌, ◌==◌, IfOk, OnOk, option_map, string_bytes};
 ghost use Rattle.test_report_events.specs.Event.{suite_end_view};
 ghost use Rattle.test_report_run.specs.Note.{note_view, outcome_view, text_view};
 ghost use Rattle.test_report_run.specs.Prints.{after_line, printed_view};
-ghost use Rattle.test_report_run.specs.Suite.{failed_of, given_name, has_key, joined, named, outside_start, over_view, state_of, suite_name, suite_start, tally_of, test_note, with_line, with_start};
+ghost use Rattle.test_report_run.specs.Suite.{failed_of, has_key, joined, named, outside_start, over_view, state_of, suite_name, suite_start, tally_of, test_note, with_line, with_start};
 
 use crate::error::{RunError, one_more};
 use crate::last_line::Tally;
 use crate::note::{Note, TestNote, TestOutcome};
 use crate::prints::{Printed, Prints};
 use crate::said::{Said, sum};
+use crate::suite_name::SuiteName;
 use run_events_stats::stats::RunStats;
 use std::alloc::{AllocError, Global};
 use test_report_events::event::SuiteEnd;
 
-/// What is known of a test that is over, but how it counts.
+/// A test that is over, without its outcome.
 #[derive(Drop)]
 pub(crate) struct OverTest {
     /// The name of the test, without the number of attempts.
@@ -27,11 +28,11 @@ pub(crate) struct OverTest {
     /// The time that the test took, in microseconds.
     pub(crate) time: Option<u64>,
 
-    /// The number of tests that ended before it, or `usize::MAX` if no line says that it ended.
+    /// The number of tests that ended before this one, or `usize::MAX` if no line says that it ended.
     pub(crate) ended: usize,
 }
 
-/// A flaky test that passed at last. The last line of its suite may still say that it failed.
+/// A test that passed after several attempts. The last line of its suite may still count it as failed.
 #[derive(Drop)]
 pub(crate) struct FlakyTest {
     pub(crate) test: OverTest,
@@ -43,21 +44,11 @@ pub(crate) struct FlakyTest {
     pub(crate) message: Option<String>,
 }
 
-/// An open suite of a run, or the tests of a file that start outside of a suite.
+/// An open suite, or the tests of a file that start outside of a suite.
 #[derive(Drop)]
 pub(crate) struct Suite {
-    /// The number of the suite, from 1 on in the order of first lines; 0 for the tests outside of a
-    /// suite.
-    pub(crate) number: usize,
-
-    /// The key of the suite.
-    pub(crate) key: Option<String>,
-
-    /// The heading that was in force when the suite started.
-    pub(crate) heading: Option<String>,
-
-    /// The written name of its first test.
-    pub(crate) first_test: Option<String>,
+    /// The number, the key and the name of the suite.
+    pub(crate) name: SuiteName,
 
     /// The number of tests that its first lines announce.
     pub(crate) test_count: Option<u128>,
@@ -65,13 +56,13 @@ pub(crate) struct Suite {
     /// The number of tests that started.
     pub(crate) started: usize,
 
-    /// The number of first lines that are not followed by a last line yet.
+    /// The number of its first lines minus that of its last lines.
     pub(crate) open_lines: usize,
 
-    /// What its last lines say.
+    /// The numbers and the verdict of its last lines.
     pub(crate) said: Said,
 
-    /// The statistics of the tests that finished, without the flaky ones that are kept.
+    /// The statistics of its finished tests, except those in `flaky`.
     pub(crate) stats: RunStats,
 
     /// The number of tests that crashed.
@@ -80,32 +71,46 @@ pub(crate) struct Suite {
     /// The number of tests that were ignored.
     pub(crate) skipped: usize,
 
-    /// The flaky tests that passed, in the order in which they started.
+    /// The tests that passed after several attempts, in the order in which they started.
     pub(crate) flaky: Vec<FlakyTest>,
 
     /// The sum of the times of tests, in microseconds.
     pub(crate) time: Option<u64>,
 
-    /// What may say why the suite ended early.
+    /// The lines that may explain why the suite ended early.
     pub(crate) prints: Prints,
 }
 
 impl Suite {
-    /// Returns a suite that has read one first line.
+    /// Returns a suite after its first line.
     pub(crate) fn new(
         alloc: Global,
         number: usize,
         key: Option<String>,
         heading: Option<String>,
         test_count: Option<u128>,
-    ) -> Suite
-        ensures { state_of result ≡ suite_start number (text_view key) (text_view heading) test_count }
+    ) -> Result<Suite, AllocError>
+        ensures { IfOk result (λ suite. state_of suite
+            ≡ suite_start number (text_view key) (text_view heading) test_count) }
+    {
+        let name = SuiteName::new(alloc, number, key, heading)?;
+        Ok(Suite::named(alloc, name, test_count))
+    }
+
+    /// Returns the tests of a file that start outside of a suite, before the first of them.
+    pub(crate) fn outside(alloc: Global) -> Suite
+        ensures { state_of result ≡ outside_start }
+    {
+        Suite::named(alloc, SuiteName::outside(), None)
+    }
+
+    /// Returns a suite with a name, after its first line.
+    fn named(alloc: Global, name: SuiteName, test_count: Option<u128>) -> Suite
+        requires { text_view name.first_test ≡ None }
+        ensures { state_of result ≡ suite_start name.number (text_view name.key) (text_view name.heading) test_count }
     {
         Suite {
-            number,
-            key,
-            heading,
-            first_test: None,
+            name,
             test_count,
             started: 0,
             open_lines: 1,
@@ -119,13 +124,6 @@ impl Suite {
         }
     }
 
-    /// Returns the tests of a file that start outside of a suite.
-    pub(crate) fn outside(alloc: Global) -> Suite
-        ensures { state_of result ≡ outside_start }
-    {
-        Suite::new(alloc, 0, None, None, None)
-    }
-
     /// Takes another first line of the suite.
     pub(crate) fn join(&mut self, test_count: Option<u128>) -> Result<(), RunError>
         ensures { OnOk result (state_of self.new ≡ joined (state_of self.old) test_count) }
@@ -135,7 +133,7 @@ impl Suite {
         Ok(())
     }
 
-    /// Takes a last line of the suite. Returns true if it has as many of them as first lines.
+    /// Takes a last line of the suite. Returns true if the suite now has as many last lines as first lines.
     pub(crate) fn on_last_line(&mut self, end: SuiteEnd<'_>) -> Result<bool, RunError>
         ensures takes { OnOk result (state_of self.new
             ≡ with_line (state_of self.old) (suite_end_view end.entry)) }
@@ -155,14 +153,11 @@ impl Suite {
         self.prints.on_line(alloc, printed)
     }
 
-    /// Takes the written name of a test of the suite.
+    /// Takes the name in a line of a test of the suite.
     pub(crate) fn on_name(&mut self, alloc: Global, name: &str) -> Result<(), AllocError>
         ensures { OnOk result (state_of self.new ≡ named (state_of self.old) name.now) }
     {
-        if self.first_test.is_none() {
-            self.first_test = Some(String::from_str(alloc, name)?);
-        }
-        Ok(())
+        self.name.take_test(alloc, name)
     }
 
     /// Takes the start of a test.
@@ -175,46 +170,24 @@ impl Suite {
     }
 
     /// Returns the name of the suite, or `None` for the tests outside of a suite.
-    pub(crate) fn name(&self, alloc: Global) -> Result<Option<String>, AllocError>
+    pub(crate) fn shown_name(&self, alloc: Global) -> Result<Option<String>, AllocError>
         ensures { IfOk result (λ name. text_view name ≡ suite_name (state_of self.now)) }
     {
-        if self.number == 0 {
-            return Ok(None);
-        }
-        if let Some(name) = self.given_name() {
-            return Ok(Some(String::from_str(alloc, name)?));
-        }
-        let number = self.number;
-        Ok(Some(format!(in alloc; "suite {number}")?))
+        self.name.shown(alloc)
     }
 
-    /// Returns the name of the suite that its lines give: its key, or else the heading, or else what
-    /// comes before the first `$` of its first test.
-    fn given_name(&self) -> Option<&str>
-        ensures { option_map (λ name. name.now) result ≡ given_name (state_of self.now) }
-    {
-        if let Some(key) = &self.key {
-            return Some(key.as_str());
-        }
-        if let Some(heading) = &self.heading {
-            return Some(heading.as_str());
-        }
-        let (name, _) = self.first_test.as_ref()?.split_once('$')?;
-        Some(name)
-    }
-
-    /// Returns true if the suite has this key, or no key.
+    /// Returns true if the suite has this key, or has no key if `key` is `None`.
     pub(crate) fn has_key(&self, key: Option<&str>) -> bool
         ensures { result ≡ has_key (option_map (λ key. key.now) key.entry) (state_of self.now) }
     {
-        match (&self.key, key) {
+        match (&self.name.key, key) {
             (Some(own), Some(key)) => own.as_str() == key,
             (None, None) => true,
             _ => false,
         }
     }
 
-    /// Returns what becomes known of a test of the suite.
+    /// Returns the note of a test of the suite.
     pub(crate) fn note(
         &self,
         alloc: Global,
@@ -225,7 +198,7 @@ impl Suite {
             ≡ test_note (state_of self.now) (over_view test) (outcome_view outcome)) }
     {
         Ok(Note::Test(TestNote {
-            suite: self.name(alloc)?,
+            suite: self.shown_name(alloc)?,
             name: test.name,
             attempts: test.attempts,
             time: test.time,
@@ -241,7 +214,7 @@ impl Suite {
         self.stats.finished_count.saturating_sub(self.stats.passed)
     }
 
-    /// Returns the numbers of tests of the suite. `left` tests are running.
+    /// Returns the numbers of tests of the suite. `left` is the number of running tests.
     pub(crate) fn tally(&self, left: usize) -> Result<Tally, RunError>
         ensures { IfOk result (λ tally. tally ≡ tally_of (state_of self.now) left) }
     {

@@ -47,7 +47,8 @@ impl Totals {
         Ok(())
     }
 
-    /// Returns the sums, and the outcome of a run in which so many lines disagree.
+    /// Returns the sums and the outcome of the run. `disagreements` is the number of contradictions. If it is
+    /// not 0, the run failed.
     pub(crate) fn end(&self, disagreements: usize) -> RunEnd
         ensures { result ≡ ending self.now.end disagreements }
     {
@@ -66,7 +67,7 @@ impl Totals {
     }
 }
 
-/// Returns the outcome of a suite. It depends on whether tests were not run, not on their number.
+/// Returns the outcome of a suite. It depends on whether all tests ran, and not on how many did not.
 fn outcome_of(suite: &SuiteNote) -> Result<RunOutcome, RunError>
     ensures { IfOk result (λ outcome. outcome ≡ suite_outcome (suite_view suite.now)) }
 {
@@ -82,7 +83,7 @@ fn outcome_of(suite: &SuiteNote) -> Result<RunOutcome, RunError>
     Ok(RunOutcome::from_final_stats(stats.summarize_final()))
 }
 
-/// Adds two numbers.
+/// Adds two numbers. Fails only if the sum does not fit.
 fn plus(a: u128, b: u128) -> Result<u128, RunError>
     ensures { IfOk result (λ sum. sum ≡ a + b) }
 {

@@ -2,7 +2,7 @@
 
 use clap::{Arg, ArgAction, Command, value_parser};
 
-/// What `run-digest --help` says after the options.
+/// The text of `run-digest --help` after the options.
 const AFTER_DIGEST_HELP: &str = "\
 Both commands read standard input. Without a command, `count` is run.
 
@@ -18,13 +18,13 @@ Exit status:
   2  an argument or a line is invalid
   3  reading or writing failed";
 
-/// How many bytes of why a test failed are shown if `--limit` is absent.
+/// The default of `--limit`: how many bytes of the reason of a failure are shown.
 const LIMIT: &str = "4096";
 
 /// The values of `--format`.
 const FORMS: [&str; 6] = ["text", "github", "names", "junit", "html", "markdown"];
 
-/// What `test-report --help` says after the options.
+/// The text of `test-report --help` after the options.
 const AFTER_REPORT_HELP: &str = "\
 Examples (with `set -o pipefail` a pipe also fails if the test command does):
   cargo test --no-fail-fast -- -Z unstable-options --format json 2>&1 | test-report
@@ -115,7 +115,7 @@ fn choice<const N: usize>(
         .default_value(default)
 }
 
-/// Returns an option that names a file.
+/// Returns an option whose value is the path of a file.
 fn file(name: &'static str) -> Arg {
     Arg::new(name).long(name).value_name("FILE")
 }

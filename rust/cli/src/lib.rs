@@ -28,4 +28,8 @@ pub mod test_report_forms;
     clippy::new_without_default,
     reason = "`TestRun::new` takes an allocator in the proved text, where there is no `Default` for it"
 )]
+#[allow(
+    clippy::vec_box,
+    reason = "open suites are large, and the removal of one moves all later ones"
+)]
 pub mod test_report_run;

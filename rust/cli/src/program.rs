@@ -1,4 +1,4 @@
-//! What both programs share: reading, writing, and how they end.
+//! Code of both programs: devices that keep the system's error, failures, and exit statuses.
 
 use crate::program_io::fault::DeviceFault;
 use crate::program_io::std_device::{StdSink, StdSource};
@@ -7,8 +7,8 @@ use std::fmt;
 use std::io::{self, ErrorKind, Read, Write};
 use std::process::ExitCode;
 
-/// A reader or writer that repeats interrupted calls and keeps the error of the last call that
-/// failed, so that the message of the program can say it.
+/// A reader or writer that repeats interrupted calls. It keeps the error of the last call that failed, so
+/// that the program can print it.
 pub struct KeepError<T> {
     device: T,
     error: Option<io::Error>,
@@ -28,7 +28,7 @@ impl<T> KeepError<T> {
         self.error
     }
 
-    /// Makes a call, and makes it again for as long as it is interrupted.
+    /// Makes a call, and repeats it while it is interrupted.
     fn call<R>(&mut self, mut call: impl FnMut(&mut T) -> io::Result<R>) -> io::Result<R> {
         loop {
             match call(&mut self.device) {
@@ -66,8 +66,8 @@ pub const BAD_ARGUMENT: u8 = 2;
 /// The exit status after a read or a write that failed.
 pub const DEVICE_FAILED: u8 = 3;
 
-/// Why a program ends without a report: an exit status, and a message, which is followed by the text
-/// of the system's error if there was one.
+/// The reason why a program failed: an exit status and a message. It is displayed as the message, followed by
+/// the text of the system's error if there was one.
 #[derive(Debug)]
 pub struct Failure {
     status: u8,
@@ -120,9 +120,8 @@ impl fmt::Display for Failure {
     }
 }
 
-/// Runs an engine from a reader to a writer, and returns status 0 if it returns true, or else 1.
-///
-/// The failure of a read or a write has the text of the system's error.
+/// Runs an engine from a reader to a writer. Returns status 0 if the engine returns true, and status 1 if it
+/// returns false. If a read or a write fails, the failure has the text of the system's error.
 pub fn run_engine<R: Read, W: Write, E: Into<Failure>>(
     reader: R,
     writer: W,
@@ -144,8 +143,7 @@ pub fn run_engine<R: Read, W: Write, E: Into<Failure>>(
     }
 }
 
-/// Prints the help or the version that was asked for, or what is wrong with the arguments, and
-/// returns the exit status.
+/// Prints a message of clap: the help, the version, or the error of an argument. Returns the exit status.
 pub fn print_clap(message: &clap::Error) -> Result<ExitCode, Failure> {
     match message.print() {
         Ok(()) => Ok(ExitCode::from(if message.use_stderr() {

@@ -1,9 +1,9 @@
-//! The line of a terminal that says how far the run is.
+//! The line on standard error that shows the progress of the run.
 
 use std::io::{self, Write};
 use std::time::{Duration, Instant};
 
-/// How often the line is written within a second at most.
+/// The most times that the line is written in a second.
 const MOST_WRITES: u32 = 10;
 
 /// A line on standard error. While it is shown, the cursor is at its end.
@@ -11,19 +11,19 @@ const MOST_WRITES: u32 = 10;
 pub struct ProgressLine {
     is_shown: bool,
 
-    /// When the second began, and how often the line was written since.
+    /// When the current second began, and how often the line was written since then.
     since: Option<Instant>,
     writes: u32,
 }
 
 impl ProgressLine {
-    /// Shows a text in place of what the line says. The terminal cuts it at its width.
+    /// Replaces the text of the line, and shows it. The terminal cuts it at its width.
     pub fn show(&mut self, text: &str) {
         self.write(&format!("\r\u{1b}[K\u{1b}[?7l{text}\u{1b}[?7h"));
         self.is_shown = true;
     }
 
-    /// Returns true if the line may be written once more at this time, and counts that.
+    /// Returns true if the line may be written once more in this second, and counts that as a write.
     pub fn is_due(&mut self, now: Instant) -> bool {
         let second = Duration::from_secs(1);
         if self
@@ -38,7 +38,7 @@ impl ProgressLine {
         is_due
     }
 
-    /// Takes the line away.
+    /// Hides the line.
     pub fn hide(&mut self) {
         if self.is_shown {
             self.write("\r\u{1b}[K");
@@ -46,18 +46,18 @@ impl ProgressLine {
         }
     }
 
-    /// Writes a text to standard error. A line that cannot be written is no failure of the report.
+    /// Writes a text to standard error. If this fails, the report goes on without the line.
     fn write(&self, text: &str) {
         let _ = io::stderr().write_all(text.as_bytes());
     }
 }
 
-/// A writer that takes the line away before it writes.
+/// A writer that hides the line before it writes.
 #[derive(Debug)]
 pub struct Output<W> {
     writer: W,
 
-    /// The line.
+    /// The line of progress.
     pub line: ProgressLine,
 }
 

@@ -1,11 +1,11 @@
-//! Files that are complete or absent.
+//! Writes files so that a reader never sees a part of them.
 
 use std::fs::{self, File, OpenOptions};
 use std::io::{self, Write};
 use std::path::{Path, PathBuf};
 use std::process;
 
-/// Returns the name under which a file is written before it is renamed, in the same folder.
+/// Returns the path of the new file that is written and then renamed. It is in the same folder.
 fn name_before(path: &Path) -> PathBuf {
     let mut name = path.file_name().unwrap_or_default().to_os_string();
     name.push(format!(".{}.new", process::id()));
@@ -26,8 +26,9 @@ fn write_and_rename(path: &Path, text: &str) -> io::Result<()> {
     written
 }
 
-/// Replaces the file at `path`, or creates it. At no time is a part of the text at `path`, unless a device or
-/// a pipe is there, which is written itself. Of a symbolic link the file that it names is replaced.
+/// Replaces the file at `path`, or creates it. A reader finds the old file or the whole new one, because the
+/// text is written to a new file that is then renamed. If `path` is a device or a pipe, it is written
+/// directly. If it is a symbolic link, the file that it names is replaced.
 pub fn replace(path: &str, text: &str) -> io::Result<()> {
     match fs::metadata(path) {
         Ok(found) if !found.is_file() => OpenOptions::new()

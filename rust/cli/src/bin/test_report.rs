@@ -55,8 +55,8 @@ fn options_of(matches: &ArgMatches) -> Options {
     }
 }
 
-/// Returns what is kept while the files are read. If a line on standard error says how far the run is, this
-/// is kept as well.
+/// Returns the state of the reading before the first file. It follows the progress of the run if a line on
+/// standard error shows it.
 fn pieces(matches: &ArgMatches) -> Pieces {
     let shows_progress = match value(matches, "progress") {
         "always" => true,
@@ -70,7 +70,7 @@ fn pieces(matches: &ArgMatches) -> Pieces {
     }
 }
 
-/// Returns the forms of the files that the arguments name.
+/// Returns the forms of the files that the arguments ask for.
 fn file_forms(matches: &ArgMatches, options: Options) -> FileForms {
     FileForms {
         junit: matches
@@ -83,7 +83,7 @@ fn file_forms(matches: &ArgMatches, options: Options) -> FileForms {
     }
 }
 
-/// Writes the files that the arguments name.
+/// Writes the files that the arguments ask for.
 fn write_files(matches: &ArgMatches, texts: &FileTexts) -> Result<(), Failure> {
     let files = [
         (
@@ -117,7 +117,7 @@ fn read_file<F: Form, W: Write>(
     read.map_err(|fault| Failure::from(fault).caused_by(reader.into_error()))
 }
 
-/// Reads one file of the run, and shows after each piece how far the run is.
+/// Reads one file of the run, and shows the progress of the run after each piece.
 fn read_pieces<F: Form, W: Write>(
     report: &mut Report<F>,
     source: &mut StdSource<impl Read>,
@@ -135,7 +135,7 @@ fn read_pieces<F: Form, W: Write>(
 }
 
 /// Reads all files of the run, and writes the report. Returns the end of the run, and the texts of the files
-/// that are written as well.
+/// that the arguments ask for.
 fn report_files<F: Form, W: Write>(
     files: &[&str],
     mut report: Report<F>,
@@ -159,8 +159,8 @@ fn report_files<F: Form, W: Write>(
     Ok((report.finish(&mut StdSink::new(output))?, texts))
 }
 
-/// Writes the report to standard output in a form, and then the files. A reader of standard output that has
-/// gone needs no message.
+/// Writes the report to standard output in a form, and then the files. Returns the exit status. If the reader
+/// of standard output has gone, nothing is written to standard error.
 fn report_in<F: Form>(
     matches: &ArgMatches,
     options: Options,

@@ -5,7 +5,7 @@ use crate::program_io::fault::DeviceFault;
 use crate::test_report_run::error::RunError;
 use std::fmt;
 
-/// Why `test-report` ends without a report. It is displayed as a few words, such as `read failed`.
+/// The reason why there is no complete report. It is displayed as a few words, such as `read failed`.
 #[derive(Clone, Copy, Debug, PartialEq, Eq)]
 pub enum Fault {
     /// A read failed.
@@ -14,7 +14,7 @@ pub enum Fault {
     /// A write or a flush failed.
     Write,
 
-    /// A number does not fit its counter.
+    /// A number is too large for its counter.
     CounterFull,
 }
 

@@ -1,10 +1,10 @@
 // Made by tools/erase from crates/test_report_engine/src/pieces.rt. Do not edit.
-//! What is kept while files are read piece by piece.
+//! The state between two pieces of a file that is read piece by piece.
 
 use crate::test_report_engine::progress::Progress;
 
-/// What is kept from one piece of a file to the next: the bytes after the last line feed, and perhaps how far
-/// the run is.
+/// The state between two pieces of a file: the bytes after the last line feed, and the progress of the run if
+/// it is wanted.
 #[derive(Clone, Debug)]
 pub struct Pieces {
     pub(crate) line: Vec<u8>,
@@ -12,7 +12,7 @@ pub struct Pieces {
 }
 
 impl Pieces {
-    /// Returns what is kept before the first file, without how far the run is.
+    /// Returns the state before the first file. The progress of the run is not followed.
     pub fn without_progress() -> Pieces {
         Pieces {
             line: Vec::new(),
@@ -20,7 +20,7 @@ impl Pieces {
         }
     }
 
-    /// Returns what is kept before the first file, with how far the run is.
+    /// Returns the state before the first file. The progress of the run is followed.
     pub fn with_progress() -> Pieces {
         Pieces {
             line: Vec::new(),
@@ -28,7 +28,7 @@ impl Pieces {
         }
     }
 
-    /// Returns how far the run is, if that is kept.
+    /// Returns the progress of the run, or `None` if it is not followed.
     pub fn progress(&self) -> Option<&Progress> {
         self.progress.as_ref()
     }

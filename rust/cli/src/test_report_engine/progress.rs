@@ -1,14 +1,14 @@
 // Made by tools/erase from crates/test_report_engine/src/progress.rt. Do not edit.
-//! How far a run is.
+//! The progress of a run.
 
 use crate::test_report_events::event::Event;
 use crate::test_report_events::line::Line;
 use crate::test_report_run::note::{Note, TestOutcome};
 
-/// How far a run is, by the lines that were read so far.
+/// The progress of a run, by the lines that were read.
 #[derive(Clone, Debug)]
 pub struct Progress {
-    /// The number of tests that suites announced.
+    /// The number of tests that the first lines of suites announced.
     announced: u64,
 
     /// The number of tests that ended.
@@ -25,7 +25,7 @@ pub struct Progress {
 }
 
 impl Progress {
-    /// Returns the progress of a run of which nothing was read.
+    /// Returns the progress of a run before its first line.
     pub(crate) fn new() -> Progress {
         Progress {
             announced: 0,
@@ -36,8 +36,9 @@ impl Progress {
         }
     }
 
-    /// Returns how far the run is in one line, such as
-    /// `12 of 40 tests, 1 failed: ledger::ledger tests::asks_the_bank`. Control characters of names are escapes.
+    /// Returns the progress in one line, such as
+    /// `12 of 40 tests, 1 failed: ledger::ledger tests::asks_the_bank`. The test is the one that started last.
+    /// Control characters in names are replaced by escapes.
     pub fn text(&self) -> String {
         let mut text = self.counts();
         if let Some(name) = self.running.last() {
@@ -46,7 +47,8 @@ impl Progress {
         text
     }
 
-    /// Returns how many tests ended, of how many if that is known, and how many failed.
+    /// Returns how many tests ended and how many failed. The number of announced tests is left out if more
+    /// tests ended.
     fn counts(&self) -> String {
         let (ended, announced, failed) = (self.ended, self.announced, self.failed);
         if ended <= announced {
@@ -75,7 +77,7 @@ impl Progress {
         }
     }
 
-    /// Takes what a line makes known.
+    /// Takes the notes of a line.
     pub(crate) fn take_notes(&mut self, notes: &[Note]) {
         for note in notes {
             if is_failed(note) {
@@ -84,7 +86,7 @@ impl Progress {
         }
     }
 
-    /// Removes the test that ends with this written name.
+    /// Removes the test that ends. `written` is the name in the line of its end.
     fn end(&mut self, written: &str) {
         let base = match written.rsplit_once('#') {
             Some((name, _)) => name,
@@ -103,7 +105,7 @@ impl Progress {
     }
 }
 
-/// Takes a line, of which these notes are known, if there is something to keep.
+/// Takes a line and its notes, if the progress of the run is followed.
 pub(crate) fn take_line(progress: &mut Option<Progress>, line: &Line, notes: &[Note]) {
     if let Some(progress) = progress {
         progress.take_event(line.event());
@@ -111,7 +113,7 @@ pub(crate) fn take_line(progress: &mut Option<Progress>, line: &Line, notes: &[N
     }
 }
 
-/// Returns true if a test failed.
+/// Returns true for the note of a failed test.
 fn is_failed(note: &Note) -> bool {
     match note {
         Note::Test(test) => matches!(&test.outcome, TestOutcome::Failed(_)),
@@ -119,14 +121,15 @@ fn is_failed(note: &Note) -> bool {
     }
 }
 
-/// Appends a name, with escapes in place of control characters.
+/// Appends a name. Control characters are replaced by escapes.
 fn push_name(text: &mut String, name: &str) {
     for c in name.escape_debug() {
         text.push(c);
     }
 }
 
-/// Appends the name of a test, after that of its suite if one is known. A written name of nextest has both.
+/// Appends the name of a test, after the name of its suite if one is known. In the lines of nextest the name
+/// of a test has that of its suite before a `$`. For other tests it is the last heading.
 fn push_test(text: &mut String, heading: Option<&str>, written: &str) {
     let (suite, name) = match written.split_once('$') {
         Some((suite, name)) => (Some(suite), name),

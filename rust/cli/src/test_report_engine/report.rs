@@ -1,5 +1,5 @@
 // Made by tools/erase from crates/test_report_engine/src/report.rt. Do not edit.
-//! The report of a run, written during the run.
+//! A report that is written while its run is read.
 
 use crate::program_io::device::{Sink, Source};
 use crate::program_io::transfer::write_all;
@@ -17,7 +17,7 @@ use bstr::ByteSlice;
 /// The number of bytes that are read at once.
 const CHUNK: usize = 16_384;
 
-/// A report that is written in one form while its input is read.
+/// A report in one form, which is written while its run is read.
 pub struct Report<F: Form> {
     run: TestRun,
     form: F,
@@ -30,7 +30,8 @@ impl<F: Form> Report<F> {
         Report::with_files(form, FileForms::none())
     }
 
-    /// Returns a report that has read and written nothing, and that returns the texts of these files at its end.
+    /// Returns a report that has read and written nothing. It keeps what the texts of these files need, and
+    /// `file_texts` returns them after the last file of the run.
     pub fn with_files(form: F, files: FileForms) -> Report<F> {
         Report {
             run: TestRun::new(),
@@ -39,15 +40,15 @@ impl<F: Form> Report<F> {
         }
     }
 
-    /// Reads a file of the run to its end. What its lines make known is written, and the sink flushed, as
-    /// soon as a line is read.
+    /// Reads a file of the run to its end. If a line makes something known, the report writes it and flushes
+    /// the sink before it takes the next line.
     ///
-    /// Neither device may have failed before. After a fault a beginning of what the lines of the file make
-    /// known was written.
+    /// Neither device may have failed before. After a fault the sink has the start of the text that the file
+    /// would have added to the report.
     ///
     /// - [`Fault::Read`] if and only if the source fails, and [`Fault::Write`] if and only if the sink
     ///   fails.
-    /// - [`Fault::CounterFull`] if a number does not fit its counter.
+    /// - [`Fault::CounterFull`] if a number is too large for its counter.
     pub fn read_file<R: Source, W: Sink>(
         &mut self,
         source: &mut R,
@@ -62,17 +63,18 @@ impl<F: Form> Report<F> {
         }
     }
 
-    /// Reads the next bytes of a file of the run, and returns false if the file has ended. What the lines
-    /// that end in these bytes make known is written, and the sink flushed. At the end of the file this is
-    /// what its last line and its end make known. Read each file until the result is false, all files with
-    /// the same `pieces`.
+    /// Reads the next bytes of a file of the run, and takes the lines that end in them. Returns false if the
+    /// file has ended. Call it until it returns false, for each file with the same `pieces`.
     ///
-    /// Neither device may have failed before. After a fault a beginning of what the rest of the file makes
-    /// known was written.
+    /// If a line makes something known, the report writes it and flushes the sink before it takes the next
+    /// line. The call that returns false takes the rest of the last line and the end of the file.
+    ///
+    /// Neither device may have failed before. After a fault the sink has the start of the text that the rest
+    /// of the file would have added to the report.
     ///
     /// - [`Fault::Read`] if and only if the source fails, and [`Fault::Write`] if and only if the sink
     ///   fails.
-    /// - [`Fault::CounterFull`] if a number does not fit its counter.
+    /// - [`Fault::CounterFull`] if a number is too large for its counter.
     pub fn read_piece<R: Source, W: Sink>(
         &mut self,
         source: &mut R,
@@ -91,16 +93,15 @@ impl<F: Form> Report<F> {
         Ok(true)
     }
 
-    /// Returns the texts of the files, after the last file of the run was read.
+    /// Returns the texts of the files. Call it after the last file of the run was read.
     pub fn file_texts(&mut self) -> Result<FileTexts, Fault> {
         let end = self.run.end();
         Ok(self.files.texts(&end))
     }
 
-    /// Writes the end of the report, and returns the sums and the outcome of the run.
+    /// Writes the end of the report, flushes the sink, and returns the sums and the outcome of the run.
     ///
-    /// The sink must not have failed before. After a fault a beginning of the end of the report was
-    /// written.
+    /// The sink must not have failed before. After a fault it has the start of the end of the report.
     ///
     /// - [`Fault::Write`] if and only if the sink fails.
     pub fn finish<W: Sink>(mut self, sink: &mut W) -> Result<RunEnd, Fault> {
@@ -111,7 +112,7 @@ impl<F: Form> Report<F> {
         Ok(end)
     }
 
-    /// Takes the next bytes of a file. `begun` is what was read of the current line.
+    /// Takes the next bytes of a file. `begun` has the bytes of the current line that were read before.
     fn on_bytes<W: Sink>(
         &mut self,
         begun: &mut Vec<u8>,
@@ -144,7 +145,8 @@ impl<F: Form> Report<F> {
         self.write(notes.as_slice(), sink)
     }
 
-    /// Takes the end of a file. If there are bytes after the last line feed, they are a line.
+    /// Takes the end of a file. `begun` has the bytes after the last line feed. They are a line unless there
+    /// are none.
     fn end_file<W: Sink>(
         &mut self,
         begun: &[u8],
@@ -158,7 +160,7 @@ impl<F: Form> Report<F> {
         self.write(notes.as_slice(), sink)
     }
 
-    /// Writes what is known.
+    /// Writes the text of notes, and flushes the sink if there is text.
     fn write<W: Sink>(&mut self, notes: &[Note], sink: &mut W) -> Result<(), Fault> {
         let text = self.lines_of(notes);
         if text.is_empty() {
@@ -168,7 +170,7 @@ impl<F: Form> Report<F> {
         Ok(())
     }
 
-    /// Takes what is known, and returns the lines that are written of it.
+    /// Passes notes to the forms, and returns the text that is written at once.
     fn lines_of(&mut self, notes: &[Note]) -> String {
         let mut text = String::new();
         for note in notes {

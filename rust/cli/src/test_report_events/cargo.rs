@@ -1,5 +1,5 @@
 // Made by tools/erase from crates/test_report_events/src/cargo.rt. Do not edit.
-//! The lines of cargo and nextest.
+//! Recognizes the lines of cargo and nextest that are not JSON.
 
 use crate::test_report_events::event::CargoFailure;
 use crate::test_report_events::time::are_digits;
@@ -7,9 +7,9 @@ use crate::test_report_events::time::are_digits;
 /// The number of hexadecimal digits at the end of the name of a test binary.
 const HASH_DIGITS: usize = 16;
 
-/// Returns the name of the suites that a heading announces, or `None` if the line is no heading. Of
-/// `Running X (PATH)` it is `F (X)`, with F the file name of PATH without its hash. Of `Doc-tests NAME`
-/// it is `NAME (doc tests)`.
+/// Returns the name of the suites that a heading announces, or `None` if the line is not a heading. For
+/// `Running X (PATH)` the name is `F (X)`. F is the file name of PATH, without `.exe` and the hash at its
+/// end. For `Doc-tests NAME` the name is `NAME (doc tests)`.
 pub(crate) fn heading(line: &str) -> Option<String> {
     match line.strip_prefix("Doc-tests ") {
         Some(name) => doc_tests(name),
@@ -20,7 +20,8 @@ pub(crate) fn heading(line: &str) -> Option<String> {
     }
 }
 
-/// Returns the name of the suites of a crate's documentation tests, if the crate's name has no space.
+/// Returns the name of the suites of a crate's documentation tests, or `None` if the crate's name has a
+/// space or is empty.
 fn doc_tests(name: &str) -> Option<String> {
     if name.is_empty() || name.contains(' ') {
         return None;
@@ -28,7 +29,7 @@ fn doc_tests(name: &str) -> Option<String> {
     Some(format!("{name} (doc tests)"))
 }
 
-/// Returns the name of the suites that `X (PATH)` announces.
+/// Returns the name of the suites that `X (PATH)` announces, or `None` if the text has another form.
 fn running(text: &str) -> Option<String> {
     match target_and_path(text) {
         Some((target, path)) => binary_tests(target, path),
@@ -47,7 +48,7 @@ fn target_and_path(text: &str) -> Option<(&str, &str)> {
     }
 }
 
-/// Returns the name of the suites of a test binary, if its file name has a hash.
+/// Returns the name of the suites of a test binary, or `None` if its file name has no hash.
 fn binary_tests(target: &str, path: &str) -> Option<String> {
     without_hash(without_exe(file_name(path))).map(|name| format!("{name} ({target})"))
 }
@@ -68,7 +69,8 @@ fn without_exe(file: &str) -> &str {
     }
 }
 
-/// Removes a hyphen and sixteen hexadecimal digits from the end of a file name.
+/// Removes a hyphen and sixteen hexadecimal digits from the end of a file name. Returns `None` if the name
+/// does not end so.
 fn without_hash(file: &str) -> Option<&str> {
     match file.rsplit_once('-') {
         Some((name, hash)) if is_hash(hash) => Some(name),
@@ -81,12 +83,12 @@ fn is_hash(text: &str) -> bool {
     text.len() == HASH_DIGITS && text.bytes().all(|byte| byte.is_ascii_hexdigit())
 }
 
-/// Returns true if a line begins with these bytes.
+/// Returns true if a line starts with this text.
 fn begins(line: &str, front: &str) -> bool {
     line.starts_with(front)
 }
 
-/// Returns what a line of cargo or nextest reports as failed.
+/// Returns the failure that a line of cargo or nextest reports, or `None` if it reports none.
 pub(crate) fn cargo_failure(line: &str) -> Option<CargoFailure> {
     if begins(line, "error: could not compile ")
         || begins(line, "error: failed to run custom build command for ")

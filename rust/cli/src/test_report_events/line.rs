@@ -1,29 +1,35 @@
 // Made by tools/erase from crates/test_report_events/src/line.rt. Do not edit.
-//! A line of a test run.
+//! Parses a line of a test run.
 
 use crate::test_report_events::cargo::{cargo_failure, heading};
-use crate::test_report_events::event::{CargoFailure, Event};
+use crate::test_report_events::event::{CargoFailure, Event, TestDetails, TestResult};
 use crate::test_report_events::members::Members;
 use crate::test_report_events::plain::{line_text, plain_text};
 use bstr::ByteSlice;
 use serde_json::Value;
 
-/// A line of a test run, with what is read of it.
+/// A parsed line of a test run.
 #[derive(Clone, Debug)]
 pub struct Line {
     content: Content,
 }
 
-/// What a line is.
+/// The content of a line.
 #[derive(Clone, Debug)]
 enum Content {
-    /// An event of a test harness, with the time that the line gives.
+    /// The start of a test.
+    TestStarted { name: String },
+
+    /// The end of a test.
+    TestEnded(TestEnd),
+
+    /// Another event of a test harness, with the time that the line gives.
     Event { value: Value, time: Option<u64> },
 
     /// A heading of cargo.
     Heading(String),
 
-    /// A line that is no event of a harness and no heading: what cargo reports as failed, or a print.
+    /// A line that is neither an event of a harness nor a heading. It is a print if `failure` is `None`.
     Text {
         failure: Option<CargoFailure>,
         line: String,
@@ -31,17 +37,67 @@ enum Content {
     },
 }
 
+/// The end of a test.
+#[derive(Clone, Debug)]
+struct TestEnd {
+    name: String,
+    result: TestResult,
+    stdout: Option<String>,
+    message: Option<String>,
+    reason: Option<String>,
+    time: Option<u64>,
+}
+
+impl TestEnd {
+    /// Returns the end of a test with a copy of its texts.
+    fn of(name: &str, outcome: TestResult, details: TestDetails<'_>) -> TestEnd {
+        TestEnd {
+            name: String::from(name),
+            result: outcome,
+            stdout: owned(details.stdout),
+            message: owned(details.message),
+            reason: owned(details.reason),
+            time: details.time,
+        }
+    }
+
+    /// Returns the event, which borrows its texts.
+    fn event(&self) -> Event<'_> {
+        Event::TestEnded {
+            name: self.name.as_str(),
+            result: self.result,
+            details: TestDetails {
+                stdout: self.stdout.as_deref(),
+                message: self.message.as_deref(),
+                reason: self.reason.as_deref(),
+                time: self.time,
+            },
+        }
+    }
+}
+
+/// Copies a text that may be absent.
+fn owned(text: Option<&str>) -> Option<String> {
+    text.map(String::from)
+}
+
 impl Line {
-    /// Reads a line. If the whole line is not JSON, the value is read from the last offset at which an
-    /// event begins. So an event is found even if a test wrote to the same line before it.
+    /// Parses a line. `bytes` is the line without its line feed. It may end with a carriage return.
+    ///
+    /// If the whole line is not JSON, the parser starts again at the last `{ "type"` or `{"type"` in it. So
+    /// it finds an event even if a test printed text at the start of the same line.
     pub fn read(bytes: &[u8]) -> Line {
         let content = content_of(bytes);
         Line { content }
     }
 
-    /// Returns what the line says.
+    /// Returns the event of the line. It borrows its texts from the line.
     pub fn event(&self) -> Event<'_> {
         match &self.content {
+            Content::TestStarted { name } => Event::TestStarted {
+                name: name.as_str(),
+            },
+            Content::TestEnded(end) => end.event(),
             Content::Event { value, time } => {
                 Members::of(value).event(*time).unwrap_or(Event::Other)
             }
@@ -69,7 +125,7 @@ impl Line {
     }
 }
 
-/// Returns what a line is.
+/// Returns the content of a line.
 fn content_of(bytes: &[u8]) -> Content {
     match value_in(bytes) {
         Some(value) => value_content(bytes, value),
@@ -77,12 +133,21 @@ fn content_of(bytes: &[u8]) -> Content {
     }
 }
 
-/// Parses bytes as JSON, and returns `None` if they are not.
+/// Parses bytes as JSON, and returns `None` if they are not JSON.
 fn value_from(bytes: &[u8]) -> Option<Value> {
-    serde_json::from_slice::<Value>(bytes).ok()
+    match str::from_utf8(bytes) {
+        Ok(text) => value_of_text(text),
+        Err(_) => None,
+    }
 }
 
-/// Returns the JSON value of a line, or of its end from the last offset on at which an event begins.
+/// Parses a text as JSON, and returns `None` if it is not JSON. This is faster than to parse bytes, because the
+/// parser does not check each string for UTF-8.
+fn value_of_text(text: &str) -> Option<Value> {
+    serde_json::from_str::<Value>(text).ok()
+}
+
+/// Returns the JSON value of a line, or else of the part of it that starts at its last event.
 fn value_in(bytes: &[u8]) -> Option<Value> {
     match value_from(bytes) {
         Some(value) => Some(value),
@@ -93,7 +158,7 @@ fn value_in(bytes: &[u8]) -> Option<Value> {
     }
 }
 
-/// Returns the last offset at which an event begins. The harness writes a space after the brace of an
+/// Returns the last offset at which an event starts. The harness writes a space after the brace of an
 /// event, and nextest does not.
 fn last_object(line: &[u8]) -> Option<usize> {
     match (line.rfind(b"{ \"type\""), line.rfind(b"{\"type\"")) {
@@ -103,13 +168,26 @@ fn last_object(line: &[u8]) -> Option<usize> {
     }
 }
 
-/// Returns what a line that holds a value is: an event, or a print if the value is none.
+/// Returns the content of a line that has a JSON value: an event, or a print if the value is no event.
 fn value_content(bytes: &[u8], value: Value) -> Content {
     let members = Members::of(&value);
     let time = members.time_in(bytes);
-    if members.event(time).is_some() {
-        return Content::Event { value, time };
+    match members.event(time) {
+        Some(Event::TestStarted { name }) => Content::TestStarted {
+            name: String::from(name),
+        },
+        Some(Event::TestEnded {
+            name,
+            result: outcome,
+            details,
+        }) => Content::TestEnded(TestEnd::of(name, outcome, details)),
+        Some(_) => Content::Event { value, time },
+        None => print_content(bytes),
     }
+}
+
+/// Returns the content of a line that is a print.
+fn print_content(bytes: &[u8]) -> Content {
     let plain = plain_text(bytes);
     let line = line_text(bytes);
     Content::Text {
@@ -119,7 +197,7 @@ fn value_content(bytes: &[u8], value: Value) -> Content {
     }
 }
 
-/// Returns what a line that holds no value is.
+/// Returns the content of a line without a JSON value.
 fn text_content(bytes: &[u8]) -> Content {
     let plain = plain_text(bytes);
     match heading(plain.as_str()) {

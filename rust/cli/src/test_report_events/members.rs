@@ -5,7 +5,7 @@ use crate::test_report_events::event::{Event, SuiteEnd, SuiteKey, TestDetails, T
 use crate::test_report_events::time::exec_time;
 use serde_json::Value;
 
-/// The members of an object that lines of tests have. They are found in one pass over the object.
+/// The members of an object that lines of tests have. One pass over the object finds all of them.
 #[derive(Clone, Copy)]
 pub(crate) struct Members<'a> {
     object: &'a Value,
@@ -69,7 +69,7 @@ impl<'a> Members<'a> {
         members
     }
 
-    /// Takes the next member.
+    /// Keeps the next member of the object, if its key is one of those above.
     fn take(&mut self, key: &str, value: &'a Value) {
         keep(&mut self.kind, "type", key, value);
         keep(&mut self.event, "event", key, value);
@@ -95,7 +95,7 @@ impl<'a> Members<'a> {
         text_in(self.name)
     }
 
-    /// Returns what the end of a test says about it.
+    /// Returns the output, the messages and the time of a test.
     fn details(&self, time: Option<u64>) -> TestDetails<'a> {
         TestDetails {
             stdout: text_in(self.stdout),
@@ -105,7 +105,7 @@ impl<'a> Members<'a> {
         }
     }
 
-    /// Returns the time of the object. `line` is the text that the object was read from.
+    /// Returns the time of the object in microseconds. `line` is the line that has the object.
     pub(crate) fn time_in(&self, line: &[u8]) -> Option<u64> {
         if self.time.is_some_and(Value::is_number) {
             exec_time(line)

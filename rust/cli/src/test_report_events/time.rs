@@ -7,7 +7,7 @@ use bstr::ByteSlice;
 /// The key of the member that holds a time.
 const KEY: &[u8] = b"\"exec_time\"";
 
-/// The greatest number of digits before the point of a time that is read.
+/// The most digits that a time may have before its point.
 const MOST_DIGITS: usize = 9;
 
 /// The number of digits of a second that are kept.
@@ -16,9 +16,9 @@ const KEPT_DIGITS: usize = 6;
 /// The number of microseconds in a second.
 const MICROSECONDS: u64 = 1_000_000;
 
-/// Returns the time that a line gives as the number after its last `"exec_time":`, in microseconds,
-/// rounded down. The number is one of seconds without exponent, with at most nine digits before the
-/// point.
+/// Returns the time of a line in microseconds, rounded down. The time is the number of seconds after the
+/// last `"exec_time":` of the line. Returns `None` if there is no such number, if it has an exponent or a
+/// sign, or if it has more than nine digits before the point.
 pub(crate) fn exec_time(line: &[u8]) -> Option<u64> {
     match last_key(line) {
         Some(at) => microseconds(number_text(&line[at + KEY.len() + 1..])),
@@ -26,7 +26,7 @@ pub(crate) fn exec_time(line: &[u8]) -> Option<u64> {
     }
 }
 
-/// Returns the offset of the last key of a time, which a colon follows.
+/// Returns the offset of the last `"exec_time"` that a colon follows.
 fn last_key(line: &[u8]) -> Option<usize> {
     let mut rest = line;
     while let Some(colon) = rest.rfind_byte(b':') {
@@ -38,12 +38,12 @@ fn last_key(line: &[u8]) -> Option<usize> {
     None
 }
 
-/// Returns the offset of the first byte that is not of a number.
+/// Returns the offset of the first byte that is not part of a number.
 fn number_end(text: &[u8]) -> Option<usize> {
     text.iter().position(|byte| !is_of_number(*byte))
 }
 
-/// Returns the number at the start of a text, after spaces.
+/// Returns the number at the start of a text. Spaces before it are skipped.
 fn number_text(text: &[u8]) -> &[u8] {
     let number = without_spaces(text);
     match number_end(number) {
@@ -75,7 +75,7 @@ pub(crate) fn are_digits(bytes: &[u8]) -> bool {
     bytes.iter().all(|byte| byte.is_ascii_digit())
 }
 
-/// Parses a number of seconds.
+/// Parses a number of seconds, and returns microseconds.
 fn microseconds(number: &[u8]) -> Option<u64> {
     let (whole, fraction) = parts_of(number);
     if whole.is_empty() || whole.len() > MOST_DIGITS || !are_digits(whole) {
@@ -87,7 +87,7 @@ fn microseconds(number: &[u8]) -> Option<u64> {
     Some(digits_value(whole) * MICROSECONDS + fraction_value(fraction))
 }
 
-/// Returns the number that at most nine digits spell.
+/// Returns the value of at most nine digits.
 fn digits_value(digits: &[u8]) -> u64 {
     let mut value: u64 = 0;
     for digit in digits {
@@ -96,7 +96,7 @@ fn digits_value(digits: &[u8]) -> u64 {
     value
 }
 
-/// Returns the microseconds that the digits after a point spell.
+/// Returns the microseconds in the digits after a point, rounded down.
 fn fraction_value(digits: &[u8]) -> u64 {
     let size = digits.len().min(KEPT_DIGITS);
     digits_value(&digits[..size]) * 10_u64.pow((KEPT_DIGITS - size) as u32)

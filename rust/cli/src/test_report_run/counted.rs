@@ -1,5 +1,5 @@
 // Made by tools/erase from crates/test_report_run/src/counted.rt. Do not edit.
-//! Counting a test that finished.
+//! Counts a test that finished.
 
 use deodarsieve::{
     CounterFull, ExecutionResultDescription, FailureDescription, FinishedTest, FlakyResult,
@@ -25,8 +25,8 @@ pub(crate) enum Finish {
     TimedOut,
 }
 
-/// Describes the result of a test. The lines do not give the exit code of a failed test, so it is that
-/// of the harness.
+/// Returns the result of a test, as the statistics take it. Lines do not have the exit code of a failed
+/// test, so it is the one of Rust's test harness.
 fn described(finish: Finish) -> ExecutionResultDescription {
     match finish {
         Finish::Passed | Finish::FlakyFailed => ExecutionResultDescription::Pass,
@@ -42,7 +42,7 @@ fn described(finish: Finish) -> ExecutionResultDescription {
     }
 }
 
-/// Counts a test that finished.
+/// Adds a test that finished to the statistics. Fails only if a counter is full, and changes nothing then.
 pub(crate) fn count(
     stats: &mut RunStats,
     finish: Finish,

@@ -16,7 +16,7 @@ fn owned(text: Option<&str>) -> Option<String> {
     text.map(String::from)
 }
 
-/// Returns the failure of a test whose line says that it failed.
+/// Returns the failure of a test, from the line that says that it failed.
 fn failure_of(details: TestDetails<'_>) -> Failure {
     Failure {
         kind: match details.reason {
@@ -29,7 +29,7 @@ fn failure_of(details: TestDetails<'_>) -> Failure {
     }
 }
 
-/// Returns how a test finished whose line says that it failed.
+/// Returns how a failed test finished: it failed, or it ran out of time.
 fn finish_of(details: TestDetails<'_>) -> Finish {
     match details.reason {
         Some(TIME_LIMIT) => Finish::TimedOut,
@@ -38,7 +38,8 @@ fn finish_of(details: TestDetails<'_>) -> Finish {
 }
 
 impl Suite {
-    /// Takes the end of a test. `order` is the number of tests that started before it.
+    /// Takes the end of a test, and adds its note. `order` is the number of tests that started before it. A
+    /// test that passed after several attempts is kept, and has no note until its suite is over.
     pub(crate) fn on_end(
         &mut self,
         test: OverTest,
@@ -94,12 +95,13 @@ impl Suite {
         self.flaky.iter().position(|other| other.order > order)
     }
 
-    /// Returns the position of a flaky test among those that started before and after it.
+    /// Returns the position among the flaky tests of one that started after `order` tests.
     fn flaky_place(&self, order: usize) -> usize {
         self.later_flaky(order).unwrap_or(self.flaky.len())
     }
 
-    /// Keeps a flaky test until the suite is over, in the order in which such tests started.
+    /// Keeps a test that passed after several attempts until the suite is over. Such tests are kept in the
+    /// order in which they started.
     fn on_flaky(
         &mut self,
         test: OverTest,

@@ -1,5 +1,5 @@
 // Made by tools/erase from crates/test_report_run/src/error.rt. Do not edit.
-//! Why a run cannot be counted.
+//! The errors of a run that cannot be counted.
 
 use deodarsieve::CounterFull;
 
@@ -16,7 +16,7 @@ impl From<CounterFull> for RunError {
     }
 }
 
-/// Increments a counter.
+/// Increments a counter. Fails only if it is `usize::MAX`.
 pub(crate) fn one_more(count: usize) -> Result<usize, RunError> {
     count.checked_add(1).ok_or(RunError::CounterFull)
 }

@@ -1,9 +1,9 @@
 // Made by tools/erase from crates/test_report_run/src/last_line.rt. Do not edit.
-//! What the last line of a suite explains.
+//! The tests that the last line of a suite explains.
 
 use crate::test_report_run::note::SaidNumbers;
 
-/// The tests of a suite when its last line comes.
+/// The numbers of tests of a suite before its last line is looked at.
 #[derive(Clone, Copy)]
 pub(crate) struct Tally {
     /// The number of tests that the suite announced.
@@ -31,7 +31,7 @@ impl Tally {
         self.passed as u128 + self.failed as u128 + self.skipped as u128
     }
 
-    /// Returns how many tests may be skipped that have not ended.
+    /// Returns the most tests that can be skipped in addition to those that ended.
     fn room(self) -> u128 {
         match self.test_count {
             Some(count) => count.saturating_sub(self.ended()),
@@ -48,7 +48,7 @@ impl Tally {
     }
 }
 
-/// Which tests the last line of a suite explains.
+/// The tests that the last line of a suite explains.
 #[derive(Clone, Copy)]
 pub(crate) struct Explanation {
     /// The number of skipped tests that have no line.
@@ -64,7 +64,8 @@ pub(crate) struct Explanation {
     pub(crate) flaky_failed: bool,
 }
 
-/// Returns which tests the last line of a suite explains: it says these numbers, and `ignored` tests.
+/// Returns which tests the last line of a suite explains. `said` are its numbers, and `ignored` is the
+/// number of tests that it counts as ignored.
 pub(crate) fn explained(tally: Tally, said: SaidNumbers, ignored: u128) -> Explanation {
     let more = ignored
         .saturating_sub(tally.skipped as u128)
@@ -94,7 +95,7 @@ fn skipped_left(tally: Tally, more: u128) -> usize {
     }
 }
 
-/// Returns true if the last line counts at least so many tests as failed.
+/// Returns true if the last line counts at least `least` tests as failed.
 fn says_failed(said: SaidNumbers, least: u128) -> bool {
     match said.failed {
         Some(failed) => failed >= least,
@@ -102,8 +103,8 @@ fn says_failed(said: SaidNumbers, least: u128) -> bool {
     }
 }
 
-/// Returns true if the last line counts all flaky tests as failed. `failed` is the number of tests that
-/// failed otherwise.
+/// Returns true if the last line counts all flaky tests as failed. `failed` is the number of other failed
+/// tests.
 fn says_flaky_failed(tally: Tally, said: SaidNumbers, failed: u128) -> bool {
     match (said.failed, said.passed) {
         (Some(said_failed), Some(said_passed)) => {
@@ -116,7 +117,8 @@ fn says_flaky_failed(tally: Tally, said: SaidNumbers, failed: u128) -> bool {
     }
 }
 
-/// Returns true if the last line of a suite says other numbers than those of its tests.
+/// Returns true if the last line of a suite contradicts its tests: `passed` of them passed, and `failed`
+/// of them failed.
 pub(crate) fn disagrees(said: SaidNumbers, passed: usize, failed: usize) -> bool {
     said.failed_verdict != (failed > 0)
         || said.passed.is_some_and(|number| number != passed as u128)

@@ -1,7 +1,12 @@
 // Made by tools/erase from crates/test_report_run/src/lib.rt. Do not edit.
-//! A test run, line by line: how each test counts, and where lines contradict each other.
+//! Follows a test run line by line, and returns which tests passed, failed or were skipped, and where lines
+//! of the run contradict each other.
 //!
-//! A function that returns the sums and the outcome of a run that is one file with these lines:
+//! Make a `TestRun`, and pass it the event of each line. Call `end_file` after the last line of each file,
+//! and `end` after the last file. The first two calls return notes, for example that a test failed, and the
+//! last one returns the sums and the outcome of the run.
+//!
+//! This function does so for a run of one file that has these lines:
 //!
 //! ```
 //! use deodarsieve_cli::test_report_events::line::Line;
@@ -40,4 +45,5 @@ pub mod run;
 mod running;
 mod said;
 mod suite;
+mod suite_name;
 mod totals;

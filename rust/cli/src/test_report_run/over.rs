@@ -10,20 +10,20 @@ use crate::test_report_run::note::{
 use crate::test_report_run::running::RunningTest;
 use crate::test_report_run::suite::{FlakyTest, OverTest, Suite};
 
-/// How many tests of a suite did not run, and the time that it took.
+/// The numbers of a suite that its finished tests do not give.
 #[derive(Clone, Copy)]
 pub(crate) struct Rest {
     /// The number of skipped tests.
     pub(crate) skipped: u128,
 
-    /// The number of tests that started and have no other line.
+    /// The number of tests that started, and that neither ended nor were skipped.
     pub(crate) left: usize,
 
     /// The time in microseconds.
     pub(crate) time: Option<u64>,
 }
 
-/// Returns what is known of a test without end.
+/// Returns a test that has no line of its end.
 fn over(test: RunningTest) -> OverTest {
     OverTest {
         name: test.name,
@@ -34,7 +34,7 @@ fn over(test: RunningTest) -> OverTest {
 }
 
 impl Suite {
-    /// Ends the suite early. `left` are its running tests, which crashed.
+    /// Ends the suite without a last line, and adds its notes. `left` are its running tests, which crashed.
     pub(crate) fn end_early(
         mut self,
         left: Vec<RunningTest>,
@@ -52,7 +52,7 @@ impl Suite {
         self.push_numbers(rest, notes)
     }
 
-    /// Counts the tests that were running when the suite ended early as crashed.
+    /// Counts all these tests as crashed.
     fn crash_all(
         &mut self,
         tests: Vec<RunningTest>,
@@ -67,11 +67,11 @@ impl Suite {
         Ok(())
     }
 
-    /// Returns how a test crashed that ran beside others. `running` is their number.
+    /// Returns how a test of the suite crashed. `running` is the number of its running tests.
     fn crash(&self, running: usize) -> Crash {
         Crash {
             running,
-            has_key: self.key.is_some(),
+            has_key: self.name.key.is_some(),
             prints: self.prints.lines(),
         }
     }
@@ -96,7 +96,7 @@ impl Suite {
 
     /// Adds the disagreement of a suite that ends early, if there is one.
     fn push_early_end(&self, crashed: usize, notes: &mut Vec<Note>) -> Result<(), RunError> {
-        match self.name() {
+        match self.shown_name() {
             Some(suite) if crashed == 0 => {
                 notes.push(Note::Disagreement(Disagreement::EndedEarly { suite }));
             }
@@ -135,7 +135,7 @@ impl Suite {
         Ok(())
     }
 
-    /// Ends the suite by its last line. `left` are its running tests.
+    /// Ends the suite after its last line, and adds its notes. `left` are its running tests.
     pub(crate) fn end(
         mut self,
         left: Vec<RunningTest>,
@@ -156,14 +156,14 @@ impl Suite {
         self.push_numbers(rest, notes)
     }
 
-    /// Returns what the last line explains of the tests. `left` of them are running.
+    /// Returns which tests the last line explains. `left` is the number of running tests.
     fn explained(&self, left: usize) -> Result<Explanation, RunError> {
         let said = self.said.numbers()?;
         let ignored = self.said.ignored.unwrap_or(0);
         Ok(explained(self.tally(left)?, said, ignored))
     }
 
-    /// Counts tests without end as failed if they have failed. Returns how many are left otherwise.
+    /// Counts tests without end as failed if `have_failed` is true. Returns how many are not counted.
     fn fail_lost(
         &mut self,
         have_failed: bool,
@@ -194,11 +194,11 @@ impl Suite {
         Ok(())
     }
 
-    /// Adds the disagreement of the last line with the tests, if there is one.
+    /// Adds a disagreement if the last line contradicts the tests.
     fn push_disagreement(&self, notes: &mut Vec<Note>) -> Result<(), RunError> {
         let said = self.said.numbers()?;
         let (passed, failed) = (self.stats.passed, self.failed());
-        let name = self.name();
+        let name = self.shown_name();
         if let (Some(suite), true) = (name, disagrees(said, passed, failed)) {
             notes.push(Note::Disagreement(Disagreement::LastLine {
                 suite,
@@ -210,12 +210,12 @@ impl Suite {
         Ok(())
     }
 
-    /// Adds how many tests of the suite were not run, and its numbers.
+    /// Adds the numbers of the suite, after how many of its tests did not run if that is not 0.
     fn push_numbers(&self, rest: Rest, notes: &mut Vec<Note>) -> Result<(), RunError> {
         let finished = self.stats.finished_count as u128;
         let initial_run_count = self.initial_run_count(rest);
         let not_run = initial_run_count - finished;
-        if let (Some(suite), true) = (self.name(), not_run > 0) {
+        if let (Some(suite), true) = (self.shown_name(), not_run > 0) {
             notes.push(Note::NotRun(NotRun {
                 suite,
                 not_run,
@@ -223,7 +223,7 @@ impl Suite {
             }));
         }
         notes.push(Note::Suite(SuiteNote {
-            name: self.name(),
+            name: self.shown_name(),
             stats: self.stats,
             skipped: rest.skipped,
             not_run,

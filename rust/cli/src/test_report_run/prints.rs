@@ -1,10 +1,10 @@
 // Made by tools/erase from crates/test_report_run/src/prints.rt. Do not edit.
-//! What a crash may have printed.
+//! The lines that may explain why a suite ended early.
 
 /// The number of prints that are kept.
 const KEPT_PRINTS: usize = 3;
 
-/// The number of bytes of a print that are kept.
+/// The most bytes of a print that are kept.
 const KEPT_BYTES: usize = 200;
 
 /// A line that is no event of a harness.
@@ -20,7 +20,7 @@ pub(crate) enum Printed<'a> {
     CargoFailed { line: &'a str },
 }
 
-/// How far the lines have been read that say why a suite ended early.
+/// Which of the lines that may explain an early end has been read.
 #[derive(Clone, Copy, PartialEq, Eq)]
 enum Stage {
     /// Before the first heading or failure.
@@ -36,8 +36,8 @@ enum Stage {
     Over,
 }
 
-/// The lines that may say why a suite ended early: of the prints since it started, up to the first
-/// heading or failure, the last three that are not blank, and after a failure the line after
+/// The lines that may explain why a suite ended early. They are the last three prints before the first
+/// heading or failure of cargo, without blank ones. After a failure, they also have the line after
 /// `Caused by:`.
 #[derive(Clone)]
 pub(crate) struct Prints {
@@ -86,7 +86,7 @@ impl Prints {
         }
     }
 
-    /// Takes the line right after `Caused by:`, which says why, unless it is a heading.
+    /// Keeps the line right after `Caused by:`, unless it is a heading.
     fn on_cause(&mut self, printed: Printed<'_>) {
         match printed {
             Printed::Print { line, .. } | Printed::CargoFailed { line } => self.push(line),
@@ -94,7 +94,7 @@ impl Prints {
         }
     }
 
-    /// Drops the first of three lines.
+    /// Drops the first line if there are three.
     fn make_room(&mut self) {
         if self.lines.len() >= KEPT_PRINTS {
             self.lines.remove(0);
@@ -128,7 +128,7 @@ fn stage_after_failure(printed: Printed<'_>) -> Stage {
     }
 }
 
-/// Returns at most [`KEPT_BYTES`] bytes of a line.
+/// Returns the longest start of a line that has at most [`KEPT_BYTES`] bytes and ends between characters.
 fn shortened(line: &str) -> &str {
     &line[..line.floor_char_boundary(KEPT_BYTES)]
 }

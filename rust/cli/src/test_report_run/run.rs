@@ -1,5 +1,5 @@
 // Made by tools/erase from crates/test_report_run/src/run.rt. Do not edit.
-//! A run, line by line.
+//! A test run that is followed line by line.
 
 use crate::test_report_events::event::{
     CargoFailure, Event, SuiteEnd, SuiteKey, TestDetails, TestResult,
@@ -11,14 +11,15 @@ use crate::test_report_run::running::{Running, RunningTest};
 use crate::test_report_run::suite::{OverTest, Suite};
 use crate::test_report_run::totals::Totals;
 
-/// A run of tests, up to the line that was read last.
+/// A test run, up to the line that was passed last.
 #[derive(Clone)]
 pub struct TestRun {
     /// The tests of the file that start outside of a suite.
     outside: Suite,
 
-    /// The open suites in the order of their first lines.
-    suites: Vec<Suite>,
+    /// The open suites in the order of their first lines. They are boxed because a suite that ends is removed
+    /// from among them, which moves all later ones.
+    suites: Vec<Box<Suite>>,
 
     suites_started: usize,
     heading: Option<String>,
@@ -27,15 +28,15 @@ pub struct TestRun {
     totals: Totals,
     disagreements: usize,
 
-    /// The number of failed tests and disagreements so far, at the start of the file, and at the last
-    /// failure of cargo that counted.
+    /// The number of failed tests and disagreements until now, until the file began, and until the last
+    /// failure of cargo outside of a suite. They decide whether a failure of cargo is explained.
     causes: usize,
     causes_at_file: usize,
     causes_at_cargo: usize,
 }
 
 impl TestRun {
-    /// Returns a run that has read no line.
+    /// Returns a run before its first line.
     pub fn new() -> TestRun {
         TestRun {
             outside: Suite::outside(),
@@ -52,8 +53,11 @@ impl TestRun {
         }
     }
 
-    /// Takes the next line of the file, and returns what it makes known: first tests, those without an
-    /// end before flaky ones, then disagreements, then tests that were not run, suite by suite.
+    /// Takes the event of the next line, and returns the notes that it makes known. The notes of a suite are
+    /// in this order: its tests without an end, its flaky tests, disagreements, tests that did not run, and
+    /// the numbers of the suite.
+    ///
+    /// After an error the run must not be used: a part of the line may be counted.
     pub fn on_event(&mut self, event: Event<'_>) -> Result<Vec<Note>, RunError> {
         let mut notes = Vec::new();
         self.tell(event, &mut notes)?;
@@ -62,11 +66,12 @@ impl TestRun {
         Ok(notes)
     }
 
-    /// Ends the file: its open suites end early. Returns what becomes known by that.
+    /// Ends the file, and returns the notes that this makes known. Suites that are still open end early: their
+    /// running tests crashed. After an error the run must not be used.
     pub fn end_file(&mut self) -> Result<Vec<Note>, RunError> {
         let mut notes = Vec::new();
         for suite in std::mem::take(&mut self.suites) {
-            self.end_early(suite, &mut notes)?;
+            self.end_early(*suite, &mut notes)?;
         }
         let outside = std::mem::replace(&mut self.outside, Suite::outside());
         self.end_early(outside, &mut notes)?;
@@ -77,12 +82,12 @@ impl TestRun {
         Ok(notes)
     }
 
-    /// Returns the sums over the whole run and its outcome, after the last file has ended.
+    /// Returns the sums and the outcome of the whole run. Call it after `end_file` of the last file.
     pub fn end(&self) -> RunEnd {
         self.totals.end(self.disagreements)
     }
 
-    /// Takes the next line of the file, but for the sums.
+    /// Takes the event of the next line, except that its notes are not added to the sums.
     fn tell(&mut self, event: Event<'_>, notes: &mut Vec<Note>) -> Result<(), RunError> {
         match event {
             Event::SuiteStarted { key, test_count } => {
@@ -106,14 +111,14 @@ impl TestRun {
         }
     }
 
-    /// Keeps the number of causes at a failure of cargo that counts.
+    /// Stores the number of causes if cargo reports a failure outside of a suite.
     fn mark(&mut self, event: Event<'_>) {
         if matches!(event, Event::CargoFailed { .. }) && self.suites.is_empty() {
             self.causes_at_cargo = self.causes;
         }
     }
 
-    /// Adds what is known to the sums.
+    /// Adds notes to the sums.
     fn learn(&mut self, notes: &[Note]) -> Result<(), RunError> {
         for note in notes {
             match note {
@@ -148,8 +153,8 @@ impl TestRun {
         }
     }
 
-    /// Takes the first line of a suite whose key the open suite at a position has: that suite is joined, or
-    /// it ends early if it has no key.
+    /// Takes the first line of a suite that has the key of the open suite at a position. If they have a key,
+    /// the line is added to that suite. If they have none, that suite ends early and another one starts.
     fn start_again(
         &mut self,
         key: Option<String>,
@@ -173,7 +178,7 @@ impl TestRun {
 
     /// Removes the open suite at a position, and returns it.
     fn take_out(&mut self, at: usize) -> Suite {
-        self.suites.remove(at)
+        *self.suites.remove(at)
     }
 
     /// Opens a suite.
@@ -181,7 +186,7 @@ impl TestRun {
         self.suites_started = one_more(self.suites_started)?;
         let heading = self.heading.clone();
         let suite = Suite::new(self.suites_started, key, heading, test_count);
-        self.suites.push(suite);
+        self.suites.push(Box::new(suite));
         Ok(())
     }
 
@@ -224,24 +229,27 @@ impl TestRun {
 
     /// Ends a suite that has its last line.
     fn end_suite(&mut self, suite: Suite, notes: &mut Vec<Note>) -> Result<(), RunError> {
-        let left = self.running.take_suite(suite.number);
+        let left = self.running.take_suite(suite.name.number);
         suite.end(left, notes)
     }
 
     /// Ends a suite that has no last line.
     fn end_early(&mut self, suite: Suite, notes: &mut Vec<Note>) -> Result<(), RunError> {
-        let left = self.running.take_suite(suite.number);
+        let left = self.running.take_suite(suite.name.number);
         suite.end_early(left, notes)
     }
 
-    /// Returns the position of the open suite with a key, or without key.
+    /// Returns the position of the first open suite with a key, or without a key.
     fn open_suite(&self, key: Option<&str>) -> Option<usize> {
         place_of_key(&self.suites, key)
     }
 
-    /// Returns the position of the suite that a test with this name belongs to if it starts now, or `None`
-    /// if no suite is open.
+    /// Returns the position of the open suite that a starting test with this name belongs to, or `None` if no
+    /// suite is open.
     fn suite_of(&self, name: &str) -> Option<usize> {
+        if self.suites.len() == 1 {
+            return Some(0);
+        }
         let named = match name.split_once('$') {
             Some((key, _)) => self.open_suite(Some(key)),
             None => None,
@@ -264,11 +272,11 @@ impl TestRun {
             Some(at) => {
                 let suite = &mut self.suites[at];
                 suite.on_start(name)?;
-                Ok(suite.number)
+                Ok(suite.name.number)
             }
             None => {
                 self.outside.on_start(name)?;
-                Ok(self.outside.number)
+                Ok(self.outside.name.number)
             }
         }
     }
@@ -281,12 +289,14 @@ impl TestRun {
         details: TestDetails<'_>,
         notes: &mut Vec<Note>,
     ) -> Result<(), RunError> {
+        // Most ends make one note known. Room for more would be slow.
+        notes.reserve_exact(1);
         self.end_test(name, end, details, notes)?;
         self.ended = one_more(self.ended)?;
         Ok(())
     }
 
-    /// Takes the end of a test, but for the number of tests that ended.
+    /// Takes the end of a test, except that the number of ended tests stays the same.
     fn end_test(
         &mut self,
         name: &str,
@@ -328,7 +338,7 @@ impl TestRun {
         place_of_number(&self.suites, number)
     }
 
-    /// Takes the end of a test that is not running. It counts as a test if it failed or was ignored.
+    /// Takes the end of a test that is not running. The test is counted unless it passed.
     fn on_stray_end(
         &mut self,
         name: &str,
@@ -423,14 +433,14 @@ impl TestRun {
     }
 }
 
-/// Returns the position of the first of these suites with a key, or without key.
-fn place_of_key(suites: &[Suite], key: Option<&str>) -> Option<usize> {
+/// Returns the position of the first of these suites with a key, or without a key.
+fn place_of_key(suites: &[Box<Suite>], key: Option<&str>) -> Option<usize> {
     suites.iter().position(|suite| suite.has_key(key))
 }
 
 /// Returns the position of the first of these suites with a number.
-fn place_of_number(suites: &[Suite], number: usize) -> Option<usize> {
-    suites.iter().position(|suite| suite.number == number)
+fn place_of_number(suites: &[Box<Suite>], number: usize) -> Option<usize> {
+    suites.iter().position(|suite| suite.name.number == number)
 }
 
 /// Returns the text of a key.
@@ -438,7 +448,7 @@ fn key_text(key: Option<SuiteKey<'_>>) -> Option<String> {
     key.map(|key| key.to_string())
 }
 
-/// Returns true if the last line of a suite that is not open says that a test ran.
+/// Returns true if a last line says that the suite failed, or counts a test that ran.
 fn counts_tests(end: SuiteEnd<'_>) -> bool {
     end.failed_verdict
         || end.passed.is_some_and(|count| count > 0)

@@ -3,13 +3,13 @@
 
 use crate::test_report_run::error::{RunError, one_more};
 
-/// The greatest number of attempts that a written name may give.
+/// The most attempts that a name may end with.
 const MOST_ATTEMPTS: usize = 1_000;
 
 /// A test that is running.
 #[derive(Clone)]
 pub(crate) struct RunningTest {
-    /// The name of the test, as the line of its start gives it.
+    /// The name in the line of its start.
     pub(crate) name: String,
 
     /// The number of its suite.
@@ -44,14 +44,15 @@ impl Running {
         Ok(())
     }
 
-    /// Removes the test that ends with this written name, and returns it with the number of its
-    /// attempts. Returns `None` if no such test is running.
+    /// Removes the test that ends, and returns it with the number of its attempts. `written` is the name in
+    /// the line of its end. Returns `None` if no such test is running.
     pub(crate) fn end(&mut self, written: &str) -> Option<(RunningTest, usize)> {
         let (at, attempts) = self.place_of_end(written)?;
         Some((self.tests.remove(at), attempts))
     }
 
-    /// Returns the position of the test that ends with this written name, and the number of its attempts.
+    /// Returns the position of the test that ends, and the number of its attempts. `written` is the name in
+    /// the line of its end.
     fn place_of_end(&self, written: &str) -> Option<(usize, usize)> {
         if let Some(at) = self.position(written) {
             return Some((at, 1));
@@ -84,7 +85,7 @@ impl Running {
     }
 }
 
-/// Splits a written name into the name of a test and the number of its attempts.
+/// Splits a name that ends with `#` and a number of attempts into the name of the test and the number.
 fn name_and_attempts(written: &str) -> Option<(&str, usize)> {
     let (name, digits) = written.rsplit_once('#')?;
     let attempts = number_of_attempts(digits)?;

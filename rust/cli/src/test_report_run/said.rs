@@ -1,5 +1,5 @@
 // Made by tools/erase from crates/test_report_run/src/said.rt. Do not edit.
-//! What the last lines of a suite say.
+//! The numbers in the last lines of a suite.
 
 use crate::test_report_events::event::SuiteEnd;
 use crate::test_report_run::error::RunError;
@@ -14,7 +14,7 @@ pub(crate) fn sum(a: Option<u128>, b: Option<u128>) -> Result<Option<u128>, RunE
     }
 }
 
-/// Adds a number of a line, which may be absent.
+/// Adds a number of a line. The sum is absent only if both numbers are.
 fn with_number(a: Option<u128>, b: Option<u64>) -> Result<Option<u128>, RunError> {
     match b {
         Some(b) => sum(a, Some(u128::from(b))),
@@ -31,7 +31,7 @@ pub(crate) fn time_sum(a: Option<u64>, b: Option<u64>) -> Result<Option<u64>, Ru
     }
 }
 
-/// What the last lines of a suite say. The numbers of several lines are added.
+/// The numbers and the verdict in the last lines of a suite. The numbers of several lines are added.
 #[derive(Clone, Copy, Default)]
 pub(crate) struct Said {
     pub(crate) failed_verdict: bool,
@@ -43,7 +43,7 @@ pub(crate) struct Said {
 }
 
 impl Said {
-    /// Returns what the lines say together with one more line.
+    /// Adds the numbers and the verdict of one more line.
     pub(crate) fn with_line(self, end: SuiteEnd<'_>) -> Result<Said, RunError> {
         Ok(Said {
             failed_verdict: self.failed_verdict || end.failed_verdict,
@@ -55,7 +55,7 @@ impl Said {
         })
     }
 
-    /// Returns the numbers of tests that passed and that failed. Measured benchmarks have passed.
+    /// Returns the verdict, and how many tests passed and failed. Measured benchmarks count as passed.
     pub(crate) fn numbers(self) -> Result<SaidNumbers, RunError> {
         let passed = match self.passed {
             Some(passed) => sum(Some(passed), self.measured)?,

@@ -1,5 +1,5 @@
 // Made by tools/erase from crates/test_report_run/src/suite.rt. Do not edit.
-//! A suite of a run.
+//! An open suite of a run.
 
 use crate::test_report_events::event::SuiteEnd;
 use crate::test_report_run::error::{RunError, one_more};
@@ -7,9 +7,10 @@ use crate::test_report_run::last_line::Tally;
 use crate::test_report_run::note::{Note, TestNote, TestOutcome};
 use crate::test_report_run::prints::{Printed, Prints};
 use crate::test_report_run::said::{Said, sum};
+use crate::test_report_run::suite_name::SuiteName;
 use deodarsieve::RunStats;
 
-/// What is known of a test that is over, but how it counts.
+/// A test that is over, without its outcome.
 #[derive(Clone)]
 pub(crate) struct OverTest {
     /// The name of the test, without the number of attempts.
@@ -21,11 +22,11 @@ pub(crate) struct OverTest {
     /// The time that the test took, in microseconds.
     pub(crate) time: Option<u64>,
 
-    /// The number of tests that ended before it, or `usize::MAX` if no line says that it ended.
+    /// The number of tests that ended before this one, or `usize::MAX` if no line says that it ended.
     pub(crate) ended: usize,
 }
 
-/// A flaky test that passed at last. The last line of its suite may still say that it failed.
+/// A test that passed after several attempts. The last line of its suite may still count it as failed.
 #[derive(Clone)]
 pub(crate) struct FlakyTest {
     pub(crate) test: OverTest,
@@ -37,21 +38,11 @@ pub(crate) struct FlakyTest {
     pub(crate) message: Option<String>,
 }
 
-/// An open suite of a run, or the tests of a file that start outside of a suite.
+/// An open suite, or the tests of a file that start outside of a suite.
 #[derive(Clone)]
 pub(crate) struct Suite {
-    /// The number of the suite, from 1 on in the order of first lines; 0 for the tests outside of a
-    /// suite.
-    pub(crate) number: usize,
-
-    /// The key of the suite.
-    pub(crate) key: Option<String>,
-
-    /// The heading that was in force when the suite started.
-    pub(crate) heading: Option<String>,
-
-    /// The written name of its first test.
-    pub(crate) first_test: Option<String>,
+    /// The number, the key and the name of the suite.
+    pub(crate) name: SuiteName,
 
     /// The number of tests that its first lines announce.
     pub(crate) test_count: Option<u128>,
@@ -59,13 +50,13 @@ pub(crate) struct Suite {
     /// The number of tests that started.
     pub(crate) started: usize,
 
-    /// The number of first lines that are not followed by a last line yet.
+    /// The number of its first lines minus that of its last lines.
     pub(crate) open_lines: usize,
 
-    /// What its last lines say.
+    /// The numbers and the verdict of its last lines.
     pub(crate) said: Said,
 
-    /// The statistics of the tests that finished, without the flaky ones that are kept.
+    /// The statistics of its finished tests, except those in `flaky`.
     pub(crate) stats: RunStats,
 
     /// The number of tests that crashed.
@@ -74,29 +65,37 @@ pub(crate) struct Suite {
     /// The number of tests that were ignored.
     pub(crate) skipped: usize,
 
-    /// The flaky tests that passed, in the order in which they started.
+    /// The tests that passed after several attempts, in the order in which they started.
     pub(crate) flaky: Vec<FlakyTest>,
 
     /// The sum of the times of tests, in microseconds.
     pub(crate) time: Option<u64>,
 
-    /// What may say why the suite ended early.
+    /// The lines that may explain why the suite ended early.
     pub(crate) prints: Prints,
 }
 
 impl Suite {
-    /// Returns a suite that has read one first line.
+    /// Returns a suite after its first line.
     pub(crate) fn new(
         number: usize,
         key: Option<String>,
         heading: Option<String>,
         test_count: Option<u128>,
     ) -> Suite {
+        let name = SuiteName::new(number, key, heading);
+        Suite::named(name, test_count)
+    }
+
+    /// Returns the tests of a file that start outside of a suite, before the first of them.
+    pub(crate) fn outside() -> Suite {
+        Suite::named(SuiteName::outside(), None)
+    }
+
+    /// Returns a suite with a name, after its first line.
+    fn named(name: SuiteName, test_count: Option<u128>) -> Suite {
         Suite {
-            number,
-            key,
-            heading,
-            first_test: None,
+            name,
             test_count,
             started: 0,
             open_lines: 1,
@@ -110,11 +109,6 @@ impl Suite {
         }
     }
 
-    /// Returns the tests of a file that start outside of a suite.
-    pub(crate) fn outside() -> Suite {
-        Suite::new(0, None, None, None)
-    }
-
     /// Takes another first line of the suite.
     pub(crate) fn join(&mut self, test_count: Option<u128>) -> Result<(), RunError> {
         self.open_lines = one_more(self.open_lines)?;
@@ -122,7 +116,7 @@ impl Suite {
         Ok(())
     }
 
-    /// Takes a last line of the suite. Returns true if it has as many of them as first lines.
+    /// Takes a last line of the suite. Returns true if the suite now has as many last lines as first lines.
     pub(crate) fn on_last_line(&mut self, end: SuiteEnd<'_>) -> Result<bool, RunError> {
         self.said = self.said.with_line(end)?;
         self.open_lines = self.open_lines.saturating_sub(1);
@@ -134,11 +128,9 @@ impl Suite {
         self.prints.on_line(printed);
     }
 
-    /// Takes the written name of a test of the suite.
+    /// Takes the name in a line of a test of the suite.
     pub(crate) fn on_name(&mut self, name: &str) {
-        if self.first_test.is_none() {
-            self.first_test = Some(String::from(name));
-        }
+        self.name.take_test(name);
     }
 
     /// Takes the start of a test.
@@ -149,43 +141,23 @@ impl Suite {
     }
 
     /// Returns the name of the suite, or `None` for the tests outside of a suite.
-    pub(crate) fn name(&self) -> Option<String> {
-        if self.number == 0 {
-            return None;
-        }
-        if let Some(name) = self.given_name() {
-            return Some(String::from(name));
-        }
-        let number = self.number;
-        Some(format!("suite {number}"))
+    pub(crate) fn shown_name(&self) -> Option<String> {
+        self.name.shown()
     }
 
-    /// Returns the name of the suite that its lines give: its key, or else the heading, or else what
-    /// comes before the first `$` of its first test.
-    fn given_name(&self) -> Option<&str> {
-        if let Some(key) = &self.key {
-            return Some(key.as_str());
-        }
-        if let Some(heading) = &self.heading {
-            return Some(heading.as_str());
-        }
-        let (name, _) = self.first_test.as_ref()?.split_once('$')?;
-        Some(name)
-    }
-
-    /// Returns true if the suite has this key, or no key.
+    /// Returns true if the suite has this key, or has no key if `key` is `None`.
     pub(crate) fn has_key(&self, key: Option<&str>) -> bool {
-        match (&self.key, key) {
+        match (&self.name.key, key) {
             (Some(own), Some(key)) => own.as_str() == key,
             (None, None) => true,
             _ => false,
         }
     }
 
-    /// Returns what becomes known of a test of the suite.
+    /// Returns the note of a test of the suite.
     pub(crate) fn note(&self, test: OverTest, outcome: TestOutcome) -> Note {
         Note::Test(TestNote {
-            suite: self.name(),
+            suite: self.shown_name(),
             name: test.name,
             attempts: test.attempts,
             time: test.time,
@@ -199,7 +171,7 @@ impl Suite {
         self.stats.finished_count.saturating_sub(self.stats.passed)
     }
 
-    /// Returns the numbers of tests of the suite. `left` tests are running.
+    /// Returns the numbers of tests of the suite. `left` is the number of running tests.
     pub(crate) fn tally(&self, left: usize) -> Result<Tally, RunError> {
         let flaky = self.flaky.len();
         let passed = self

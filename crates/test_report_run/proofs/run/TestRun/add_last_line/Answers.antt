@@ -12,5 +12,6 @@ pub returns-clause-takes : goal.returns-clause-takes
 returns-clause-takes c =
     let inside : c.args.at < length c.args.self.now.suites.items = grind (arith, common_steps) in
     on_ok_weaker c.on_last_line.result
-    (with_suite-at (run_state c.args.self.now) _ c.args.self.now.suites.items c.args.at (Some c.args.at) c.index_mut.result.now c.on_last_line.new.self
-    (λ s. with_line s (suite_end_view c.args.end)) refl refl inside refl c.index_mut.ensures.value) c.on_last_line.ensures.takes
+    (with_suite-at (run_state c.args.self.now) _ c.args.self.now.suites.items c.args.at (Some c.args.at) c.index_mut.result.now
+    c.deref_mut.result.now c.on_last_line.new.self
+    (λ s. with_line s (suite_end_view c.args.end)) refl refl inside refl c.index_mut.ensures.value c.deref_mut.ensures.value) c.on_last_line.ensures.takes

@@ -16,6 +16,8 @@ returns-in-Some-clause-takes c =
     let test = running_test_view c.args.test in
     let inside : c.in-Some.at < length c.args.self.now.suites.items = grind (arith, common_steps) in
     on_ok_weaker c.on_end.result
-    (with_suite-at r _ c.args.self.now.suites.items c.in-Some.at (place_of_number r c.args.test.suite) c.index_mut.result.now c.on_end.new.self
-    (λ s. after_end s (running_over r e test c.args.attempts) test.order e) refl refl inside c.in-Some.ensures c.index_mut.ensures.value)
+    (with_suite-at r _ c.args.self.now.suites.items c.in-Some.at (place_of_number r c.args.test.suite) c.index_mut.result.now c.deref_mut.result.now
+    c.on_end.new.self
+    (λ s. after_end s (running_over r e test c.args.attempts) test.order e) refl refl inside c.in-Some.ensures c.index_mut.ensures.value
+    c.deref_mut.ensures.value)
     c.on_end.ensures.takes

@@ -10,5 +10,7 @@ pub returns-in_ok-on_start-in-Some-clause-counts : goal.returns-in_ok-on_start-i
 returns-in_ok-on_start-in-Some-clause-counts c =
     let r = run_state c.args.self.now in
     let inside : c.in-Some.at < length c.args.self.now.suites.items = grind (arith, common_steps) in
-    with_suite-at r _ c.args.self.now.suites.items c.in-Some.at (suite_place r c.args.name.now) c.index_mut-suite.result.now c.on_start.new.self
-    (λ s. with_start s c.args.name.now) refl refl inside c.in-Some.ensures c.index_mut-suite.ensures.value c.in_ok-on_start-in-Some.ensures
+    with_suite-at r _ c.args.self.now.suites.items c.in-Some.at (suite_place r c.args.name.now) c.index_mut-suite.result.now c.deref_mut.result.now
+    c.on_start.new.self
+    (λ s. with_start s c.args.name.now) refl refl inside c.in-Some.ensures c.index_mut-suite.ensures.value c.deref_mut.ensures.value
+    c.in_ok-on_start-in-Some.ensures

@@ -14,23 +14,24 @@ pub returns-in-Some-clause-takes : goal.returns-in-Some-clause-takes
 returns-in-Some-clause-takes c =
     let r = run_state c.args.self.now in
     let e = test_end_view c.args.name.now c.args.end c.args.details in
-    let s = state_of c.index_mut.result.now in
+    let s = state_of c.deref_mut.result.now in
     let over : List ℕ → OverView = λ name. record (stray_over r e) { name = name } in
     let inside : c.in-Some.at < length c.args.self.now.suites.items = grind (arith, common_steps) in
     on_ok_weaker c.on_stray_end.result
-    (with_suite-at r _ c.args.self.now.suites.items c.in-Some.at (suite_place r c.args.name.now) c.index_mut.result.now c.on_stray_end.new.self
-    (λ s. after_stray s (stray_over r e) e) refl refl inside c.in-Some.ensures c.index_mut.ensures.value)
+    (with_suite-at r _ c.args.self.now.suites.items c.in-Some.at (suite_place r c.args.name.now) c.index_mut.result.now c.deref_mut.result.now
+    c.on_stray_end.new.self
+    (λ s. after_stray s (stray_over r e) e) refl refl inside c.in-Some.ensures c.index_mut.ensures.value c.deref_mut.ensures.value)
     (IfOk-equal c.on_stray_end.result _ _ _ c.on_stray_end.ensures.takes (ap (λ name. after_stray s (over name) e) c.in_ok-from_str.ensures.ok))
 
 pub returns-in-Some-clause-tells : goal.returns-in-Some-clause-tells
 returns-in-Some-clause-tells c =
     let r = run_state c.args.self.now in
     let e = test_end_view c.args.name.now c.args.end c.args.details in
-    let s = state_of c.index_mut.result.now in
+    let s = state_of c.deref_mut.result.now in
     let notes = map note_view c.args.notes.now.items in
     let over : List ℕ → OverView = λ name. record (stray_over r e) { name = name } in
     let inside : c.in-Some.at < length c.args.self.now.suites.items = grind (arith, common_steps) in
     let place = suite-at r c.args.self.now.suites.items c.in-Some.at (suite_place r c.args.name.now) c.index_mut.result.now refl inside c.in-Some.ensures
-    c.index_mut.ensures.value in
+    c.index_mut.ensures.value ∙ sym (ap state_of c.deref_mut.ensures.value) in
     IfOk-equal c.on_stray_end.result _ _ _ c.on_stray_end.ensures.tells
     (ap (λ name. notes ++ stray_notes s (over name) e) c.in_ok-from_str.ensures.ok ∙ ap (λ s. notes ++ stray_notes s (stray_over r e) e) (sym place))

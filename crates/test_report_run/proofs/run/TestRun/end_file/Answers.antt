@@ -1,5 +1,5 @@
 -- The open suites end early, and then the tests outside of a suite.
-use Rattle.std.proofs.Common.{◌≡◌, ◌∙◌, [], Global, List, None, Vec, ap, arith, map, map-id, sym}
+use Rattle.std.proofs.Common.{◌≡◌, ◌∙◌, [], Box, Global, List, None, Vec, ap, arith, map, map-id, sym}
 use Rattle.std.specs.List.{fold}
 use Rattle.std.proofs.lemmas.Iterator.Consumers.{YieldsList-end}
 use Rattle.std.proofs.lemmas.Iterator.Adapters.{YieldsList-from_vec}
@@ -8,7 +8,7 @@ use Rattle.test_report_run.specs.Run.{RunState, Step, ended_early, learned, run_
 use Rattle.test_report_run.specs.Suite.{SuiteState, outside_start, state_of}
 use Rattle.test_report_run.specs.declared.note.Note.{Note}
 use Rattle.test_report_run.specs.declared.suite.Suite.{Suite}
-use Rattle.test_report_run.proofs.Runs.{file-end}
+use Rattle.test_report_run.proofs.Runs.{boxed_state, file-end}
 use Rattle.test_report_run.proofs.run.TestRun.end_file.Goals as goal
 
 pub returns-clause-tells : goal.returns-clause-tells
@@ -19,8 +19,9 @@ returns-clause-tells c =
     let end = YieldsList-end (YieldsList-from_vec given.items gives.0 (omega (arith, gives.1, given.ok))) c.loop-suite.yielded _ c.loop-suite.yielded_by
     _ c.next.new.self c.in-None.is c.next.ensures.steps in
     let all : c.loop-suite.yielded ≡ c.args.self.now.suites.items =
-    sym (map-id c.loop-suite.yielded) ∙ end.0 ∙ ap (λ (v : Vec Suite Global). v.items) c.replace-suite-items.ensures.value in
-    let suites = c.loop-suite.invariant ∙ ap (λ (xs : List Suite). fold ended_early (step (record r { suites = [] }) []) (map state_of xs)) all in
+    sym (map-id c.loop-suite.yielded) ∙ end.0 ∙ ap (λ (v : Vec (Box Suite Global) Global). v.items) c.replace-suite-items.ensures.value in
+    let suites = c.loop-suite.invariant ∙ ap (λ (xs : List (Box Suite Global)). fold ended_early (step (record r { suites = [] }) [])
+    (map boxed_state xs)) all in
     let outside : state_of c.replace-outside.new.dest ≡ outside_start = ap state_of c.replace-outside.ensures.after ∙ c.outside.ensures in
     let end = file-end r _ _ _ _ (state_of c.replace-outside.result) suites (ap state_of c.replace-outside.ensures.value) (c.in_ok-end_early-2.ensures
     ∙ ap (λ (o : SuiteState). ended_early (step (record (run_state c.loop-suite.self) { outside = o }) (map note_view c.loop-suite.notes.items))
@@ -35,8 +36,9 @@ returns-clause-takes c =
     let end = YieldsList-end (YieldsList-from_vec given.items gives.0 (omega (arith, gives.1, given.ok))) c.loop-suite.yielded _ c.loop-suite.yielded_by
     _ c.next.new.self c.in-None.is c.next.ensures.steps in
     let all : c.loop-suite.yielded ≡ c.args.self.now.suites.items =
-    sym (map-id c.loop-suite.yielded) ∙ end.0 ∙ ap (λ (v : Vec Suite Global). v.items) c.replace-suite-items.ensures.value in
-    let suites = c.loop-suite.invariant ∙ ap (λ (xs : List Suite). fold ended_early (step (record r { suites = [] }) []) (map state_of xs)) all in
+    sym (map-id c.loop-suite.yielded) ∙ end.0 ∙ ap (λ (v : Vec (Box Suite Global) Global). v.items) c.replace-suite-items.ensures.value in
+    let suites = c.loop-suite.invariant ∙ ap (λ (xs : List (Box Suite Global)). fold ended_early (step (record r { suites = [] }) [])
+    (map boxed_state xs)) all in
     let outside : state_of c.replace-outside.new.dest ≡ outside_start = ap state_of c.replace-outside.ensures.after ∙ c.outside.ensures in
     let end = file-end r _ _ _ _ (state_of c.replace-outside.result) suites (ap state_of c.replace-outside.ensures.value) (c.in_ok-end_early-2.ensures
     ∙ ap (λ (o : SuiteState). ended_early (step (record (run_state c.loop-suite.self) { outside = o }) (map note_view c.loop-suite.notes.items))

@@ -11,5 +11,6 @@ pub returns : goal.returns
 returns c =
     let inside : c.args.at < length c.args.self.now.suites.items = grind (arith, common_steps) in
     on_ok_weaker c.join.result
-    (with_suite-at (run_state c.args.self.now) _ c.args.self.now.suites.items c.args.at (Some c.args.at) c.index_mut.result.now c.join.new.self
-    (λ s. joined s c.args.test_count) refl refl inside refl c.index_mut.ensures.value) c.join.ensures
+    (with_suite-at (run_state c.args.self.now) _ c.args.self.now.suites.items c.args.at (Some c.args.at) c.index_mut.result.now
+    c.deref_mut.result.now c.join.new.self
+    (λ s. joined s c.args.test_count) refl refl inside refl c.index_mut.ensures.value c.deref_mut.ensures.value) c.join.ensures

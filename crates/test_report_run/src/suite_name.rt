@@ -1,0 +1,141 @@
+//! The name of a suite.
+
+ghost use Rattle.std.specs.Prelude.{◌≡◌, ◌++◌, ◌==◌, IfOk, OnOk, None, Some, codes, if◌then◌else◌, option_and_then, option_map, unwrap_or};
+ghost use Rattle.std.specs.Fmt.{decimal};
+ghost use Rattle.std.specs.Option.{option_or};
+ghost use Rattle.test_report_run.specs.Name.{given_by, name_by};
+ghost use Rattle.test_report_run.specs.Note.{text_view};
+
+use std::alloc::{AllocError, Global};
+
+/// The number and the texts that can name a suite, and the name that they give it. The name is made once,
+/// because each note of a test has a copy of it.
+#[derive(Drop)]
+pub(crate) struct SuiteName {
+    /// The number of the suite, from 1 on in the order of first lines. It is 0 for the tests outside of a
+    /// suite.
+    pub(crate) number: usize,
+
+    /// The key of the suite.
+    pub(crate) key: Option<String>,
+
+    /// The last heading before the suite started.
+    pub(crate) heading: Option<String>,
+
+    /// The name in the first line of a test of the suite.
+    pub(crate) first_test: Option<String>,
+
+    /// The name of the suite, or `None` for the tests outside of a suite.
+    shown: Option<String>,
+
+    ghost shows: { text_view shown ≡ name_by number (text_view key) (text_view heading) (text_view first_test) },
+}
+
+impl SuiteName {
+    /// Returns the name of the tests outside of a suite.
+    pub(crate) fn outside() -> SuiteName
+        ensures number { result.number ≡ 0 }
+        ensures key { text_view result.key ≡ None }
+        ensures heading { text_view result.heading ≡ None }
+        ensures first_test { text_view result.first_test ≡ None }
+    {
+        SuiteName {
+            number: 0,
+            key: None,
+            heading: None,
+            first_test: None,
+            shown: None,
+        }
+    }
+
+    /// Returns the name of a suite before its first test.
+    pub(crate) fn new(
+        alloc: Global,
+        number: usize,
+        key: Option<String>,
+        heading: Option<String>,
+    ) -> Result<SuiteName, AllocError>
+        ensures number { IfOk result (λ name. name.number ≡ number) }
+        ensures key { IfOk result (λ name. text_view name.key ≡ text_view key) }
+        ensures heading { IfOk result (λ name. text_view name.heading ≡ text_view heading) }
+        ensures first_test { IfOk result (λ name. text_view name.first_test ≡ None) }
+    {
+        let shown = shown_name(alloc, number, given_name(&key, &heading, &None))?;
+        Ok(SuiteName {
+            number,
+            key,
+            heading,
+            first_test: None,
+            shown,
+        })
+    }
+
+    /// Takes the name in a line of a test of the suite.
+    pub(crate) fn take_test(&mut self, alloc: Global, name: &str) -> Result<(), AllocError>
+        ensures number { self.new.number ≡ self.old.number }
+        ensures key { text_view self.new.key ≡ text_view self.old.key }
+        ensures heading { text_view self.new.heading ≡ text_view self.old.heading }
+        ensures first_test { OnOk result (text_view self.new.first_test
+            ≡ option_or (text_view self.old.first_test) (Some name.now)) }
+    {
+        if self.first_test.is_some() {
+            return Ok(());
+        }
+        let first_test = Some(String::from_str(alloc, name)?);
+        let given = given_name(&self.key, &self.heading, &first_test);
+        let shown = shown_name(alloc, self.number, given)?;
+        self.first_test = first_test;
+        self.shown = shown;
+        Ok(())
+    }
+
+    /// Returns a copy of the name, or `None` for the tests outside of a suite.
+    pub(crate) fn shown(&self, alloc: Global) -> Result<Option<String>, AllocError>
+        ensures { IfOk result (λ shown. text_view shown ≡ name_by self.now.number
+            (text_view self.now.key) (text_view self.now.heading) (text_view self.now.first_test)) }
+    {
+        match &self.shown {
+            Some(shown) => Ok(Some(shown.clone()?)),
+            None => Ok(None),
+        }
+    }
+}
+
+/// Returns the name that texts give a suite: its key, or else the heading, or else the part of its first
+/// test's name before the first `$`.
+fn given_name<'a>(
+    key: &'a Option<String>,
+    heading: &'a Option<String>,
+    first_test: &'a Option<String>,
+) -> Option<&'a str>
+    ensures { option_map (λ name. name.now) result
+        ≡ given_by (text_view key.now) (text_view heading.now) (text_view first_test.now) }
+{
+    if let Some(key) = key {
+        return Some(key.as_str());
+    }
+    if let Some(heading) = heading {
+        return Some(heading.as_str());
+    }
+    let (name, _) = first_test.as_ref()?.split_once('$')?;
+    Some(name)
+}
+
+/// Returns the name of a suite: the given one, or else `suite` and its number. The tests outside of a suite
+/// have none.
+fn shown_name(
+    alloc: Global,
+    number: usize,
+    given: Option<&str>,
+) -> Result<Option<String>, AllocError>
+    ensures { IfOk result (λ shown. text_view shown ≡ (if number == 0 then None
+        else Some (unwrap_or (option_map (λ name. name.now) given.entry) (codes "suite " ++ decimal number)))) }
+{
+    if number == 0 {
+        return Ok(None);
+    }
+    if let Some(name) = given {
+        return Ok(Some(String::from_str(alloc, name)?));
+    }
+    Ok(Some(format!(in alloc; "suite {number}")?))
+}
