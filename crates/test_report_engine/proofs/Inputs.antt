@@ -1,6 +1,6 @@
 -- What a report reads of an input.
 use Rattle.std.proofs.Common.{◌≡◌, ◌∙◌, ◌-◌, ◌<◌, ℕ, List, [], ◌∷◌, ◌++◌, Option, ap, append_assoc, arith, drop, length, map, refl, subst, sym, take}
-use Rattle.std.specs.Prelude.{◌==◌, slice_index, true}
+use Rattle.std.specs.Prelude.{◌==◌, Bool, false, slice_index, true}
 use Rattle.test_report_events.specs.Event.{EventView}
 use Rattle.test_report_events.specs.Laws.{OneEventOfLine}
 use Rattle.test_report_events.specs.Line.{LineSays}
@@ -284,3 +284,7 @@ module _ (one-event-of-line : OneEventOfLine) (one_entry : OneEntry) {F : Type 0
             leads-then line last Knows old mid new x y z takes.done (with_feed front) b m w takes.leads
             (leads-line mid new y z front line_then m w is none line_one read);
       }
+
+-- bytes that are not empty
+pub some-bytes : (bytes : List ℕ) (is_empty : Bool) → is_empty ≡ (length bytes == 0) → is_empty ≡ false → 0 < length bytes
+some-bytes bytes is_empty is some = grind arith

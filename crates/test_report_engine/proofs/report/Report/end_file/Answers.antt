@@ -1,6 +1,6 @@
 use Rattle.std.proofs.Common.{arith, length, ◌<◌, [], ap}
 use Rattle.std.proofs.lemmas.Result.{on_ok_weaker}
-use Rattle.test_report_engine.proofs.Inputs.{EndsAs, end-read, end-start, ends-line, ends-none, input-end-start, input-line-start, input-none, last-start}
+use Rattle.test_report_engine.proofs.Inputs.{EndsAs, end-read, end-start, ends-line, ends-none, input-end-start, input-line-start, input-none, last-start, some-bytes}
 use Rattle.test_report_engine.proofs.Notes.{on_err, on_err_weaker}
 use Rattle.test_report_engine.proofs.report.Report.end_file.Goals as goal
 use Rattle.test_report_engine.proofs.report.Report.end_file.Goals.{then-not-is_empty+in_ok-on_line, else-not-is_empty}
@@ -19,7 +19,7 @@ returns-in_err-notes-clause-starts g c =
     elim c.if-not-is_empty.branch [
       | then-not-is_empty+in_ok-on_line w ↦
           ends-line c.one_event_of_line.ensures c.one_entry.ensures g.F.Form.line g.F.Form.last g.F.Form.Knows _ w.on_line.new.self
-          _ _ _ _ _ c.requires.one_line (grind arith) w.in_ok-on_line.ensures.reads w.self-is
+          _ _ _ _ _ c.requires.one_line (some-bytes _ _ c.is_empty.ensures w.if-not-is_empty.true) w.in_ok-on_line.ensures.reads w.self-is
           (ap g.W.Sink.written w.sink-is)
       | else-not-is_empty w ↦ ends-none g.F.Form.line g.F.Form.last g.F.Form.Knows _ _ _ _ _ (grind arith) w.self-is (ap g.W.Sink.written w.sink-is)
     ] in
@@ -32,7 +32,7 @@ returns-clause-starts g c =
     elim c.if-not-is_empty.branch [
       | then-not-is_empty+in_ok-on_line w ↦
           ends-line c.one_event_of_line.ensures c.one_entry.ensures g.F.Form.line g.F.Form.last g.F.Form.Knows _ w.on_line.new.self
-          _ _ _ _ _ c.requires.one_line (grind arith) w.in_ok-on_line.ensures.reads w.self-is
+          _ _ _ _ _ c.requires.one_line (some-bytes _ _ c.is_empty.ensures w.if-not-is_empty.true) w.in_ok-on_line.ensures.reads w.self-is
           (ap g.W.Sink.written w.sink-is)
       | else-not-is_empty w ↦ ends-none g.F.Form.line g.F.Form.last g.F.Form.Knows _ _ _ _ _ (grind arith) w.self-is (ap g.W.Sink.written w.sink-is)
     ] in
@@ -48,7 +48,7 @@ returns-clause-reads g c =
     elim c.if-not-is_empty.branch [
       | then-not-is_empty+in_ok-on_line w ↦
           ends-line c.one_event_of_line.ensures c.one_entry.ensures g.F.Form.line g.F.Form.last g.F.Form.Knows _ w.on_line.new.self
-          _ _ _ _ _ c.requires.one_line (grind arith) w.in_ok-on_line.ensures.reads w.self-is
+          _ _ _ _ _ c.requires.one_line (some-bytes _ _ c.is_empty.ensures w.if-not-is_empty.true) w.in_ok-on_line.ensures.reads w.self-is
           (ap g.W.Sink.written w.sink-is)
       | else-not-is_empty w ↦ ends-none g.F.Form.line g.F.Form.last g.F.Form.Knows _ _ _ _ _ (grind arith) w.self-is (ap g.W.Sink.written w.sink-is)
     ] in
