@@ -1,6 +1,6 @@
 //! The place of a failure in the sources.
 
-ghost use Rattle.std.specs.Prelude.{◌≡◌, ◌==◌, ◌<◌, Option, length, option_and_then, option_map};
+ghost use Rattle.std.specs.Prelude.{◌≡◌, ◌==◌, ◌<◌, Option, length, option_and_then, option_map, unwrap_or};
 ghost use Rattle.std.specs.Char.{is_ascii_digit};
 ghost use Rattle.std.specs.List.{after_first, after_last, list_all};
 ghost use Rattle.std.specs.Str.Lines.{strip_carriage_return};
@@ -112,8 +112,25 @@ fn said(message: &str) -> Option<Place<'_>>
     parsed(place)
 }
 
-/// Returns the last line of a text.
+/// Returns the last line of a text, without the line feed that may end it and a carriage return before that.
 fn last_line(text: &str) -> &str
+    ensures { result.now ≡ spec.last_line text.now }
+{
+    without_return(after_feeds(without_feed(text)))
+}
+
+/// Returns a text without the line feed at its end.
+fn without_feed(text: &str) -> &str
+    ensures { result.now ≡ unwrap_or (spec.without_last 10 text.now) text.now }
+{
+    match without_last(text, '\n') {
+        Some(lines) => lines,
+        None => text,
+    }
+}
+
+/// Returns what follows the last line feed of a text, or the whole text if it has no line feed.
+fn after_feeds(text: &str) -> &str
     ensures { result.now ≡ after_last (λ b. b == 10) text.now }
 {
     match text.rsplit_once('\n') {

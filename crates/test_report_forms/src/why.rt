@@ -2,7 +2,6 @@
 
 ghost use Rattle.std.specs.Prelude.{◌≡◌, ◌==◌, ◌++◌, ◌∷◌, ℕ, IfOk, List, OnOk, Option, Some, drop, if◌then◌else◌, length, map, option_and_then, option_map, option_to_list, string_bytes};
 ghost use Rattle.std.specs.List.{join_with_byte};
-ghost use Rattle.std.specs.Str.Lines.{strip_carriage_return};
 ghost use Rattle.std.specs.Str.Lossy.{utf8_lossy};
 ghost use Rattle.output_slice.specs.Extraction.{Extract, IsExtract};
 ghost use Rattle.output_slice.specs.Shown.{extract_of};
@@ -310,7 +309,8 @@ fn found_text(alloc: Global, found: &TestOutputErrorSlice<'_>) -> Result<Option<
     }
 }
 
-/// Returns the last lines of a text that are not blank, if there are such lines.
+/// Returns the last lines of a text that are not blank, or `None` if all are blank. The line feed at the end is
+/// left out, and so is a carriage return before it.
 fn last_lines(alloc: Global, text: &str) -> Result<Option<String>, AllocError>
     ensures { IfOk result (λ last. option_map string_bytes last ≡ spec.last_lines text.now) }
 {
@@ -318,7 +318,11 @@ fn last_lines(alloc: Global, text: &str) -> Result<Option<String>, AllocError>
     if count == 0 {
         return Ok(None);
     }
-    Ok(Some(lines_after(alloc, text, count.saturating_sub(LAST_LINES))?))
+    let lines = lines_after(alloc, text, count.saturating_sub(LAST_LINES))?;
+    Ok(Some(String::from_str(
+        alloc,
+        without_return(lines.as_str()),
+    )?))
 }
 
 /// Returns true for a line of white space alone.
@@ -338,7 +342,7 @@ fn written_count(text: &str) -> usize
 /// Returns the lines that are not blank, without the first `skipped` of them.
 fn lines_after(alloc: Global, text: &str, skipped: usize) -> Result<String, AllocError>
     ensures { IfOk result (λ last. string_bytes last
-        ≡ join_with_byte 10 (map strip_carriage_return (drop skipped (spec.written_lines text.now)))) }
+        ≡ join_with_byte 10 (drop skipped (spec.written_lines text.now))) }
 {
     let mut last = String::new(alloc);
     let mut left = skipped;
@@ -351,7 +355,7 @@ fn lines_after(alloc: Global, text: &str, skipped: usize) -> Result<String, Allo
             left -= 1;
             continue;
         }
-        push_part(&mut last, without_return(line), is_first)?;
+        push_part(&mut last, line, is_first)?;
         is_first = false;
     }
     Ok(last)

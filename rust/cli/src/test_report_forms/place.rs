@@ -83,8 +83,21 @@ fn said(message: &str) -> Option<Place<'_>> {
     parsed(place)
 }
 
-/// Returns the last line of a text.
+/// Returns the last line of a text, without the line feed that may end it and a carriage return before that.
 fn last_line(text: &str) -> &str {
+    without_return(after_feeds(without_feed(text)))
+}
+
+/// Returns a text without the line feed at its end.
+fn without_feed(text: &str) -> &str {
+    match without_last(text, '\n') {
+        Some(lines) => lines,
+        None => text,
+    }
+}
+
+/// Returns what follows the last line feed of a text, or the whole text if it has no line feed.
+fn after_feeds(text: &str) -> &str {
     match text.rsplit_once('\n') {
         Some((_, line)) => line,
         None => text,

@@ -216,13 +216,15 @@ fn found_text(found: &TestOutputErrorSlice<'_>) -> Option<String> {
         .map(|part| String::from_utf8_lossy(part.slice).into_owned())
 }
 
-/// Returns the last lines of a text that are not blank, if there are such lines.
+/// Returns the last lines of a text that are not blank, or `None` if all are blank. The line feed at the end is
+/// left out, and so is a carriage return before it.
 fn last_lines(text: &str) -> Option<String> {
     let count = written_count(text);
     if count == 0 {
         return None;
     }
-    Some(lines_after(text, count.saturating_sub(LAST_LINES)))
+    let lines = lines_after(text, count.saturating_sub(LAST_LINES));
+    Some(String::from(without_return(lines.as_str())))
 }
 
 /// Returns true for a line of white space alone.
@@ -248,7 +250,7 @@ fn lines_after(text: &str, skipped: usize) -> String {
             left -= 1;
             continue;
         }
-        push_part(&mut last, without_return(line), is_first);
+        push_part(&mut last, line, is_first);
         is_first = false;
     }
     last
