@@ -215,6 +215,18 @@ impl JunitForm {
         self.close(alloc, own, None)
     }
 
+    /// Adds the suites that no entry has ended to those that are over.
+    fn close_all(&mut self, alloc: Global) -> Result<(), AllocError>
+        ensures state { OnOk result (junit_view self.new ≡ spec.all_over (junit_view self.old)) }
+        ensures options { self.new.options ≡ self.old.options }
+    {
+        let open = std::mem::replace(&mut self.suites, Vec::new(alloc));
+        for suite in open {
+            self.close(alloc, suite, None)?;
+        }
+        Ok(())
+    }
+
     /// Returns the tree.
     #[tactic(auto, unfolding(crate::specs::Junit::ended))]
     fn tree(&mut self, alloc: Global, end: &RunEnd) -> Result<Element, AllocError>
@@ -250,6 +262,7 @@ impl Form for JunitForm {
     }
 
     fn on_end(&mut self, alloc: Global, end: &RunEnd, text: &mut String) -> Result<(), AllocError> {
+        self.close_all(alloc)?;
         let tree = self.tree(alloc, end)?.into_node();
         push_document(text, &tree)
     }

@@ -140,6 +140,14 @@ impl JunitForm {
         self.close(own, None);
     }
 
+    /// Adds the suites that no entry has ended to those that are over.
+    fn close_all(&mut self) {
+        let open = std::mem::take(&mut self.suites);
+        for suite in open {
+            self.close(suite, None);
+        }
+    }
+
     /// Returns the tree.
     fn tree(&mut self, end: &RunEnd) -> Element {
         let no_tests = matches!(end.outcome, RunOutcome::NoTestsRun) && !self.options.no_tests_pass;
@@ -155,6 +163,7 @@ impl Form for JunitForm {
     }
 
     fn on_end(&mut self, end: &RunEnd, text: &mut String) {
+        self.close_all();
         let tree = self.tree(end).into_node();
         push_document(text, &tree);
     }
