@@ -29,7 +29,7 @@ use test_report_run::note::{Failure, FailureKind, RunEnd, SuiteNote, TestNote};
 /// The name of the run, and of the suite of causes that name no suite.
 const OWN_NAME: &str = "test-report";
 
-/// What is said of a run without tests.
+/// The line of a run in which no test ran.
 const NO_TESTS: &str = "no test ran";
 
 /// The form for build servers: a tree of suites and test cases, written at the end.
@@ -43,7 +43,7 @@ pub struct JunitForm {
 }
 
 impl JunitForm {
-    /// Returns the form before the first note.
+    /// Returns the form before the first entry.
     pub fn new(alloc: Global, options: Options) -> Result<JunitForm, AllocError>
         ensures nothing { IfOk result (λ f. junit_view f ≡ spec.junit_start) }
         ensures options { IfOk result (λ f. f.options ≡ options) }
@@ -227,7 +227,7 @@ impl JunitForm {
         Ok(())
     }
 
-    /// Returns the tree.
+    /// Returns the element of the run, with the suites that are over.
     #[tactic(auto, unfolding(crate::specs::Junit::ended))]
     fn tree(&mut self, alloc: Global, end: &RunEnd) -> Result<Element, AllocError>
         ensures { IfOk result (λ e. element_view e ≡ spec.ended self.old.options (junit_view self.old) end.now) }
