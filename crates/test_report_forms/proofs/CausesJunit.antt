@@ -5,7 +5,7 @@ use Rattle.std.specs.Str.{chars}
 use Rattle.test_report_forms.proofs.CausesHtml.{Says, in-element, line-has, line-kept}
 use Rattle.test_report_forms.proofs.Parts.{OneHas, in-left, in-right, whole-part}
 use Rattle.test_report_forms.specs.Collected.{no_tests_ran}
-use Rattle.test_report_forms.specs.Junit.{JunitState, cause_case, close_cases, ended, junit_state, junit_text, junit_tree, own_cases, run_element, with_own, xml_header}
+use Rattle.test_report_forms.specs.Junit.{JunitState, all_over, cause_case, close_cases, ended, junit_state, junit_text, junit_tree, own_cases, run_element, with_own, xml_header}
 use Rattle.test_report_forms.specs.JunitSuite.{CasesView, suite_element, suite_start, with_lines, xml_text}
 use Rattle.test_report_forms.specs.Laws.{HasPart, JunitSaysNoTests}
 use Rattle.test_report_forms.specs.Tree.{ElementView, new_element, start_text, text_of_tree, tree_of, value_text, with_attribute, with_line}
@@ -56,7 +56,7 @@ no-tests-case own =
     last-has (Has (codes "no test ran")) own.cases case.element
     (subst (λ part. Has part case.element) shown (name-in-case (codes "no test ran") (codes "no tests")))
 
-both-true : (a b : Bool) → a ≡ true → b ≡ false → (a && not b) ≡ true
+pub both-true : (a b : Bool) → a ≡ true → b ≡ false → (a && not b) ≡ true
 both-true true false p q = refl
 both-true true true p q = sym q
 both-true false b p q = p
@@ -70,4 +70,4 @@ ended-has o j end p q =
 
 pub junit-says-no-tests : JunitSaysNoTests
 unfolding junit_text junit_tree
-junit-says-no-tests o entries end p q = in-right xml_header (in-left (codes "\n") (ended-has o (junit_state o entries) end p q))
+junit-says-no-tests o entries end p q = in-right xml_header (in-left (codes "\n") (ended-has o (all_over (junit_state o entries)) end p q))

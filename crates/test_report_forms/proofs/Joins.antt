@@ -4,7 +4,6 @@ use Rattle.std.proofs.lemmas.Bool.Decides.{nat_tests}
 use Rattle.std.proofs.lemmas.List.{drop-append-le, length-map, map-append, take_more}
 use Rattle.std.proofs.lemmas.List.Elements.{filter-append}
 use Rattle.std.specs.List.{join_with_byte}
-use Rattle.std.specs.Str.Lines.{strip_carriage_return}
 use Rattle.test_report_run.specs.Prints.{is_blank}
 
 -- one more part
@@ -33,11 +32,11 @@ join-turn c v xs i x low is =
 pub record AreLinesAfter (skipped left : ℕ) (first : Bool) (lines : List (List ℕ)) (text : List ℕ) : Type 0 where
   pub left_is : left ≡ skipped - length (filter (λ line. not (is_blank line)) lines)
   pub first_is : first ≡ (length (drop skipped (filter (λ line. not (is_blank line)) lines)) == 0)
-  pub text_is : text ≡ join_with_byte 10 (map strip_carriage_return (drop skipped (filter (λ line. not (is_blank line)) lines)))
+  pub text_is : text ≡ join_with_byte 10 (drop skipped (filter (λ line. not (is_blank line)) lines))
 
 pub lines-turn : (skipped left : ℕ) (first : Bool) (lines : List (List ℕ)) (text line : List ℕ) → AreLinesAfter skipped left first lines text
     → left ≤ 0 → is_blank line ≡ false
-    → AreLinesAfter skipped left false (lines ++ (line ∷ [])) (text ++ cond first (strip_carriage_return line) (10 ∷ strip_carriage_return line))
+    → AreLinesAfter skipped left false (lines ++ (line ∷ [])) (text ++ cond first line (10 ∷ line))
 lines-turn skipped left first lines text line h none other =
     let p : List ℕ → Bool = λ l. not (is_blank l) in
     let kept = filter p lines in
@@ -45,16 +44,13 @@ lines-turn skipped left first lines text line h none other =
     filter-append p lines (line ∷ []) ∙ ap (λ b. kept ++ cond (not b) (line ∷ []) []) other in
     let behind : drop skipped (filter p (lines ++ (line ∷ []))) ≡ drop skipped kept ++ (line ∷ []) =
     ap (drop skipped) all ∙ drop-append-le skipped kept (line ∷ []) (omega (arith, h.left_is)) in
-    let first_now : first ≡ (length (map strip_carriage_return (drop skipped kept)) == 0) =
-    h.first_is ∙ ap (λ n. n == 0) (sym (length-map (drop skipped kept) strip_carriage_return)) in
     let size : length (drop skipped (filter p (lines ++ (line ∷ [])))) ≡ length (drop skipped kept) + 1 =
     ap length behind ∙ length-append (drop skipped kept) (line ∷ []) in record {
       left_is = omega (arith, h.left_is, ap length all, length-append kept (line ∷ []));
       first_is = grind (arith, nat_tests, size);
       text_is =
-          ap (λ t. t ++ cond first (strip_carriage_return line) (10 ∷ strip_carriage_return line)) h.text_is
-          ∙ sym (join-more 10 (map strip_carriage_return (drop skipped kept)) (strip_carriage_return line) first first_now)
-          ∙ ap (join_with_byte 10) (sym (ap (map strip_carriage_return) behind ∙ map-append strip_carriage_return (drop skipped kept) (line ∷ [])));
+          ap (λ t. t ++ cond first line (10 ∷ line)) h.text_is ∙ sym (join-more 10 (drop skipped kept) line first h.first_is)
+          ∙ ap (join_with_byte 10) (sym behind);
     }
 
 -- three parts that may be there

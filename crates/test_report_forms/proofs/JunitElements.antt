@@ -5,7 +5,7 @@ use Rattle.std.specs.List.{All, find, fold}
 use Rattle.std.specs.Option.{IfSome, option_map_or}
 use Rattle.test_report_forms.specs.Collected.{CauseView, cause_of_entry, no_tests_ran}
 use Rattle.test_report_forms.specs.Entry.{EntryView, LinesDisagree, SuiteNotRun, SuiteOver, TestFailed, TestPassed, TestSkipped}
-use Rattle.test_report_forms.specs.Junit.{JunitState, add_case, add_cause, add_own, added_to, cause_case, close, close_cases, end_suite, ended, failed_case, junit_entry, junit_start, junit_state, or_new, own_cases, passed_case, run_element, run_start, skipped_case, suite_over, with_own, without_first, without_suite}
+use Rattle.test_report_forms.specs.Junit.{JunitState, add_case, add_cause, add_own, added_to, all_over, cause_case, close, close_cases, close_open, end_suite, ended, failed_case, junit_entry, junit_start, junit_state, or_new, own_cases, passed_case, run_element, run_start, skipped_case, suite_over, with_own, without_first, without_suite}
 use Rattle.test_report_forms.specs.JunitSuite.{CaseView, CasesView, is_named, new_suite, suite_element, suite_start, with_case, with_lines}
 use Rattle.test_report_forms.specs.Tree.{ElementView, with_line}
 use Rattle.test_report_forms.specs.Why.{WhyView}
@@ -122,6 +122,13 @@ module _ (P : ElementView → Type 0) (is : Holds P) where
   in-entries limit j [] h = h
   in-entries limit j (e ∷ es) h = in-entries limit (junit_entry limit j e) es (in-entry limit j e h)
 
+  in-closed : (j : JunitState) (ss : List CasesView) → InState j → All In ss → InState (fold close_open j ss)
+  in-closed j [] h are = h
+  in-closed j (s ∷ ss) h are = in-closed (close_open j s) ss (in-close j None s h (All-head In s ss are)) (All-tail In s ss are)
+
+  in-all_over : (j : JunitState) → InState j → InState (all_over j)
+  in-all_over j h = in-closed (record j { suites = [] }) j.suites (record { suites = All-nil In; over = h.over; own = h.own }) h.suites
+
   in-start : InState junit_start
   in-start = record { suites = All-nil In; over = All-nil P; own = All-nil P }
 
@@ -144,5 +151,6 @@ module _ (P : ElementView → Type 0) (is : Holds P) where
       let own = own_cases no_tests j.own in
       in-run (with_own j own) end.time (in-close_cases j own.cases own h (in-own no_tests j.own h.own))
 
-  pub in-junit : (o : Options) (entries : List EntryView) (end : RunEnd) → P (ended o (junit_state o entries) end)
-  in-junit o entries end = in-ended o (junit_state o entries) end (in-entries o.limit junit_start entries in-start)
+  pub in-junit : (o : Options) (entries : List EntryView) (end : RunEnd) → P (ended o (all_over (junit_state o entries)) end)
+  in-junit o entries end =
+      let j = junit_state o entries in in-ended o (all_over j) end (in-all_over j (in-entries o.limit junit_start entries in-start))

@@ -19,6 +19,7 @@ pub mod FormedJunit
 pub mod FormedTrees
 pub mod Heads
 pub mod Joins
+pub mod JunitCases
 pub mod JunitElements
 pub mod Kept
 pub mod Lines

@@ -1,13 +1,13 @@
 -- The numbers of the place of a failure are digits.
 use Rattle.std.proofs.Common.{◌≡◌, ◌==◌, ◌&&◌, refl, sym, subst, ℕ, Bool, true, false, not, List, codes, drop, if◌then◌else◌, length, Option, Some, None}
 use Rattle.std.specs.Char.{is_ascii_digit}
-use Rattle.std.specs.List.{after_last, list_all}
+use Rattle.std.specs.List.{list_all}
 use Rattle.std.specs.Option.{option_or}
 use Rattle.std.specs.Prelude.{option_and_then}
 use Rattle.output_slice.specs.declared.panic_head.HeadSpan.{HeadSpan}
 use Rattle.test_report_forms.proofs.Tests.{and-left, and-right}
 use Rattle.test_report_forms.specs.Entry.{EntryView, IsEntryOf, IsTestEntry, LinesDisagree, SuiteNotRun, SuiteOver, TestFailed, TestPassed, TestSkipped}
-use Rattle.test_report_forms.specs.Place.{Cut, IsFailurePlace, IsPanicPlace, IsPlaceOr, PlaceView, are_digits, documented_place, first_cut, first_line, is_item, item_place, last_cut, line_place, message_place, numbered_place, parsed_place, place_behind, without_last}
+use Rattle.test_report_forms.specs.Place.{Cut, IsFailurePlace, IsPanicPlace, IsPlaceOr, PlaceView, are_digits, documented_place, first_cut, first_line, is_item, item_place, last_cut, last_line, line_place, message_place, numbered_place, parsed_place, place_behind, without_last}
 use Rattle.test_report_forms.specs.Title.{title_name}
 use Rattle.test_report_run.specs.Note.{Disagrees, FailureView, Fails, IsNotRun, IsSkipped, NoteView, OutcomeView, Passes, SuiteIs, TestIs, TestNoteView}
 
@@ -69,7 +69,7 @@ numbered-behind out head = numbered-then parsed_place numbered-parsed (without_l
 
 numbered-message_place : (text : List ℕ) → IsNumbered (message_place text)
 numbered-message_place text =
-    numbered-then (λ (c : Cut). parsed_place c.back) (λ c. numbered-parsed c.back) (last_cut (codes " at ") (after_last (λ b. b == 10) text))
+    numbered-then (λ (c : Cut). parsed_place c.back) (λ c. numbered-parsed c.back) (last_cut (codes " at ") (last_line text))
 
 numbered-panic : (out : Option (List ℕ)) (place : Option PlaceView) → IsPanicPlace out place → IsNumbered place
 numbered-panic None place h = subst IsNumbered (sym h) tt

@@ -195,6 +195,14 @@ close_cases j (c ∷ cases) own = close j None own
 abbrev pub with_own : JunitState → CasesView → JunitState
 with_own j own = close_cases j own.cases own
 
+-- one more suite that is over, of which no time is known
+abbrev pub close_open : JunitState → CasesView → JunitState
+close_open j s = close j None s
+
+-- what is kept when the suites are over that no entry has ended
+abbrev pub all_over : JunitState → JunitState
+all_over j = fold close_open (record j { suites = [] }) j.suites
+
 -- the element of a run, without its suites
 unfoldable pub run_start : JunitCounts → Option ℕ → ElementView
 run_start counts time = with_time (with_sums (with_attribute (new_element (codes "testsuites")) (codes "name") own_name) counts) time
@@ -209,7 +217,7 @@ ended options j end = run_element (with_own j (own_cases (no_tests_ran end.outco
 
 -- the tree of the entries of a run
 unfoldable pub junit_tree : Options → List EntryView → RunEnd → TreeView
-junit_tree options entries end = tree_of (ended options (junit_state options entries) end)
+junit_tree options entries end = tree_of (ended options (all_over (junit_state options entries)) end)
 
 -- the first line of an XML document
 unfoldable pub xml_header : List ℕ

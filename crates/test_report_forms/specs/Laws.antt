@@ -1,21 +1,23 @@
 -- Laws of entries, and of trees and their texts.
-use Rattle.std.specs.Prelude.{◌≡◌, ◌==◌, ◌&&◌, ◌||◌, ◌++◌, ◌⊎◌, ℕ, Bool, true, false, List, [], ◌∷◌, Some, None, Option, ⊤, codes, length, nat_eq}
+use Rattle.std.specs.Prelude.{◌≡◌, ◌==◌, ◌&&◌, ◌||◌, ◌++◌, ◌⊎◌, ℕ, Bool, true, false, Contains, List, [], ◌∷◌, Some, None, Option, ⊤, codes, length, nat_eq, option_map, unwrap_or}
 use Rattle.std.specs.Char.{is_control}
 use Rattle.std.specs.List.{All, AllPass, flat_map, slice_split, starts_with}
 use Rattle.std.specs.Option.{IfSome}
 use Rattle.std.specs.Str.{NoCharPasses}
-use Rattle.test_report_forms.specs.Collected.{cause_line, no_tests_ran}
+use Rattle.test_report_forms.specs.Collected.{CauseView, cause_line, cause_of_entry, no_tests_ran, shown_failure_of}
 use Rattle.test_report_forms.specs.Entry.{EntryView, IsEntryOf, LinesDisagree, SuiteNotRun, SuiteOver, TestFailed, TestPassed, TestSkipped}
 use Rattle.test_report_forms.specs.Github.{github_last, github_line, message, property}
 use Rattle.test_report_forms.specs.Html.{html_of, html_tree}
-use Rattle.test_report_forms.specs.Junit.{junit_text, junit_tree, xml_header}
+use Rattle.test_report_forms.specs.Junit as junit
+use Rattle.test_report_forms.specs.Junit.{junit_text, junit_tree, own_name, xml_header}
+use Rattle.test_report_forms.specs.JunitSuite.{suite_name, xml_name, xml_text}
 use Rattle.test_report_forms.specs.Markdown.{markdown_of, plain}
 use Rattle.test_report_forms.specs.Names.{names_line}
 use Rattle.test_report_forms.specs.Reader.{is_letter, is_name_byte, read_tree}
 use Rattle.test_report_forms.specs.Shown.{is_escaped, shown_name, turns_writing}
 use Rattle.test_report_forms.specs.Text.{text_last, text_line}
 use Rattle.test_report_forms.specs.Title.{title_name}
-use Rattle.test_report_forms.specs.Tree.{ElementTree, NoTrees, OneTree, TextTree, TreeView, Trees, data_text, text_of_tree}
+use Rattle.test_report_forms.specs.Tree.{ElementTree, ElementView, NoTrees, OneTree, TextTree, TreeView, Trees, data_text, text_of_tree, tree_of}
 use Rattle.test_report_forms.specs.Why.{IsWhy, WhyView}
 use Rattle.test_report_forms.specs.Words.{outcome_word}
 use Rattle.test_report_forms.specs.declared.options.Options.{Options}
@@ -112,6 +114,90 @@ TextNamesCauses = (o : Options) (entries : List EntryView) (end : RunEnd)
 abbrev pub GithubNamesCauses : Type 0
 GithubNamesCauses = (limit : ℕ) (entries : List EntryView) (end : RunEnd)
     → NamesCauses property message entries end (flat_map (github_line limit) entries ++ github_last end)
+
+-- what JUnit's XML says of a cause: the suite and the name of its test case, and the name, the message and the type of the element in that
+pub record JunitCause : Type 0 where
+  pub suite : List ℕ
+  pub name : List ℕ
+  pub element : List ℕ
+  pub message : List ℕ
+  pub type_of : List ℕ
+
+-- what it says of a failed test, with at most `limit` bytes of the short reason
+abbrev pub failed_cause : ℕ → TestNoteView → FailureView → WhyView → JunitCause
+failed_cause limit t f w = record {
+  suite = suite_name t.suite;
+  name = xml_name (title_name t);
+  element = junit.failed_name f.kind;
+  message = xml_text (shown_failure_of t f.kind w limit).short;
+  type_of = junit.failed_type f.kind;
+}
+
+-- what it says of another cause. If this names no suite, its test case is in the suite `test-report`
+abbrev pub other_cause : CauseView → JunitCause
+other_cause c = record {
+  suite = suite_name (Some (unwrap_or c.suite own_name));
+  name = xml_text c.line;
+  element = codes "error";
+  message = xml_text c.line;
+  type_of = c.kind;
+}
+
+-- what it says if no test ran
+abbrev pub no_test_cause : JunitCause
+no_test_cause = other_cause (record { suite = None; kind = codes "no tests"; line = codes "no test ran" })
+
+-- what it says of the cause of an entry, if the entry has one
+abbrev pub junit_cause : ℕ → EntryView → Option JunitCause
+junit_cause limit (TestFailed t f w) = Some (failed_cause limit t f w)
+junit_cause limit (TestPassed t) = None
+junit_cause limit (TestSkipped t) = None
+junit_cause limit (LinesDisagree d) = option_map other_cause (cause_of_entry (LinesDisagree d))
+junit_cause limit (SuiteNotRun suite n of) = option_map other_cause (cause_of_entry (SuiteNotRun suite n of))
+junit_cause limit (SuiteOver s) = None
+
+-- an element has an attribute with this value
+pub record HasAttribute (e : ElementView) (name value : List ℕ) : Type 0 where
+  pub is : Contains e.attributes (record { name = name; value = value })
+
+-- an element has another one as a child
+pub record HasChild (e child : ElementView) : Type 0 where
+  pub is : Contains e.children (tree_of child)
+
+-- an element is the test case of a cause: it has its name, and a child with the name, the message and the type that the cause has
+pub record IsCaseOf (c : JunitCause) (case : ElementView) : Type 0 where
+  pub is : case.name ≡ codes "testcase"
+  pub name : HasAttribute case (codes "name") c.name
+  pub reason : ElementView
+  pub in_case : HasChild case reason
+  pub element : reason.name ≡ c.element
+  pub message : HasAttribute reason (codes "message") c.message
+  pub type_of : HasAttribute reason (codes "type") c.type_of
+
+-- the element of a suite has the test case of a cause of this suite
+pub record HasCaseOf (c : JunitCause) (suite : ElementView) : Type 0 where
+  pub is : suite.name ≡ codes "testsuite"
+  pub name : HasAttribute suite (codes "name") c.suite
+  pub case : ElementView
+  pub in_suite : HasChild suite case
+  pub case_is : IsCaseOf c case
+
+-- a tree has the test case of a cause: in an element of its suite
+pub record HasJunitCase (t : TreeView) (c : JunitCause) : Type 0 where
+  pub run : ElementView
+  pub is : t ≡ tree_of run
+  pub suite : ElementView
+  pub in_run : HasChild run suite
+  pub suite_is : HasCaseOf c suite
+
+-- JUnit's tree has the test case of each cause, and one that says that no test ran, unless a run without tests is to pass
+pub record HasJunitCases (o : Options) (entries : List EntryView) (end : RunEnd) : Type 0 where
+  pub causes : All (λ e. IfSome (junit_cause o.limit e) (HasJunitCase (junit_tree o entries end))) entries
+  pub no_tests : no_tests_ran end.outcome ≡ true → o.no_tests_pass ≡ false → HasJunitCase (junit_tree o entries end) no_test_cause
+
+-- JUnit's tree names each such cause.
+abbrev pub JunitNamesCauses : Type 0
+JunitNamesCauses = (o : Options) (entries : List EntryView) (end : RunEnd) → HasJunitCases o entries end
 
 -- JUnit's XML says that no test ran, unless a run without tests is to pass.
 abbrev pub JunitSaysNoTests : Type 0

@@ -1,5 +1,5 @@
 -- The place of a failure in the sources.
-use Rattle.std.specs.Prelude.{◌≡◌, ◌-◌, ◌&&◌, ◌||◌, ◌==◌, not, nat_eq, nat_lt, ℕ, Bool, List, [], ◌∷◌, codes, drop, length, take, slice_index, if◌then◌else◌, Option, Some, None, option_and_then, option_map}
+use Rattle.std.specs.Prelude.{◌≡◌, ◌-◌, ◌&&◌, ◌||◌, ◌==◌, not, nat_eq, nat_lt, ℕ, Bool, List, [], ◌∷◌, codes, drop, length, take, slice_index, if◌then◌else◌, Option, Some, None, option_and_then, option_map, unwrap_or}
 use Rattle.std.specs.Borrow.{Bor}
 use Rattle.std.specs.Char.{is_ascii_digit}
 use Rattle.std.specs.List.{after_last, before_first, ends_with, list_all, starts_with}
@@ -99,9 +99,13 @@ abbrev pub IsPanicPlace : Option (List ℕ) → Option PlaceView → Type 0
 IsPanicPlace None place = place ≡ None
 IsPanicPlace (Some out) place = (head : Option HeadSpan) × IsLastTaken out head × (place ≡ option_and_then (place_behind out) head)
 
+-- the last line of a text, without the line feed that may end it and a carriage return before that
+abbrev pub last_line : List ℕ → List ℕ
+last_line text = strip_carriage_return (after_last (λ b. b == 10) (unwrap_or (without_last 10 text) text))
+
 -- the place at the end of a message, after the last ` at ` of its last line
 abbrev pub message_place : List ℕ → Option PlaceView
-message_place message = option_and_then (λ c. parsed_place c.back) (last_cut (codes " at ") (after_last (λ b. b == 10) message))
+message_place message = option_and_then (λ c. parsed_place c.back) (last_cut (codes " at ") (last_line message))
 
 -- this is the place of the last panic of a failure, or else that of its message
 abbrev pub IsFailurePlace : FailureView → Option PlaceView → Type 0

@@ -1,5 +1,5 @@
 -- Why a test failed.
-use Rattle.std.specs.Prelude.{◌≡◌, ◌-◌, ◌&&◌, ◌==◌, not, nat_lt, nat_eq, ℕ, Bool, List, [], ◌∷◌, ◌++◌, codes, drop, filter, if◌then◌else◌, length, map, Option, Some, None, option_and_then, option_map, option_to_list, string_bytes}
+use Rattle.std.specs.Prelude.{◌≡◌, ◌-◌, ◌&&◌, ◌==◌, not, nat_lt, nat_eq, ℕ, Bool, List, [], ◌∷◌, ◌++◌, codes, drop, filter, if◌then◌else◌, length, Option, Some, None, option_and_then, option_map, option_to_list, string_bytes}
 use Rattle.std.specs.Fmt.{decimal}
 use Rattle.std.specs.List.{after_first, ends_with, join_with_byte, slice_split}
 use Rattle.std.specs.Option.{is_some, option_map_or}
@@ -70,10 +70,10 @@ written_lines text = filter (λ line. not (is_blank line)) (slice_split (λ b. b
 abbrev pub last_ten : List (List ℕ) → List (List ℕ)
 last_ten lines = drop (length lines - 10) lines
 
--- the last ten lines of a text that are not blank, if there are such lines
+-- the last ten lines of a text that are not blank, without the line feed and a carriage return before it at the end, if there are such lines
 abbrev pub last_lines : List ℕ → Option (List ℕ)
 last_lines text =
-    if length (written_lines text) == 0 then None else Some (join_with_byte 10 (map strip_carriage_return (last_ten (written_lines text))))
+    if length (written_lines text) == 0 then None else Some (strip_carriage_return (join_with_byte 10 (last_ten (written_lines text))))
 
 -- the bytes of an extraction
 abbrev pub extract_bytes : Extract → List ℕ

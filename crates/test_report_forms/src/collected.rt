@@ -1,4 +1,4 @@
-//! What the forms keep that write all at the end.
+//! The failed tests and the causes that forms keep until the end of the run.
 
 ghost use Rattle.std.specs.Prelude.{◌≡◌, ◌++◌, ◌∷◌, [], IfOk, List, OnOk, false, map, option_map, option_to_list, string_bytes};
 ghost use Rattle.test_report_forms.specs.Collected.{Collects, attempts_text, cause_line, cause_of_entry, cause_view, failure_of_entry, failed_view, has_causes, no_tests_ran, shown_failure_of, suite_of, time_text};
@@ -21,7 +21,7 @@ use std::alloc::{AllocError, Global};
 use std::fmt::Write;
 use test_report_run::note::{Disagreement, FailureKind, TestNote};
 
-/// A failed test. Its texts are shown: their control characters are escapes.
+/// A failed test. In its texts control characters are already escapes.
 #[derive(Drop)]
 pub(crate) struct FailedTest {
     /// The name of its suite, or `None` if it started outside of a suite.
@@ -49,13 +49,13 @@ pub(crate) struct FailedTest {
 /// A disagreement, or a suite whose tests were not all run.
 #[derive(Drop)]
 pub(crate) struct Cause<'a> {
-    /// The name of the suite, if it is the cause of one suite.
+    /// The name of the suite, or `None` if the cause names no suite.
     pub(crate) suite: Option<&'a str>,
 
-    /// What kind of cause it is.
+    /// The kind: `disagreement` or `not run`.
     pub(crate) kind: &'static str,
 
-    /// The line that says so, as it is shown.
+    /// The line of the report.
     pub(crate) line: String,
 }
 
@@ -68,7 +68,7 @@ pub(crate) struct Collected {
 }
 
 impl Collected {
-    /// Returns what is known before the first note.
+    /// Returns a value without failed tests and causes.
     pub(crate) fn new(alloc: Global, options: Options) -> Collected
         ensures limit { result.limit ≡ options.limit }
         ensures nothing { Collects result [] }
@@ -80,7 +80,7 @@ impl Collected {
         }
     }
 
-    /// Takes an entry.
+    /// Keeps the failed test or the cause of an entry, if it has one.
     pub(crate) fn on_entry(&mut self, alloc: Global, entry: &Entry<'_>) -> Result<(), AllocError>
         ensures knows { OnOk result ((entries : List EntryView)
             → Collects self.old entries → Collects self.new (entries ++ entry_view entry.now ∷ [])) }
@@ -97,7 +97,7 @@ impl Collected {
         no_tests || !self.causes.is_empty()
     }
 
-    /// Keeps the failed test that an entry tells of.
+    /// Keeps the failed test of an entry, if it has one.
     fn keep_failure(&mut self, alloc: Global, entry: &Entry<'_>) -> Result<(), AllocError>
         ensures failed { OnOk result (map failed_view self.new.failed.items
             ≡ map failed_view self.old.failed.items
@@ -112,7 +112,7 @@ impl Collected {
         Ok(())
     }
 
-    /// Keeps the cause that an entry tells of.
+    /// Keeps the cause of an entry, if it has one.
     fn keep_cause(&mut self, alloc: Global, entry: &Entry<'_>) -> Result<(), AllocError>
         ensures causes { OnOk result (map string_bytes self.new.causes.items
             ≡ map string_bytes self.old.causes.items ++ option_to_list (cause_line (entry_view entry.now))) }
@@ -126,7 +126,7 @@ impl Collected {
     }
 }
 
-/// Returns a failed test as it is shown. At most `limit` bytes of why it failed are shown.
+/// Returns a failed test as it is shown, with at most `limit` bytes of why it failed and of the short reason.
 pub(crate) fn shown_failure(
     alloc: Global,
     test: &TestNote,
@@ -166,7 +166,7 @@ fn short_text(alloc: Global, short: &str, limit: usize) -> Result<String, AllocE
     Ok(text)
 }
 
-/// Returns at most the first `limit` bytes of a reason, and the number of bytes that are not shown.
+/// Returns at most the first `limit` bytes of why a test failed, and the number of bytes that are not shown.
 fn limited_text(alloc: Global, why: &str, limit: usize) -> Result<String, AllocError>
     ensures { IfOk result (λ text. string_bytes text ≡ limited why.now limit) }
 {
@@ -182,7 +182,7 @@ pub(crate) fn no_tests_ran(outcome: RunOutcome) -> bool
     matches!(outcome, RunOutcome::NoTestsRun)
 }
 
-/// Appends the number of attempts, if there were several.
+/// Appends the number of attempts. Appends nothing if there was one.
 #[tactic(auto, unfolding(crate::specs::Collected::attempts_text))]
 pub(crate) fn push_attempts(text: &mut String, attempts: usize) -> Result<(), AllocError>
     ensures { OnOk result (string_bytes text.new ≡ string_bytes text.old ++ attempts_text attempts) }
@@ -222,7 +222,7 @@ fn shown_suite(alloc: Global, suite: &Option<String>) -> Result<Option<String>, 
     }
 }
 
-/// Returns the cause that an entry tells of.
+/// Returns the cause of an entry, or `None` if it has none.
 pub(crate) fn cause_of<'a>(
     alloc: Global,
     entry: &Entry<'a>,
@@ -251,7 +251,7 @@ pub(crate) fn cause_of<'a>(
     }
 }
 
-/// Returns the suite that a disagreement names.
+/// Returns the suite that a disagreement names, or `None`.
 fn suite_of(disagreement: &Disagreement) -> Option<&str>
     ensures { option_map (λ s. s.now) result ≡ suite_of (disagreement_view disagreement.now) }
 {

@@ -1,4 +1,4 @@
-//! The entries of a report.
+//! Entries: what the forms take.
 
 ghost use Rattle.std.specs.Prelude.{IfOk};
 ghost use Rattle.test_report_forms.specs.Entry.{IsEntryOf, entry_view};
@@ -10,7 +10,7 @@ use test_report_run::note::{
     Disagreement, Failure, NotRun, Note, SuiteNote, TestNote, TestOutcome,
 };
 
-/// An entry of a report: what a note says, and why the test failed if the note is of a failed test.
+/// A note of a run. That of a failed test has why the test failed, too.
 #[derive(Drop)]
 pub enum Entry<'a> {
     /// A test passed.
@@ -37,12 +37,12 @@ pub enum Entry<'a> {
     /// Some tests of a suite were not run.
     NotRun(&'a NotRun),
 
-    /// A suite is over.
+    /// A suite has ended.
     Suite(&'a SuiteNote),
 }
 
 impl<'a> Entry<'a> {
-    /// Returns the entry of a note.
+    /// Returns the entry of a note. The only error is that memory runs out.
     pub fn of(alloc: Global, note: &'a Note) -> Result<Entry<'a>, AllocError>
         ensures { IfOk result (λ entry. IsEntryOf (note_view note.now) (entry_view entry)) }
     {

@@ -1,4 +1,4 @@
-//! The forms that are written to files, beside the form on standard output.
+//! The forms that are written to files, in addition to the form on standard output.
 
 ghost use Rattle.std.specs.Prelude.{◌≡◌, ◌++◌, ◌∷◌, [], List, IfOk, OnOk};
 ghost use Rattle.test_report_forms.specs.Entry.{EntryView, entry_view};
@@ -53,7 +53,7 @@ impl FileForms {
         }
     }
 
-    /// Takes an entry.
+    /// Passes an entry to each form. The only error is that memory runs out.
     pub fn on_entry(&mut self, alloc: Global, entry: &Entry<'_>) -> Result<(), AllocError>
         ensures knows { OnOk result ((entries : List EntryView)
             → FilesKnow self.old entries → FilesKnow self.new (entries ++ entry_view entry.now ∷ [])) }
@@ -65,7 +65,7 @@ impl FileForms {
         take_entry(alloc, &mut self.markdown, entry)
     }
 
-    /// Returns the texts for a run that ended so.
+    /// Returns the text of each form at the end of the run. The only error is that memory runs out.
     pub fn texts(&mut self, alloc: Global, end: &RunEnd) -> Result<FileTexts, AllocError>
         ensures { IfOk result (λ texts. (entries : List EntryView)
             → FilesKnow self.old entries → FilesSay self.old entries end.now texts) }
@@ -78,7 +78,7 @@ impl FileForms {
     }
 }
 
-/// Passes an entry to a form that writes nothing before the end.
+/// Passes an entry to a form, if there is one. What the form writes at once is dropped.
 fn take_entry<F: Form>(
     alloc: Global,
     form: &mut Option<F>,
@@ -95,7 +95,7 @@ fn take_entry<F: Form>(
     }
 }
 
-/// Returns the text of a form that wrote nothing before the end.
+/// Returns the text that a form writes at the end, or `None` if there is no form.
 fn text_at_end<F: Form>(
     alloc: Global,
     form: &mut Option<F>,

@@ -1,4 +1,4 @@
-//! What a form is.
+//! The trait of the forms.
 
 ghost use Rattle.std.specs.Prelude.{◌≡◌, ◌++◌, ◌∷◌, [], ℕ, List, OnOk, string_bytes};
 ghost use Rattle.test_report_forms.specs.Entry.{EntryView, entry_view};
@@ -8,19 +8,20 @@ use crate::entry::Entry;
 use std::alloc::{AllocError, Global};
 use test_report_run::note::RunEnd;
 
-/// A form of a report: what is written of each entry at once, and what is written at the end. A form keeps
+/// A form of a report. It appends the text of each entry at once, and more text at the end of the run. It keeps
 /// what it needs for the end.
 pub trait Form {
-    /// What is written of an entry as soon as it is known.
+    /// The text of an entry, which is written at once.
     ghost line: { Self → EntryView → List ℕ };
 
-    /// What is written at the end of a run, of all its entries.
+    /// The text that is written at the end of a run, given all its entries.
     ghost last: { Self → List EntryView → RunEnd → List ℕ };
 
-    /// The form has taken these entries.
+    /// The form has taken these entries, in this order.
     ghost Knows: { Self → List EntryView → Type 0 };
 
-    /// Takes an entry, and appends what is written of it at once.
+    /// Takes the next entry, and appends its text. The only error is that memory runs out. After an error nothing
+    /// is promised about the form and the text.
     fn on_entry(
         &mut self,
         alloc: Global,
@@ -34,7 +35,7 @@ pub trait Form {
         ensures same_line { OnOk result (line self.new ≡ line self.old) }
         ensures same_last { OnOk result (last self.new ≡ last self.old) };
 
-    /// Appends what is written at the end of the run.
+    /// Appends the text that is written at the end of the run. Errors are those of `on_entry`.
     fn on_end(&mut self, alloc: Global, end: &RunEnd, text: &mut String) -> Result<(), AllocError>
         ensures { OnOk result ((entries : List EntryView) → Knows self.old entries
             → string_bytes text.new ≡ string_bytes text.old ++ last self.old entries end.now) };

@@ -26,7 +26,7 @@ pub struct GithubForm {
 }
 
 impl GithubForm {
-    /// Returns the form with the limit of the options.
+    /// Returns the form. Of the options it uses only `limit`.
     pub fn new(options: Options) -> GithubForm
         ensures nothing { ⟦<GithubForm as Form>⟧.Knows result [] }
         ensures limit { result.limit ≡ options.limit }
@@ -129,7 +129,7 @@ impl Form for GithubForm {
     }
 }
 
-/// Appends the place of a failure as properties. Appends nothing without a place.
+/// Appends the place of a failure as properties. Appends nothing if there is no place.
 #[tactic(auto, unfolding(crate::specs::Github::properties))]
 fn push_properties(
     alloc: Global,
@@ -161,7 +161,7 @@ fn push_place(alloc: Global, text: &mut String, place: &Place<'_>) -> Result<(),
     text.push(',')
 }
 
-/// Appends a column as a property. Appends nothing without a column.
+/// Appends a column as a property. Appends nothing if there is no column.
 #[tactic(auto, unfolding(crate::specs::Github::column_property))]
 fn push_column(text: &mut String, column: Option<&str>) -> Result<(), AllocError>
     ensures { OnOk result (string_bytes text.new

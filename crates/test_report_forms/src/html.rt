@@ -31,7 +31,7 @@ pub struct HtmlForm {
 }
 
 impl HtmlForm {
-    /// Returns the form before the first note, with the limit of the options.
+    /// Returns the form before the first entry. Of the options it uses only `limit`.
     pub fn new(alloc: Global, options: Options) -> HtmlForm
         ensures nothing { ⟦<HtmlForm as Form>⟧.Knows result [] }
         ensures limit { result.collected.limit ≡ options.limit }
@@ -119,7 +119,7 @@ fn keep_row(alloc: Global, suites: &mut Vec<SuiteRow>, entry: &Entry<'_>) -> Res
     Ok(())
 }
 
-/// Keeps the test that an entry tells of, if it ran and is one of the slowest.
+/// Keeps the test of an entry, if it ran and is one of the slowest.
 fn keep_slow(alloc: Global, slowest: &mut Slowest, entry: &Entry<'_>) -> Result<(), AllocError>
     ensures { OnOk result (map slow_line_view slowest.new.tests.items
         ≡ spec.put_entry (map slow_line_view slowest.old.tests.items) (entry_view entry.now)) }

@@ -29,7 +29,7 @@ use test_report_run::note::{Failure, FailureKind, RunEnd, SuiteNote, TestNote};
 /// The name of the run, and of the suite of causes that name no suite.
 const OWN_NAME: &str = "test-report";
 
-/// What is said of a run without tests.
+/// The line of a run in which no test ran.
 const NO_TESTS: &str = "no test ran";
 
 /// The form for build servers: a tree of suites and test cases, written at the end.
@@ -43,7 +43,7 @@ pub struct JunitForm {
 }
 
 impl JunitForm {
-    /// Returns the form before the first note.
+    /// Returns the form before the first entry.
     pub fn new(alloc: Global, options: Options) -> Result<JunitForm, AllocError>
         ensures nothing { IfOk result (λ f. junit_view f ≡ spec.junit_start) }
         ensures options { IfOk result (λ f. f.options ≡ options) }
@@ -215,7 +215,19 @@ impl JunitForm {
         self.close(alloc, own, None)
     }
 
-    /// Returns the tree.
+    /// Adds the suites that no entry has ended to those that are over.
+    fn close_all(&mut self, alloc: Global) -> Result<(), AllocError>
+        ensures state { OnOk result (junit_view self.new ≡ spec.all_over (junit_view self.old)) }
+        ensures options { self.new.options ≡ self.old.options }
+    {
+        let open = std::mem::replace(&mut self.suites, Vec::new(alloc));
+        for suite in open {
+            self.close(alloc, suite, None)?;
+        }
+        Ok(())
+    }
+
+    /// Returns the element of the run, with the suites that are over.
     #[tactic(auto, unfolding(crate::specs::Junit::ended))]
     fn tree(&mut self, alloc: Global, end: &RunEnd) -> Result<Element, AllocError>
         ensures { IfOk result (λ e. element_view e ≡ spec.ended self.old.options (junit_view self.old) end.now) }
@@ -250,6 +262,7 @@ impl Form for JunitForm {
     }
 
     fn on_end(&mut self, alloc: Global, end: &RunEnd, text: &mut String) -> Result<(), AllocError> {
+        self.close_all(alloc)?;
         let tree = self.tree(alloc, end)?.into_node();
         push_document(text, &tree)
     }

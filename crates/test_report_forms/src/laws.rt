@@ -1,7 +1,7 @@
 //! Laws of entries, of what the forms write and of trees, for the proofs of callers. Each is a function that does
 //! nothing, and its contract is the law.
 
-ghost use Rattle.test_report_forms.specs.Laws.{GithubHasNoControls, GithubNamesCauses, HtmlHasNoControls, HtmlNamesCauses, HtmlReadsBack, JunitHasNoControls, JunitReadsBack, JunitSaysNoTests, MarkdownHasNoControls, MarkdownNamesCauses, NamesAreLines, OneEntry, OneTreeOfText, OneWhy, OnlyCommands, ReadsBack, TextHasNoControls, TextNamesCauses};
+ghost use Rattle.test_report_forms.specs.Laws.{GithubHasNoControls, GithubNamesCauses, HtmlHasNoControls, HtmlNamesCauses, HtmlReadsBack, JunitHasNoControls, JunitNamesCauses, JunitReadsBack, JunitSaysNoTests, MarkdownHasNoControls, MarkdownNamesCauses, NamesAreLines, OneEntry, OneTreeOfText, OneWhy, OnlyCommands, ReadsBack, TextHasNoControls, TextNamesCauses};
 
 /// Why a test failed is said in one way.
 pub fn one_why()
@@ -37,13 +37,19 @@ pub fn no_controls()
     ensures markdown { MarkdownHasNoControls }
 {}
 
-/// These forms name every cause of a run that does not succeed. What is written has the name of each failed test,
-/// the line of each disagreement, the line of each suite whose tests were not all run, and the outcome, which tells
-/// if no test ran. Of `junit` the law says only that it tells that no test ran.
+/// Every form but `names` names each cause of a run that does not succeed. The text has the name of each failed
+/// test, the line of each disagreement, the line of each suite whose tests were not all run, and the outcome, which
+/// says if no test ran.
+///
+/// In `junit` each of these causes is a test case in the element of its suite. The test case has the name of the
+/// test, or the line. Inside is a `failure` for a failed test, or an `error` for a crashed test or another cause. Its
+/// message is the short reason, or the line. If no test ran, there is a test case that says so, unless
+/// `no_tests_pass` is true, and the text has `no test ran` (`no_tests`).
 pub fn names_causes()
     ensures text { TextNamesCauses }
     ensures github { GithubNamesCauses }
-    ensures junit { JunitSaysNoTests }
+    ensures junit { JunitNamesCauses }
+    ensures no_tests { JunitSaysNoTests }
     ensures html { HtmlNamesCauses }
     ensures markdown { MarkdownNamesCauses }
 {}

@@ -1,9 +1,12 @@
-//! The forms of a report: how what is known of a run is written.
+//! Writes the report of a test run: as text for people, as names of failed tests, as commands for GitHub, as
+//! JUnit's XML, as an HTML page, or as Markdown.
 //!
-//! A form turns the entries of a report into text. Control characters of the input are shown as escapes,
-//! so a report cannot control the reader's terminal.
+//! Each of these is a `Form`, which takes the entries of a run one by one. The forms for people and for GitHub
+//! and the names append the text of an entry at once. The others append their text at the end of the run.
+//! Control characters of the input are written as escapes such as `\u{1b}`, so a report cannot control the
+//! reader's terminal.
 //!
-//! A function that returns what the form for people writes of a note at once:
+//! This function returns the text that the form for people writes for one note:
 //!
 //! ```rust
 //! pub fn text_of_note(alloc: Global, note: &Note, options: Options) -> Result<String, AllocError>

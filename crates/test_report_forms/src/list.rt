@@ -17,7 +17,7 @@ use std::alloc::{AllocError, Global};
 use std::fmt::Write;
 use test_report_run::note::TestNote;
 
-/// A line of a flaky test.
+/// The line of a flaky test, and how many tests had ended before it.
 #[derive(Drop)]
 struct FlakyLine {
     ended: usize,
@@ -46,7 +46,7 @@ impl ShortList {
         }
     }
 
-    /// Takes an entry.
+    /// Adds the lines of an entry.
     pub(crate) fn on_entry(
         &mut self,
         alloc: Global,
@@ -101,7 +101,7 @@ fn later(lines: &[FlakyLine], ended: usize) -> Option<usize>
     lines.iter().position(|other| other.ended > ended)
 }
 
-/// Returns the place of a test among those that ended before and after it.
+/// Returns the position of a test among those that ended before and after it.
 fn flaky_place(lines: &[FlakyLine], ended: usize) -> usize
     ensures place { result ≡ rising_place ended (map flaky_line_view lines.now) }
     ensures within { result ≤ length lines.now }
@@ -109,7 +109,8 @@ fn flaky_place(lines: &[FlakyLine], ended: usize) -> usize
     later(lines, ended).unwrap_or(lines.len())
 }
 
-/// Adds a test that passed if it is flaky, in the order in which such tests ended.
+/// Adds the line of a test that passed, if the test is flaky. The lines are in the order in which their tests
+/// ended.
 #[tactic(auto, unfolding(crate::specs::List::flaky_passed, crate::specs::List::flaky_line, crate::specs::List::put_rising))]
 fn add_flaky(
     alloc: Global,

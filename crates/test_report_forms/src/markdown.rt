@@ -22,7 +22,7 @@ pub struct MarkdownForm {
 }
 
 impl MarkdownForm {
-    /// Returns the form before the first note, with the limit of the options.
+    /// Returns the form before the first entry. Of the options it uses only `limit`.
     pub fn new(alloc: Global, options: Options) -> MarkdownForm
         ensures nothing { ⟦<MarkdownForm as Form>⟧.Knows result [] }
         ensures limit { result.collected.limit ≡ options.limit }

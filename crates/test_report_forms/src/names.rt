@@ -6,7 +6,7 @@ use crate::shown::push_name;
 use std::alloc::{AllocError, Global};
 use test_report_run::note::RunEnd;
 
-/// The form that has the name of each failed test, one a line.
+/// The form that writes the name of each failed test, one on each line.
 #[derive(Drop)]
 pub struct NamesForm;
 

@@ -1,6 +1,6 @@
 //! The place of a failure in the sources.
 
-ghost use Rattle.std.specs.Prelude.{◌≡◌, ◌==◌, ◌<◌, Option, length, option_and_then, option_map};
+ghost use Rattle.std.specs.Prelude.{◌≡◌, ◌==◌, ◌<◌, Option, length, option_and_then, option_map, unwrap_or};
 ghost use Rattle.std.specs.Char.{is_ascii_digit};
 ghost use Rattle.std.specs.List.{after_first, after_last, list_all};
 ghost use Rattle.std.specs.Str.Lines.{strip_carriage_return};
@@ -27,8 +27,8 @@ pub struct Place<'a> {
     pub column: Option<&'a str>,
 }
 
-/// Returns the place of a failure: of a documentation test, or else the one that the last panic of the
-/// output names, or else the one at the end of the message.
+/// Returns the place of a failure, or `None` if it is not known. It is the place in the name of a documentation
+/// test, or else the one that the last panic of the output names, or else the one at the end of the message.
 pub(crate) fn place_of<'a>(test: &'a TestNote, failure: &'a Failure) -> Option<Place<'a>>
     ensures { spec.IsPlace (test_view test.now) (failure_view failure.now)
         (option_map place_view result) }
@@ -70,7 +70,8 @@ fn of_message<'a>(failure: &'a Failure) -> Option<Place<'a>>
     }
 }
 
-/// Returns the place of a documentation test: `FILE - ITEM (line N)` or `FILE - (line N)`.
+/// Returns the place in the name of a documentation test: `FILE - ITEM (line N)` or `FILE - (line N)`. Returns
+/// `None` for another name.
 #[tactic(auto, unfolding(crate::specs::Place::documented_place))]
 fn documented(name: &str) -> Option<Place<'_>>
     ensures { option_map place_view result ≡ spec.documented_place name.now }
@@ -87,7 +88,8 @@ fn documented(name: &str) -> Option<Place<'_>>
     })
 }
 
-/// Returns true for the text between ` - ` and `(line` in the name of a documentation test.
+/// Returns true if a text can be between ` - ` and `(line` in the name of a documentation test: an item and a
+/// space, or nothing.
 fn is_item(item: &str) -> bool
     ensures { result ≡ spec.is_item item.now }
 {
@@ -112,8 +114,25 @@ fn said(message: &str) -> Option<Place<'_>>
     parsed(place)
 }
 
-/// Returns the last line of a text.
+/// Returns the last line of a text, without the line feed that may end it and a carriage return before that.
 fn last_line(text: &str) -> &str
+    ensures { result.now ≡ spec.last_line text.now }
+{
+    without_return(after_feeds(without_feed(text)))
+}
+
+/// Returns a text without the line feed at its end.
+fn without_feed(text: &str) -> &str
+    ensures { result.now ≡ unwrap_or (spec.without_last 10 text.now) text.now }
+{
+    match without_last(text, '\n') {
+        Some(lines) => lines,
+        None => text,
+    }
+}
+
+/// Returns what follows the last line feed of a text, or the whole text if it has no line feed.
+fn after_feeds(text: &str) -> &str
     ensures { result.now ≡ after_last (λ b. b == 10) text.now }
 {
     match text.rsplit_once('\n') {
@@ -143,7 +162,7 @@ pub(crate) fn without_return(line: &str) -> &str
     }
 }
 
-/// Parses `FILE:LINE:COLUMN`.
+/// Parses `FILE:LINE:COLUMN`. Returns `None` for another text.
 fn parsed(text: &str) -> Option<Place<'_>>
     ensures { option_map place_view result ≡ spec.parsed_place text.now }
 {
@@ -173,7 +192,8 @@ fn all_digits(bytes: &[u8]) -> bool
     bytes.iter().all(|byte| byte.is_ascii_digit())
 }
 
-/// Splits a text at the first place of a mark that is not empty.
+/// Returns the text before a mark and the text after it, or `None` if the text has no mark. Of several marks the
+/// first one counts. The mark must not be empty.
 fn first_cut<'a>(text: &'a str, mark: &str) -> Option<(&'a str, &'a str)>
     requires { 0 < length mark.now }
     ensures { option_map spec.cut_view result ≡ spec.first_cut mark.now text.now }
@@ -181,7 +201,8 @@ fn first_cut<'a>(text: &'a str, mark: &str) -> Option<(&'a str, &'a str)>
     text.split_once(mark)
 }
 
-/// Splits a text at the last place of a mark that is not empty.
+/// Returns the text before a mark and the text after it, or `None` if the text has no mark. Of several marks the
+/// last one counts. The mark must not be empty.
 fn last_cut<'a>(text: &'a str, mark: &str) -> Option<(&'a str, &'a str)>
     requires { 0 < length mark.now }
     ensures { option_map spec.cut_view result ≡ spec.last_cut mark.now text.now }
@@ -189,7 +210,7 @@ fn last_cut<'a>(text: &'a str, mark: &str) -> Option<(&'a str, &'a str)>
     text.rsplit_once(mark)
 }
 
-/// Removes an ASCII character from the end of a text. Returns `None` if the text does not end in it.
+/// Returns a text without the ASCII character at its end, or `None` if it does not end in that.
 fn without_last(text: &str, end: char) -> Option<&str>
     requires { end < 128 }
     ensures { option_map (λ text. text.now) result ≡ spec.without_last end text.now }

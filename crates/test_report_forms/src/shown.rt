@@ -87,7 +87,7 @@ fn push_name_chars(text: &mut String, name: &str) -> Result<(), AllocError>
     Ok(())
 }
 
-/// Appends a name and a space. Appends nothing without a name.
+/// Appends a name and a space. Appends nothing if there is no name.
 #[tactic(auto, unfolding(crate::specs::Shown::name_and_space))]
 pub(crate) fn push_name_and_space(
     text: &mut String,
@@ -105,7 +105,7 @@ pub(crate) fn push_name_and_space(
     }
 }
 
-/// Appends a text. `raw` keeps its control characters.
+/// Appends a text. Its control characters are shown as escapes, unless `raw` is true.
 #[tactic(auto, using(crate::proofs::Kept::kept_text))]
 pub(crate) fn push_text(text: &mut String, shown: &str, raw: bool) -> Result<(), AllocError>
     ensures { OnOk result (string_bytes text.new

@@ -9,7 +9,7 @@ use std::alloc::{AllocError, Global};
 /// The number of slowest tests that are listed.
 const SLOWEST: usize = 5;
 
-/// A test that took long, and the line that lists it.
+/// The time of a test in microseconds, and the line that lists it.
 #[derive(Drop)]
 pub(crate) struct SlowTest {
     pub(crate) time: u64,
@@ -25,7 +25,7 @@ pub(crate) struct Slowest {
 }
 
 impl Slowest {
-    /// Returns the slowest of no tests.
+    /// Returns an empty list.
     pub(crate) fn new(alloc: Global) -> Slowest
         ensures { map slow_line_view result.tests.items ≡ [] }
     {
@@ -48,7 +48,7 @@ impl Slowest {
         self.tests.iter().position(|other| other.time < time)
     }
 
-    /// Returns the place of a test that took this time.
+    /// Returns the position of a test that took this time.
     fn place(&self, time: u64) -> usize
         ensures place { result ≡ falling_place time (map slow_line_view self.now.tests.items) }
         ensures within { result ≤ vec_len self.now.tests }

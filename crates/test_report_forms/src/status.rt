@@ -30,7 +30,7 @@ fn color_of(status: &str) -> &'static str
     }
 }
 
-/// Appends a word, coloured if the options say so.
+/// Appends a word, in its colour if `color` of the options is true.
 #[tactic(auto, unfolding(crate::specs::Words::status_text))]
 pub(crate) fn push_status(
     text: &mut String,

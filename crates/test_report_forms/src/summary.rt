@@ -9,7 +9,7 @@ use std::alloc::AllocError;
 use std::fmt::Write;
 use test_report_run::note::RunEnd;
 
-/// Returns the words for an outcome.
+/// Returns the word for an outcome.
 pub(crate) fn outcome_text(outcome: RunOutcome) -> &'static str
     ensures { result.now ≡ outcome_word outcome }
 {
@@ -55,7 +55,7 @@ fn push_numbers(text: &mut String, end: &RunEnd) -> Result<(), AllocError>
     push_others(text, end)
 }
 
-/// Appends the numbers of the tests that were run and passed.
+/// Appends how many tests were run, and how many of them passed.
 #[tactic(auto, unfolding(crate::specs::Words::passed_numbers))]
 fn push_passed(text: &mut String, end: &RunEnd) -> Result<(), AllocError>
     ensures { OnOk result (string_bytes text.new ≡ string_bytes text.old ++ passed_numbers end.now) }
@@ -68,7 +68,7 @@ fn push_passed(text: &mut String, end: &RunEnd) -> Result<(), AllocError>
     )
 }
 
-/// Appends the numbers of the tests that failed.
+/// Appends how many tests failed.
 #[tactic(auto, unfolding(crate::specs::Words::failed_numbers))]
 fn push_failed(text: &mut String, end: &RunEnd) -> Result<(), AllocError>
     ensures { OnOk result (string_bytes text.new ≡ string_bytes text.old ++ failed_numbers end.now) }
@@ -81,7 +81,7 @@ fn push_failed(text: &mut String, end: &RunEnd) -> Result<(), AllocError>
     )
 }
 
-/// Appends the numbers of the tests that were not run.
+/// Appends how many tests were skipped, and how many were not run.
 #[tactic(auto, unfolding(crate::specs::Words::other_numbers))]
 fn push_others(text: &mut String, end: &RunEnd) -> Result<(), AllocError>
     ensures { OnOk result (string_bytes text.new ≡ string_bytes text.old ++ other_numbers end.now) }

@@ -26,7 +26,7 @@ pub struct TextForm {
 }
 
 impl TextForm {
-    /// Returns the form before the first note.
+    /// Returns the form before the first entry.
     pub fn new(alloc: Global, options: Options) -> TextForm
         ensures nothing { ⟦<TextForm as Form>⟧.Knows result [] }
         ensures options { result.options ≡ options }
@@ -37,7 +37,7 @@ impl TextForm {
         }
     }
 
-    /// Appends what is written of an entry.
+    /// Appends the text of an entry.
     fn push_entry(&self, entry: &Entry<'_>, text: &mut String) -> Result<(), AllocError>
         ensures { OnOk result (string_bytes text.new
             ≡ string_bytes text.old ++ spec.text_line self.now.options (entry_view entry.now)) }
@@ -118,7 +118,7 @@ fn push_why(text: &mut String, why: &str, options: Options) -> Result<(), AllocE
     push_more(text, why.len() - first.len())
 }
 
-/// Appends the number of bytes that are not shown, as a line. Appends nothing if there are none.
+/// Appends a line that says how many bytes are not shown. Appends nothing if all are shown.
 #[tactic(auto, unfolding(crate::specs::Text::more_line))]
 fn push_more(text: &mut String, more: usize) -> Result<(), AllocError>
     ensures { OnOk result (string_bytes text.new ≡ string_bytes text.old ++ spec.more_line more) }

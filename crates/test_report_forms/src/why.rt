@@ -2,7 +2,6 @@
 
 ghost use Rattle.std.specs.Prelude.{◌≡◌, ◌==◌, ◌++◌, ◌∷◌, ℕ, IfOk, List, OnOk, Option, Some, drop, if◌then◌else◌, length, map, option_and_then, option_map, option_to_list, string_bytes};
 ghost use Rattle.std.specs.List.{join_with_byte};
-ghost use Rattle.std.specs.Str.Lines.{strip_carriage_return};
 ghost use Rattle.std.specs.Str.Lossy.{utf8_lossy};
 ghost use Rattle.output_slice.specs.Extraction.{Extract, IsExtract};
 ghost use Rattle.output_slice.specs.Shown.{extract_of};
@@ -21,16 +20,16 @@ use std::alloc::{AllocError, Global};
 use std::fmt::Write;
 use test_report_run::note::{Crash, Failure, FailureKind, TestNote};
 
-/// The number of last lines of its output that are shown if nothing else explains a failure.
+/// How many lines of the output are shown if nothing else explains a failure. They are the last ones.
 const LAST_LINES: usize = 10;
 
 /// Why a test failed.
 #[derive(Drop)]
 pub struct Why<'a> {
-    /// The short reason, in one line.
+    /// The short reason: one line.
     pub short: String,
 
-    /// All that is known, line by line.
+    /// All that is known about the failure, in one or more lines.
     pub text: String,
 
     /// The place in the sources, if it is known.
@@ -55,7 +54,7 @@ impl<'a> Why<'a> {
     }
 }
 
-/// Returns what is known about a failure of a test that took this time, part by part.
+/// Returns the parts of why a test failed. `time` is the time that the test took, in microseconds.
 fn parts_of(alloc: Global, failure: &Failure, time: Option<u64>) -> Result<Vec<String>, AllocError>
     ensures { IfOk result (λ parts. spec.AreParts (kind_view failure.now.kind) (failure_view failure.now) time
         (map string_bytes parts.items)) }
@@ -66,7 +65,7 @@ fn parts_of(alloc: Global, failure: &Failure, time: Option<u64>) -> Result<Vec<S
     failure_parts(alloc, failure, time)
 }
 
-/// Returns the first part.
+/// Returns the first part, or an empty text if there is none.
 fn first_part(parts: &[String]) -> &str
     ensures { result.now ≡ spec.first_part (map string_bytes parts.now) }
 {
@@ -76,7 +75,7 @@ fn first_part(parts: &[String]) -> &str
     }
 }
 
-/// Returns parts, joined by line feeds.
+/// Returns parts, joined by line feeds. A carriage return right before a line feed is left out.
 #[tactic(auto, unfolding(crate::specs::Why::joined))]
 fn joined(alloc: Global, parts: &[String]) -> Result<String, AllocError>
     ensures { IfOk result (λ text. string_bytes text ≡ spec.joined (map string_bytes parts.now)) }
@@ -99,8 +98,8 @@ fn push_part(text: &mut String, part: &str, is_first: bool) -> Result<(), AllocE
     text.push_str(part)
 }
 
-/// Returns the first line of the first part. Of the head of a panic it is what follows from `panicked at`
-/// on, and the next line if it ends in a colon.
+/// Returns the short reason, given the first part. It is the first line of that part. If this line is the head of
+/// a panic, it is what follows from `panicked at` on, and the next line too if the head ends in a colon.
 fn short_of(alloc: Global, part: &str) -> Result<String, AllocError>
     ensures { IfOk result (λ short. spec.IsShort part.now (string_bytes short)) }
 {
@@ -111,7 +110,7 @@ fn short_of(alloc: Global, part: &str) -> Result<String, AllocError>
     }
 }
 
-/// Returns words, and the next line after them if they end in a colon.
+/// Returns words. If they end in a colon, and the next line is not empty, that line follows after a space.
 fn with_next(alloc: Global, words: &str, next: &str) -> Result<String, AllocError>
     ensures { IfOk result (λ short. string_bytes short ≡ spec.with_next next.now words.now) }
 {
@@ -123,14 +122,14 @@ fn with_next(alloc: Global, words: &str, next: &str) -> Result<String, AllocErro
     Ok(short)
 }
 
-/// Returns a text without the carriage returns right before line feeds.
+/// Returns a text without the carriage returns that are right before a line feed.
 pub(crate) fn without_returns(alloc: Global, text: &str) -> Result<String, AllocError>
     ensures { IfOk result (λ kept. string_bytes kept ≡ spec.without_returns text.now) }
 {
     text.replace(alloc, "\r\n", "\n")
 }
 
-/// Returns what follows from `panicked at` on, if the line is the head of a panic.
+/// Returns what follows from `panicked at` on, or `None` if the line is not the head of a panic.
 fn panic_words(line: &str) -> Option<&str>
     ensures { (head : Option HeadSpan) × IsLastTaken line.now head
         × (option_map (λ words. words.now) result ≡ option_and_then (spec.panic_words line.now) head) }
@@ -143,7 +142,7 @@ fn panic_words(line: &str) -> Option<&str>
     }
 }
 
-/// Returns the parts of a crash.
+/// Returns the parts of why a test crashed: a sentence, and the last lines that something else printed.
 fn crash_parts(alloc: Global, crash: &Crash) -> Result<Vec<String>, AllocError>
     ensures { IfOk result (λ parts. map string_bytes parts.items ≡ spec.crash_parts (crash_view crash.now)) }
 {
@@ -155,7 +154,7 @@ fn crash_parts(alloc: Global, crash: &Crash) -> Result<Vec<String>, AllocError>
     Ok(parts)
 }
 
-/// Returns the words for a crash.
+/// Returns the sentence for a crash.
 #[tactic(auto, unfolding(crate::specs::Why::crash_words))]
 fn crash_words(alloc: Global, crash: &Crash) -> Result<String, AllocError>
     ensures { IfOk result (λ words. string_bytes words ≡ spec.crash_words (crash_view crash.now)) }
@@ -169,7 +168,7 @@ fn crash_words(alloc: Global, crash: &Crash) -> Result<String, AllocError>
     }
 }
 
-/// Returns the words for the end of the tests of a suite.
+/// Returns what ended before the test did: the run if the suite has a key, or else the process of the test.
 fn end_words(has_key: bool) -> &'static str
     ensures { result.now ≡ spec.end_words has_key }
 {
@@ -180,7 +179,7 @@ fn end_words(has_key: bool) -> &'static str
     }
 }
 
-/// Returns the parts of a failure that is no crash.
+/// Returns the parts of why a test failed that did not crash.
 fn failure_parts(
     alloc: Global,
     failure: &Failure,
@@ -192,7 +191,7 @@ fn failure_parts(
     some_part(alloc, known_parts(alloc, failure, time)?)
 }
 
-/// Returns parts, or one that says that there is none.
+/// Returns parts. If there are none, returns one that says that no output was captured.
 fn some_part(alloc: Global, mut parts: Vec<String>) -> Result<Vec<String>, AllocError>
     ensures { IfOk result (λ some. map string_bytes some.items
         ≡ spec.some_part (map string_bytes parts.items)) }
@@ -203,7 +202,8 @@ fn some_part(alloc: Global, mut parts: Vec<String>) -> Result<Vec<String>, Alloc
     Ok(parts)
 }
 
-/// Returns the reason, the message and the part of the output of a failure, as far as they are known.
+/// Returns the reason of a failure, the message, and the part of the output that explains the failure. What is not
+/// known is left out.
 fn known_parts(
     alloc: Global,
     failure: &Failure,
@@ -220,7 +220,7 @@ fn known_parts(
     Ok(parts)
 }
 
-/// Appends a part if there is one.
+/// Appends a part. Appends nothing if it is `None`.
 fn push_some(parts: &mut Vec<String>, part: Option<String>) -> Result<(), AllocError>
     ensures { OnOk result (map string_bytes parts.new.items
         ≡ map string_bytes parts.old.items ++ option_to_list (option_map string_bytes part)) }
@@ -231,7 +231,7 @@ fn push_some(parts: &mut Vec<String>, part: Option<String>) -> Result<(), AllocE
     Ok(())
 }
 
-/// Returns the reason of a failure.
+/// Returns the reason of a failure, or `None` if no line gives one.
 fn reason_of(
     alloc: Global,
     failure: &Failure,
@@ -250,7 +250,7 @@ fn reason_of(
     }
 }
 
-/// Returns a copy of a text, if there is a text.
+/// Returns a copy of a text, or `None` if there is no text.
 fn copied(alloc: Global, text: &Option<String>) -> Result<Option<String>, AllocError>
     ensures { IfOk result (λ copy. option_map string_bytes copy ≡ text_view text.now) }
 {
@@ -260,7 +260,7 @@ fn copied(alloc: Global, text: &Option<String>) -> Result<Option<String>, AllocE
     Ok(None)
 }
 
-/// Returns the words for a test that ran out of time.
+/// Returns the words for a test that ran out of time. `time` is in microseconds.
 #[tactic(auto, unfolding(crate::specs::Why::timed_out))]
 fn timed_out(alloc: Global, time: Option<u64>) -> Result<String, AllocError>
     ensures { IfOk result (λ words. string_bytes words ≡ spec.timed_out time) }
@@ -274,7 +274,7 @@ fn timed_out(alloc: Global, time: Option<u64>) -> Result<String, AllocError>
     Ok(text)
 }
 
-/// Returns the part of the output that explains a failure.
+/// Returns the part of the output that explains a failure, or `None`.
 fn output_of(alloc: Global, failure: &Failure) -> Result<Option<String>, AllocError>
     ensures { IfOk result (λ part. spec.IsOutputPart (text_view failure.now.stdout) (text_view failure.now.message)
         (option_map string_bytes part)) }
@@ -285,8 +285,8 @@ fn output_of(alloc: Global, failure: &Failure) -> Result<Option<String>, AllocEr
     }
 }
 
-/// Returns the part of an output that explains a failure, or the last lines of the output if there is no
-/// message either.
+/// Returns the part of an output that explains a failure. If there is none, returns the last lines of the output,
+/// or `None` if there is a message.
 fn output_part(alloc: Global, stdout: &str, has_message: bool) -> Result<Option<String>, AllocError>
     ensures { IfOk result (λ part. (found : Option Extract) × IsExtract (Some stdout.now) (Some stdout.now) found
         × (option_map string_bytes part ≡ spec.output_part stdout.now has_message found)) }
@@ -299,7 +299,7 @@ fn output_part(alloc: Global, stdout: &str, has_message: bool) -> Result<Option<
     }
 }
 
-/// Returns the text of a part of the output.
+/// Returns a part of the output as text.
 fn found_text(alloc: Global, found: &TestOutputErrorSlice<'_>) -> Result<Option<String>, AllocError>
     ensures { IfOk result (λ text. option_map string_bytes text
         ≡ Some (utf8_lossy (spec.extract_bytes (extract_of found.now)))) }
@@ -310,7 +310,8 @@ fn found_text(alloc: Global, found: &TestOutputErrorSlice<'_>) -> Result<Option<
     }
 }
 
-/// Returns the last lines of a text that are not blank, if there are such lines.
+/// Returns the last lines of a text that are not blank, or `None` if all are blank. The line feed at the end is
+/// left out, and so is a carriage return before it.
 fn last_lines(alloc: Global, text: &str) -> Result<Option<String>, AllocError>
     ensures { IfOk result (λ last. option_map string_bytes last ≡ spec.last_lines text.now) }
 {
@@ -318,10 +319,11 @@ fn last_lines(alloc: Global, text: &str) -> Result<Option<String>, AllocError>
     if count == 0 {
         return Ok(None);
     }
-    Ok(Some(lines_after(alloc, text, count.saturating_sub(LAST_LINES))?))
+    let lines = lines_after(alloc, text, count.saturating_sub(LAST_LINES))?;
+    Ok(Some(String::from_str(alloc, without_return(lines.as_str()))?))
 }
 
-/// Returns true for a line of white space alone.
+/// Returns true if a line has only white space.
 fn is_blank(line: &str) -> bool
     ensures { result ≡ is_blank line.now }
 {
@@ -335,10 +337,10 @@ fn written_count(text: &str) -> usize
     text.split('\n').filter(|line| !is_blank(line)).count()
 }
 
-/// Returns the lines that are not blank, without the first `skipped` of them.
+/// Returns the lines that are not blank, without the first `skipped` of them, joined by line feeds.
 fn lines_after(alloc: Global, text: &str, skipped: usize) -> Result<String, AllocError>
     ensures { IfOk result (λ last. string_bytes last
-        ≡ join_with_byte 10 (map strip_carriage_return (drop skipped (spec.written_lines text.now)))) }
+        ≡ join_with_byte 10 (drop skipped (spec.written_lines text.now))) }
 {
     let mut last = String::new(alloc);
     let mut left = skipped;
@@ -351,7 +353,7 @@ fn lines_after(alloc: Global, text: &str, skipped: usize) -> Result<String, Allo
             left -= 1;
             continue;
         }
-        push_part(&mut last, without_return(line), is_first)?;
+        push_part(&mut last, line, is_first)?;
         is_first = false;
     }
     Ok(last)

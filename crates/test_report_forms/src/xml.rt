@@ -8,14 +8,14 @@ use crate::element::Element;
 use crate::shown::{push_name, seconds_text};
 use std::alloc::{AllocError, Global};
 
-/// Returns a text with U+FFFD for the characters that XML has no place for, and that are not escaped.
+/// Returns a text in which U+FFFD replaces U+FFFE and U+FFFF, which XML does not allow.
 pub(crate) fn xml_text(alloc: Global, shown: &str) -> Result<String, AllocError>
     ensures { IfOk result (λ text. string_bytes text ≡ spec.xml_text shown.now) }
 {
     xml_string(alloc, String::from_str(alloc, shown)?)
 }
 
-/// Returns a text with U+FFFD for the characters that XML has no place for. A text in ASCII is returned as it is.
+/// Returns a text in which U+FFFD replaces U+FFFE and U+FFFF. A text in ASCII is returned as it is.
 #[tactic(auto, using(crate::proofs::Kept::kept_xml))]
 pub(crate) fn xml_string(alloc: Global, shown: String) -> Result<String, AllocError>
     ensures { IfOk result (λ text. string_bytes text ≡ spec.xml_text (string_bytes shown)) }
@@ -27,7 +27,7 @@ pub(crate) fn xml_string(alloc: Global, shown: String) -> Result<String, AllocEr
     }
 }
 
-/// Returns a text with U+FFFD for these characters, character by character.
+/// Returns a text in which U+FFFD replaces U+FFFE and U+FFFF, character by character.
 fn xml_chars(alloc: Global, shown: &str) -> Result<String, AllocError>
     ensures { IfOk result (λ text. string_bytes text ≡ spec.xml_text shown.now) }
 {
@@ -41,7 +41,7 @@ fn xml_chars(alloc: Global, shown: &str) -> Result<String, AllocError>
     Ok(text)
 }
 
-/// Returns a name as XML shows it.
+/// Returns a name as XML shows it. Its control characters are escapes.
 #[tactic(auto, unfolding(crate::specs::JunitSuite::xml_name))]
 pub(crate) fn xml_name(alloc: Global, name: &str) -> Result<String, AllocError>
     ensures { IfOk result (λ shown. string_bytes shown ≡ spec.xml_name name.now) }
@@ -51,7 +51,7 @@ pub(crate) fn xml_name(alloc: Global, name: &str) -> Result<String, AllocError>
     xml_string(alloc, shown)
 }
 
-/// Adds a time as an attribute.
+/// Adds a time in microseconds as the attribute `time`, in seconds. Adds nothing if there is no time.
 #[tactic(auto, unfolding(crate::specs::JunitSuite::with_time))]
 pub(crate) fn with_time(
     alloc: Global,

@@ -1,5 +1,5 @@
 // Made by tools/erase from crates/test_report_forms/src/collected.rt. Do not edit.
-//! What the forms keep that write all at the end.
+//! The failed tests and the causes that forms keep until the end of the run.
 
 use crate::test_report_forms::cause::{push_disagreement, push_not_run};
 use crate::test_report_forms::entry::Entry;
@@ -11,7 +11,7 @@ use crate::test_report_forms::why::Why;
 use crate::test_report_run::note::{Disagreement, FailureKind, TestNote};
 use deodarsieve::RunOutcome;
 
-/// A failed test. Its texts are shown: their control characters are escapes.
+/// A failed test. In its texts control characters are already escapes.
 #[derive(Clone)]
 pub(crate) struct FailedTest {
     /// The name of its suite, or `None` if it started outside of a suite.
@@ -39,13 +39,13 @@ pub(crate) struct FailedTest {
 /// A disagreement, or a suite whose tests were not all run.
 #[derive(Clone)]
 pub(crate) struct Cause<'a> {
-    /// The name of the suite, if it is the cause of one suite.
+    /// The name of the suite, or `None` if the cause names no suite.
     pub(crate) suite: Option<&'a str>,
 
-    /// What kind of cause it is.
+    /// The kind: `disagreement` or `not run`.
     pub(crate) kind: &'static str,
 
-    /// The line that says so, as it is shown.
+    /// The line of the report.
     pub(crate) line: String,
 }
 
@@ -58,7 +58,7 @@ pub(crate) struct Collected {
 }
 
 impl Collected {
-    /// Returns what is known before the first note.
+    /// Returns a value without failed tests and causes.
     pub(crate) fn new(options: Options) -> Collected {
         Collected {
             limit: options.limit,
@@ -67,7 +67,7 @@ impl Collected {
         }
     }
 
-    /// Takes an entry.
+    /// Keeps the failed test or the cause of an entry, if it has one.
     pub(crate) fn on_entry(&mut self, entry: &Entry<'_>) {
         self.keep_failure(entry);
         self.keep_cause(entry);
@@ -78,7 +78,7 @@ impl Collected {
         no_tests || !self.causes.is_empty()
     }
 
-    /// Keeps the failed test that an entry tells of.
+    /// Keeps the failed test of an entry, if it has one.
     fn keep_failure(&mut self, entry: &Entry<'_>) {
         if let Entry::Failed { test, failure, why } = entry {
             let shown = shown_failure(test, &failure.kind, why, self.limit);
@@ -86,7 +86,7 @@ impl Collected {
         }
     }
 
-    /// Keeps the cause that an entry tells of.
+    /// Keeps the cause of an entry, if it has one.
     fn keep_cause(&mut self, entry: &Entry<'_>) {
         if let Some(cause) = cause_of(entry) {
             self.causes.push(cause.line);
@@ -94,7 +94,7 @@ impl Collected {
     }
 }
 
-/// Returns a failed test as it is shown. At most `limit` bytes of why it failed are shown.
+/// Returns a failed test as it is shown, with at most `limit` bytes of why it failed and of the short reason.
 pub(crate) fn shown_failure(
     test: &TestNote,
     kind: &FailureKind,
@@ -126,7 +126,7 @@ fn short_text(short: &str, limit: usize) -> String {
     text
 }
 
-/// Returns at most the first `limit` bytes of a reason, and the number of bytes that are not shown.
+/// Returns at most the first `limit` bytes of why a test failed, and the number of bytes that are not shown.
 fn limited_text(why: &str, limit: usize) -> String {
     let mut text = String::new();
     push_limited(&mut text, why, limit);
@@ -138,7 +138,7 @@ pub(crate) fn no_tests_ran(outcome: RunOutcome) -> bool {
     matches!(outcome, RunOutcome::NoTestsRun)
 }
 
-/// Appends the number of attempts, if there were several.
+/// Appends the number of attempts. Appends nothing if there was one.
 pub(crate) fn push_attempts(text: &mut String, attempts: usize) {
     if attempts > 1 {
         text.push_str(&format!(" ({attempts} attempts)"));
@@ -167,7 +167,7 @@ fn shown_suite(suite: &Option<String>) -> Option<String> {
     }
 }
 
-/// Returns the cause that an entry tells of.
+/// Returns the cause of an entry, or `None` if it has none.
 pub(crate) fn cause_of<'a>(entry: &Entry<'a>) -> Option<Cause<'a>> {
     let mut line = String::new();
     match entry {
@@ -191,7 +191,7 @@ pub(crate) fn cause_of<'a>(entry: &Entry<'a>) -> Option<Cause<'a>> {
     }
 }
 
-/// Returns the suite that a disagreement names.
+/// Returns the suite that a disagreement names, or `None`.
 fn suite_of(disagreement: &Disagreement) -> Option<&str> {
     match disagreement {
         Disagreement::EndedEarly { suite } => Some(suite.as_str()),

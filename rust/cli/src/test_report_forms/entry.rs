@@ -1,12 +1,12 @@
 // Made by tools/erase from crates/test_report_forms/src/entry.rt. Do not edit.
-//! The entries of a report.
+//! Entries: what the forms take.
 
 use crate::test_report_forms::why::Why;
 use crate::test_report_run::note::{
     Disagreement, Failure, NotRun, Note, SuiteNote, TestNote, TestOutcome,
 };
 
-/// An entry of a report: what a note says, and why the test failed if the note is of a failed test.
+/// A note of a run. That of a failed test has why the test failed, too.
 #[derive(Clone)]
 pub enum Entry<'a> {
     /// A test passed.
@@ -33,12 +33,12 @@ pub enum Entry<'a> {
     /// Some tests of a suite were not run.
     NotRun(&'a NotRun),
 
-    /// A suite is over.
+    /// A suite has ended.
     Suite(&'a SuiteNote),
 }
 
 impl<'a> Entry<'a> {
-    /// Returns the entry of a note.
+    /// Returns the entry of a note. The only error is that memory runs out.
     pub fn of(note: &'a Note) -> Entry<'a> {
         match note {
             Note::Test(test) => match &test.outcome {

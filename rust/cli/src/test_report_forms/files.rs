@@ -1,5 +1,5 @@
 // Made by tools/erase from crates/test_report_forms/src/files.rt. Do not edit.
-//! The forms that are written to files, beside the form on standard output.
+//! The forms that are written to files, in addition to the form on standard output.
 
 use crate::test_report_forms::entry::Entry;
 use crate::test_report_forms::form::Form;
@@ -44,14 +44,14 @@ impl FileForms {
         }
     }
 
-    /// Takes an entry.
+    /// Passes an entry to each form. The only error is that memory runs out.
     pub fn on_entry(&mut self, entry: &Entry<'_>) {
         take_entry(&mut self.junit, entry);
         take_entry(&mut self.html, entry);
         take_entry(&mut self.markdown, entry);
     }
 
-    /// Returns the texts for a run that ended so.
+    /// Returns the text of each form at the end of the run. The only error is that memory runs out.
     pub fn texts(&mut self, end: &RunEnd) -> FileTexts {
         FileTexts {
             junit: text_at_end(&mut self.junit, end),
@@ -61,14 +61,14 @@ impl FileForms {
     }
 }
 
-/// Passes an entry to a form that writes nothing before the end.
+/// Passes an entry to a form, if there is one. What the form writes at once is dropped.
 fn take_entry<F: Form>(form: &mut Option<F>, entry: &Entry<'_>) {
     if let Some(form) = form {
         form.on_entry(entry, &mut String::new())
     }
 }
 
-/// Returns the text of a form that wrote nothing before the end.
+/// Returns the text that a form writes at the end, or `None` if there is no form.
 fn text_at_end<F: Form>(form: &mut Option<F>, end: &RunEnd) -> Option<String> {
     match form {
         Some(form) => {

@@ -1,15 +1,16 @@
 // Made by tools/erase from crates/test_report_forms/src/form.rt. Do not edit.
-//! What a form is.
+//! The trait of the forms.
 
 use crate::test_report_forms::entry::Entry;
 use crate::test_report_run::note::RunEnd;
 
-/// A form of a report: what is written of each entry at once, and what is written at the end. A form keeps
+/// A form of a report. It appends the text of each entry at once, and more text at the end of the run. It keeps
 /// what it needs for the end.
 pub trait Form {
-    /// Takes an entry, and appends what is written of it at once.
+    /// Takes the next entry, and appends its text. The only error is that memory runs out. After an error nothing
+    /// is promised about the form and the text.
     fn on_entry(&mut self, entry: &Entry<'_>, text: &mut String);
 
-    /// Appends what is written at the end of the run.
+    /// Appends the text that is written at the end of the run. Errors are those of `on_entry`.
     fn on_end(&mut self, end: &RunEnd, text: &mut String);
 }

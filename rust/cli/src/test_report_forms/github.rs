@@ -21,7 +21,7 @@ pub struct GithubForm {
 }
 
 impl GithubForm {
-    /// Returns the form with the limit of the options.
+    /// Returns the form. Of the options it uses only `limit`.
     pub fn new(options: Options) -> GithubForm {
         GithubForm {
             limit: options.limit,
@@ -87,7 +87,7 @@ impl Form for GithubForm {
     }
 }
 
-/// Appends the place of a failure as properties. Appends nothing without a place.
+/// Appends the place of a failure as properties. Appends nothing if there is no place.
 fn push_properties(text: &mut String, place: &Option<Place<'_>>) {
     if let Some(place) = place {
         push_place(text, place)
@@ -106,7 +106,7 @@ fn push_place(text: &mut String, place: &Place<'_>) {
     text.push(',');
 }
 
-/// Appends a column as a property. Appends nothing without a column.
+/// Appends a column as a property. Appends nothing if there is no column.
 fn push_column(text: &mut String, column: Option<&str>) {
     if let Some(column) = column {
         {

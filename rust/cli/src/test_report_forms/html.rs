@@ -22,7 +22,7 @@ pub struct HtmlForm {
 }
 
 impl HtmlForm {
-    /// Returns the form before the first note, with the limit of the options.
+    /// Returns the form before the first entry. Of the options it uses only `limit`.
     pub fn new(options: Options) -> HtmlForm {
         HtmlForm {
             collected: Collected::new(options),
@@ -71,7 +71,7 @@ fn keep_row(suites: &mut Vec<SuiteRow>, entry: &Entry<'_>) {
     }
 }
 
-/// Keeps the test that an entry tells of, if it ran and is one of the slowest.
+/// Keeps the test of an entry, if it ran and is one of the slowest.
 fn keep_slow(slowest: &mut Slowest, entry: &Entry<'_>) {
     match entry {
         Entry::Passed(test) | Entry::Failed { test, .. } => keep_test(slowest, test),

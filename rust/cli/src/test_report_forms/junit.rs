@@ -19,7 +19,7 @@ use deodarsieve::RunOutcome;
 /// The name of the run, and of the suite of causes that name no suite.
 const OWN_NAME: &str = "test-report";
 
-/// What is said of a run without tests.
+/// The line of a run in which no test ran.
 const NO_TESTS: &str = "no test ran";
 
 /// The form for build servers: a tree of suites and test cases, written at the end.
@@ -33,7 +33,7 @@ pub struct JunitForm {
 }
 
 impl JunitForm {
-    /// Returns the form before the first note.
+    /// Returns the form before the first entry.
     pub fn new(options: Options) -> JunitForm {
         JunitForm {
             options,
@@ -140,7 +140,15 @@ impl JunitForm {
         self.close(own, None);
     }
 
-    /// Returns the tree.
+    /// Adds the suites that no entry has ended to those that are over.
+    fn close_all(&mut self) {
+        let open = std::mem::take(&mut self.suites);
+        for suite in open {
+            self.close(suite, None);
+        }
+    }
+
+    /// Returns the element of the run, with the suites that are over.
     fn tree(&mut self, end: &RunEnd) -> Element {
         let no_tests = matches!(end.outcome, RunOutcome::NoTestsRun) && !self.options.no_tests_pass;
         self.close_own(no_tests);
@@ -155,6 +163,7 @@ impl Form for JunitForm {
     }
 
     fn on_end(&mut self, end: &RunEnd, text: &mut String) {
+        self.close_all();
         let tree = self.tree(end).into_node();
         push_document(text, &tree);
     }

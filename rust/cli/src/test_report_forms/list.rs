@@ -9,7 +9,7 @@ use crate::test_report_forms::status::{failed_status, push_status};
 use crate::test_report_forms::title::push_title;
 use crate::test_report_run::note::TestNote;
 
-/// A line of a flaky test.
+/// The line of a flaky test, and how many tests had ended before it.
 #[derive(Clone)]
 struct FlakyLine {
     ended: usize,
@@ -34,7 +34,7 @@ impl ShortList {
         }
     }
 
-    /// Takes an entry.
+    /// Adds the lines of an entry.
     pub(crate) fn on_entry(&mut self, entry: &Entry<'_>, options: Options) {
         match entry {
             Entry::Passed(test) => {
@@ -67,12 +67,13 @@ fn later(lines: &[FlakyLine], ended: usize) -> Option<usize> {
     lines.iter().position(|other| other.ended > ended)
 }
 
-/// Returns the place of a test among those that ended before and after it.
+/// Returns the position of a test among those that ended before and after it.
 fn flaky_place(lines: &[FlakyLine], ended: usize) -> usize {
     later(lines, ended).unwrap_or(lines.len())
 }
 
-/// Adds a test that passed if it is flaky, in the order in which such tests ended.
+/// Adds the line of a test that passed, if the test is flaky. The lines are in the order in which their tests
+/// ended.
 fn add_flaky(lines: &mut Vec<FlakyLine>, test: &TestNote, options: Options) {
     if test.attempts <= 1 {
         return;

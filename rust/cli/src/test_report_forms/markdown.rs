@@ -18,7 +18,7 @@ pub struct MarkdownForm {
 }
 
 impl MarkdownForm {
-    /// Returns the form before the first note, with the limit of the options.
+    /// Returns the form before the first entry. Of the options it uses only `limit`.
     pub fn new(options: Options) -> MarkdownForm {
         MarkdownForm {
             collected: Collected::new(options),

@@ -6,7 +6,7 @@ use crate::test_report_forms::form::Form;
 use crate::test_report_forms::shown::push_name;
 use crate::test_report_run::note::RunEnd;
 
-/// The form that has the name of each failed test, one a line.
+/// The form that writes the name of each failed test, one on each line.
 #[derive(Clone)]
 pub struct NamesForm;
 

@@ -4,15 +4,16 @@
 /// The options of a report.
 #[derive(Clone, Copy, Debug, PartialEq, Eq)]
 pub struct Options {
-    /// The greatest number of bytes that are shown to explain the failure of a test.
+    /// The greatest number of bytes that are shown of why a test failed, and of its short reason. They are counted
+    /// in UTF-8, before escapes.
     pub limit: usize,
 
-    /// True if control characters in what tests wrote are not escaped.
+    /// True if the form for people keeps control characters in why a test failed. Names are escaped all the same.
     pub raw: bool,
 
-    /// True if the words for results are coloured.
+    /// True if the form for people colours the words for results.
     pub color: bool,
 
-    /// True if a run without tests is to pass.
+    /// True if a run in which no test ran is to pass. JUnit's XML then has no error for it.
     pub no_tests_pass: bool,
 }

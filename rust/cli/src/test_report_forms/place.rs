@@ -18,8 +18,8 @@ pub struct Place<'a> {
     pub column: Option<&'a str>,
 }
 
-/// Returns the place of a failure: of a documentation test, or else the one that the last panic of the
-/// output names, or else the one at the end of the message.
+/// Returns the place of a failure, or `None` if it is not known. It is the place in the name of a documentation
+/// test, or else the one that the last panic of the output names, or else the one at the end of the message.
 pub(crate) fn place_of<'a>(test: &'a TestNote, failure: &'a Failure) -> Option<Place<'a>> {
     if let Some(place) = documented(shown_name(test)) {
         return Some(place);
@@ -51,7 +51,8 @@ fn of_message<'a>(failure: &'a Failure) -> Option<Place<'a>> {
     }
 }
 
-/// Returns the place of a documentation test: `FILE - ITEM (line N)` or `FILE - (line N)`.
+/// Returns the place in the name of a documentation test: `FILE - ITEM (line N)` or `FILE - (line N)`. Returns
+/// `None` for another name.
 fn documented(name: &str) -> Option<Place<'_>> {
     let (file, rest) = first_cut(name, " - ")?;
     let (item, line) = last_cut(without_last(rest, ')')?, "(line ")?;
@@ -65,7 +66,8 @@ fn documented(name: &str) -> Option<Place<'_>> {
     })
 }
 
-/// Returns true for the text between ` - ` and `(line` in the name of a documentation test.
+/// Returns true if a text can be between ` - ` and `(line` in the name of a documentation test: an item and a
+/// space, or nothing.
 fn is_item(item: &str) -> bool {
     item.is_empty() || item.len() > 1 && item.ends_with(' ')
 }
@@ -83,8 +85,21 @@ fn said(message: &str) -> Option<Place<'_>> {
     parsed(place)
 }
 
-/// Returns the last line of a text.
+/// Returns the last line of a text, without the line feed that may end it and a carriage return before that.
 fn last_line(text: &str) -> &str {
+    without_return(after_feeds(without_feed(text)))
+}
+
+/// Returns a text without the line feed at its end.
+fn without_feed(text: &str) -> &str {
+    match without_last(text, '\n') {
+        Some(lines) => lines,
+        None => text,
+    }
+}
+
+/// Returns what follows the last line feed of a text, or the whole text if it has no line feed.
+fn after_feeds(text: &str) -> &str {
     match text.rsplit_once('\n') {
         Some((_, line)) => line,
         None => text,
@@ -107,7 +122,7 @@ pub(crate) fn without_return(line: &str) -> &str {
     }
 }
 
-/// Parses `FILE:LINE:COLUMN`.
+/// Parses `FILE:LINE:COLUMN`. Returns `None` for another text.
 fn parsed(text: &str) -> Option<Place<'_>> {
     let (rest, column) = last_cut(text, ":")?;
     let (file, line) = last_cut(rest, ":")?;
@@ -131,17 +146,19 @@ fn all_digits(bytes: &[u8]) -> bool {
     bytes.iter().all(|byte| byte.is_ascii_digit())
 }
 
-/// Splits a text at the first place of a mark that is not empty.
+/// Returns the text before a mark and the text after it, or `None` if the text has no mark. Of several marks the
+/// first one counts. The mark must not be empty.
 fn first_cut<'a>(text: &'a str, mark: &str) -> Option<(&'a str, &'a str)> {
     text.split_once(mark)
 }
 
-/// Splits a text at the last place of a mark that is not empty.
+/// Returns the text before a mark and the text after it, or `None` if the text has no mark. Of several marks the
+/// last one counts. The mark must not be empty.
 fn last_cut<'a>(text: &'a str, mark: &str) -> Option<(&'a str, &'a str)> {
     text.rsplit_once(mark)
 }
 
-/// Removes an ASCII character from the end of a text. Returns `None` if the text does not end in it.
+/// Returns a text without the ASCII character at its end, or `None` if it does not end in that.
 fn without_last(text: &str, end: char) -> Option<&str> {
     text.strip_suffix(end)
 }

@@ -58,7 +58,7 @@ fn push_name_chars(text: &mut String, name: &str) {
     }
 }
 
-/// Appends a name and a space. Appends nothing without a name.
+/// Appends a name and a space. Appends nothing if there is no name.
 pub(crate) fn push_name_and_space(text: &mut String, name: &Option<String>) {
     if let Some(name) = name {
         {
@@ -68,7 +68,7 @@ pub(crate) fn push_name_and_space(text: &mut String, name: &Option<String>) {
     }
 }
 
-/// Appends a text. `raw` keeps its control characters.
+/// Appends a text. Its control characters are shown as escapes, unless `raw` is true.
 pub(crate) fn push_text(text: &mut String, shown: &str, raw: bool) {
     if is_plain_text(shown.as_bytes()) {
         text.push_str(shown);

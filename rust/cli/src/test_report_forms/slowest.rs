@@ -4,7 +4,7 @@
 /// The number of slowest tests that are listed.
 const SLOWEST: usize = 5;
 
-/// A test that took long, and the line that lists it.
+/// The time of a test in microseconds, and the line that lists it.
 #[derive(Clone)]
 pub(crate) struct SlowTest {
     pub(crate) time: u64,
@@ -18,7 +18,7 @@ pub(crate) struct Slowest {
 }
 
 impl Slowest {
-    /// Returns the slowest of no tests.
+    /// Returns an empty list.
     pub(crate) fn new() -> Slowest {
         Slowest { tests: Vec::new() }
     }
@@ -33,7 +33,7 @@ impl Slowest {
         self.tests.iter().position(|other| other.time < time)
     }
 
-    /// Returns the place of a test that took this time.
+    /// Returns the position of a test that took this time.
     fn place(&self, time: u64) -> usize {
         self.faster(time).unwrap_or(self.tests.len())
     }

@@ -21,7 +21,7 @@ fn color_of(status: &str) -> &'static str {
     }
 }
 
-/// Appends a word, coloured if the options say so.
+/// Appends a word, in its colour if `color` of the options is true.
 pub(crate) fn push_status(text: &mut String, status: &str, options: Options) {
     if !options.color {
         return text.push_str(status);

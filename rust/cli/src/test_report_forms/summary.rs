@@ -5,7 +5,7 @@ use crate::test_report_forms::shown::{push_bracket, push_seconds};
 use crate::test_report_run::note::RunEnd;
 use deodarsieve::RunOutcome;
 
-/// Returns the words for an outcome.
+/// Returns the word for an outcome.
 pub(crate) fn outcome_text(outcome: RunOutcome) -> &'static str {
     match outcome {
         RunOutcome::Success => "success",
@@ -38,7 +38,7 @@ fn push_numbers(text: &mut String, end: &RunEnd) {
     push_others(text, end);
 }
 
-/// Appends the numbers of the tests that were run and passed.
+/// Appends how many tests were run, and how many of them passed.
 fn push_passed(text: &mut String, end: &RunEnd) {
     let stats = &end.stats;
     let (finished, passed, flaky) = (stats.finished_count, stats.passed, stats.flaky);
@@ -47,7 +47,7 @@ fn push_passed(text: &mut String, end: &RunEnd) {
     ));
 }
 
-/// Appends the numbers of the tests that failed.
+/// Appends how many tests failed.
 fn push_failed(text: &mut String, end: &RunEnd) {
     let failed = end.stats.finished_count.saturating_sub(end.stats.passed);
     let (timed_out, crashed) = (end.stats.failed_timed_out, end.crashed);
@@ -56,7 +56,7 @@ fn push_failed(text: &mut String, end: &RunEnd) {
     ));
 }
 
-/// Appends the numbers of the tests that were not run.
+/// Appends how many tests were skipped, and how many were not run.
 fn push_others(text: &mut String, end: &RunEnd) {
     let (skipped, not_run) = (end.skipped, end.not_run);
     text.push_str(&format!("{skipped} skipped, {not_run} not run"));

@@ -20,7 +20,7 @@ pub struct TextForm {
 }
 
 impl TextForm {
-    /// Returns the form before the first note.
+    /// Returns the form before the first entry.
     pub fn new(options: Options) -> TextForm {
         TextForm {
             options,
@@ -28,7 +28,7 @@ impl TextForm {
         }
     }
 
-    /// Appends what is written of an entry.
+    /// Appends the text of an entry.
     fn push_entry(&self, entry: &Entry<'_>, text: &mut String) {
         match entry {
             Entry::Passed(_) | Entry::Skipped(_) | Entry::Suite(_) => {}
@@ -79,7 +79,7 @@ fn push_why(text: &mut String, why: &str, options: Options) {
     push_more(text, why.len() - first.len());
 }
 
-/// Appends the number of bytes that are not shown, as a line. Appends nothing if there are none.
+/// Appends a line that says how many bytes are not shown. Appends nothing if all are shown.
 fn push_more(text: &mut String, more: usize) {
     if more == 0 {
         return;

@@ -7,16 +7,16 @@ use crate::test_report_run::note::{Crash, Failure, FailureKind, TestNote};
 use deodarsieve::TestOutputErrorSlice;
 use deodarsieve::counted::last_head;
 
-/// The number of last lines of its output that are shown if nothing else explains a failure.
+/// How many lines of the output are shown if nothing else explains a failure. They are the last ones.
 const LAST_LINES: usize = 10;
 
 /// Why a test failed.
 #[derive(Clone)]
 pub struct Why<'a> {
-    /// The short reason, in one line.
+    /// The short reason: one line.
     pub short: String,
 
-    /// All that is known, line by line.
+    /// All that is known about the failure, in one or more lines.
     pub text: String,
 
     /// The place in the sources, if it is known.
@@ -35,7 +35,7 @@ impl<'a> Why<'a> {
     }
 }
 
-/// Returns what is known about a failure of a test that took this time, part by part.
+/// Returns the parts of why a test failed. `time` is the time that the test took, in microseconds.
 fn parts_of(failure: &Failure, time: Option<u64>) -> Vec<String> {
     if let FailureKind::Crashed(crash) = &failure.kind {
         return crash_parts(crash);
@@ -43,7 +43,7 @@ fn parts_of(failure: &Failure, time: Option<u64>) -> Vec<String> {
     failure_parts(failure, time)
 }
 
-/// Returns the first part.
+/// Returns the first part, or an empty text if there is none.
 fn first_part(parts: &[String]) -> &str {
     match parts.first() {
         Some(part) => part.as_str(),
@@ -51,7 +51,7 @@ fn first_part(parts: &[String]) -> &str {
     }
 }
 
-/// Returns parts, joined by line feeds.
+/// Returns parts, joined by line feeds. A carriage return right before a line feed is left out.
 fn joined(parts: &[String]) -> String {
     let mut text = String::new();
     for (place, part) in parts.iter().enumerate() {
@@ -68,8 +68,8 @@ fn push_part(text: &mut String, part: &str, is_first: bool) {
     text.push_str(part);
 }
 
-/// Returns the first line of the first part. Of the head of a panic it is what follows from `panicked at`
-/// on, and the next line if it ends in a colon.
+/// Returns the short reason, given the first part. It is the first line of that part. If this line is the head of
+/// a panic, it is what follows from `panicked at` on, and the next line too if the head ends in a colon.
 fn short_of(part: &str) -> String {
     let (line, rest) = first_line(part);
     match panic_words(line) {
@@ -78,7 +78,7 @@ fn short_of(part: &str) -> String {
     }
 }
 
-/// Returns words, and the next line after them if they end in a colon.
+/// Returns words. If they end in a colon, and the next line is not empty, that line follows after a space.
 fn with_next(words: &str, next: &str) -> String {
     let mut short = String::from(words);
     if words.ends_with(':') && !next.is_empty() {
@@ -88,12 +88,12 @@ fn with_next(words: &str, next: &str) -> String {
     short
 }
 
-/// Returns a text without the carriage returns right before line feeds.
+/// Returns a text without the carriage returns that are right before a line feed.
 pub(crate) fn without_returns(text: &str) -> String {
     text.replace("\r\n", "\n")
 }
 
-/// Returns what follows from `panicked at` on, if the line is the head of a panic.
+/// Returns what follows from `panicked at` on, or `None` if the line is not the head of a panic.
 fn panic_words(line: &str) -> Option<&str> {
     let head = last_head(line.as_bytes())?;
     if head.start == 0 {
@@ -103,7 +103,7 @@ fn panic_words(line: &str) -> Option<&str> {
     }
 }
 
-/// Returns the parts of a crash.
+/// Returns the parts of why a test crashed: a sentence, and the last lines that something else printed.
 fn crash_parts(crash: &Crash) -> Vec<String> {
     let mut parts = vec![crash_words(crash)];
     for line in &crash.prints {
@@ -112,7 +112,7 @@ fn crash_parts(crash: &Crash) -> Vec<String> {
     parts
 }
 
-/// Returns the words for a crash.
+/// Returns the sentence for a crash.
 fn crash_words(crash: &Crash) -> String {
     let end = end_words(crash.has_key);
     let running = crash.running;
@@ -123,7 +123,7 @@ fn crash_words(crash: &Crash) -> String {
     }
 }
 
-/// Returns the words for the end of the tests of a suite.
+/// Returns what ended before the test did: the run if the suite has a key, or else the process of the test.
 fn end_words(has_key: bool) -> &'static str {
     if has_key {
         "the run ended"
@@ -132,12 +132,12 @@ fn end_words(has_key: bool) -> &'static str {
     }
 }
 
-/// Returns the parts of a failure that is no crash.
+/// Returns the parts of why a test failed that did not crash.
 fn failure_parts(failure: &Failure, time: Option<u64>) -> Vec<String> {
     some_part(known_parts(failure, time))
 }
 
-/// Returns parts, or one that says that there is none.
+/// Returns parts. If there are none, returns one that says that no output was captured.
 fn some_part(mut parts: Vec<String>) -> Vec<String> {
     if parts.is_empty() {
         parts.push(String::from("no output was captured"));
@@ -145,7 +145,8 @@ fn some_part(mut parts: Vec<String>) -> Vec<String> {
     parts
 }
 
-/// Returns the reason, the message and the part of the output of a failure, as far as they are known.
+/// Returns the reason of a failure, the message, and the part of the output that explains the failure. What is not
+/// known is left out.
 fn known_parts(failure: &Failure, time: Option<u64>) -> Vec<String> {
     let mut parts = Vec::new();
     push_some(&mut parts, reason_of(failure, time));
@@ -154,14 +155,14 @@ fn known_parts(failure: &Failure, time: Option<u64>) -> Vec<String> {
     parts
 }
 
-/// Appends a part if there is one.
+/// Appends a part. Appends nothing if it is `None`.
 fn push_some(parts: &mut Vec<String>, part: Option<String>) {
     if let Some(part) = part {
         parts.push(part);
     }
 }
 
-/// Returns the reason of a failure.
+/// Returns the reason of a failure, or `None` if no line gives one.
 fn reason_of(failure: &Failure, time: Option<u64>) -> Option<String> {
     match &failure.kind {
         FailureKind::TimedOut => Some(timed_out(time)),
@@ -171,7 +172,7 @@ fn reason_of(failure: &Failure, time: Option<u64>) -> Option<String> {
     }
 }
 
-/// Returns a copy of a text, if there is a text.
+/// Returns a copy of a text, or `None` if there is no text.
 fn copied(text: &Option<String>) -> Option<String> {
     if let Some(text) = text {
         return Some(String::from(text.as_str()));
@@ -179,7 +180,7 @@ fn copied(text: &Option<String>) -> Option<String> {
     None
 }
 
-/// Returns the words for a test that ran out of time.
+/// Returns the words for a test that ran out of time. `time` is in microseconds.
 fn timed_out(time: Option<u64>) -> String {
     let mut text = String::from("timed out");
     if let Some(micros) = time {
@@ -190,7 +191,7 @@ fn timed_out(time: Option<u64>) -> String {
     text
 }
 
-/// Returns the part of the output that explains a failure.
+/// Returns the part of the output that explains a failure, or `None`.
 fn output_of(failure: &Failure) -> Option<String> {
     match &failure.stdout {
         Some(stdout) => output_part(stdout.as_str(), failure.message.is_some()),
@@ -198,8 +199,8 @@ fn output_of(failure: &Failure) -> Option<String> {
     }
 }
 
-/// Returns the part of an output that explains a failure, or the last lines of the output if there is no
-/// message either.
+/// Returns the part of an output that explains a failure. If there is none, returns the last lines of the output,
+/// or `None` if there is a message.
 fn output_part(stdout: &str, has_message: bool) -> Option<String> {
     let bytes = Some(stdout.as_bytes());
     match TestOutputErrorSlice::heuristic_extract(bytes, bytes) {
@@ -209,23 +210,25 @@ fn output_part(stdout: &str, has_message: bool) -> Option<String> {
     }
 }
 
-/// Returns the text of a part of the output.
+/// Returns a part of the output as text.
 fn found_text(found: &TestOutputErrorSlice<'_>) -> Option<String> {
     found
         .combined_subslice()
         .map(|part| String::from_utf8_lossy(part.slice).into_owned())
 }
 
-/// Returns the last lines of a text that are not blank, if there are such lines.
+/// Returns the last lines of a text that are not blank, or `None` if all are blank. The line feed at the end is
+/// left out, and so is a carriage return before it.
 fn last_lines(text: &str) -> Option<String> {
     let count = written_count(text);
     if count == 0 {
         return None;
     }
-    Some(lines_after(text, count.saturating_sub(LAST_LINES)))
+    let lines = lines_after(text, count.saturating_sub(LAST_LINES));
+    Some(String::from(without_return(lines.as_str())))
 }
 
-/// Returns true for a line of white space alone.
+/// Returns true if a line has only white space.
 fn is_blank(line: &str) -> bool {
     line.trim().is_empty()
 }
@@ -235,7 +238,7 @@ fn written_count(text: &str) -> usize {
     text.split('\n').filter(|line| !is_blank(line)).count()
 }
 
-/// Returns the lines that are not blank, without the first `skipped` of them.
+/// Returns the lines that are not blank, without the first `skipped` of them, joined by line feeds.
 fn lines_after(text: &str, skipped: usize) -> String {
     let mut last = String::new();
     let mut left = skipped;
@@ -248,7 +251,7 @@ fn lines_after(text: &str, skipped: usize) -> String {
             left -= 1;
             continue;
         }
-        push_part(&mut last, without_return(line), is_first);
+        push_part(&mut last, line, is_first);
         is_first = false;
     }
     last

@@ -4,12 +4,12 @@
 use crate::test_report_forms::element::Element;
 use crate::test_report_forms::shown::{push_name, seconds_text};
 
-/// Returns a text with U+FFFD for the characters that XML has no place for, and that are not escaped.
+/// Returns a text in which U+FFFD replaces U+FFFE and U+FFFF, which XML does not allow.
 pub(crate) fn xml_text(shown: &str) -> String {
     xml_string(String::from(shown))
 }
 
-/// Returns a text with U+FFFD for the characters that XML has no place for. A text in ASCII is returned as it is.
+/// Returns a text in which U+FFFD replaces U+FFFE and U+FFFF. A text in ASCII is returned as it is.
 pub(crate) fn xml_string(shown: String) -> String {
     if shown.as_str().is_ascii() {
         shown
@@ -18,7 +18,7 @@ pub(crate) fn xml_string(shown: String) -> String {
     }
 }
 
-/// Returns a text with U+FFFD for these characters, character by character.
+/// Returns a text in which U+FFFD replaces U+FFFE and U+FFFF, character by character.
 fn xml_chars(shown: &str) -> String {
     let mut text = String::new();
     for c in shown.chars() {
@@ -30,14 +30,14 @@ fn xml_chars(shown: &str) -> String {
     text
 }
 
-/// Returns a name as XML shows it.
+/// Returns a name as XML shows it. Its control characters are escapes.
 pub(crate) fn xml_name(name: &str) -> String {
     let mut shown = String::new();
     push_name(&mut shown, name);
     xml_string(shown)
 }
 
-/// Adds a time as an attribute.
+/// Adds a time in microseconds as the attribute `time`, in seconds. Adds nothing if there is no time.
 pub(crate) fn with_time(element: Element, time: Option<u64>) -> Element {
     match time {
         Some(micros) => element.with_value("time", seconds_text(micros)),

@@ -2,6 +2,7 @@ use Rattle.test_report_forms.proofs.Causes.{github-names-causes, text-names-caus
 use Rattle.test_report_forms.proofs.CausesHtml.{html-names-causes}
 use Rattle.test_report_forms.proofs.CausesJunit.{junit-says-no-tests}
 use Rattle.test_report_forms.proofs.CausesMarkdown.{markdown-names-causes}
+use Rattle.test_report_forms.proofs.JunitCases.{junit-names-causes}
 use Rattle.test_report_forms.proofs.laws.names_causes.Goals as goal
 
 pub returns-clause-text : goal.returns-clause-text
@@ -11,7 +12,10 @@ pub returns-clause-github : goal.returns-clause-github
 returns-clause-github c = github-names-causes
 
 pub returns-clause-junit : goal.returns-clause-junit
-returns-clause-junit c = junit-says-no-tests
+returns-clause-junit c = junit-names-causes
+
+pub returns-clause-no_tests : goal.returns-clause-no_tests
+returns-clause-no_tests c = junit-says-no-tests
 
 pub returns-clause-html : goal.returns-clause-html
 returns-clause-html c = html-names-causes

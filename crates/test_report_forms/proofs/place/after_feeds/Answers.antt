@@ -1,5 +1,5 @@
 use Rattle.test_report_forms.proofs.Ends.{last_line-none, last_line-some}
-use Rattle.test_report_forms.proofs.place.last_line.Goals as goal
+use Rattle.test_report_forms.proofs.place.after_feeds.Goals as goal
 
 pub returns-in-Some : goal.returns-in-Some
 returns-in-Some c = last_line-some c.args.text.now _ _ c.in-Some.ensures.cases
