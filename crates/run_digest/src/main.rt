@@ -29,8 +29,8 @@ Options:
 
 Both commands read standard input. Without a command, `count` is run.
 
-The input of `count` for a run of 2 tests and no setup scripts that was not
-cancelled (`-`). Each test has the results of its attempts:
+This input of `count` describes a run of 2 tests and no setup scripts that was
+not cancelled (`-`). Each `test` line has the results of the test's attempts:
   run 2 0 -
   test fail,pass
   test fail slow

@@ -48,7 +48,7 @@ pub(crate) fn command<'a>(alloc: Global) -> Result<Command<'a>, AllocError> {
         .value_name("BYTES")
         .value_parser(value_parser!(usize))
         .default_value(LIMIT)
-        .help("Show at most BYTES bytes of why a test failed");
+        .help("Show at most BYTES bytes of the reason of each failed test");
     let raw = Arg::new(alloc, "raw")
         .long("raw")
         .action(ArgAction::SetTrue)

@@ -6,8 +6,8 @@ use clap::{Arg, ArgAction, Command, value_parser};
 const AFTER_DIGEST_HELP: &str = "\
 Both commands read standard input. Without a command, `count` is run.
 
-The input of `count` for a run of 2 tests and no setup scripts that was not
-cancelled (`-`). Each test has the results of its attempts:
+This input of `count` describes a run of 2 tests and no setup scripts that was
+not cancelled (`-`). Each `test` line has the results of the test's attempts:
   run 2 0 -
   test fail,pass
   test fail slow
@@ -42,8 +42,7 @@ Exit status:
   1  the run did not succeed: a test failed, an announced test neither ended nor was ignored, lines contradict
      each other, or there was no test
   2  an argument is invalid
-  3  reading or writing failed, a file cannot be opened or written, a number is too large to count, or there was not
-     enough memory";
+  3  reading or writing failed, a file cannot be opened or written, or a number is too large to count";
 
 /// Returns the arguments that `run-digest` takes.
 pub fn run_digest() -> Command {
@@ -90,7 +89,7 @@ pub fn test_report() -> Command {
                 .value_name("BYTES")
                 .value_parser(value_parser!(usize))
                 .default_value(LIMIT)
-                .help("Show at most BYTES bytes of why a test failed"),
+                .help("Show at most BYTES bytes of the reason of each failed test"),
         )
         .arg(
             Arg::new("raw")
