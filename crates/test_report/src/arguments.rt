@@ -66,7 +66,9 @@ pub(crate) fn command<'a>(alloc: Global) -> Result<Command<'a>, AllocError> {
         .arg(choice(alloc, "no-tests", "ACTION", ACTIONS).help(
             "Whether a run without tests fails or passes",
         ))?
-        .arg(choice(alloc, "color", "WHEN", TIMES).help("Colour words such as FAIL; `auto` does so on a terminal if NO_COLOR is not set"))?
+        .arg(choice(alloc, "color", "WHEN", TIMES).help(
+            "Colour words such as FAIL; `auto` does so on a terminal if NO_COLOR is not set",
+        ))?
         .arg(choice(alloc, "progress", "WHEN", TIMES).help(
             "Show the progress in a line on standard error; `auto` does so if that is a terminal",
         ))?
