@@ -27,9 +27,10 @@ const FORMS: [&str; 6] = ["text", "github", "names", "junit", "html", "markdown"
 /// The text of `test-report --help` after the options.
 const AFTER_REPORT_HELP: &str = "\
 Examples (with `set -o pipefail` a pipe also fails if the test command does):
-  cargo test --no-fail-fast -- -Z unstable-options --format json 2>&1 | test-report
-  cargo nextest run --message-format libtest-json 2>&1 | test-report
-  (cargo test needs a nightly toolchain or RUSTC_BOOTSTRAP=1. nextest needs NEXTEST_EXPERIMENTAL_LIBTEST_JSON=1)
+  RUSTC_BOOTSTRAP=1 cargo test --no-fail-fast -- -Z unstable-options --format json 2>&1 | test-report
+  NEXTEST_EXPERIMENTAL_LIBTEST_JSON=1 cargo nextest run --message-format libtest-json 2>&1 | test-report
+  (a nightly toolchain does not need RUSTC_BOOTSTRAP=1. Lines that are not of the run are left out of the
+  report, such as the compiler's errors: `.. 2>&1 | tee run.log | test-report` keeps them)
   .. | test-report --format github                      annotations of a workflow on GitHub
   .. | test-report --format names                       the names of failed tests, to run them again
   .. | test-report --junit junit.xml                    the text, and a file for a build server
@@ -40,7 +41,7 @@ Examples (with `set -o pipefail` a pipe also fails if the test command does):
 Exit status:
   0  the run succeeded, or there was no test and `--no-tests` is `pass`
   1  the run did not succeed: a test failed, an announced test neither ended nor was ignored, lines contradict
-     each other, or there was no test
+     each other, cargo reported a failure that no test explains, or there was no test
   2  an argument is invalid
   3  reading or writing failed, a file cannot be opened or written, or a number is too large to count";
 
