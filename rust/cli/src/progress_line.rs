@@ -46,7 +46,7 @@ impl ProgressLine {
         }
     }
 
-    /// Writes a text to standard error. If this fails, the report goes on without the line.
+    /// Writes a text to standard error. If that fails, the line is missing and the report continues.
     fn write(&self, text: &str) {
         let _ = io::stderr().write_all(text.as_bytes());
     }
