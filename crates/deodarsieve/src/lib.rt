@@ -2,8 +2,8 @@
 //!
 //! The header `deodarsieve.h` declares every function, with its result and its preconditions. A
 //! function checks its arguments, makes one call of these libraries, and writes the result through
-//! a pointer. If a code, a number or a counter is not allowed, it makes no call. It returns a
-//! status of [`status`]. An enumeration is passed as a code.
+//! a pointer. An enumeration is passed as a number, its code. If a code, another number or a counter
+//! is not allowed, the function makes no call. It returns one of the constants in [`status`].
 //!
 //! [`counters::deodarsieve_run_stats_failed_counts`] makes two calls, and the functions of
 //! [`version`] make none and return no status.

@@ -45,14 +45,20 @@ Exit status:
 /// What `--version` prints.
 const VERSION: &str = "run-digest 0.1.0\n";
 
+/// Returns true for an argument that asks for help.
+fn is_help(word: &str) -> bool {
+    matches!(word, "-h" | "--help")
+}
+
 /// Returns the text that the arguments ask for instead of a command, if they do.
 fn text_for(words: &[String]) -> Option<&'static str> {
     match words {
-        [word] => match word.as_str() {
-            "-h" | "--help" => Some(HELP),
-            "-V" | "--version" => Some(VERSION),
-            _ => None,
-        },
+        [word] if is_help(word.as_str()) => Some(HELP),
+        [word] if matches!(word.as_str(), "-V" | "--version") => Some(VERSION),
+        [command, word]
+            if matches!(command.as_str(), "count" | "extract") && is_help(word.as_str()) => {
+            Some(HELP)
+        }
         _ => None,
     }
 }

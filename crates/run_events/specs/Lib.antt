@@ -29,6 +29,7 @@ pub use Rattle.run_events_stats.specs.Counters
 pub use Rattle.run_events_stats.specs.Outcome
 pub use Rattle.run_events_stats.specs.RunLaws
 pub use Rattle.run_events_stats.specs.ScriptCounters
+pub use Rattle.run_events_stats.specs.Sum
 pub use Rattle.run_events_stats.specs.Summary
 pub use Rattle.run_events_stats.specs.TestCounters
 pub use Rattle.run_events_stress.specs.Progress

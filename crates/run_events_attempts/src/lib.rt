@@ -1,4 +1,5 @@
-//! The attempts of a finished test, the case that they make (success, flaky or failure), and times.
+//! The attempts of a finished test, whether together they are a success, flaky or a failure
+//! (`ExecutionDescription`), and times of the clock (`Moment`).
 //!
 //! A function that returns the result of a test in one word:
 //!

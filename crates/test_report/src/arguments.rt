@@ -21,8 +21,8 @@ const AFTER_HELP: &str = "\
 Examples (with `set -o pipefail` a pipe also fails if the test command does):
   RUSTC_BOOTSTRAP=1 cargo test --no-fail-fast -- -Z unstable-options --format json 2>&1 | test-report
   NEXTEST_EXPERIMENTAL_LIBTEST_JSON=1 cargo nextest run --message-format libtest-json 2>&1 | test-report
-  (a nightly toolchain does not need RUSTC_BOOTSTRAP=1. Lines that are not of the run are left out of the
-  report, such as the compiler's errors: `.. 2>&1 | tee run.log | test-report` keeps them)
+  (a nightly toolchain does not need RUSTC_BOOTSTRAP=1. The report leaves out lines that are not of the run,
+  such as the compiler's errors. `.. 2>&1 | tee run.log | test-report` keeps them in run.log)
   .. | test-report --format github                      annotations of a workflow on GitHub
   .. | test-report --format names                       the names of failed tests, to run them again
   .. | test-report --junit junit.xml                    the text, and a file for a build server
@@ -31,9 +31,9 @@ Examples (with `set -o pipefail` a pipe also fails if the test command does):
   test-report --format junit first.jsonl second.jsonl   two files, as one run
 
 Exit status:
-  0  the run succeeded, or there was no test and `--no-tests` is `pass`
+  0  the run succeeded, or no test ran and `--no-tests` is `pass`
   1  the run did not succeed: a test failed, an announced test neither ended nor was ignored, lines contradict
-     each other, cargo reported a failure that no test explains, or there was no test
+     each other, cargo reported a failure that no test explains, or no test ran
   2  an argument is invalid
   3  reading or writing failed, a file cannot be opened or written, a number is too large to count, or there was not
      enough memory";
@@ -59,16 +59,16 @@ pub(crate) fn command<'a>(alloc: Global) -> Result<Command<'a>, AllocError> {
         .about("Reports which tests of a run failed, and why, from the JSON output of the run")
         .arg(files)?
         .arg(choice(alloc, "format", "FORM", FORMS).help("Write the report in this form"))?
-        .arg(file(alloc, "junit").help("Write JUnit's XML to FILE as well"))?
-        .arg(file(alloc, "html").help("Write a page for a browser to FILE as well"))?
+        .arg(file(alloc, "junit").help("Also write JUnit's XML to FILE"))?
+        .arg(file(alloc, "html").help("Also write an HTML page to FILE"))?
         .arg(file(alloc, "markdown").help(
-            "Append Markdown to FILE as well, such as $GITHUB_STEP_SUMMARY",
+            "Also append Markdown to FILE, such as $GITHUB_STEP_SUMMARY",
         ))?
         .arg(choice(alloc, "no-tests", "ACTION", ACTIONS).help(
-            "Whether a run without tests fails or passes",
+            "Whether the exit status is 1 (`fail`) or 0 (`pass`) if no test ran",
         ))?
         .arg(choice(alloc, "color", "WHEN", TIMES).help(
-            "Colour words such as FAIL; `auto` does so on a terminal if NO_COLOR is not set",
+            "Colour words such as FAIL; `auto` does so if standard output is a terminal and NO_COLOR is not set",
         ))?
         .arg(choice(alloc, "progress", "WHEN", TIMES).help(
             "Show the progress in a line on standard error; `auto` does so if that is a terminal",

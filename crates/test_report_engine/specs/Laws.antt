@@ -6,7 +6,8 @@ use Rattle.test_report_forms.specs.Collected.{cause_line}
 use Rattle.test_report_forms.specs.Entry.{EntryView, IsEntryOf, LinesDisagree, SuiteNotRun, SuiteOver, TestFailed, TestPassed, TestSkipped}
 use Rattle.test_report_forms.specs.Github.{github_last, github_line, message, property}
 use Rattle.test_report_forms.specs.Html.{html_of}
-use Rattle.test_report_forms.specs.Laws.{HasPart, failed_name}
+use Rattle.test_report_forms.specs.Junit.{junit_text, junit_tree}
+use Rattle.test_report_forms.specs.Laws.{HasJunitCase, HasPart, JunitCause, failed_name, junit_cause, no_test_cause}
 use Rattle.test_report_forms.specs.Markdown.{markdown_of, plain}
 use Rattle.test_report_forms.specs.Text.{text_last, text_line}
 use Rattle.test_report_forms.specs.Tree.{data_text}
@@ -105,6 +106,19 @@ GithubNamesReason = (limit : ℕ) → (inputs : List (List ℕ)) → (text : Lis
     → (report : IsReport (github_line limit) (λ entries end. github_last end) inputs text end) → ¬ (Succeeds end)
     → NamesReason property message report.entries end text
 
+-- JUnit's XML has the test case of a reason why a run does not succeed: the cause of an entry, or that no test ran
+pub record HasReasonCase (o : Options) (entries : List EntryView) (end : RunEnd) (text : List ℕ) : Type 0 where
+  pub cause : JunitCause
+  pub reason : ((e : EntryView) × Contains entries e × (junit_cause o.limit e ≡ Some cause)) ⊎ (RanNoTests end × (cause ≡ no_test_cause))
+  pub has_case : HasJunitCase (junit_tree o entries end) cause
+  pub is : text ≡ junit_text (junit_tree o entries end)
+
+-- JUnit's XML of such a run has the test case of a reason, unless no test ran and a run without tests is to pass.
+abbrev pub JunitNamesReason : Type 0
+JunitNamesReason = (o : Options) → (inputs : List (List ℕ)) → (text : List ℕ) → (end : RunEnd)
+    → (report : IsReport (λ entry. []) (λ entries end. junit_text (junit_tree o entries end)) inputs text end)
+    → ¬ (Succeeds end) → ¬ (RanNoTests end × IsTrue o.no_tests_pass) → HasReasonCase o report.entries end text
+
 -- The page of such a run names a reason.
 abbrev pub HtmlNamesReason : Type 0
 HtmlNamesReason = (limit : ℕ) → (inputs : List (List ℕ)) → (text : List ℕ) → (end : RunEnd)
@@ -117,9 +131,11 @@ MarkdownNamesReason = (limit : ℕ) → (inputs : List (List ℕ)) → (text : L
     → (report : IsReport (λ entry. []) (markdown_of limit) inputs text end) → ¬ (Succeeds end)
     → NamesReason plain plain report.entries end text
 
--- So do the page and the summary in files beside a report.
+-- The texts of the files name a reason, too.
 abbrev pub FilesNameReason : Type 0
 FilesNameReason = (files : FileForms) → (inputs : List (List ℕ)) → (texts : FileTexts) → (are : AreTexts files inputs texts)
     → ¬ (Succeeds (end_of are.run))
-    → IfSome (text_view texts.html) (NamesReason data_text data_text are.entries (end_of are.run))
+    → IfSome files.junit (λ form. ¬ (RanNoTests (end_of are.run) × IsTrue form.options.no_tests_pass)
+    → IfSome (text_view texts.junit) (HasReasonCase form.options are.entries (end_of are.run)))
+    × IfSome (text_view texts.html) (NamesReason data_text data_text are.entries (end_of are.run))
     × IfSome (text_view texts.markdown) (NamesReason plain plain are.entries (end_of are.run))

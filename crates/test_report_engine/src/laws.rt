@@ -1,7 +1,7 @@
 //! Laws of reports, for the proofs of callers. Each is a function that does nothing, and its contract is
 //! the law.
 
-ghost use Rattle.test_report_engine.specs.Laws.{FailureHasReason, FilesNameReason, GithubNamesReason, HtmlNamesReason, MarkdownNamesReason, OneReport, OneRun, SuccessMeans, TextNamesReason};
+ghost use Rattle.test_report_engine.specs.Laws.{FailureHasReason, FilesNameReason, GithubNamesReason, HtmlNamesReason, JunitNamesReason, MarkdownNamesReason, OneReport, OneRun, SuccessMeans, TextNamesReason};
 
 /// For the same inputs there is at most one report in a form, and one end of the run.
 pub fn one_report()
@@ -26,13 +26,15 @@ pub fn success_means()
 }
 
 /// Says what status 1 means. If the outcome in a report is not `Success`, an entry is of a failed test, of a
-/// disagreement, or of a suite whose tests were not all run; or no test ran. Each of these forms then
-/// has the name of a failed test, the line of a disagreement or of such a suite, or says that no test
-/// ran.
+/// disagreement, or of a suite whose tests were not all run; or no test ran. Then `text`, `github`, `html`
+/// and `markdown` have the name of a failed test, or the line of a disagreement or of such a suite, or
+/// say that no test ran. `junit` has a test case that says one of these, unless no test ran and
+/// `no_tests_pass` is true.
 pub fn failure_has_reason()
     ensures reason { FailureHasReason }
     ensures text { TextNamesReason }
     ensures github { GithubNamesReason }
+    ensures junit { JunitNamesReason }
     ensures html { HtmlNamesReason }
     ensures markdown { MarkdownNamesReason }
     ensures files { FilesNameReason }

@@ -5,5 +5,6 @@ mod Keys
 mod MemberLists
 mod Objects
 mod Readings
+mod StartLines
 mod Times
 mod Values

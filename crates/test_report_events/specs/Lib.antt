@@ -6,5 +6,6 @@ pub mod Line
 pub mod Members
 pub mod Plain
 pub mod Said
+pub mod Started
 pub mod Table
 pub mod Time

@@ -50,7 +50,7 @@ test_said time d name event =
     else if bytes_eq event (codes "ignored") then Some (TestEnds (test_end_said time d name Ignored))
     else Some OtherLine
 
--- whether a text is there, and is this one
+-- there is a text, and it is this one
 abbrev pub is_text : Option (List ℕ) → List ℕ → Bool
 is_text None word = false
 is_text (Some text) word = bytes_eq text word

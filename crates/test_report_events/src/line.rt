@@ -13,6 +13,7 @@ use crate::cargo::{cargo_failure, heading};
 use crate::event::{CargoFailure, Event, TestDetails, TestResult};
 use crate::members::Members;
 use crate::plain::{line_text, plain_text};
+use crate::started::started_test;
 use bstr::ByteSlice;
 use serde_json::Value;
 use std::alloc::{AllocError, Global};
@@ -161,6 +162,10 @@ impl Line {
 fn content_of(alloc: Global, bytes: &[u8]) -> Result<Content, AllocError>
     ensures { IfOk result (λ content. LineSays bytes.now (kept.content_event content)) }
 {
+    if let Some(name) = started_test(bytes) {
+        let name = String::from_str(alloc, name)?;
+        return Ok(Content::TestStarted { name });
+    }
     match value_in(alloc, bytes)? {
         Some(value) => value_content(alloc, bytes, value),
         None => text_content(alloc, bytes),

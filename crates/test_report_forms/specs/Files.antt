@@ -13,11 +13,11 @@ use Rattle.test_report_forms.specs.declared.markdown.MarkdownForm.{MarkdownForm}
 use Rattle.test_report_run.specs.Note.{text_view}
 use Rattle.test_report_run.specs.declared.note.RunEnd.{RunEnd}
 
--- a form, if it is there, has taken these entries
+-- a form has taken these entries, if there is a form
 abbrev pub HasTaken : {F : Type 0} → (F → List EntryView → Type 0) → Option F → List EntryView → Type 0
 HasTaken knows form entries = IfSome form (λ f. knows f entries)
 
--- what a form, if it is there, writes at the end of a run with these entries
+-- what a form writes at the end of a run with these entries, if there is a form
 abbrev pub text_of : {F : Type 0} → (F → List EntryView → RunEnd → List ℕ) → Option F → List EntryView → RunEnd → Option (List ℕ)
 text_of last form entries end = option_map (λ f. last f entries end) form
 
@@ -41,7 +41,7 @@ MarkdownKnows form entries = Collects form.collected entries
 abbrev pub markdown_last : MarkdownForm → List EntryView → RunEnd → List ℕ
 markdown_last form entries end = markdown_of form.collected.limit entries end
 
--- each form that is there has taken these entries
+-- each of the forms has taken these entries
 pub record FilesKnow (forms : FileForms) (entries : List EntryView) : Type 0 where
   pub junit : HasTaken JunitKnows forms.junit entries
   pub html : HasTaken Shows forms.html entries

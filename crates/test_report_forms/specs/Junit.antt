@@ -195,7 +195,7 @@ close_cases j (c ∷ cases) own = close j None own
 abbrev pub with_own : JunitState → CasesView → JunitState
 with_own j own = close_cases j own.cases own
 
--- one more suite that is over, of which no time is known
+-- the state after one more suite is over, whose time is not known
 abbrev pub close_open : JunitState → CasesView → JunitState
 close_open j s = close j None s
 

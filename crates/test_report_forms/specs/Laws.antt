@@ -45,7 +45,7 @@ abbrev pub OnlyCommands : Type 0
 OnlyCommands = (limit : ℕ) (entries : List EntryView) (end : RunEnd) → All (λ e. (n : NoteView) × IsEntryOf n e) entries
     → AllPass is_log_line (slice_split is_line_end (flat_map (github_line limit) entries ++ github_last end))
 
--- a control character, or a character that turns the direction of writing
+-- a control character, or a character that changes the direction of writing
 abbrev pub is_unseen : ℕ → Bool
 is_unseen c = turns_writing c || is_control c
 

@@ -34,7 +34,7 @@ cut_view c = record { front = c.0.now; back = c.1.now }
 abbrev pub later_cut : ℕ → Cut → Cut
 later_cut x c = record { front = x ∷ c.front; back = c.back }
 
--- a text cut at its start, if a mark is there
+-- a text cut at its start, if it starts with a mark
 abbrev pub cut_here : List ℕ → List ℕ → Option Cut
 cut_here mark text = if starts_with nat_eq text mark then Some (record { front = []; back = drop (length mark) text }) else None
 

@@ -11,11 +11,11 @@ use Rattle.test_report_run.specs.Prints.{floor_of}
 abbrev pub is_within : ℕ → ℕ → ℕ → Bool
 is_within low high c = nat_le low c && nat_le c high
 
--- the character turns the direction of writing
+-- the character changes the direction of writing
 abbrev pub turns_writing : ℕ → Bool
 turns_writing c = c == 1564 || (c == 8206 || (c == 8207 || (is_within 8234 8238 c || is_within 8294 8297 c)))
 
--- a character that every text shows as an escape: a control character except tab and line feed, or a character that turns the direction of writing
+-- a character that every text shows as an escape: a control character except tab and line feed, or a character that changes the direction of writing
 abbrev pub is_escaped : ℕ → Bool
 is_escaped c = not (c == 9) && (not (c == 10) && (turns_writing c || is_control c))
 

@@ -23,7 +23,7 @@ pub fn only_commands()
     ensures { OnlyCommands }
 {}
 
-/// No form writes a control character, except tabs and line feeds, or a character that turns the direction of
+/// No form writes a control character, except tabs and line feeds, or a character that changes the direction of
 /// writing, whatever the input has. `text` is clean if `raw` and `color` are false: `raw` keeps these characters of
 /// the input, and colours are made of the control character ESC. `names` writes each name on a line of its own,
 /// without tabs and line feeds in it. In `github` the entries have to be those of notes, since the numbers of a

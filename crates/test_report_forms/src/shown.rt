@@ -10,7 +10,7 @@ use std::alloc::{AllocError, Global};
 use std::fmt::Write;
 
 /// Returns true for a character that is shown as an escape in every text: a control character other than
-/// a tab and a line feed, or one that turns the direction of writing.
+/// a tab and a line feed, or one that changes the direction of writing.
 pub(crate) fn is_escaped(c: char) -> bool
     ensures { result ≡ spec.is_escaped c }
 {

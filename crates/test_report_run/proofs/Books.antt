@@ -21,7 +21,8 @@ use Rattle.test_report_run.specs.Over.{early_notes, explained_of, last_notes}
 use Rattle.test_report_run.specs.Prints.{AFailure, AHeading, APrint, PrintedView}
 use Rattle.test_report_run.specs.Run.{RunState, Step, after, after_file, counts_tests, ended_at, ended_early, file_notes, is_cause, is_disagreement, is_explained, learned, marked, names_in, notes_at, open_suite, opened, printed_to, run_start, running_ends, running_over, started_again, step, stray_ends, stray_over, stray_suite_notes, stray_test, suite_at, suite_place, suite_prints, told, with_note, with_suite_at, without_tests}
 use Rattle.test_report_run.specs.Running.{place_of_end, running_at}
-use Rattle.test_report_run.specs.Suite.{FlakyView, OverView, SuiteState, before_dollar, has_key, joined, named, outside_start, suite_start, with_line, with_start}
+use Rattle.test_report_run.specs.Name.{before_dollar}
+use Rattle.test_report_run.specs.Suite.{FlakyView, OverView, SuiteState, has_key, joined, named, outside_start, suite_start, with_line, with_start}
 use Rattle.test_report_run.specs.declared.last_line.Explanation.{Explanation}
 use Rattle.test_report_run.specs.Totals.{no_suites}
 use Rattle.test_report_run.specs.Whole.{all_notes, notes_of, run_after, run_after_files}

@@ -22,7 +22,8 @@ use Rattle.test_report_run.specs.Over.{crash_of, early_disagreements, early_note
 use Rattle.test_report_run.specs.Run.{RunState, Step, after, counts_tests, ended_at, ended_early, file_notes, is_explained, names_in, notes_at, open_suite, opened, place_of_number, running_ends, running_over, started_again, step, stray_ends, stray_over, stray_suite_notes, stray_test, suite_at, suite_place, with_suite_at, without_tests}
 use Rattle.test_report_run.specs.Running.{place_of_end, running_at}
 use Rattle.test_report_run.specs.Status.{NotRunIsNamed, named_not_run}
-use Rattle.test_report_run.specs.Suite.{OverView, SuiteState, given_name, has_key, named, outside_start, suite_name, with_line, with_start}
+use Rattle.test_report_run.specs.Name.{given_by}
+use Rattle.test_report_run.specs.Suite.{OverView, SuiteState, has_key, named, outside_start, suite_name, with_line, with_start}
 use Rattle.test_report_run.specs.declared.last_line.Explanation.{Explanation}
 use Rattle.test_report_run.specs.declared.over.Rest.{Rest}
 
@@ -110,7 +111,7 @@ same-named None n initial s is none = omega (arith, none refl, is)
 same-named (Some name) n initial s is none = grind (arith, nat_tests, is)
 
 no-name : (s : SuiteState) → suite_name s ≡ None → s.number ≡ 0
-no-name s none = eqb-true s.number 0 (by-test (unwrap_or (given_name s) (codes "suite " ++ decimal s.number)) (s.number == 0) none)
+no-name s none = eqb-true s.number 0 (by-test (unwrap_or (given_by s.key s.heading s.first_test) (codes "suite " ++ decimal s.number)) (s.number == 0) none)
   where
     by-test : (name : List ℕ) (b : Bool) → (if b then None else Some name) ≡ None → b ≡ true
     by-test name true h = refl

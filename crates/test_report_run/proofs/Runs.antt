@@ -11,7 +11,8 @@ use Rattle.test_report_run.specs.Over.{early_notes, last_notes}
 use Rattle.test_report_run.proofs.Places.{remove-set}
 use Rattle.test_report_run.specs.Run.{RunState, Step, ended_at, ended_early, file_end, last_place, names_in, running_ends, step, stray_ends, suite_at, suite_place, test_over, with_suite_at, without_tests}
 use Rattle.test_report_run.specs.Running.{RunningView, ended_at as test_at}
-use Rattle.test_report_run.specs.Suite.{SuiteState, before_dollar, has_key, outside_start, state_of, with_line}
+use Rattle.test_report_run.specs.Name.{before_dollar}
+use Rattle.test_report_run.specs.Suite.{SuiteState, has_key, outside_start, state_of, with_line}
 use Rattle.test_report_run.specs.declared.suite.Suite.{Suite}
 
 pub ended-early : (old run : RunState) (s : SuiteState) (names : List (List ℕ)) (notes after : List NoteView) → names ≡ names_in old s

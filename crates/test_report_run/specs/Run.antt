@@ -11,7 +11,8 @@ use Rattle.test_report_run.specs.Note.{CargoSays, Disagrees, Fails, IsNotRun, Is
 use Rattle.test_report_run.specs.Over.{early_notes, last_notes}
 use Rattle.test_report_run.specs.Prints.{AFailure, AHeading, APrint, PrintedView, after_line}
 use Rattle.test_report_run.specs.Running.{RunningView, is_of, place_of_end, running_at, tests_of}
-use Rattle.test_report_run.specs.Suite.{OverView, SuiteState, before_dollar, has_key, joined, outside_start, state_of, suite_start, with_line, with_start}
+use Rattle.test_report_run.specs.Name.{before_dollar}
+use Rattle.test_report_run.specs.Suite.{OverView, SuiteState, has_key, joined, outside_start, state_of, suite_start, with_line, with_start}
 use Rattle.test_report_run.specs.Totals.{ending, no_suites, with_suite}
 use Rattle.test_report_run.specs.declared.note.RunEnd.{RunEnd}
 use Rattle.test_report_run.specs.declared.run.TestRun.{TestRun}
@@ -87,8 +88,8 @@ open_suite r key = position (has_key key) r.suites
 abbrev pub last_place : List SuiteState → Option ℕ
 last_place suites = if length suites == 0 then None else Some (length suites - 1)
 
--- the position of the suite that a test of this name belongs to if it starts now: its key is what comes before the first `$`; or else it has no key;
--- or else it started last. There is none if no suite is open
+-- the position of the suite that a starting test with this name belongs to: the suite whose key is the text before the first `$` of the name; or else
+-- the suite without a key; or else the suite that started last. There is none if no suite is open
 abbrev pub suite_place : RunState → List ℕ → Option ℕ
 suite_place r name =
     option_or (option_and_then (λ key. open_suite r (Some key)) (before_dollar name)) (option_or (open_suite r None) (last_place r.suites))
@@ -133,7 +134,7 @@ started_again r key count at =
 abbrev pub suite_starts : RunState → Option (List ℕ) → Option ℕ → Step
 suite_starts r key count = option_map_or (started_again r key count) (open_suite r key) (step (opened r key count) [])
 
--- the number is there and is above 0
+-- there is a number, and it is above 0
 abbrev pub is_above_0 : Option ℕ → Bool
 is_above_0 number = option_map_or (nat_lt 0) number false
 

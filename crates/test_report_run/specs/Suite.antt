@@ -1,13 +1,12 @@
 -- A suite of a run.
-use Rattle.std.specs.Prelude.{◌+◌, ◌-◌, ◌++◌, ◌==◌, [], ℕ, List, Bool, codes, false, is_none, length, map, take, if◌then◌else◌, Option, Some, None, option_and_then, option_map, string_bytes, unwrap_or}
-use Rattle.std.specs.Fmt.{decimal}
-use Rattle.std.specs.List.{position}
+use Rattle.std.specs.Prelude.{◌+◌, ◌-◌, [], ℕ, List, Bool, false, is_none, length, map, Option, Some, None, option_map, string_bytes}
 use Rattle.std.specs.Option.{option_map_or, option_or}
 use Rattle.std.specs.Str.{bytes_eq}
 use Rattle.run_events_stats.specs.Counters.{counters_of, nothing_known, with_test}
 use Rattle.run_events_stats.specs.declared.stats.RunStats.{RunStats}
 use Rattle.test_report_events.specs.Event.{SuiteEndView}
 use Rattle.test_report_run.specs.Counted.{view_of_finish}
+use Rattle.test_report_run.specs.Name.{name_by}
 use Rattle.test_report_run.specs.Note.{NoteView, OutcomeView, TestIs, text_view}
 use Rattle.test_report_run.specs.Prints.{PrintsView, no_prints, prints_view}
 use Rattle.test_report_run.specs.Said.{no_lines, sum_of, with_said}
@@ -120,19 +119,9 @@ abbrev pub has_key : Option (List ℕ) → SuiteState → Bool
 has_key None s = is_none s.key
 has_key (Some key) s = option_map_or (λ own. bytes_eq own key) s.key false
 
--- the text before the first `$` of a name, if it has one
-abbrev pub before_dollar : List ℕ → Option (List ℕ)
-before_dollar name = option_map (λ i. take i name) (position (λ c. c == 36) name)
-
--- the name of a suite: its key, or else the heading, or else what its first test says
-abbrev pub given_name : SuiteState → Option (List ℕ)
-given_name s = option_or s.key (option_or s.heading (option_and_then before_dollar s.first_test))
-
--- the name of a suite for people: that name, or else its number. The tests outside of a suite have none
+-- the name of a suite that is shown. The tests outside of a suite have none
 abbrev pub suite_name : SuiteState → Option (List ℕ)
-suite_name s =
-    if s.number == 0 then None
-    else Some (unwrap_or (given_name s) (codes "suite " ++ decimal s.number))
+suite_name s = name_by s.number s.key s.heading s.first_test
 
 -- what becomes known of a test of the suite
 abbrev pub test_note : SuiteState → OverView → OutcomeView → NoteView

@@ -1,9 +1,8 @@
 //! The name of a suite.
 
-ghost use Rattle.std.specs.Prelude.{◌≡◌, ◌++◌, ◌==◌, IfOk, OnOk, None, Some, codes, if◌then◌else◌, option_and_then, option_map, unwrap_or};
-ghost use Rattle.std.specs.Fmt.{decimal};
+ghost use Rattle.std.specs.Prelude.{◌≡◌, IfOk, OnOk, None, Some, option_map};
 ghost use Rattle.std.specs.Option.{option_or};
-ghost use Rattle.test_report_run.specs.Name.{given_by, name_by};
+ghost use Rattle.test_report_run.specs.Name.{given_by, name_by, name_of};
 ghost use Rattle.test_report_run.specs.Note.{text_view};
 
 use std::alloc::{AllocError, Global};
@@ -128,8 +127,8 @@ fn shown_name(
     number: usize,
     given: Option<&str>,
 ) -> Result<Option<String>, AllocError>
-    ensures { IfOk result (λ shown. text_view shown ≡ (if number == 0 then None
-        else Some (unwrap_or (option_map (λ name. name.now) given.entry) (codes "suite " ++ decimal number)))) }
+    ensures { IfOk result (λ shown. text_view shown
+        ≡ name_of number (option_map (λ name. name.now) given.entry)) }
 {
     if number == 0 {
         return Ok(None);

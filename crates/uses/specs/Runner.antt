@@ -16,6 +16,7 @@ use Rattle.run_events.specs.declared.events.ReporterEvent.{ReporterEvent}
 use Rattle.run_events.specs.declared.events.ReporterEvent.TheVariants as told
 use Rattle.run_events.specs.declared.events.kind.TestEventKind.{TestEventKind}
 use Rattle.run_events.specs.declared.events.kind.TestEventKind.TheVariants.{SetupScriptFinished, TestFinished}
+use Rattle.run_events_stats.specs.declared.stats.RunStart.{RunStart}
 use Rattle.run_events_stats.specs.declared.stats.RunStats.{RunStats}
 use Rattle.run_events_results.specs.declared.results.ExecutionResult.{ExecutionResult}
 use Rattle.uses.specs.declared.of_run_events.EndedAttempt.{EndedAttempt}
@@ -32,6 +33,10 @@ numbered_of total number = record { attempt = number; total_attempts = total }
 -- the output of an attempt: its result, its standard error, no standard output, and no error
 abbrev pub left_by : EndedAttempt → ChildExecutionOutputDescription LiveSpec ChildOutputDescription
 left_by attempt = left.Output (Some (described_result attempt.outcome None)) (Split None (Some attempt.stderr.now)) None
+
+-- the start of a run of one setup script and one test, of which none was skipped, and which was not cancelled
+abbrev pub start_of_both : RunStart
+start_of_both = record { initial_run_count = 1; setup_scripts_initial_count = 1; skipped = 0; cancel_reason = None }
 
 -- the captured standard error; if both streams were captured as one, that one
 abbrev pub stderr_in : ChildOutputDescription → Option (List ℕ)

@@ -2,18 +2,18 @@
 
 ghost use Rattle.std.specs.Prelude.{◌≡◌, ◌↔◌, ◌∷◌, [], IfOk, IsTrue, None, Some, map};
 ghost use Rattle.run_events.specs.Attempts.{view_of};
-ghost use Rattle.run_events.specs.Counters.{TestUnit, stats_of, unit_view};
+ghost use Rattle.run_events.specs.Counters.{ScriptUnit, TestUnit, stats_of, unit_view};
 ghost use Rattle.run_events.specs.Described.{described_result};
 ghost use Rattle.run_events.specs.RunLaws.{RunSucceeds};
-ghost use Rattle.uses.specs.Runner.{left_by, stderr_of, view_of_attempts};
+ghost use Rattle.uses.specs.Runner.{left_by, start_of_both, stderr_of, view_of_attempts};
 
 use bytes::Bytes;
 use jiff::Timestamp;
 use jiff::tz::Offset;
-use run_events::attempts::{ExecuteStatus, ExecutionStatuses, RetryData};
+use run_events::attempts::{ExecuteStatus, ExecutionStatuses, RetryData, SetupScriptExecuteStatus};
 use run_events::child::{
-    ChildExecutionOutput, ChildExecutionOutputDescription, ChildOutput, ChildSingleOutput,
-    ChildSplitOutput, LiveSpec,
+    ChildExecutionOutput, ChildExecutionOutputDescription, ChildOutput, ChildOutputDescription,
+    ChildSingleOutput, ChildSplitOutput, LiveSpec,
 };
 use run_events::config::{FlakyResult, Moment};
 use run_events::outcome::FinalRunStats;
@@ -98,11 +98,47 @@ pub fn finished_at_first(
     Ok(ExecutionStatuses::new(statuses, FlakyResult::Pass))
 }
 
-/// Returns the counters of a run of one test.
-pub fn stats_of_test(test: &ExecutionStatuses<LiveSpec>, start: RunStart) -> RunStats
-    ensures { result ≡ stats_of (TestUnit (view_of test.now) ∷ []) start }
+/// Returns a setup script that finished. Nothing was captured of its output.
+pub fn finished_script(outcome: ExecutionResult) -> SetupScriptExecuteStatus<LiveSpec>
+    ensures { result.result ≡ described_result outcome None }
 {
-    RunStats::of_run(&[FinishedUnit::Test(test)], start)
+    SetupScriptExecuteStatus {
+        output: ChildExecutionOutputDescription::Output {
+            result: Some(ExecutionResultDescription::from_status(outcome, None)),
+            output: ChildOutputDescription::Split {
+                stdout: None,
+                stderr: None,
+            },
+            errors: None,
+        },
+        result: ExecutionResultDescription::from_status(outcome, None),
+        start_time: epoch(),
+        time_taken: Duration::ZERO,
+        is_slow: false,
+        env_map: None,
+        error_summary: None,
+    }
+}
+
+/// Returns the counters of a run of one setup script and one test. No other was to run, none was skipped,
+/// and the run was not cancelled.
+pub fn stats_of_both(
+    script: &SetupScriptExecuteStatus<LiveSpec>,
+    test: &ExecutionStatuses<LiveSpec>,
+) -> RunStats
+    ensures { result ≡ stats_of
+        (ScriptUnit script.now.result ∷ (TestUnit (view_of test.now) ∷ [])) start_of_both }
+{
+    let start = RunStart {
+        initial_run_count: 1,
+        setup_scripts_initial_count: 1,
+        skipped: 0,
+        cancel_reason: None,
+    };
+    RunStats::of_run(
+        &[FinishedUnit::Script(script), FinishedUnit::Test(test)],
+        start,
+    )
 }
 
 /// Returns true if a run succeeded: every script passed, no test failed, everything that was to run

@@ -5,7 +5,7 @@ use crate::first_pages::{is_displayed, is_over, word_of_end};
 use crate::of_output_slice::{failure_in, has_panicked};
 use crate::of_program_io::copy;
 use crate::of_run_digest_engine::first_bad_line;
-use crate::of_run_events::{ends_well, finished_at_first, stats_of_test};
+use crate::of_run_events::{ends_well, finished_at_first, finished_script, stats_of_both};
 use crate::of_test_report_engine::succeeds;
 use crate::of_test_report_events::test_count_of;
 use crate::of_test_report_forms::text_of_note;
@@ -66,10 +66,11 @@ pub(crate) fn show<R: AllocGlobal + Print>(
         println!(rt; "  failure:\n{failure}")?;
     }
     let test = finished_at_first(rt.alloc(), PASSED)?;
-    let stats = stats_of_test(&test, START);
+    let script = finished_script(PASSED.outcome);
+    let stats = stats_of_both(&script, &test);
     println!(rt;
-        "  a test from nothing: {} passed of {}",
-        stats.passed, stats.finished_count
+        "  a setup script and a test: {} and {} passed",
+        stats.setup_scripts_passed, stats.passed
     )?;
     let well = ends_well(units, START);
     println!(rt; "  the run ends well: {well}")?;

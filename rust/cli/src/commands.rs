@@ -1,6 +1,6 @@
 //! The arguments of the programs.
 
-use clap::{Arg, ArgAction, Command, value_parser};
+use clap::{Arg, ArgAction, Command, ValueHint, value_parser};
 
 /// The text of `run-digest --help` after the options.
 const AFTER_DIGEST_HELP: &str = "\
@@ -29,8 +29,8 @@ const AFTER_REPORT_HELP: &str = "\
 Examples (with `set -o pipefail` a pipe also fails if the test command does):
   RUSTC_BOOTSTRAP=1 cargo test --no-fail-fast -- -Z unstable-options --format json 2>&1 | test-report
   NEXTEST_EXPERIMENTAL_LIBTEST_JSON=1 cargo nextest run --message-format libtest-json 2>&1 | test-report
-  (a nightly toolchain does not need RUSTC_BOOTSTRAP=1. Lines that are not of the run are left out of the
-  report, such as the compiler's errors: `.. 2>&1 | tee run.log | test-report` keeps them)
+  (a nightly toolchain does not need RUSTC_BOOTSTRAP=1. The report leaves out lines that are not of the run,
+  such as the compiler's errors. `.. 2>&1 | tee run.log | test-report` keeps them in run.log)
   .. | test-report --format github                      annotations of a workflow on GitHub
   .. | test-report --format names                       the names of failed tests, to run them again
   .. | test-report --junit junit.xml                    the text, and a file for a build server
@@ -39,9 +39,9 @@ Examples (with `set -o pipefail` a pipe also fails if the test command does):
   test-report --format junit first.jsonl second.jsonl   two files, as one run
 
 Exit status:
-  0  the run succeeded, or there was no test and `--no-tests` is `pass`
+  0  the run succeeded, or no test ran and `--no-tests` is `pass`
   1  the run did not succeed: a test failed, an announced test neither ended nor was ignored, lines contradict
-     each other, cargo reported a failure that no test explains, or there was no test
+     each other, cargo reported a failure that no test explains, or no test ran
   2  an argument is invalid
   3  reading or writing failed, a file cannot be opened or written, or a number is too large to count";
 
@@ -65,20 +65,24 @@ pub fn test_report() -> Command {
     Command::new("test-report")
         .version(env!("CARGO_PKG_VERSION"))
         .about("Reports which tests of a run failed, and why, from the JSON output of the run")
-        .arg(Arg::new("file").value_name("FILE").num_args(0..).help(
-            "The JSON lines of the run, in one file or several; standard input if absent or `-`",
-        ))
+        .arg(
+            Arg::new("file")
+                .value_name("FILE")
+                .num_args(0..)
+                .value_hint(ValueHint::FilePath)
+                .help("The JSON lines of the run, in one file or several; standard input if absent or `-`"),
+        )
         .arg(choice("format", "FORM", "text", FORMS).help("Write the report in this form"))
-        .arg(file("junit").help("Write JUnit's XML to FILE as well"))
-        .arg(file("html").help("Write a page for a browser to FILE as well"))
-        .arg(file("markdown").help("Append Markdown to FILE as well, such as $GITHUB_STEP_SUMMARY"))
+        .arg(file("junit").help("Also write JUnit's XML to FILE"))
+        .arg(file("html").help("Also write an HTML page to FILE"))
+        .arg(file("markdown").help("Also append Markdown to FILE, such as $GITHUB_STEP_SUMMARY"))
         .arg(
             choice("no-tests", "ACTION", "fail", ["fail", "pass"])
-                .help("Whether a run without tests fails or passes"),
+                .help("Whether the exit status is 1 (`fail`) or 0 (`pass`) if no test ran"),
         )
         .arg(
             choice("color", "WHEN", "auto", ["auto", "always", "never"])
-                .help("Colour words such as FAIL; `auto` does so on a terminal if NO_COLOR is not set"),
+                .help("Colour words such as FAIL; `auto` does so if standard output is a terminal and NO_COLOR is not set"),
         )
         .arg(
             choice("progress", "WHEN", "auto", ["auto", "always", "never"])
@@ -89,6 +93,7 @@ pub fn test_report() -> Command {
                 .long("limit")
                 .value_name("BYTES")
                 .value_parser(value_parser!(usize))
+                .value_hint(ValueHint::Other)
                 .default_value(LIMIT)
                 .help("Show at most BYTES bytes of the reason of each failed test"),
         )
@@ -117,5 +122,8 @@ fn choice<const N: usize>(
 
 /// Returns an option whose value is the path of a file.
 fn file(name: &'static str) -> Arg {
-    Arg::new(name).long(name).value_name("FILE")
+    Arg::new(name)
+        .long(name)
+        .value_name("FILE")
+        .value_hint(ValueHint::FilePath)
 }

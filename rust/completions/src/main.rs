@@ -5,16 +5,41 @@
 use clap_complete::{Shell, generate_to};
 use deodarsieve_cli::commands::{run_digest, test_report};
 use std::env;
+use std::fs;
 use std::io;
 use std::path::Path;
 use std::process::ExitCode;
+
+/// The line of a script for bash that reads the word before the one to complete.
+const PREVIOUS: &str = "    prev=\"${COMP_WORDS[COMP_CWORD-1]}\"\n";
+
+/// The lines that follow it: bash splits `--format=text` into three words.
+const SPLIT: &str = "    if [[ ${cur} == = ]]; then
+        cur=\"\"
+    elif [[ ${prev} == = ]]; then
+        prev=\"${COMP_WORDS[COMP_CWORD-2]}\"
+    fi
+";
+
+/// Makes a script for bash complete `--format=te`, and not offer `[FILE]...` as a word.
+fn mend_bash(script: &Path) -> io::Result<()> {
+    let text = fs::read_to_string(script)?;
+    let Some((start, rest)) = text.split_once(PREVIOUS) else {
+        return Err(io::Error::other("the script has another form"));
+    };
+    let rest = rest.replace(" [FILE]...", "");
+    fs::write(script, format!("{start}{PREVIOUS}{SPLIT}{rest}"))
+}
 
 /// Writes the completions of all programs to a folder.
 fn write_to(folder: &Path) -> io::Result<()> {
     for mut command in [run_digest(), test_report()] {
         let name = command.get_name().to_owned();
         for shell in [Shell::Bash, Shell::Zsh, Shell::Fish] {
-            generate_to(shell, &mut command, name.as_str(), folder)?;
+            let script = generate_to(shell, &mut command, name.as_str(), folder)?;
+            if shell == Shell::Bash {
+                mend_bash(&script)?;
+            }
         }
     }
     Ok(())

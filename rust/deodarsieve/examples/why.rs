@@ -6,7 +6,7 @@ use std::error::Error;
 
 use deodarsieve::TestOutputErrorSlice;
 
-/// Returns the explanation that captured output holds, or a sentence if there is none.
+/// Returns the explanation in captured output, or a sentence if there is none.
 pub fn explain(output: &[u8]) -> String {
     TestOutputErrorSlice::heuristic_extract(Some(output), Some(output)).map_or_else(
         || String::from("the output does not say why"),

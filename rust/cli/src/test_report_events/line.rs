@@ -5,6 +5,7 @@ use crate::test_report_events::cargo::{cargo_failure, heading};
 use crate::test_report_events::event::{CargoFailure, Event, TestDetails, TestResult};
 use crate::test_report_events::members::Members;
 use crate::test_report_events::plain::{line_text, plain_text};
+use crate::test_report_events::started::started_test;
 use bstr::ByteSlice;
 use serde_json::Value;
 
@@ -127,6 +128,10 @@ impl Line {
 
 /// Returns the content of a line.
 fn content_of(bytes: &[u8]) -> Content {
+    if let Some(name) = started_test(bytes) {
+        let name = String::from(name);
+        return Content::TestStarted { name };
+    }
     match value_in(bytes) {
         Some(value) => value_content(bytes, value),
         None => text_content(bytes),

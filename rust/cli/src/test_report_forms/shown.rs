@@ -2,7 +2,7 @@
 //! How text of the input is shown.
 
 /// Returns true for a character that is shown as an escape in every text: a control character other than
-/// a tab and a line feed, or one that turns the direction of writing.
+/// a tab and a line feed, or one that changes the direction of writing.
 pub(crate) fn is_escaped(c: char) -> bool {
     match c {
         '\t' | '\n' => false,

@@ -1,4 +1,4 @@
-use Rattle.test_report_engine.proofs.Reasons.{files-name, github-names, has-reason, html-names, markdown-names, text-names}
+use Rattle.test_report_engine.proofs.Reasons.{files-name, github-names, has-reason, html-names, junit-names, markdown-names, text-names}
 use Rattle.test_report_engine.proofs.laws.failure_has_reason.Goals as goal
 
 pub returns-clause-reason : goal.returns-clause-reason
@@ -10,6 +10,9 @@ returns-clause-text c = text-names (has-reason c.failure_has_reason.ensures.reas
 pub returns-clause-github : goal.returns-clause-github
 returns-clause-github c = github-names (has-reason c.failure_has_reason.ensures.reason) c.names_causes.ensures.github
 
+pub returns-clause-junit : goal.returns-clause-junit
+returns-clause-junit c = junit-names (has-reason c.failure_has_reason.ensures.reason) c.names_causes.ensures.junit
+
 pub returns-clause-html : goal.returns-clause-html
 returns-clause-html c = html-names (has-reason c.failure_has_reason.ensures.reason) c.names_causes.ensures.html
 
@@ -18,4 +21,4 @@ returns-clause-markdown c = markdown-names (has-reason c.failure_has_reason.ensu
 
 pub returns-clause-files : goal.returns-clause-files
 returns-clause-files c =
-    files-name (has-reason c.failure_has_reason.ensures.reason) c.names_causes.ensures.html c.names_causes.ensures.markdown
+    files-name (has-reason c.failure_has_reason.ensures.reason) c.names_causes.ensures.junit c.names_causes.ensures.html c.names_causes.ensures.markdown

@@ -1,0 +1,18 @@
+-- The lines that start tests, as Rust's harness and nextest write them.
+use Rattle.std.specs.Prelude.{◌≡◌, ◌⊎◌, ◌++◌, ◌==◌, ◌&&◌, ℕ, Bool, List, codes, nat_le, not}
+
+-- a byte of a JSON text that stands for itself
+abbrev pub is_plain : ℕ → Bool
+is_plain b = nat_le 32 b && not (b == 34) && not (b == 92)
+
+-- the line that Rust's harness writes when a test with this name starts
+abbrev pub harness_line : List ℕ → List ℕ
+harness_line name = codes "{ \"type\": \"test\", \"event\": \"started\", \"name\": \"" ++ (name ++ codes "\" }")
+
+-- the line that nextest writes then
+abbrev pub nextest_line : List ℕ → List ℕ
+nextest_line name = codes "{\"type\":\"test\",\"event\":\"started\",\"name\":\"" ++ (name ++ codes "\"}")
+
+-- this is one of these lines, with this name
+abbrev pub IsStartOf : List ℕ → List ℕ → Type 0
+IsStartOf line name = (line ≡ harness_line name) ⊎ (line ≡ nextest_line name)

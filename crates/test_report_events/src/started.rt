@@ -1,0 +1,55 @@
+//! Recognizes lines that start tests without the JSON parser. About half of the lines of a run are such lines.
+
+ghost use Rattle.std.specs.Prelude.{◌≡◌, ◌↔◌, ◌++◌, IfSome, IsTrue};
+ghost use Rattle.std.specs.List.{AllPass};
+ghost use Rattle.test_report_events.specs.Event.{TestStarts};
+ghost use Rattle.test_report_events.specs.Line.{LineSays};
+ghost use Rattle.test_report_events.specs.Started as spec;
+
+/// Returns the name of the test that a line starts, if the line is spelt as Rust's harness or nextest spell
+/// it, and the name has no escapes. Any other line has to be parsed.
+pub(crate) fn started_test(line: &[u8]) -> Option<&str>
+    ensures { IfSome result (λ name. LineSays line.now (TestStarts name.now)) }
+{
+    let name = quoted_name(line)?;
+    if !are_plain(name) {
+        return None;
+    }
+    match str::from_utf8(name) {
+        Ok(name) => Some(name),
+        Err(_) => None,
+    }
+}
+
+/// Returns the bytes of the name in such a line, which may have escapes.
+fn quoted_name(line: &[u8]) -> Option<&[u8]>
+    ensures { IfSome result (λ name. spec.IsStartOf line.now name.now) }
+{
+    const HARNESS: &[u8] = b"{ \"type\": \"test\", \"event\": \"started\", \"name\": \"";
+    const NEXTEST: &[u8] = b"{\"type\":\"test\",\"event\":\"started\",\"name\":\"";
+    match between(line, HARNESS, b"\" }") {
+        Some(name) => Some(name),
+        None => between(line, NEXTEST, b"\"}"),
+    }
+}
+
+/// Returns the bytes between the start and the end of a line, if it has both.
+fn between<'a>(line: &'a [u8], start: &[u8], end: &[u8]) -> Option<&'a [u8]>
+    ensures { IfSome result (λ bytes. line.now ≡ start.now ++ (bytes.now ++ end.now)) }
+{
+    line.strip_prefix(start)?.strip_suffix(end)
+}
+
+/// Returns true if each byte stands for itself in a JSON string.
+fn are_plain(bytes: &[u8]) -> bool
+    ensures { IsTrue result ↔ AllPass spec.is_plain bytes.now }
+{
+    bytes.iter().all(|byte| is_plain(*byte))
+}
+
+/// Returns true for a byte that stands for itself in a JSON string.
+fn is_plain(byte: u8) -> bool
+    ensures { result ≡ spec.is_plain byte }
+{
+    byte >= b' ' && byte != b'"' && byte != b'\\'
+}
