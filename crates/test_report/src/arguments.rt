@@ -31,7 +31,7 @@ Examples (with `set -o pipefail` a pipe also fails if the test command does):
   test-report --format junit first.jsonl second.jsonl   two files, as one run
 
 Exit status:
-  0  the run succeeded, or no test ran and `--no-tests` is `pass`
+  0  the run succeeded; or no test ran, nothing else is wrong, and `--no-tests` is `pass`
   1  the run did not succeed: a test failed, an announced test neither ended nor was ignored, lines contradict
      each other, cargo reported a failure that no test explains, or no test ran
   2  an argument is invalid
@@ -65,7 +65,7 @@ pub(crate) fn command<'a>(alloc: Global) -> Result<Command<'a>, AllocError> {
             "Also append Markdown to FILE, such as $GITHUB_STEP_SUMMARY",
         ))?
         .arg(choice(alloc, "no-tests", "ACTION", ACTIONS).help(
-            "Whether the exit status is 1 (`fail`) or 0 (`pass`) if no test ran",
+            "Whether the exit status is 1 (`fail`) or 0 (`pass`) if no test ran and nothing else is wrong",
         ))?
         .arg(choice(alloc, "color", "WHEN", TIMES).help(
             "Colour words such as FAIL; `auto` does so if standard output is a terminal and NO_COLOR is not set",

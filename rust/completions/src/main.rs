@@ -25,7 +25,8 @@ const SPLIT: &str = "    if [[ ${cur} == = ]]; then
 fn mend_bash(script: &Path) -> io::Result<()> {
     let text = fs::read_to_string(script)?;
     let Some((start, rest)) = text.split_once(PREVIOUS) else {
-        return Err(io::Error::other("the script has another form"));
+        let name = script.display();
+        return Err(io::Error::other(format!("{name} has another form")));
     };
     let rest = rest.replace(" [FILE]...", "");
     fs::write(script, format!("{start}{PREVIOUS}{SPLIT}{rest}"))
