@@ -41,5 +41,17 @@ def libraries():
     return re.findall(r"^(\w+):", group[1], re.M)
 
 
+def laws_of(crate, module):
+    """Returns the path of the file with the laws that a module of a crate has, or None if it has none.
+
+    The laws of a module `laws` are in specs/Laws.antt. All modules of a crate `.._laws` have laws, and
+    those of the module `run` are in specs/Run.antt.
+    """
+    if module == "laws" or crate.endswith("_laws"):
+        path = FILE.parent / "crates" / crate / "specs" / f"{module.capitalize()}.antt"
+        return path if path.exists() else None
+    return None
+
+
 if __name__ == "__main__":
     print("\n".join(used()))

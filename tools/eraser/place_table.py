@@ -43,8 +43,8 @@ pub struct ExecutionStatusesIter<'a, S: OutputSpec> {
     # The crates are modules.
     (
         "run_events/src/lib.rt",
-        """//! Most of it is in the crates `run_events_..`, which this crate re-exports. A user needs only this
-//! crate.
+        """//! Most of it is in the crates `run_events_..`, which this crate re-exports. So code needs only this crate.
+//! Contracts that name definitions of a crate `run_events_..` need that crate, too.
 //!
 """,
         "",
@@ -83,7 +83,7 @@ pub struct ExecutionStatusesIter<'a, S: OutputSpec> {
     ),
     # A value leaves a box by `*`.
     ("test_report_run/src/run.rt", "Box::into_inner(suite)", "*suite"),
-    ("test_report_run/src/run.rt", "Box::into_inner(self.suites.remove(at))", "*self.suites.remove(at)"),
+    ("test_report_run/src/run/suites.rt", "Box::into_inner(self.suites.remove(at))", "*self.suites.remove(at)"),
     # Faults of memory are gone.
     ("run_digest_engine_tests/src/words.rt", '        (Fault::OutOfMemory, 3, "out of memory"),\n', ""),
     # The crate's own moments are made otherwise.

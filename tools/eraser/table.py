@@ -27,6 +27,10 @@ PUBLISHED = (LAYER, "deodarsieve-cli", "deodarsieve-c")
 # Files that are written by hand in the package.
 BY_HAND = ("run_events_attempts/src/moment.rt",)
 
+# Modules that plain Rust does not have: laws, which are for proofs, and the callers that the pages CALLING.md
+# show, which are examples of contracts.
+FOR_PROOFS = ("laws", "callers")
+
 ATTRIBUTES = ("inline", "default", "derive", "test", "cfg", "repr", "unsafe")
 MACROS = (
     "write", "writeln", "format", "vec", "matches", "unreachable", "assert", "assert_eq", "println",

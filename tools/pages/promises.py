@@ -36,9 +36,12 @@ class Contracts:
 
 
 def contracts_of_page(text):
-    """Returns the contracts that a page CALLING.md lists."""
-    found, owner, call, trait = Contracts(), "", "", ""
+    """Returns the contracts that a page CALLING.md lists. A free function has the name of its module before
+    its own, if another module has a function of this name."""
+    found, owner, call, trait, module = Contracts(), "", "", "", ""
+    free = re.findall(r"^fn (\w+)", text, re.M)
     for line in text.split("\n"):
+        module = re.match(r"(?:### `(\w+)`)?", line)[1] or module
         block = re.match(r"(impl|trait)\b.*?(\w+)(?:<[^>]*>)?(?: where .*)?$", line)
         function = re.match(r"(  )?fn ([\w:]+)", line)
         clause = re.match(r"\s+ensures (\w+ )?\{", line)
@@ -47,7 +50,8 @@ def contracts_of_page(text):
             owner, call, trait = block[2], "", implemented(line)
             found.traits |= {owner} if block[1] == "trait" else set()
         elif function:
-            call = f"{owner}::{function[2]}" if function[1] else function[2]
+            shared = f"{module}::" if free.count(function[2]) > 1 else ""
+            call = f"{owner}::{function[2]}" if function[1] else f"{shared}{function[2]}"
         elif clause and call:
             found.add(call, (clause[1] or UNNAMED).strip())
         elif member and trait and member[1] not in VIEWS:

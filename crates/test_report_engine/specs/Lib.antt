@@ -1,5 +1,4 @@
 pub mod Fault
-pub mod Laws
 pub mod Lines
 pub mod Progress
 pub mod Reading

@@ -1,4 +1,4 @@
-//! Recognizes lines that start tests without the JSON parser. About half of the lines of a run are such lines.
+//! Recognizes, without the JSON parser, the lines that start tests. They are about half of the lines of a run.
 
 ghost use Rattle.std.specs.Prelude.{◌≡◌, ◌↔◌, ◌++◌, IfSome, IsTrue};
 ghost use Rattle.std.specs.List.{AllPass};
@@ -21,7 +21,7 @@ pub(crate) fn started_test(line: &[u8]) -> Option<&str>
     }
 }
 
-/// Returns the bytes of the name in such a line, which may have escapes.
+/// Returns the bytes between the quotes of the name in such a line. They are the name if they have no escapes.
 fn quoted_name(line: &[u8]) -> Option<&[u8]>
     ensures { IfSome result (λ name. spec.IsStartOf line.now name.now) }
 {
@@ -40,14 +40,14 @@ fn between<'a>(line: &'a [u8], start: &[u8], end: &[u8]) -> Option<&'a [u8]>
     line.strip_prefix(start)?.strip_suffix(end)
 }
 
-/// Returns true if each byte stands for itself in a JSON string.
+/// Returns true if no byte is a quote, a backslash or a control character, so that JSON text has them as they are.
 fn are_plain(bytes: &[u8]) -> bool
     ensures { IsTrue result ↔ AllPass spec.is_plain bytes.now }
 {
     bytes.iter().all(|byte| is_plain(*byte))
 }
 
-/// Returns true for a byte that stands for itself in a JSON string.
+/// Returns true unless the byte is a quote, a backslash or a control character.
 fn is_plain(byte: u8) -> bool
     ensures { result ≡ spec.is_plain byte }
 {

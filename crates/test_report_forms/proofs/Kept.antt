@@ -4,7 +4,7 @@ use Rattle.std.proofs.lemmas.Bool.Decides.{nat_tests}
 use Rattle.std.proofs.lemmas.Str.{chars-IsAscii, encode_ascii}
 use Rattle.std.specs.List.{flat_map, list_all}
 use Rattle.std.specs.Str.{IsAscii, chars}
-use Rattle.test_report_forms.proofs.Controls.{led, whole}
+use Rattle.test_report_forms.proofs.Characters.{led, whole}
 use Rattle.test_report_forms.proofs.Tests.{and-left, and-right}
 use Rattle.test_report_forms.specs.JunitSuite.{xml_char, xml_text}
 use Rattle.test_report_forms.specs.Shown.{is_escaped, is_printable, is_printable_or_blank, name_char, shown_name, shown_text, text_char}

@@ -1,5 +1,5 @@
 -- What is written of a number with a width.
-use Rattle.std.proofs.Common.{◌≡◌, ◌+◌, ◌-◌, ◌^◌, ◌∙◌, ℕ, zero, suc, List, [], ◌∷◌, ◌++◌, refl, ap, length, arith, false, append-nil}
+use Rattle.std.proofs.Common.{◌≡◌, ◌+◌, ◌-◌, ◌^◌, ℕ, zero, suc, List, [], ◌∷◌, ◌++◌, refl, ap, length, arith, append-nil}
 use native.Mathlib.Numerals.{unary_clauses}
 use Rattle.std.specs.Prelude.{replicate}
 use Rattle.std.specs.Char.{encode_utf8}

@@ -1,6 +1,5 @@
 -- Lines in order.
-use Rattle.std.proofs.Common.{◌≡◌, ◌≤◌, ◌<◌, ◌∙◌, ℕ, List, ◌∷◌, ◌++◌, Bool, not, sym, ap, arith, length, map, take, drop, nat_lt}
-use Rattle.std.specs.List.{insert, position_or_len}
+use Rattle.std.proofs.Common.{◌≡◌, ◌≤◌, List, not, arith, length, take, nat_lt}
 use Rattle.std.proofs.lemmas.List.{take-append-le, take_all}
 use Rattle.std.proofs.lemmas.List.Sums.{prefix_len-le-length}
 use Rattle.test_report_forms.specs.List.{KeyedLine, falling_place, put_falling}

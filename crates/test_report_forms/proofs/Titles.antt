@@ -1,5 +1,5 @@
 -- The name of a test without the name of its suite.
-use Rattle.std.proofs.Common.{◌≡◌, ◌+◌, ◌==◌, ◌∙◌, ℕ, List, [], ◌∷◌, ◌++◌, Bool, true, false, Bor, Option, Some, None, refl, ap, sym, length, drop, take, codes, append_assoc, arith, if◌then◌else◌, unwrap_or}
+use Rattle.std.proofs.Common.{◌≡◌, ◌+◌, ◌==◌, ◌∙◌, ℕ, List, [], ◌∷◌, ◌++◌, true, false, Bor, Option, Some, None, refl, ap, sym, length, drop, codes, append_assoc, if◌then◌else◌, unwrap_or}
 use Rattle.std.specs.List.{starts_with}
 use Rattle.std.specs.Option.{MatchOption}
 use Rattle.std.proofs.Math.Seq.{drop-append-add}

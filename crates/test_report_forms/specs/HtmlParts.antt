@@ -1,5 +1,5 @@
 -- The parts of the page.
-use Rattle.std.specs.Prelude.{ℕ, Bool, true, false, ◌&&◌, ◌==◌, ◌-◌, ◌*◌, ◌/◌, ◌++◌, ◌∷◌, [], List, Option, Some, None, codes, if◌then◌else◌, length, max, not, string_bytes, unwrap_or}
+use Rattle.std.specs.Prelude.{ℕ, Bool, true, ◌&&◌, ◌==◌, ◌-◌, ◌*◌, ◌/◌, ◌++◌, ◌∷◌, [], List, Option, Some, None, codes, if◌then◌else◌, length, max, not, string_bytes, unwrap_or}
 use Rattle.std.specs.Char.{encode_utf8}
 use Rattle.std.specs.Fmt.{decimal}
 use Rattle.std.specs.Option.{option_map_or}
@@ -9,9 +9,9 @@ use Rattle.test_report_forms.specs.List.{KeyedLine}
 use Rattle.test_report_forms.specs.Shown.{shown_name}
 use Rattle.test_report_forms.specs.Tree.{ElementView, new_element, with_attribute, with_child, with_line, with_text}
 use Rattle.test_report_forms.specs.Words.{outcome_word, summary_sentence}
-use Rattle.test_report_forms.specs.declared.html_parts.Numbers.{Numbers}
-use Rattle.test_report_forms.specs.declared.html_parts.SuiteRow.{SuiteRow}
-use Rattle.test_report_forms.specs.declared.html_parts.TheConstants.{POLICY}
+use Rattle.test_report_forms.specs.declared.html.suites.Numbers.{Numbers}
+use Rattle.test_report_forms.specs.declared.html.suites.SuiteRow.{SuiteRow}
+use Rattle.test_report_forms.specs.declared.html.head.TheConstants.{POLICY}
 use Rattle.test_report_forms.specs.declared.style.TheConstants.{STYLE}
 use Rattle.test_report_run.specs.Note.{SuiteNoteView}
 use Rattle.test_report_run.specs.declared.note.RunEnd.{RunEnd}

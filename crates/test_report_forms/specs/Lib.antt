@@ -11,7 +11,6 @@ pub mod List
 pub mod Markdown
 pub mod Names
 pub mod Place
-pub mod Reader
 pub mod Shown
 pub mod Text
 pub mod Title

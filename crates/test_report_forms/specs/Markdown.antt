@@ -1,11 +1,10 @@
 -- The form for the summary of a workflow on GitHub.
-use Rattle.std.specs.Prelude.{ℕ, Bool, true, false, ◌&&◌, ◌||◌, ◌==◌, ◌++◌, ◌∷◌, [], List, Option, codes, if◌then◌else◌, length}
+use Rattle.std.specs.Prelude.{ℕ, Bool, true, ◌&&◌, ◌||◌, ◌==◌, ◌++◌, ◌∷◌, [], List, codes, if◌then◌else◌, length}
 use Rattle.std.specs.Char.{encode_utf8, is_ascii_punctuation}
 use Rattle.std.specs.Fmt.{decimal}
 use Rattle.std.specs.List.{flat_map}
 use Rattle.std.specs.Option.{option_map_or}
 use Rattle.std.specs.Str.{chars}
-use Rattle.run_events_stats.specs.declared.outcome.run_outcome.RunOutcome.{RunOutcome}
 use Rattle.test_report_forms.specs.Collected.{FailedView, attempts_text, cause_lines, failures_of, has_causes, no_tests_ran, time_text}
 use Rattle.test_report_forms.specs.Entry.{EntryView}
 use Rattle.test_report_forms.specs.Tree.{data_text}

@@ -1,5 +1,5 @@
 -- How text of the input is shown.
-use Rattle.std.specs.Prelude.{◌≤◌, ◌-◌, ◌/◌, ◌%◌, ◌+◌, ℕ, Bool, true, false, not, ◌&&◌, ◌||◌, ◌==◌, List, [], ◌∷◌, ◌++◌, codes, length, nat_le, replicate, if◌then◌else◌, Option, Some, None}
+use Rattle.std.specs.Prelude.{◌-◌, ◌/◌, ◌%◌, ◌+◌, ℕ, Bool, false, not, ◌&&◌, ◌||◌, ◌==◌, List, [], ◌++◌, codes, length, nat_le, replicate, if◌then◌else◌, Option, Some, None}
 use Rattle.std.specs.Char.{encode_utf8, is_control}
 use Rattle.std.specs.Fmt.{decimal, digits}
 use Rattle.std.specs.List.{flat_map, slice_range, slice_split}

@@ -1,5 +1,5 @@
 -- The name of a test, as people read it.
-use Rattle.std.specs.Prelude.{ℕ, List, ◌++◌, ◌∷◌, [], ◌&&◌, ◌==◌, ◌+◌, codes, drop, length, if◌then◌else◌, Option, Some, None}
+use Rattle.std.specs.Prelude.{ℕ, List, ◌++◌, ◌==◌, ◌+◌, codes, drop, length, if◌then◌else◌}
 use Rattle.std.specs.List.{starts_with}
 use Rattle.std.specs.Option.{option_map_or}
 use Rattle.test_report_forms.specs.Shown.{name_and_space, shown_name}

@@ -1,5 +1,5 @@
 -- Trees of elements and texts, and how they are written.
-use Rattle.std.specs.Prelude.{ℕ, Bool, ◌&&◌, ◌||◌, ◌==◌, bytes_eq, not, true, false, List, [], ◌∷◌, ◌++◌, codes, if◌then◌else◌, map, string_bytes}
+use Rattle.std.specs.Prelude.{ℕ, Bool, ◌&&◌, ◌||◌, ◌==◌, bytes_eq, not, false, List, [], ◌∷◌, ◌++◌, codes, if◌then◌else◌, map, string_bytes}
 use Rattle.std.specs.List.{flat_map}
 use Rattle.test_report_forms.specs.declared.element.Attribute.{Attribute}
 use Rattle.test_report_forms.specs.declared.element.Element.{Element}

@@ -1,5 +1,5 @@
 -- The words for results, outcomes, causes and numbers.
-use Rattle.std.specs.Prelude.{ℕ, List, Bool, ◌++◌, ◌∷◌, [], ◌-◌, codes, if◌then◌else◌, Option, Some, None}
+use Rattle.std.specs.Prelude.{ℕ, List, Bool, ◌++◌, ◌∷◌, [], ◌-◌, codes, if◌then◌else◌, Option}
 use Rattle.std.specs.Fmt.{decimal}
 use Rattle.std.specs.Option.{option_map_or}
 use Rattle.std.specs.Str.{bytes_eq}

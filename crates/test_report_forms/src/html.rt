@@ -9,20 +9,27 @@ ghost use Rattle.test_report_forms.specs.List.{put_falling, slow_line_view};
 ghost use Rattle.test_report_forms.specs.Tree.{element_view};
 ghost use Rattle.test_report_run.specs.Note.{test_view};
 
+mod failures;
+mod head;
+mod slowest;
+mod suites;
+mod tables;
+
 use crate::collected::{Collected, FailedTest, no_tests_ran};
 use crate::element::{Element, push_node};
 use crate::entry::Entry;
 use crate::form::Form;
-use crate::html_parts::{
-    SuiteRow, causes_section, failed_section, head, header, slowest_section, suites_section,
-};
+use crate::html::failures::{causes_section, failed_section};
+use crate::html::head::{head, header};
+use crate::html::slowest::slowest_section;
+use crate::html::suites::{SuiteRow, suites_section};
 use crate::options::Options;
 use crate::slowest::{SlowTest, Slowest};
 use crate::title::push_title;
 use std::alloc::{AllocError, Global};
 use test_report_run::note::{RunEnd, TestNote};
 
-/// The form for a browser: one page without scripts and outside resources, written at the end.
+/// The form for a browser: one page without scripts or outside resources, written at the end.
 #[derive(Drop)]
 pub struct HtmlForm {
     collected: Collected,

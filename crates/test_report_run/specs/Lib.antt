@@ -1,7 +1,6 @@
 pub mod Counted
 pub mod Ended
 pub mod LastLine
-pub mod Laws
 pub mod Name
 pub mod Note
 pub mod Over
@@ -9,7 +8,5 @@ pub mod Prints
 pub mod Run
 pub mod Running
 pub mod Said
-pub mod Status
 pub mod Suite
 pub mod Totals
-pub mod Whole

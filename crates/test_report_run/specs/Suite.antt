@@ -1,5 +1,5 @@
 -- A suite of a run.
-use Rattle.std.specs.Prelude.{◌+◌, ◌-◌, [], ℕ, List, Bool, false, is_none, length, map, Option, Some, None, option_map, string_bytes}
+use Rattle.std.specs.Prelude.{◌+◌, ◌-◌, [], ℕ, List, Bool, false, is_none, length, map, Option, Some, None, string_bytes}
 use Rattle.std.specs.Option.{option_map_or, option_or}
 use Rattle.std.specs.Str.{bytes_eq}
 use Rattle.run_events_stats.specs.Counters.{counters_of, nothing_known, with_test}

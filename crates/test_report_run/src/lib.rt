@@ -1,9 +1,9 @@
 //! Follows a test run line by line, and returns which tests passed, failed or were skipped, and where lines
 //! of the run contradict each other.
 //!
-//! Make a `TestRun`, and pass it the event of each line. Call `end_file` after the last line of each file,
-//! and `end` after the last file. The first two calls return notes, for example that a test failed, and the
-//! last one returns the sums and the outcome of the run.
+//! Make a `TestRun`, and pass the event of each line to `on_event`. Call `end_file` after the last line of
+//! each file, and `end` after the last file. `on_event` and `end_file` return notes, for example that a test
+//! failed. `end` returns the sums and the outcome of the run.
 //!
 //! This function does so for a run of one file that has these lines:
 //!
@@ -28,7 +28,6 @@ mod counted;
 mod ended;
 pub mod error;
 mod last_line;
-pub mod laws;
 pub mod note;
 mod over;
 mod prints;

@@ -1,5 +1,3 @@
 pub mod DisplayerLemmas
-pub mod EndOfLines
 pub mod Lists
 pub mod RunnerLemmas
-pub mod WholeReports

@@ -1,7 +1,8 @@
 //! Examples of use of the libraries, each on a small input: a runner, a reporter, a JUnit writer, a
 //! recorder and the exit status of a run. The example in the page CALLING.md of a library is in the
-//! file `of_LIBRARY.rt`. The examples on the first pages of the libraries are from these files too;
-//! `first_pages.rt` has those that no other file has.
+//! file `of_LIBRARY.rt`, and most examples on first pages are from these files. `first_pages.rt` has
+//! those that no other file has. The examples of the report's libraries are in
+//! `test_report_engine_tests`.
 #![tactic(auto)]
 
 mod demo;
@@ -13,10 +14,6 @@ mod of_output_slice;
 mod of_program_io;
 mod of_run_digest_engine;
 mod of_run_events;
-mod of_test_report_engine;
-mod of_test_report_events;
-mod of_test_report_forms;
-mod of_test_report_run;
 mod pages;
 mod recorder;
 mod runner;

@@ -3,7 +3,8 @@
 //! and cargo nextest, in one file or several.
 //!
 //! Make a `Report` in a form of `test_report_forms`, and call `read_file` for each file and then `finish`.
-//! Read a file by `read_piece` to do something between its lines, for example to show how far the run is.
+//! Call `read_piece` instead to do something between the pieces of a file, for example to show how far the
+//! run is.
 //!
 //! These calls report a run of one file, and return true if it succeeded:
 //!

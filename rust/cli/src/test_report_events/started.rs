@@ -1,5 +1,5 @@
 // Made by tools/erase from crates/test_report_events/src/started.rt. Do not edit.
-//! Recognizes lines that start tests without the JSON parser. About half of the lines of a run are such lines.
+//! Recognizes, without the JSON parser, the lines that start tests. They are about half of the lines of a run.
 
 /// Returns the name of the test that a line starts, if the line is spelt as Rust's harness or nextest spell
 /// it, and the name has no escapes. Any other line has to be parsed.
@@ -11,7 +11,7 @@ pub(crate) fn started_test(line: &[u8]) -> Option<&str> {
     str::from_utf8(name).ok()
 }
 
-/// Returns the bytes of the name in such a line, which may have escapes.
+/// Returns the bytes between the quotes of the name in such a line. They are the name if they have no escapes.
 fn quoted_name(line: &[u8]) -> Option<&[u8]> {
     const HARNESS: &[u8] = b"{ \"type\": \"test\", \"event\": \"started\", \"name\": \"";
     const NEXTEST: &[u8] = b"{\"type\":\"test\",\"event\":\"started\",\"name\":\"";
@@ -26,12 +26,12 @@ fn between<'a>(line: &'a [u8], start: &[u8], end: &[u8]) -> Option<&'a [u8]> {
     line.strip_prefix(start)?.strip_suffix(end)
 }
 
-/// Returns true if each byte stands for itself in a JSON string.
+/// Returns true if no byte is a quote, a backslash or a control character, so that JSON text has them as they are.
 fn are_plain(bytes: &[u8]) -> bool {
     bytes.iter().all(|byte| is_plain(*byte))
 }
 
-/// Returns true for a byte that stands for itself in a JSON string.
+/// Returns true unless the byte is a quote, a backslash or a control character.
 fn is_plain(byte: u8) -> bool {
     byte >= b' ' && byte != b'"' && byte != b'\\'
 }

@@ -1,19 +1,26 @@
 // Made by tools/erase from crates/test_report_forms/src/html.rt. Do not edit.
 //! The form for a browser: one page.
 
+mod failures;
+mod head;
+mod slowest;
+mod suites;
+mod tables;
+
 use crate::test_report_forms::collected::{Collected, FailedTest, no_tests_ran};
 use crate::test_report_forms::element::{Element, push_node};
 use crate::test_report_forms::entry::Entry;
 use crate::test_report_forms::form::Form;
-use crate::test_report_forms::html_parts::{
-    SuiteRow, causes_section, failed_section, head, header, slowest_section, suites_section,
-};
+use crate::test_report_forms::html::failures::{causes_section, failed_section};
+use crate::test_report_forms::html::head::{head, header};
+use crate::test_report_forms::html::slowest::slowest_section;
+use crate::test_report_forms::html::suites::{SuiteRow, suites_section};
 use crate::test_report_forms::options::Options;
 use crate::test_report_forms::slowest::{SlowTest, Slowest};
 use crate::test_report_forms::title::push_title;
 use crate::test_report_run::note::{RunEnd, TestNote};
 
-/// The form for a browser: one page without scripts and outside resources, written at the end.
+/// The form for a browser: one page without scripts or outside resources, written at the end.
 #[derive(Clone)]
 pub struct HtmlForm {
     collected: Collected,

@@ -4,9 +4,9 @@
 //!
 //! Each of these is a `Form`, which takes the entries of a run one by one. `TextForm`, `GithubForm` and
 //! `NamesForm` append the text of an entry at once. The others append their text at the end of the run.
-//! Control characters of the input, except tab and line feed, are written as escapes such as `\u{1b}`, so a
-//! report cannot control the reader's terminal. Only `TextForm` with `raw` keeps them, in the reasons of
-//! failures.
+//! Control characters of the input, except tab and line feed in output, and characters that change the
+//! direction of writing are written as escapes such as `\u{1b}`, so a report cannot control the reader's
+//! terminal. Only `TextForm` with `raw` keeps them, in the reasons of failures.
 //!
 //! This function returns the text that the form for people writes for one note:
 //!
@@ -38,7 +38,6 @@ pub mod files;
 pub mod form;
 pub mod github;
 pub mod html;
-mod html_parts;
 pub mod junit;
 mod junit_suite;
 mod list;

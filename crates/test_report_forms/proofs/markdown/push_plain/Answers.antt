@@ -1,9 +1,7 @@
 -- One more character, and all of them.
-use Rattle.std.proofs.Common.{◌++◌, ◌≡◌, ◌∙◌, ap, append_assoc, arith, map-id, string_bytes, sym, true}
-use Rattle.std.proofs.lemmas.Grind.{common_steps}
+use Rattle.std.proofs.Common.{◌++◌, ◌∙◌, ap, map-id, string_bytes, sym, true}
 use Rattle.std.proofs.lemmas.Iterator.Consumers.{YieldsList-end}
 use Rattle.std.proofs.lemmas.Iterator.{YieldsList-from_chars}
-use Rattle.std.specs.Str.{chars}
 use Rattle.test_report_forms.proofs.Plain.{ends_with_space-more, plain-more}
 use Rattle.test_report_forms.specs.Markdown.{plain, plain_chars}
 use Rattle.test_report_forms.proofs.markdown.push_plain.Goals as goal

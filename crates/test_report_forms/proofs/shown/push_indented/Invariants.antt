@@ -1,4 +1,4 @@
-use Rattle.std.proofs.Common.{◌≡◌, ◌++◌, string_bytes, map}
+use Rattle.std.proofs.Common.{◌≡◌, ◌++◌, string_bytes}
 use Rattle.std.specs.List.{flat_map}
 use Rattle.test_report_forms.specs.Shown.{indented_line}
 use Rattle.test_report_forms.proofs.shown.push_indented.Given as goal

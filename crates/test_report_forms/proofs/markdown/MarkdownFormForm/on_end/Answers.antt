@@ -1,5 +1,4 @@
 -- What is kept is what the entries tell of.
-use Rattle.std.proofs.Common.{refl}
 use Rattle.std.proofs.lemmas.Result.{on_ok_weaker}
 use Rattle.test_report_forms.specs.Markdown.{markdown_of}
 use Rattle.test_report_forms.proofs.markdown.MarkdownFormForm.on_end.Goals as goal

@@ -1,4 +1,4 @@
-use Rattle.std.proofs.Common.{◌≡◌, arith, nat_lt}
+use Rattle.std.proofs.Common.{arith, nat_lt}
 use Rattle.test_report_forms.specs.List.{KeyedLine, slow_line_view}
 use Rattle.test_report_forms.specs.declared.slowest.SlowTest.{SlowTest}
 use Rattle.test_report_run.proofs.Places.{place-or_len, position_or_len-map}

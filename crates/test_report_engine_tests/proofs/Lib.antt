@@ -1,0 +1,2 @@
+pub mod EndOfLines
+pub mod WholeReports

@@ -1,0 +1,12 @@
+use Rattle.std.proofs.Common.{option_map, subst, sym}
+use Rattle.test_report_events.specs.Event.{text_of_key}
+use Rattle.test_report_events.specs.Line.{LineSays}
+use Rattle.test_report_engine_tests.proofs.callers.of_test_report_events.test_count_of.Goals as goal
+
+pub returns-in-SuiteStarted : goal.returns-in-SuiteStarted
+returns-in-SuiteStarted c = record {
+  says = λ _. (
+    option_map text_of_key c.in-SuiteStarted.key,
+    subst (LineSays c.args.bytes.now) (sym c.in-SuiteStarted.ensures) c.in_ok-line.ensures.says,
+  );
+}

@@ -1,0 +1,36 @@
+//! The caller that the page on calling `test_report_laws` shows.
+
+ghost use Rattle.std.specs.Prelude.{◌≡◌, ◌∷◌, [], false, IfOk, IfSome, IsTrue, List};
+ghost use Rattle.std.specs.List.{AllZip};
+ghost use Rattle.test_report_engine.specs.Lines.{AreEventsOf};
+ghost use Rattle.test_report_events.specs.Event.{EventView};
+ghost use Rattle.test_report_laws.specs.Status.{IsInOrder};
+
+use program_io::device::{Sink, Source};
+use run_events_stats::outcome::RunOutcome;
+use std::alloc::Global;
+use test_report_engine::fault::Fault;
+use test_report_engine::report::Report;
+use test_report_forms::options::Options;
+use test_report_forms::text::TextForm;
+use test_report_laws::report::success_means;
+
+/// Writes the report of a run, and returns true if the run succeeded. If so, its lines are in order. For
+/// example, no line says that a test failed.
+pub fn is_in_order<R: Source, W: Sink>(
+    alloc: Global,
+    source: &mut R,
+    sink: &mut W,
+    options: Options,
+) -> Result<bool, Fault>
+    requires source_works { R.failed source.old ≡ false }
+    requires sink_works { W.failed sink.old ≡ false }
+    ensures in_order { IfOk result (λ success. IfSome (R.left source.old) (λ input. IsTrue success
+        → (files : List (List EventView)) × AllZip AreEventsOf (input ∷ []) files × IsInOrder files)) }
+{
+    success_means();
+    let mut report = Report::new(alloc, TextForm::new(alloc, options));
+    report.read_file(alloc, source, sink)?;
+    let end = report.finish(alloc, sink)?;
+    Ok(end.outcome == RunOutcome::Success)
+}

@@ -1,0 +1,174 @@
+-- At least as many tests are counted as were announced.
+use Rattle.std.proofs.Common.{◌≡◌, ◌≤◌, ◌<◌, ◌+◌, ℕ, List, [], ◌∷◌, ◌++◌, Bool, true, false, Option, Some, None, refl, ap, arith, length}
+use Rattle.std.specs.List.{fold, remove, sum_by}
+use Rattle.std.specs.Option.{option_map_or}
+use Rattle.std.specs.Prelude.{◌-◌, ◌==◌, if◌then◌else◌, max, nat_lt}
+use Rattle.std.proofs.lemmas.List.Sums.{sum_by-append, sum_by-cons, sum_by-remove, sum_by-set, sum_by_push}
+use Rattle.run_events_stats.specs.declared.outcome.RunFailureStep.TheVariants as step
+use Rattle.run_events_stats.specs.declared.outcome.run_outcome.RunOutcome.TheVariants as outcome
+use Rattle.test_report_events.specs.Event.{EventView, SuiteEndView, SuiteStarts, SuiteEnds}
+use Rattle.test_report_laws.proofs.Books.{IsIn, position-in}
+use Rattle.test_report_laws.proofs.Counters.{early-suite, last-suite, of_suite, sum-of}
+use Rattle.test_report_laws.proofs.EndSums.{early_rest, last_by}
+use Rattle.test_report_laws.proofs.OverRuns.{over-run}
+use Rattle.test_report_laws.proofs.Tallies.{run-sums}
+use Rattle.test_report_laws.proofs.Weights.{keeps-line, weigh, weight_of}
+use Rattle.test_report_run.specs.Note.{NoteView}
+use Rattle.test_report_run.specs.Over.{early_notes, early_state, explained_of, last_notes, last_state, rest_of}
+use Rattle.test_report_run.specs.Run.{RunState, Step, after, ended_at, ended_early, file_notes, learned, names_in, notes_at, open_suite, opened, run_start, started_again, step, stray_suite_notes, suite_at, with_suite_at, without_tests}
+use Rattle.test_report_run.specs.Said.{sum_of}
+use Rattle.test_report_laws.specs.Status.{AnnouncedAreCounted, announced_by}
+use Rattle.test_report_run.specs.Suite.{SuiteState, has_key, joined, outside_start, suite_start, with_line}
+use Rattle.test_report_laws.specs.Whole.{all_notes, run_after_files}
+use Rattle.test_report_run.specs.declared.last_line.Explanation.{Explanation}
+use Rattle.test_report_run.specs.declared.note.RunEnd.{RunEnd}
+use Rattle.test_report_run.specs.declared.said.Said.{Said}
+
+-- how many tests an open suite announces
+abbrev announcing : ℕ → Said → Option ℕ → ℕ
+announcing number said count = option_map_or (λ n. n) count 0
+
+-- how many tests of a suite that is over finished, were skipped or were not run
+abbrev reach : NoteView → ℕ
+reach note = of_suite (λ s. s.stats.finished_count + s.skipped + s.not_run) note
+
+-- a suite that is over has as many as it announces
+covers : (count : Option ℕ) (skipped finished left : ℕ) → option_map_or (λ n. n) count 0
+    ≤ finished + skipped + (option_map_or (λ c. max (c - skipped) (finished + left)) count (finished + left) - finished)
+covers None skipped finished left = omega arith
+covers (Some c) skipped finished left = omega arith
+
+early-covers : (s : SuiteState) (names : List (List ℕ)) → weigh announcing s ≤ sum_by reach (early_notes s names)
+early-covers s names =
+    let last = early_state s names in
+    let rest = early_rest s in
+    omega (
+      arith,
+      early-suite (λ n. n.stats.finished_count + n.skipped + n.not_run) s names,
+      covers s.test_count rest.skipped last.stats.finished_count rest.left,
+    )
+
+last-covers : (s : SuiteState) (e : Explanation) (names : List (List ℕ)) → weigh announcing s ≤ sum_by reach (last_by s e names)
+last-covers s e names =
+    let last = last_state s e names in
+    let rest = rest_of s e names in
+    omega (
+      arith,
+      last-suite (λ n. n.stats.finished_count + n.skipped + n.not_run) s e names,
+      covers s.test_count rest.skipped last.stats.finished_count rest.left,
+    )
+
+-- as many tests are in notes or in open suites as were announced
+abbrev Covered : ℕ → List NoteView → RunState → Type 0
+Covered n notes r = n ≤ weight_of announcing r + sum_by reach notes
+
+both-announced : (a b : Option ℕ) → option_map_or (λ n. n) (sum_of a b) 0 ≡ option_map_or (λ n. n) a 0 + option_map_or (λ n. n) b 0
+both-announced None b = omega arith
+both-announced (Some a) None = omega arith
+both-announced (Some a) (Some b) = refl
+
+covered-first : (n : ℕ) (notes : List NoteView) (r : RunState) (key : Option (List ℕ)) (count : Option ℕ) (at : Option ℕ) → IsIn r.suites at
+    → Covered n notes r
+    → let t = option_map_or (started_again r key count) at (step (opened r key count) []) in
+    Covered (n + option_map_or (λ n. n) count 0) (notes ++ t.notes) (learned t.run t.notes)
+covered-first n notes r key count None in' i =
+    let start = suite_start (r.suites_started + 1) key r.heading count in
+    omega (arith, i, sum_by_push (weigh announcing) r.suites start, sum_by-append reach notes [])
+covered-first n notes r (Some key) count (Some at) in' i =
+    let s = suite_at r (Some at) in
+    omega (
+      arith,
+      i,
+      both-announced s.test_count count,
+      sum_by-set (weigh announcing) r.suites at (joined s count) r.outside in',
+      sum_by-append reach notes [],
+    )
+covered-first n notes r None count (Some at) in' i =
+    let s = suite_at r (Some at) in
+    let names = names_in r s in
+    let start = suite_start (r.suites_started + 1) None r.heading count in
+    omega (
+      arith,
+      i,
+      early-covers s names,
+      sum_by_push (weigh announcing) (remove r.suites at) start,
+      sum_by-remove (weigh announcing) r.suites at r.outside in',
+      sum_by-append reach notes (early_notes s names),
+    )
+
+covered-over : (n : ℕ) (notes : List NoteView) (r : RunState) (e : SuiteEndView) (at : ℕ) (over : Bool) → at < length r.suites → Covered n notes r
+    → let s = with_line (suite_at r (Some at)) e in
+    let t = if over then step (without_tests (record r { suites = remove r.suites at }) s) (last_notes s (names_in r s))
+    else step (with_suite_at r (Some at) s) [] in
+    Covered (n + 0) (notes ++ t.notes) (learned t.run t.notes)
+covered-over n notes r e at true in' i =
+    let s = with_line (suite_at r (Some at)) e in
+    let names = names_in r s in
+    omega (
+      arith,
+      i,
+      last-covers s (explained_of s (length names)) names,
+      sum_by-remove (weigh announcing) r.suites at r.outside in',
+      sum_by-append reach notes (last_notes s names),
+    )
+covered-over n notes r e at false in' i =
+    let s = with_line (suite_at r (Some at)) e in
+    omega (arith, i, sum_by-set (weigh announcing) r.suites at s r.outside in', sum_by-append reach notes [])
+
+covered-last : (n : ℕ) (notes : List NoteView) (r : RunState) (e : SuiteEndView) (at : Option ℕ) → IsIn r.suites at → Covered n notes r
+    → let t = option_map_or (ended_at r e) at (step r (stray_suite_notes e)) in Covered (n + 0) (notes ++ t.notes) (learned t.run t.notes)
+covered-last n notes r e None in' i = omega (arith, i, sum_by-append reach notes (stray_suite_notes e))
+covered-last n notes r e (Some at) in' i = covered-over n notes r e at ((with_line (suite_at r (Some at)) e).open_lines == 0) in' i
+
+covered-other : (n : ℕ) (notes : List NoteView) (r : RunState) (e : EventView) → announced_by e ≡ 0 → weight_of announcing (after r e) ≡ weight_of announcing r
+    → Covered n notes r → Covered (n + announced_by e) (notes ++ notes_at r e) (after r e)
+covered-other n notes r e none keeps i = omega (arith, none, keeps, i, sum_by-append reach notes (notes_at r e))
+
+covered-line : (n : ℕ) (notes : List NoteView) (r : RunState) (e : EventView) → Covered n notes r
+    → Covered (n + announced_by e) (notes ++ notes_at r e) (after r e)
+covered-line n notes r (SuiteStarts key count) i =
+    covered-first n notes r key count (open_suite r key) (position-in (has_key key) r.suites (open_suite r key) refl) i
+covered-line n notes r (SuiteEnds e) i =
+    covered-last n notes r e (open_suite r e.key) (position-in (has_key e.key) r.suites (open_suite r e.key) refl) i
+covered-line n notes r e i = covered-other n notes r e refl (keeps-line r e refl announcing) i
+
+-- the end of a file
+covered-ends : (t : Step) (suites : List SuiteState)
+    → sum_by (weigh announcing) suites + sum_by reach t.notes ≤ sum_by reach (fold ended_early t suites).notes
+covered-ends t [] = omega arith
+covered-ends t (s ∷ suites) =
+    let names = names_in t.run s in
+    omega (
+      arith,
+      early-covers s names,
+      sum_by-cons (weigh announcing) s suites,
+      sum_by-append reach t.notes (early_notes s names),
+      covered-ends (ended_early t s) suites,
+    )
+
+covered-end : (n : ℕ) (notes : List NoteView) (r : RunState) → Covered n notes r → n ≤ sum_by reach (notes ++ file_notes r)
+covered-end n notes r i =
+    let none = step (record r { suites = [] }) [] in
+    let ended = fold ended_early none r.suites in
+    let last = early_notes r.outside (names_in (record (ended.run) { outside = outside_start }) r.outside) in
+    omega (arith, i, covered-ends none r.suites, sum_by-append reach ended.notes last, sum_by-append reach notes (file_notes r))
+
+-- the sums of a run
+abbrev reached : RunEnd → ℕ
+reached e = e.stats.finished_count + e.skipped + e.not_run
+
+ending-reached : (e : RunEnd) (disagree : Bool) → reached (if disagree then record e { outcome = outcome.Failed step.Test } else e) ≡ reached e
+ending-reached e true = refl
+ending-reached e false = refl
+
+pub announced-counted : AnnouncedAreCounted
+announced-counted files =
+    let notes = all_notes files in
+    let r = run_after_files run_start files in
+    omega (
+      arith,
+      over-run Covered (λ n notes r. n ≤ sum_by reach notes) announced_by (λ n notes r i. omega (arith, i)) covered-line covered-end (omega arith) files,
+      sum-of reached (λ s. s.stats.finished_count + s.skipped + s.not_run) (λ e s. omega arith) refl notes,
+      ap (λ s. reached s.0) (run-sums files),
+      ending-reached r.totals (nat_lt 0 r.disagreements),
+    )

@@ -1,0 +1,380 @@
+-- What is said of tests and what is said of suites add up over a run, if they do at each step of a suite.
+use Rattle.std.proofs.Common.{◌≡◌, ◌∙◌, ℕ, List, [], ◌∷◌, ◌++◌, ◌+◌, ◌<◌, ◌≤◌, Bool, true, false, cond, Option, Some, None, refl, ap, arith, drop, length, subst, suc, sym, take}
+use Rattle.std.specs.List.{All, count_by, fold, position, remove, sum_by}
+use Rattle.std.specs.Option.{option_map_or, option_or}
+use Rattle.std.specs.Prelude.{◌-◌, ◌==◌, ◌&&◌, if◌then◌else◌, not, option_and_then}
+use Rattle.std.proofs.lemmas.Bool.{cond_both, eqb-false}
+use Rattle.std.proofs.lemmas.List.Elements.{All-append, All-cons, All-drop, All-get_or, All-head, All-map, All-nil, All-push, All-set, All-tail, All-take}
+use Rattle.std.proofs.lemmas.List.Quantifiers.{position-Some}
+use Rattle.std.proofs.lemmas.List.Sums.{fold-append, sum_by-append, sum_by-cons, sum_by-remove, sum_by-set, sum_by_push}
+use Rattle.run_events_stats.specs.Counters.{counters_of, nothing_known}
+use Rattle.run_events_stats.specs.declared.stats.RunStats.{RunStats}
+use Rattle.test_report_events.specs.Event.{EventView, SuiteEndView, TestEndView, SuiteStarts, SuiteEnds, TestStarts, TestEnds, OtherLine, HeadingLine, CargoFails, Prints}
+use Rattle.test_report_events.specs.declared.event.TestResult.{TestResult}
+use Rattle.test_report_events.specs.declared.event.TestResult.TheVariants.{Ok, Failed, Ignored}
+use Rattle.test_report_laws.proofs.EndSums.{last_by}
+use Rattle.test_report_laws.proofs.OverRuns.{over-run, up-to-line}
+use Rattle.test_report_laws.proofs.Sums.{sum-if-none, sum-map}
+use Rattle.test_report_run.specs.Ended.{after_end, end_notes}
+use Rattle.test_report_run.specs.Note.{CargoSays, Disagrees, DisagreementView, NoteView, StrayEnds, StraySuiteEnds}
+use Rattle.test_report_run.specs.Over.{early_notes, explained_of, last_notes}
+use Rattle.test_report_run.specs.Prints.{AFailure, AHeading, APrint, PrintedView}
+use Rattle.test_report_run.specs.Run.{RunState, Step, after, after_file, counts_tests, ended_at, ended_early, file_notes, is_cause, is_disagreement, is_explained, learned, marked, names_in, notes_at, open_suite, opened, printed_to, run_start, running_ends, running_over, started_again, step, stray_ends, stray_over, stray_suite_notes, stray_test, suite_at, suite_place, suite_prints, told, with_note, with_suite_at, without_tests}
+use Rattle.test_report_run.specs.Running.{place_of_end, running_at}
+use Rattle.test_report_run.specs.Name.{before_dollar}
+use Rattle.test_report_run.specs.Suite.{FlakyView, OverView, SuiteState, has_key, joined, named, outside_start, suite_start, with_line, with_start}
+use Rattle.test_report_run.specs.declared.last_line.Explanation.{Explanation}
+use Rattle.test_report_run.specs.Totals.{no_suites}
+use Rattle.test_report_laws.specs.Whole.{all_notes, notes_of, run_after, run_after_files}
+use Rattle.test_report_run.specs.declared.note.RunEnd.{RunEnd}
+
+-- what a suite keeps of its tests
+pub record Kept : Type 0 where
+  pub stats : RunStats
+  pub crashed : ℕ
+  pub skipped : ℕ
+  pub flaky : List FlakyView
+
+abbrev pub kept : SuiteState → Kept
+kept s = record { stats = s.stats; crashed = s.crashed; skipped = s.skipped; flaky = s.flaky }
+
+abbrev nothing : Kept
+nothing = record { stats = counters_of [] [] nothing_known; crashed = 0; skipped = 0; flaky = [] }
+
+-- one number is at most another one, or equal to it
+pub record Within (loose a b : ℕ) : Type 0 where
+  pub low : a ≤ b
+  pub high : loose ≡ 0 → b ≤ a
+
+-- a position stands in the list, if there is one
+abbrev pub IsIn : List SuiteState → Option ℕ → Type 0
+IsIn suites None = Unit {0}
+IsIn suites (Some at) = at < length suites
+
+pub position-in : (p : SuiteState → Bool) (suites : List SuiteState) (at : Option ℕ) → position p suites ≡ at → IsIn suites at
+position-in p suites None h = tt
+position-in p suites (Some at) h = (position-Some p suites at outside_start h).0
+
+either-in : (suites : List SuiteState) (a b : Option ℕ) → IsIn suites a → IsIn suites b → IsIn suites (option_or a b)
+either-in suites None b h k = k
+either-in suites (Some at) b h k = h
+
+last-in : (suites : List SuiteState) → IsIn suites (if length suites == 0 then None else Some (length suites - 1))
+last-in suites = cond_both (length suites == 0) None (Some (length suites - 1)) (IsIn suites) (λ none. tt)
+    (λ some. omega (arith, eqb-false (length suites) 0 some))
+
+key-in : (r : RunState) (key : Option (List ℕ)) → IsIn r.suites (option_and_then (λ k. open_suite r (Some k)) key)
+key-in r None = tt
+key-in r (Some key) = position-in _ r.suites (open_suite r (Some key)) refl
+
+pub place-in : (r : RunState) (name : List ℕ) → IsIn r.suites (suite_place r name)
+place-in r name = either-in r.suites _ _ (key-in r (before_dollar name))
+    (either-in r.suites _ _ (position-in _ r.suites (open_suite r None) refl) (last-in r.suites))
+
+-- a weight of suites, summed over those that are open and the tests outside of a suite
+module _ (h : Kept → ℕ) where
+  abbrev pub held : SuiteState → ℕ
+  held s = h (kept s)
+
+  abbrev pub all_held : RunState → ℕ
+  all_held r = held r.outside + sum_by held r.suites
+
+  held-set : (r : RunState) (at : Option ℕ) (s : SuiteState) → IsIn r.suites at
+      → all_held (with_suite_at r at s) + held (suite_at r at) ≡ all_held r + held s
+  held-set r None s in' = omega arith
+  held-set r (Some at) s in' = omega (arith, sum_by-set held r.suites at s r.outside in')
+
+  held-push : (suites : List SuiteState) (s : SuiteState) → held s ≡ 0 → sum_by held (suites ++ s ∷ []) ≡ sum_by held suites
+  held-push suites s none = omega (arith, sum_by_push held suites s, none)
+
+  held-remove : (r : RunState) (at : ℕ) → at < length r.suites → sum_by held (remove r.suites at) + held (suite_at r (Some at)) ≡ sum_by held r.suites
+  held-remove r at in' = sum_by-remove held r.suites at r.outside in'
+
+-- the sums that a run keeps: over suites, of disagreements, and of failed tests and disagreements
+abbrev Sums : Type 0
+Sums = RunEnd × ℕ × ℕ
+
+abbrev pub sums_of : RunState → Sums
+sums_of r = (r.totals, r.disagreements, r.causes)
+
+abbrev learn : Sums → List NoteView → Sums
+learn s notes = (fold with_note s.0 notes, s.1 + count_by is_disagreement notes, s.2 + count_by is_cause notes)
+
+abbrev pub sums_in : List NoteView → Sums
+sums_in notes = (fold with_note no_suites notes, count_by is_disagreement notes, count_by is_cause notes)
+
+learn-more : (notes more : List NoteView) → learn (sums_in notes) more ≡ sums_in (notes ++ more)
+learn-more notes more =
+    let a = fold-append with_note no_suites notes more in
+    let b = sum_by-append (λ x. cond (is_disagreement x) 1 0) notes more in
+    let c = sum_by-append (λ x. cond (is_cause x) 1 0) notes more in
+    cc
+
+-- what holds of a run at the end of a file, up to which these notes are known: one weight of the notes is within the other one
+pub record HoldsAll (loose : ℕ) (w v : NoteView → ℕ) (notes : List NoteView) (r : RunState) : Type 0 where
+  pub whole : Within loose (sum_by w notes) (sum_by v notes)
+  pub outside : r.outside ≡ outside_start
+  pub suites : r.suites ≡ []
+  pub all_sums : sums_of r ≡ sums_in notes
+
+-- suites that end early leave no other suite, and the sums
+pub ends-keep : (t : Step) (suites : List SuiteState) → ((fold ended_early t suites).run.suites ≡ t.run.suites)
+    × (sums_of (fold ended_early t suites).run ≡ sums_of t.run)
+ends-keep t [] = (refl, refl)
+ends-keep t (s ∷ suites) = ends-keep (ended_early t s) suites
+
+-- weights of notes, of which the first speaks of tests and the second of suites, a weight of suites, and what holds of suites
+pub record Rules (loose : ℕ) (w v : NoteView → ℕ) (h : Kept → ℕ) (Fine : Kept → Type 0) : Type 0 where
+  pub w_disagree : (d : DisagreementView) → w (Disagrees d) ≡ 0
+  pub v_disagree : (d : DisagreementView) → v (Disagrees d) ≡ 0
+  pub empty : h nothing ≡ 0
+  pub fine_empty : Fine nothing
+  pub of_end : (s : SuiteState) (t : OverView) (order : ℕ) (e : TestEndView) → Fine (kept s)
+      → (sum_by w (end_notes s t e) + h (kept s) ≡ sum_by v (end_notes s t e) + h (kept (after_end s t order e)))
+      × Fine (kept (after_end s t order e))
+  pub of_early : (s : SuiteState) (names : List (List ℕ)) → Fine (kept s)
+      → Within loose (sum_by w (early_notes s names) + h (kept s)) (sum_by v (early_notes s names))
+  pub of_last : (s : SuiteState) (e : Explanation) (names : List (List ℕ)) → Fine (kept s)
+      → Within loose (sum_by w (last_by s e names) + h (kept s)) (sum_by v (last_by s e names))
+
+module _ {loose : ℕ} {w v : NoteView → ℕ} {h : Kept → ℕ} {Fine : Kept → Type 0} (rules : Rules loose w v h Fine) where
+  open rules use {w_disagree, v_disagree, empty, fine_empty, of_end, of_early, of_last}
+
+  abbrev IsFine : SuiteState → Type 0
+  IsFine s = Fine (kept s)
+
+  abbrev AreFine : RunState → Type 0
+  AreFine r = IsFine r.outside × All IsFine r.suites
+
+  -- a step of a run that keeps the books
+  abbrev Keeps : RunState → Step → Type 0
+  Keeps r t = Within loose (sum_by w t.notes + all_held h r) (sum_by v t.notes + all_held h t.run)
+      × AreFine t.run
+      × (sums_of t.run ≡ sums_of r)
+
+  fine-at : (r : RunState) (at : Option ℕ) → AreFine r → IsIn r.suites at → IsFine (suite_at r at)
+  fine-at r None f in' = f.0
+  fine-at r (Some at) f in' = All-get_or IsFine r.suites at r.outside in' f.1
+
+  fine-set : (r : RunState) (at : Option ℕ) (s : SuiteState) → AreFine r → IsFine s → AreFine (with_suite_at r at s)
+  fine-set r None s f k = (k, f.1)
+  fine-set r (Some at) s f k = (f.0, All-set IsFine r.suites at s k f.1)
+
+  fine-remove : (r : RunState) (at : ℕ) → AreFine r → All IsFine (remove r.suites at)
+  fine-remove r at f = All-append IsFine (take at r.suites) (drop (suc at) r.suites) (All-take IsFine at r.suites f.1) (All-drop IsFine (suc at) r.suites f.1)
+
+  sums-set : (r : RunState) (at : Option ℕ) (s : SuiteState) → sums_of (with_suite_at r at s) ≡ sums_of r
+  sums-set r None s = refl
+  sums-set r (Some at) s = refl
+
+  -- a suite changes
+  keeps-set : (r : RunState) (at : Option ℕ) (s : SuiteState) (notes : List NoteView) → AreFine r → IsIn r.suites at → IsFine s
+      → sum_by w notes + held h (suite_at r at) ≡ sum_by v notes + held h s → Keeps r (step (with_suite_at r at s) notes)
+  keeps-set r at s notes f in' k e =
+      let a = held-set h r at s in' in
+      (record { low = omega arith; high = λ _. omega arith }, fine-set r at s f k, sums-set r at s)
+
+  -- no suite changes
+  keeps-same : (r : RunState) (notes : List NoteView) → AreFine r → sum_by w notes ≡ 0 → sum_by v notes ≡ 0 → Keeps r (step r notes)
+  keeps-same r notes f a b = (record { low = omega arith; high = λ _. omega arith }, f, refl)
+
+  keeps-if : (r : RunState) (b : Bool) (d : DisagreementView) → AreFine r → Keeps r (step r (if b then Disagrees d ∷ [] else []))
+  keeps-if r b d f = keeps-same r (if b then Disagrees d ∷ [] else []) f
+      (sum-if-none w b (Disagrees d) (w_disagree d)) (sum-if-none v b (Disagrees d) (v_disagree d))
+
+  -- the first line of a suite
+  keeps-first : (r : RunState) (key : Option (List ℕ)) (count : Option ℕ) (at : Option ℕ) → AreFine r → IsIn r.suites at
+      → Keeps r (option_map_or (started_again r key count) at (step (opened r key count) []))
+  keeps-first r key count None f in' =
+      let start = suite_start (r.suites_started + 1) key r.heading count in
+      let same = held-push h r.suites start empty in
+      (record { low = omega arith; high = λ _. omega arith }, (f.0, All-push IsFine r.suites start f.1 fine_empty), refl)
+  keeps-first r (Some key) count (Some at) f in' =
+      let s = suite_at r (Some at) in keeps-set r (Some at) (joined s count) [] f in' (fine-at r (Some at) f in') (omega arith)
+  keeps-first r None count (Some at) f in' =
+      let s = suite_at r (Some at) in
+      let start = suite_start (r.suites_started + 1) None r.heading count in
+      let same = held-push h (remove r.suites at) start empty in
+      let less = held-remove h r at in' in
+      let over = of_early s (names_in r s) (fine-at r (Some at) f in') in (
+        record { low = omega (arith, over.low); high = λ e. omega (arith, over.high e) },
+        (f.0, All-push IsFine (remove r.suites at) start (fine-remove r at f) fine_empty),
+        refl,
+      )
+
+  -- a last line of a suite
+  keeps-over : (r : RunState) (at : ℕ) (s : SuiteState) (over : Bool) → AreFine r → at < length r.suites → kept s ≡ kept (suite_at r (Some at))
+      → Keeps r (if over then step (without_tests (record r { suites = remove r.suites at }) s) (last_notes s (names_in r s))
+      else step (with_suite_at r (Some at) s) [])
+  keeps-over r at s true f in' same =
+      let less = held-remove h r at in' in
+      let names = names_in r s in
+      let over = of_last s (explained_of s (length names)) names (subst Fine (sym same) (fine-at r (Some at) f in')) in
+      let equal : held h s ≡ held h (suite_at r (Some at)) = ap h same in
+      (record { low = omega (arith, over.low); high = λ e. omega (arith, over.high e) }, (f.0, fine-remove r at f), refl)
+  keeps-over r at s false f in' same =
+      let equal : held h s ≡ held h (suite_at r (Some at)) = ap h same in
+      keeps-set r (Some at) s [] f in' (subst Fine (sym same) (fine-at r (Some at) f in')) (omega arith)
+
+  keeps-last : (r : RunState) (e : SuiteEndView) (at : Option ℕ) → AreFine r → IsIn r.suites at
+      → Keeps r (option_map_or (ended_at r e) at (step r (stray_suite_notes e)))
+  keeps-last r e None f in' = keeps-if r (counts_tests e) (StraySuiteEnds e.key e.failed_verdict) f
+  keeps-last r e (Some at) f in' =
+      let s = with_line (suite_at r (Some at)) e in keeps-over r at s (s.open_lines == 0) f in' refl
+
+  -- the end of a test
+  keeps-end : (r : RunState) (at : Option ℕ) (s : SuiteState) (t : OverView) (order : ℕ) (e : TestEndView) → AreFine r → IsIn r.suites at
+      → kept s ≡ kept (suite_at r at) → Keeps r (step (with_suite_at r at (after_end s t order e)) (end_notes s t e))
+  keeps-end r at s t order e f in' same =
+      let equal : held h s ≡ held h (suite_at r at) = ap h same in
+      let end = of_end s t order e (subst Fine (sym same) (fine-at r at f in')) in
+      keeps-set r at (after_end s t order e) (end_notes s t e) f in' end.1 (omega (arith, end.0))
+
+  keeps-stray : (r : RunState) (e : TestEndView) (how : TestResult) → AreFine r → Keeps r (stray_ends r (record e { result = how }))
+  keeps-stray r e Ok f = keeps-if r true (StrayEnds e.name Ok) f
+  keeps-stray r e Failed f =
+      let at = suite_place r e.name in
+      let end = record e { result = Failed } in
+      let test = stray_test r end in
+      let d = StrayEnds e.name Failed in
+      let k = keeps-end r at (named (suite_at r at) e.name) (stray_over r e) 0 end f (place-in r e.name) refl in
+      let a = sum_by-append w test (Disagrees d ∷ []) in
+      let b = sum_by-append v test (Disagrees d ∷ []) in
+      let none = sum-if-none w true (Disagrees d) (w_disagree d) in
+      let none' = sum-if-none v true (Disagrees d) (v_disagree d) in
+      (record { low = omega (arith, k.0.low); high = λ x. omega (arith, k.0.high x) }, k.1, k.2)
+  keeps-stray r e Ignored f =
+      let at = suite_place r e.name in
+      keeps-end r at (named (suite_at r at) e.name) (stray_over r e) 0 (record e { result = Ignored }) f (place-in r e.name) refl
+
+  keeps-test : (r : RunState) (e : TestEndView) (place : Option (ℕ × ℕ)) → AreFine r
+      → Keeps r (option_map_or (λ p. running_ends r e p.0 p.1) place (stray_ends r e))
+  keeps-test r e None f = keeps-stray r e e.result f
+  keeps-test r e (Some p) f =
+      let test = running_at r.running p.0 in
+      let place = position (λ s. s.number == test.suite) r.suites in
+      let r' = record r { running = remove r.running p.0 } in
+      keeps-end r' place (suite_at r place) (running_over r e test p.1) test.order e f
+      (position-in (λ s. s.number == test.suite) r.suites place refl) (same-at place)
+    where
+      same-at : (at : Option ℕ) → kept (suite_at r at) ≡ kept (suite_at (record r { running = remove r.running p.0 }) at)
+      same-at None = refl
+      same-at (Some at) = refl
+
+  -- a line that is no event of a harness
+  keeps-print : (r : RunState) (line : PrintedView) (notes : List NoteView) → AreFine r → sum_by w notes ≡ 0 → sum_by v notes ≡ 0
+      → Keeps r (step (printed_to r line) notes)
+  keeps-print r line notes f a b =
+      let same = sum-map (held h) (suite_prints line) r.suites in
+      (record { low = omega arith; high = λ _. omega arith }, (f.0, All-map IsFine (suite_prints line) r.suites f.1), refl)
+
+  keeps-line : (r : RunState) (e : EventView) → AreFine r → Keeps r (told r e)
+  keeps-line r (SuiteStarts key count) f = keeps-first r key count (open_suite r key) f (position-in (has_key key) r.suites (open_suite r key) refl)
+  keeps-line r (SuiteEnds e) f = keeps-last r e (open_suite r e.key) f (position-in (has_key e.key) r.suites (open_suite r e.key) refl)
+  keeps-line r (TestStarts name) f =
+      let at = suite_place r name in
+      keeps-set r at (with_start (suite_at r at) name) [] f (place-in r name) (fine-at r at f (place-in r name)) (omega arith)
+  keeps-line r (TestEnds e) f = keeps-test r e (place_of_end r.running e.name) f
+  keeps-line r OtherLine f = keeps-same r [] f refl refl
+  keeps-line r (HeadingLine suite) f = keeps-print r AHeading [] f refl refl
+  keeps-line r (CargoFails k line plain) f =
+      let d = CargoSays plain in
+      let counts = length r.suites == 0 && not (is_explained r k) in
+      keeps-print r (AFailure line) (if counts then Disagrees d ∷ [] else []) f
+      (sum-if-none w counts (Disagrees d) (w_disagree d)) (sum-if-none v counts (Disagrees d) (v_disagree d))
+  keeps-line r (Prints line plain) f = keeps-print r (APrint line plain) [] f refl refl
+
+  -- what holds of a run of which these notes are known
+  pub record Holds (notes : List NoteView) (r : RunState) : Type 0 where
+    pub books : Within loose (sum_by w notes) (sum_by v notes + all_held h r)
+    pub fine : AreFine r
+    pub sums : sums_of r ≡ sums_in notes
+
+  -- a step whose notes are counted
+  holds-step : (notes : List NoteView) (r : RunState) (t : Step) → Holds notes r → Keeps r t → Holds (notes ++ t.notes) (learned t.run t.notes)
+  holds-step notes r t i k =
+      let a = sum_by-append w notes t.notes in
+      let b = sum_by-append v notes t.notes in
+      let before = i.books in
+      let now = k.0 in
+      record {
+        books = record { low = omega (arith, before.low, now.low); high = λ x. omega (arith, before.high x, now.high x) };
+        fine = k.1;
+        sums = ap (λ s. learn s t.notes) (k.2 ∙ i.sums) ∙ learn-more notes t.notes;
+      }
+
+  holds-marked : (notes : List NoteView) (r : RunState) (e : EventView) → Holds notes r → Holds notes (marked r e)
+  holds-marked notes r (CargoFails f line plain) i = cond_both (length r.suites == 0) (record r { causes_at_cargo = r.causes }) r (Holds notes)
+      (λ _. record { books = i.books; fine = i.fine; sums = i.sums }) (λ _. i)
+  holds-marked notes r e i = i
+
+  holds-line : (notes : List NoteView) (r : RunState) (e : EventView) → Holds notes r → Holds (notes ++ notes_at r e) (after r e)
+  holds-line notes r e i = holds-marked (notes ++ notes_at r e) (learned (told r e).run (told r e).notes) e
+      (holds-step notes r (told r e) i (keeps-line r e i.fine))
+
+  -- the end of a file
+  ends-early : (t : Step) (suites : List SuiteState) → All IsFine suites
+      → Within loose (sum_by w (fold ended_early t suites).notes + (sum_by v t.notes + sum_by (held h) suites))
+      (sum_by v (fold ended_early t suites).notes + sum_by w t.notes)
+  ends-early t [] f = record { low = omega arith; high = λ _. omega arith }
+  ends-early t (s ∷ suites) f =
+      let names = names_in t.run s in
+      let now = of_early s names (All-head IsFine s suites f) in
+      let rest = ends-early (ended_early t s) suites (All-tail IsFine s suites f) in
+      let more = sum_by-cons (held h) s suites in
+      let x = sum_by-append w t.notes (early_notes s names) in
+      let y = sum_by-append v t.notes (early_notes s names) in
+      record { low = omega (arith, now.low, rest.low); high = λ e. omega (arith, now.high e, rest.high e) }
+
+  holds-file_end : (notes : List NoteView) (r : RunState) → Holds notes r → HoldsAll loose w v (notes ++ file_notes r) (after_file r)
+  holds-file_end notes r i =
+      let none = step (record r { suites = [] }) [] in
+      let ended = fold ended_early none r.suites in
+      let keep = ends-keep none r.suites in
+      let before = i.books in
+      let first = ends-early none r.suites i.fine.1 in
+      let last = ends-early (step (record (ended.run) { outside = outside_start }) ended.notes) (r.outside ∷ [])
+      (All-cons IsFine r.outside [] i.fine.0 (All-nil IsFine)) in
+      let one = sum_by-cons (held h) r.outside [] in
+      let x = sum_by-append w notes (file_notes r) in
+      let y = sum_by-append v notes (file_notes r) in
+      record {
+        whole = record { low = omega (arith, before.low, first.low, last.low); high = λ e. omega (arith, before.high e, first.high e, last.high e) };
+        outside = refl;
+        suites = keep.0;
+        all_sums = ap (λ s. learn s (file_notes r)) (keep.1 ∙ i.sums) ∙ learn-more notes (file_notes r);
+      }
+
+  holds-start : (notes : List NoteView) (r : RunState) → HoldsAll loose w v notes r → Holds notes r
+  holds-start notes r i =
+      let before = i.whole in
+      let outside : held h r.outside ≡ 0 = ap (held h) i.outside ∙ empty in
+      let suites : sum_by (held h) r.suites ≡ 0 = ap (sum_by (held h)) i.suites in
+      record {
+        books = record { low = omega (arith, before.low); high = λ e. omega (arith, before.high e) };
+        fine = (subst IsFine (sym i.outside) fine_empty, subst (All IsFine) (sym i.suites) (All-nil IsFine));
+        sums = i.all_sums;
+      }
+
+  holds-none : HoldsAll loose w v [] run_start
+  holds-none = record { whole = record { low = omega arith; high = λ _. omega arith }; outside = refl; suites = refl; all_sums = refl }
+
+  -- the books are kept over a whole run, and up to any line
+  pub holds-whole : (files : List (List EventView)) → HoldsAll loose w v (all_notes files) (run_after_files run_start files)
+  holds-whole = over-run (λ n. Holds) (λ n. HoldsAll loose w v) (λ e. 0) (λ n. holds-start) (λ n. holds-line) (λ n. holds-file_end) holds-none
+
+  pub holds-after : (files : List (List EventView)) (events : List EventView)
+      → Holds (all_notes files ++ notes_of (run_after_files run_start files) events) (run_after (run_after_files run_start files) events)
+  holds-after = up-to-line (λ n. Holds) (λ n. HoldsAll loose w v) (λ e. 0) (λ n. holds-start) (λ n. holds-line) (λ n. holds-file_end) holds-none
+
+  -- and so is what each line and each end of a file keep with them
+  pub with-books : (P : ℕ → List NoteView → RunState → Type 0) (c : EventView → ℕ)
+      → ((n : ℕ) (notes : List NoteView) (r : RunState) (e : EventView) → Holds notes r → P n notes r → P (n + c e) (notes ++ notes_at r e) (after r e))
+      → ((n : ℕ) (notes : List NoteView) (r : RunState) → Holds notes r → P n notes r → P n (notes ++ file_notes r) (after_file r))
+      → P 0 [] run_start → (files : List (List EventView)) → P (sum_by (λ file. sum_by c file) files) (all_notes files) (run_after_files run_start files)
+  with-books P c line end first files =
+      let inside = λ (n : ℕ) (notes : List NoteView) (r : RunState). Holds notes r × P n notes r in
+      let between = λ (n : ℕ) (notes : List NoteView) (r : RunState). HoldsAll loose w v notes r × P n notes r in
+      (over-run inside between c (λ n notes r i. (holds-start notes r i.0, i.1))
+      (λ n notes r e i. (holds-line notes r e i.0, line n notes r e i.0 i.1))
+      (λ n notes r i. (holds-file_end notes r i.0, end n notes r i.0 i.1)) (holds-none, first) files).1

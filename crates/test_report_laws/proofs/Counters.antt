@@ -1,0 +1,226 @@
+-- A counter of statistics counts notes.
+use Rattle.std.proofs.Common.{◌≡◌, ℕ, List, [], ◌∷◌, ◌+◌, ◌≤◌, Bool, true, false, refl, ap, arith, sym, drop, length, take}
+use Rattle.std.specs.List.{All, fold, position_or_len, sum_by}
+use Rattle.std.specs.Prelude.{if◌then◌else◌, nat_lt}
+use Rattle.std.proofs.lemmas.List.Elements.{All-append, All-cons, All-drop, All-head, All-nil, All-tail, All-take}
+use Rattle.std.proofs.lemmas.List.Sums.{sum_by-cons}
+use Rattle.run_events_stats.specs.Counters.{counters_of, nothing_known, with_test}
+use Rattle.run_events_stats.specs.Sum as stats
+use Rattle.run_events_stats.specs.Summary.{failed_tests}
+use Rattle.run_events_stats.specs.declared.stats.RunStats.{RunStats}
+use Rattle.test_report_events.specs.Event.{EventView, TestEndView}
+use Rattle.test_report_events.specs.declared.event.TestResult.{TestResult}
+use Rattle.test_report_events.specs.declared.event.TestResult.TheVariants.{Ok, Failed, Ignored}
+use Rattle.test_report_laws.proofs.Books.{Kept, Rules, Within, holds-whole, kept}
+use Rattle.test_report_laws.proofs.EndSums as ends
+use Rattle.test_report_laws.proofs.EndSums.{by-early, by-last, early_rest, last_by, suite_note}
+use Rattle.test_report_laws.proofs.Sums.{sum-none}
+use Rattle.test_report_run.specs.Counted.{view_of_finish}
+use Rattle.test_report_run.specs.Ended.{after_end, after_flaky, end_notes, starts_later, timed}
+use Rattle.test_report_run.specs.Note.{Fails, HasCrashed, HasFailed, HasNoEnd, HasTimedOut, IsFlaky, IsSkipped, KindView, NoteView, OutcomeView, Passes, SuiteIs, SuiteNoteView, TestIs}
+use Rattle.test_report_run.specs.Over.{bare_failure, crash_of, early_notes, early_state, flaky_outcome, last_state, lost, one_failed, one_flaky, rest_of, skipped_note, with_all_flaky, with_failed}
+use Rattle.test_report_run.specs.Run.{with_note}
+use Rattle.test_report_run.specs.Totals.{no_suites, with_suite}
+use Rattle.test_report_laws.specs.Whole.{all_notes}
+use Rattle.test_report_run.specs.declared.note.RunEnd.{RunEnd}
+use Rattle.test_report_run.specs.Suite.{FlakyView, OverView, SuiteState, with_finish}
+use Rattle.test_report_run.specs.declared.counted.Finish.{Finish}
+use Rattle.test_report_run.specs.declared.counted.Finish.TheVariants as finish
+use Rattle.test_report_run.specs.declared.last_line.Explanation.{Explanation}
+
+-- the statistics with a test that counts so after so many attempts
+abbrev pub finish_for : KindView → Finish
+finish_for HasTimedOut = finish.TimedOut
+finish_for IsFlaky = finish.FlakyFailed
+finish_for kind = finish.Failed
+
+abbrev pub with_outcome : RunStats → OutcomeView → ℕ → RunStats
+with_outcome stats Passes n = with_test stats (view_of_finish finish.Passed n)
+with_outcome stats IsSkipped n = stats
+with_outcome stats (Fails f) n = with_test stats (view_of_finish (finish_for f.kind) n)
+
+-- a flaky test had more than one attempt
+abbrev pub fits_kind : KindView → ℕ → Bool
+fits_kind IsFlaky n = nat_lt 1 n
+fits_kind kind n = true
+
+abbrev pub fits : OutcomeView → ℕ → Bool
+fits (Fails f) n = fits_kind f.kind n
+fits outcome n = true
+
+-- notes of tests weighed by a rule, and notes of suites
+abbrev pub of_test : (OutcomeView → ℕ → ℕ) → NoteView → ℕ
+of_test rule (TestIs t) = rule t.outcome t.attempts
+of_test rule note = 0
+
+abbrev pub of_suite : (SuiteNoteView → ℕ) → NoteView → ℕ
+of_suite weight (SuiteIs s) = weight s
+of_suite weight note = 0
+
+-- the notes of a suite that ends have one of the suite
+pub early-suite : (weight : SuiteNoteView → ℕ) (s : SuiteState) (names : List (List ℕ))
+    → sum_by (of_suite weight) (early_notes s names) ≡ of_suite weight (suite_note (early_state s names) (early_rest s))
+early-suite weight s names =
+    omega (arith, by-early (of_suite weight) (λ d. refl) (λ suite n of. refl) false s names (λ name. refl) (λ f. refl))
+
+pub last-suite : (weight : SuiteNoteView → ℕ) (s : SuiteState) (e : Explanation) (names : List (List ℕ))
+    → sum_by (of_suite weight) (last_by s e names) ≡ of_suite weight (suite_note (last_state s e names) (rest_of s e names))
+last-suite weight s e names = omega (
+  arith,
+  by-last (of_suite weight) (λ d. refl) (λ suite n of. refl) false false s e names (λ name. refl) (λ f. refl) (λ name. refl),
+)
+
+abbrev pub IsLate : FlakyView → Type 0
+IsLate f = nat_lt 1 f.test.attempts ≡ true
+
+-- what is sound of what a suite keeps: each flaky test had more than one attempt, and the tests that finished passed or failed
+pub record Sound (k : Kept) : Type 0 where
+  pub late : All IsLate k.flaky
+  pub passed : k.stats.passed ≤ k.stats.finished_count
+  pub fair : k.stats.finished_count ≤ k.stats.passed + failed_tests k.stats
+
+-- the end of a test keeps it
+passed-sound : (s : SuiteState) (t : OverView) (order : ℕ) (e : TestEndView) (flaky : Bool) → nat_lt 1 t.attempts ≡ flaky → Sound (kept s)
+    → Sound (kept (if flaky then after_flaky (timed s e) t order e else with_finish (timed s e) finish.Passed 1))
+passed-sound s t order e true many sound =
+    let f : FlakyView = record { test = t; order = order; stdout = e.stdout; message = e.message } in
+    let at = position_or_len (starts_later order) s.flaky in
+    record {
+      late = All-append IsLate (take at s.flaky) (f ∷ drop at s.flaky) (All-take IsLate at s.flaky sound.late)
+          (All-cons IsLate f (drop at s.flaky) many (All-drop IsLate at s.flaky sound.late));
+      passed = sound.passed;
+      fair = sound.fair;
+    }
+passed-sound s t order e false one sound =
+    record { late = sound.late; passed = omega (arith, sound.passed); fair = omega (arith, sound.fair) }
+
+end-sound : (s : SuiteState) (t : OverView) (order : ℕ) (e : TestEndView) (how : TestResult) → Sound (kept s)
+    → Sound (kept (after_end s t order (record e { result = how })))
+end-sound s t order e Ok sound = passed-sound s t order e (nat_lt 1 t.attempts) refl sound
+end-sound s t order e Failed sound = record { late = sound.late; passed = grind (arith, sound.passed); fair = grind (arith, sound.fair) }
+end-sound s t order e Ignored sound = record { late = sound.late; passed = sound.passed; fair = sound.fair }
+
+pub exactly : {loose a b : ℕ} → a ≡ b → Within loose a b
+exactly e = record { low = omega arith; high = λ _. omega arith }
+
+-- the sums that a run keeps over suites
+adds-up : (g : RunEnd → ℕ) (v : NoteView → ℕ) → ((e : RunEnd) (note : NoteView) → g (with_note e note) ≡ g e + v note) → (e : RunEnd) (notes : List NoteView)
+    → g (fold with_note e notes) ≡ g e + sum_by v notes
+adds-up g v h e [] = omega arith
+adds-up g v h e (note ∷ notes) = omega (arith, h e note, adds-up g v h (with_note e note) notes, sum_by-cons v note notes)
+
+-- a weight of suites that the sums have
+pub sum-of : (g : RunEnd → ℕ) (weight : SuiteNoteView → ℕ) → ((e : RunEnd) (s : SuiteNoteView) → g (with_suite e s) ≡ g e + weight s) → g no_suites ≡ 0
+    → (notes : List NoteView) → g (fold with_note no_suites notes) ≡ sum_by (of_suite weight) notes
+sum-of g weight h none notes = omega (arith, none, adds-up g (of_suite weight) each no_suites notes)
+  where
+    each : (e : RunEnd) (note : NoteView) → g (with_note e note) ≡ g e + of_suite weight note
+    each e (SuiteIs s) = h e s
+    each e note = omega arith
+
+-- a counter of statistics, and the rule for the tests that it counts
+module _ (counter : RunStats → ℕ) (rule : OutcomeView → ℕ → ℕ) (empty : counter (counters_of [] [] nothing_known) ≡ 0)
+    (counts : (stats : RunStats) (outcome : OutcomeView) (n : ℕ) → fits outcome n ≡ true
+    → counter (with_outcome stats outcome n) ≡ counter stats + rule outcome n)
+    (once : (n : ℕ) → nat_lt 1 n ≡ false → rule Passes n ≡ rule Passes 1)
+    (skips : (n : ℕ) → rule IsSkipped n ≡ 0) where
+  abbrev w : NoteView → ℕ
+  w note = of_test rule note
+
+  abbrev v : NoteView → ℕ
+  v note = of_suite (λ s. counter s.stats) note
+
+  -- several tests that failed, and several flaky tests
+  counts-failed : (kind : KindView) → finish_for kind ≡ finish.Failed → ((n : ℕ) → fits_kind kind n ≡ true) → (stats : RunStats) (names : List (List ℕ))
+      → counter (with_failed stats names) ≡ counter stats + sum_by (λ name. rule (Fails (bare_failure kind)) 1) names
+  counts-failed kind is fit stats [] = omega arith
+  counts-failed kind is fit stats (name ∷ names) =
+      let one = counts stats (Fails (bare_failure kind)) 1 (fit 1) in
+      let same : counter (one_failed stats name) ≡ counter (with_outcome stats (Fails (bare_failure kind)) 1) =
+      ap (λ how. counter (with_test stats (view_of_finish how 1))) (sym is) in
+      omega (
+        arith,
+        one,
+        same,
+        counts-failed kind is fit (one_failed stats name) names,
+        sum_by-cons (λ (n : List ℕ). rule (Fails (bare_failure kind)) 1) name names,
+      )
+
+  counts-flaky-one : (failed : Bool) (stats : RunStats) (f : FlakyView) → IsLate f
+      → counter (one_flaky failed stats f) ≡ counter stats + rule (flaky_outcome failed f) f.test.attempts
+  counts-flaky-one true stats f late = counts stats (flaky_outcome true f) f.test.attempts late
+  counts-flaky-one false stats f late = counts stats Passes f.test.attempts refl
+
+  counts-flaky : (failed : Bool) (stats : RunStats) (flaky : List FlakyView) → All IsLate flaky
+      → counter (with_all_flaky failed stats flaky) ≡ counter stats + sum_by (λ f. rule (flaky_outcome failed f) f.test.attempts) flaky
+  counts-flaky failed stats [] late = omega arith
+  counts-flaky failed stats (f ∷ flaky) late = omega (
+    arith,
+    counts-flaky-one failed stats f (All-head IsLate f flaky late),
+    counts-flaky failed (one_flaky failed stats f) flaky (All-tail IsLate f flaky late),
+    sum_by-cons (λ x. rule (flaky_outcome failed x) x.test.attempts) f flaky,
+  )
+
+  -- the end of a test
+  at-end : (s : SuiteState) (t : OverView) (order : ℕ) (e : TestEndView) (how : TestResult)
+      → sum_by w (end_notes s t (record e { result = how })) + counter s.stats ≡ 0 + counter (after_end s t order (record e { result = how })).stats
+  at-end s t order e Ok = grind (arith, counts s.stats Passes 1 refl, once t.attempts)
+  at-end s t order e Failed =
+      let how = λ (kind : KindView). Fails record { kind = kind; stdout = e.stdout; message = e.message; reason = e.reason } in
+      grind (arith, counts s.stats (how HasTimedOut) t.attempts refl, counts s.stats (how HasFailed) t.attempts refl)
+  at-end s t order e Ignored = omega (arith, skips t.attempts)
+
+  no-suite : (s : SuiteState) (t : OverView) (e : TestEndView) (how : TestResult) → sum_by v (end_notes s t (record e { result = how })) ≡ 0
+  no-suite s t e Ok = grind arith
+  no-suite s t e Failed = refl
+  no-suite s t e Ignored = refl
+
+  at-early : (s : SuiteState) (names : List (List ℕ)) → All IsLate s.flaky → sum_by w (early_notes s names) + counter s.stats ≡ sum_by v (early_notes s names)
+  at-early s names late =
+      let kind = HasCrashed (crash_of s (length names)) in
+      omega (
+        arith,
+        ends.of-early w (λ d. refl) (λ suite n of. refl) s names,
+        early-suite (λ n. counter n.stats) s names,
+        counts-failed kind refl (λ n. refl) s.stats names,
+        counts-flaky false (with_failed s.stats names) s.flaky late,
+      )
+
+  at-last : (s : SuiteState) (e : Explanation) (names : List (List ℕ)) → All IsLate s.flaky
+      → sum_by w (last_by s e names) + counter s.stats ≡ sum_by v (last_by s e names)
+  at-last s e names late = omega (
+    arith,
+    ends.of-last w (λ d. refl) (λ suite n of. refl) s e names,
+    last-suite (λ n. counter n.stats) s e names,
+    sum-none (λ name. w (skipped_note s name)) (λ name. skips 1) (take e.skipped names),
+    counts-failed HasNoEnd refl (λ n. refl) s.stats (lost e names),
+    counts-flaky e.flaky_failed (with_failed s.stats (lost e names)) s.flaky late,
+  )
+
+  -- the statistics of a suite after its last line
+  pub after-last : (s : SuiteState) (e : Explanation) (names : List (List ℕ)) → All IsLate s.flaky
+      → counter (last_state s e names).stats ≡ counter s.stats + sum_by (of_test rule) (last_by s e names)
+  after-last s e names late = omega (arith, at-last s e names late, last-suite (λ n. counter n.stats) s e names)
+
+  pub counter-rules : Rules 0 (of_test rule) (of_suite (λ s. counter s.stats)) (λ k. counter k.stats) Sound
+  counter-rules = record {
+    w_disagree = λ d. refl;
+    v_disagree = λ d. refl;
+    empty = empty;
+    fine_empty = record { late = All-nil IsLate; passed = omega arith; fair = omega arith };
+    of_end = λ s t order e sound. (omega (arith, at-end s t order e e.result, no-suite s t e e.result), end-sound s t order e e.result sound);
+    of_early = λ s names sound. exactly (at-early s names sound.late);
+    of_last = λ s e names sound. exactly (at-last s e names sound.late);
+  }
+
+  -- the notes of suites sum up to what the notes of tests count, and so do the sums of a run
+  pub sums-up : (files : List (List EventView)) → sum_by (of_test rule) (all_notes files) ≡ sum_by (of_suite (λ s. counter s.stats)) (all_notes files)
+  sums-up files = let sums = (holds-whole counter-rules files).whole in omega (arith, sums.high refl)
+
+  pub total : ((a b : RunStats) → counter (stats.sum_of a b) ≡ counter a + counter b) → (files : List (List EventView))
+      → counter (fold with_note no_suites (all_notes files)).stats ≡ sum_by (of_test rule) (all_notes files)
+  total adds files = omega (
+    arith,
+    sums-up files,
+    sum-of (λ e. counter e.stats) (λ s. counter s.stats) (λ e s. adds e.stats s.stats) empty (all_notes files),
+  )

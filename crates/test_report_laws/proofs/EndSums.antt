@@ -1,0 +1,102 @@
+-- Sums over what becomes known at the end of a suite.
+use Rattle.std.proofs.Common.{◌≡◌, ℕ, List, ◌++◌, ◌+◌, Bool, false, cond, arith, map, length, take}
+use Rattle.std.specs.List.{sum_by}
+use Rattle.std.specs.Prelude.{◌-◌}
+use Rattle.std.proofs.lemmas.List.Sums.{sum_by-append}
+use Rattle.test_report_laws.proofs.Sums.{sum-all, sum-map}
+use Rattle.test_report_run.specs.Note.{Disagrees, DisagreementView, HasCrashed, HasNoEnd, IsNotRun, NoteView, SuiteIs}
+use Rattle.test_report_run.specs.Over.{crash_of, early_disagreements, early_notes, early_state, failed_note, failed_notes, flaky_note, flaky_notes, initial_of, last_disagreement, last_state, lost, number_notes, rest_of, skipped_note}
+use Rattle.test_report_run.specs.Suite.{FlakyView, SuiteState, suite_name}
+use Rattle.test_report_run.specs.declared.last_line.Explanation.{Explanation}
+use Rattle.test_report_run.specs.declared.over.Rest.{Rest}
+
+-- the note with the numbers of a suite
+abbrev pub suite_note : SuiteState → Rest → NoteView
+suite_note s rest = SuiteIs record {
+  name = suite_name s;
+  stats = s.stats;
+  skipped = rest.skipped;
+  not_run = initial_of s rest - s.stats.finished_count;
+  crashed = s.crashed;
+  time = rest.time;
+}
+
+abbrev pub early_rest : SuiteState → Rest
+early_rest s = record { skipped = s.skipped; left = 0; time = s.time }
+
+-- what becomes known of a suite that ends by its last line, which explains this
+abbrev pub last_by : SuiteState → Explanation → List (List ℕ) → List NoteView
+last_by s e names =
+    map (skipped_note s) (take e.skipped names)
+    ++ (failed_notes s HasNoEnd (lost e names)
+    ++ (flaky_notes s e.flaky_failed
+    ++ (last_disagreement (last_state s e names)
+    ++ number_notes (last_state s e names) (rest_of s e names))))
+
+-- a weight of notes, in which those of tests that were not run weigh nothing
+module _ (w : NoteView → ℕ) (not_run : (suite : List ℕ) (n of : ℕ) → w (IsNotRun suite n of) ≡ 0) where
+  of-numbers : (s : SuiteState) (rest : Rest) → sum_by w (number_notes s rest) ≡ w (suite_note s rest)
+  of-numbers s rest = grind (arith, not_run)
+
+  -- what becomes known of a suite that ends early: its running tests, its flaky tests and its numbers
+  pub of-early-all : (s : SuiteState) (names : List (List ℕ)) → sum_by w (early_notes s names)
+      ≡ sum_by (λ name. w (failed_note s (HasCrashed (crash_of s (length names))) name)) names
+      + (sum_by (λ f. w (flaky_note s false f)) s.flaky
+      + (sum_by w (early_disagreements s (length names)) + w (suite_note (early_state s names) (early_rest s))))
+  of-early-all s names =
+      simp (sum_by-append, sum-map) (omega (arith, simp sum_by-append at (of-numbers (early_state s names) (early_rest s))))
+
+  -- what becomes known of a suite that ends by its last line
+  pub of-last-all : (s : SuiteState) (e : Explanation) (names : List (List ℕ)) → sum_by w (last_by s e names)
+      ≡ sum_by (λ name. w (skipped_note s name)) (take e.skipped names)
+      + (sum_by (λ name. w (failed_note s HasNoEnd name)) (lost e names)
+      + (sum_by (λ f. w (flaky_note s e.flaky_failed f)) s.flaky
+      + (sum_by w (last_disagreement (last_state s e names)) + w (suite_note (last_state s e names) (rest_of s e names)))))
+  of-last-all s e names =
+      simp (sum_by-append, sum-map) (omega (arith, simp sum_by-append at (of-numbers (last_state s e names) (rest_of s e names))))
+
+-- a weight of notes, in which those that name no test and no suite weigh nothing
+module _ (w : NoteView → ℕ) (disagree : (d : DisagreementView) → w (Disagrees d) ≡ 0)
+    (not_run : (suite : List ℕ) (n of : ℕ) → w (IsNotRun suite n of) ≡ 0) where
+  of-early_disagreements : (s : SuiteState) (crashed : ℕ) → sum_by w (early_disagreements s crashed) ≡ 0
+  of-early_disagreements s crashed = grind (arith, disagree)
+
+  of-last_disagreement : (s : SuiteState) → sum_by w (last_disagreement s) ≡ 0
+  of-last_disagreement s = grind (arith, disagree)
+
+  pub of-early : (s : SuiteState) (names : List (List ℕ)) → sum_by w (early_notes s names)
+      ≡ sum_by (λ name. w (failed_note s (HasCrashed (crash_of s (length names))) name)) names
+      + (sum_by (λ f. w (flaky_note s false f)) s.flaky + w (suite_note (early_state s names) (early_rest s)))
+  of-early s names = omega (arith, of-early-all w not_run s names, of-early_disagreements s (length names))
+
+  pub of-last : (s : SuiteState) (e : Explanation) (names : List (List ℕ)) → sum_by w (last_by s e names)
+      ≡ sum_by (λ name. w (failed_note s HasNoEnd name)) (lost e names)
+      + (sum_by (λ f. w (flaky_note s e.flaky_failed f)) s.flaky
+      + (sum_by (λ name. w (skipped_note s name)) (take e.skipped names) + w (suite_note (last_state s e names) (rest_of s e names))))
+  of-last s e names = omega (arith, of-last-all w not_run s e names, of-last_disagreement (last_state s e names))
+
+  -- the same where each test of a kind weighs 1, or each of them nothing
+  pub by-early : (crashes : Bool) (s : SuiteState) (names : List (List ℕ))
+      → ((name : List ℕ) → w (failed_note s (HasCrashed (crash_of s (length names))) name) ≡ cond crashes 1 0)
+      → ((f : FlakyView) → w (flaky_note s false f) ≡ 0)
+      → sum_by w (early_notes s names) ≡ cond crashes (length names) 0 + w (suite_note (early_state s names) (early_rest s))
+  by-early crashes s names crash flaky = omega (
+    arith,
+    of-early s names,
+    sum-all (λ name. w (failed_note s (HasCrashed (crash_of s (length names))) name)) crashes crash names,
+    sum-all (λ f. w (flaky_note s false f)) false flaky s.flaky,
+  )
+
+  pub by-last : (fails skips : Bool) (s : SuiteState) (e : Explanation) (names : List (List ℕ))
+      → ((name : List ℕ) → w (failed_note s HasNoEnd name) ≡ cond fails 1 0)
+      → ((f : FlakyView) → w (flaky_note s e.flaky_failed f) ≡ 0)
+      → ((name : List ℕ) → w (skipped_note s name) ≡ cond skips 1 0)
+      → sum_by w (last_by s e names)
+      ≡ cond fails (length (lost e names)) 0 + (cond skips (length (take e.skipped names)) 0 + w (suite_note (last_state s e names) (rest_of s e names)))
+  by-last fails skips s e names fail flaky skip = omega (
+    arith,
+    of-last s e names,
+    sum-all (λ name. w (failed_note s HasNoEnd name)) fails fail (lost e names),
+    sum-all (λ f. w (flaky_note s e.flaky_failed f)) false flaky s.flaky,
+    sum-all (λ name. w (skipped_note s name)) skips skip (take e.skipped names),
+  )

@@ -1,0 +1,156 @@
+-- A run in which nothing is wrong.
+use Rattle.std.proofs.Common.{◌≡◌, ◌≢◌, ◌∙◌, ◌≤◌, ◌<◌, ◌+◌, ◌++◌, ◌∷◌, [], ℕ, List, Bool, true, false, Option, Some, None, refl, ap, arith, cond, inl, inr, length, subst, sym}
+use Rattle.std.specs.List.{count_by, remove, sum_by}
+use Rattle.std.specs.Option.{option_map_or}
+use Rattle.std.specs.Prelude.{◌==◌, if◌then◌else◌}
+use Rattle.std.proofs.lemmas.Bool.{cases_lt}
+use Rattle.std.proofs.lemmas.List.Elements.{All-get_or}
+use Rattle.std.proofs.lemmas.List.Sums.{sum_by-append}
+use Rattle.test_report_events.specs.Event.{EventView, SuiteEndView, SuiteEnds, SuiteStarts, CargoFails}
+use Rattle.test_report_laws.proofs.Announced.{announced-counted}
+use Rattle.test_report_laws.proofs.Books.{position-in}
+use Rattle.test_report_laws.proofs.RunCauses.{cargo-shows, causes-of, weight}
+use Rattle.test_report_laws.proofs.CleanEnds.{clean-whole}
+use Rattle.test_report_laws.proofs.FailedLines.{lines-told, told-failed}
+use Rattle.test_report_laws.proofs.LineParts.{end-weighs, line-weighs}
+use Rattle.test_report_laws.proofs.Outcomes.{outcome-means}
+use Rattle.test_report_laws.proofs.Shown.{last-agrees, stray-shows}
+use Rattle.test_report_laws.proofs.Sound.{failures-known, suites-sound}
+use Rattle.test_report_laws.proofs.Tallies.{totals-count}
+use Rattle.test_report_laws.proofs.Verdicts.{early-cause, end-causes, outside-cause, unclean}
+use Rattle.test_report_laws.proofs.Weights.{all-numbered, has-number, unnumbered, weight_of}
+use Rattle.test_report_laws.specs.Run.{Agrees, IsClean, IsSound, failed_in, failed_verdicts_of, is_test, not_run_of, passed_in}
+use Rattle.test_report_run.specs.Note.{NoteView}
+use Rattle.test_report_run.specs.Over.{last_notes}
+use Rattle.test_report_run.specs.Run.{RunState, counts_tests, ended_at, has_failed, is_cause, is_disagreement, names_in, notes_at, open_suite, opened, run_start, started_again, step, stray_suite_notes, suite_at, with_suite_at, without_tests}
+use Rattle.test_report_run.specs.Said.{numbers_of}
+use Rattle.test_report_laws.specs.Status.{EndsInOrder, IsInOrder, IsLineOf, SuccessIsInOrder}
+use Rattle.test_report_run.specs.Suite.{SuiteState, failed_of, has_key, with_line}
+use Rattle.test_report_laws.specs.Whole.{all_notes, notes_of, run_after, run_after_files}
+
+module _ (files : List (List EventView)) (clean : IsClean (all_notes files)) where
+  no-cause : count_by is_cause (all_notes files) ≡ 0
+  no-cause = omega (arith, causes-of (all_notes files), clean.none_failed, clean.none_disagree)
+
+  numbered : (r : RunState) (before : List (List EventView)) (lines : List EventView) → r ≡ run_after (run_after_files run_start before) lines
+      → weight_of unnumbered r ≡ 0
+  numbered r before lines is = ap (weight_of unnumbered) is ∙ all-numbered before lines
+
+  -- a weight of what is known before a line is one of what is known at the end, and so is what the line makes known
+  known-before : (w : NoteView → ℕ) (r : RunState) (e : EventView) (line : IsLineOf files r e)
+      → sum_by w (all_notes line.before ++ notes_of (run_after_files run_start line.before) line.lines) ≤ sum_by w (all_notes files)
+  known-before w r e line =
+      let lines = notes_of (run_after_files run_start line.before) line.lines in
+      omega (
+        arith,
+        line-weighs w files r e line,
+        sum_by-append w (all_notes line.before) lines,
+        sum_by-append w (all_notes line.before) (lines ++ notes_at r e),
+        sum_by-append w lines (notes_at r e),
+      )
+
+  known-by : (w : NoteView → ℕ) (r : RunState) (e : EventView) → IsLineOf files r e → sum_by w (notes_at r e) ≤ sum_by w (all_notes files)
+  known-by w r e line =
+      let lines = notes_of (run_after_files run_start line.before) line.lines in
+      omega (
+        arith,
+        line-weighs w files r e line,
+        sum_by-append w (all_notes line.before) (lines ++ notes_at r e),
+        sum_by-append w lines (notes_at r e),
+      )
+
+  clean-line : (r : RunState) (e : EventView) → IsLineOf files r e → IsClean (notes_at r e)
+  clean-line r e line = record {
+    none_failed = omega (arith, clean.none_failed, known-by (λ x. cond (is_test (λ t. has_failed t.outcome) x) 1 0) r e line);
+    none_disagree = omega (arith, clean.none_disagree, known-by (λ x. cond (is_disagreement x) 1 0) r e line);
+    all_run = omega (arith, clean.all_run, known-by not_run_of r e line);
+  }
+
+  -- the last line of a suite
+  over-notes : (r : RunState) (e : SuiteEndView) (at : ℕ) → open_suite r e.key ≡ Some at → (with_line (suite_at r (Some at)) e).open_lines ≡ 0
+      → notes_at r (SuiteEnds e) ≡ last_notes (with_line (suite_at r (Some at)) e) (names_in r (with_line (suite_at r (Some at)) e))
+  over-notes r e at is over =
+      let s : SuiteState = with_line (suite_at r (Some at)) e in
+      let last = step (without_tests (record r { suites = remove r.suites at }) s) (last_notes s (names_in r s)) in
+      ap (λ (place : Option ℕ). (option_map_or (ended_at r e) place (step r (stray_suite_notes e))).notes) is
+      ∙ ap (λ (n : ℕ). (if n == 0 then last else step (with_suite_at r (Some at) s) []).notes) over
+
+  ends-well : (r : RunState) (e : SuiteEndView) (at : ℕ) → IsLineOf files r (SuiteEnds e) → open_suite r e.key ≡ Some at
+      → (with_line (suite_at r (Some at)) e).open_lines ≡ 0
+      → EndsInOrder (with_line (suite_at r (Some at)) e) (names_in r (with_line (suite_at r (Some at)) e))
+  ends-well r e at line is over =
+      let old = suite_at r (Some at) in
+      let s : SuiteState = with_line old e in
+      let names = names_in r s in
+      let now : IsClean (last_notes s names) = subst IsClean (over-notes r e at is over) (clean-line r (SuiteEnds e) line) in
+      let in' : at < length r.suites = position-in (has_key e.key) r.suites (Some at) is in
+      let some : s.number ≢ 0 = has-number r at (numbered r line.before line.lines line.run_is) in' in
+      let sound = All-get_or IsSound r.suites at r.outside in' (suites-sound line.before line.lines r line.run_is).1 in
+      let agrees = (last-agrees s names some record { retried = sound.retried; passed = sound.passed }).0 now.none_disagree in
+      let none : failed_of s.stats + failed_in (last_notes s names) ≡ 0 = omega (
+        arith,
+        now.none_failed,
+        clean.none_failed,
+        failures-known line.before line.lines r line.run_is at r.outside in',
+        known-before (λ x. cond (is_test (λ t. has_failed t.outcome) x) 1 0) r (SuiteEnds e) line,
+      ) in
+      record {
+        numbers = subst (Agrees (numbers_of s.said) (s.stats.passed + passed_in (last_notes s names))) none agrees;
+        no_test_lost = (clean-whole s names now).no_test_lost;
+      }
+
+  -- the first line of a suite without key
+  none-ends : (r : RunState) (count : Option ℕ) (at : Option ℕ) → open_suite r None ≡ at → weight_of unnumbered r ≡ 0
+      → count_by is_cause (option_map_or (started_again r None count) at (step (opened r None count) [])).notes ≡ 0 → at ≡ None
+  none-ends r count None is fine none = refl
+  none-ends r count (Some at) is fine none =
+      let s = suite_at r (Some at) in
+      absurd (omega (arith, none, early-cause s (names_in r s) (has-number r at fine (position-in (has_key None) r.suites (Some at) is))))
+
+  not-one : (b : Bool) → ◌≡◌ {A = ℕ} (if b then 1 else 0) 0 → b ≡ false
+  not-one true h = absurd (cc)
+  not-one false h = refl
+
+  nothing-in : (suites : List SuiteState) → length suites ≡ 0 → suites ≡ []
+  nothing-in [] h = refl
+  nothing-in (s ∷ suites) h = absurd (omega arith)
+
+  zero-or-absurd : (n : ℕ) → (0 < n → ⊥) → n ≡ 0
+  zero-or-absurd n never = elim (cases_lt 0 n) [
+    | inl some ↦ absurd (never some)
+    | inr none ↦ omega arith
+  ]
+
+  pub in-order : IsInOrder files
+  in-order = record {
+    clean = clean;
+    no_failed_line = omega (arith, clean.none_failed, told-failed (all_notes files), lines-told files);
+    no_failed_verdict = zero-or-absurd (failed_verdicts_of files) (λ some. unclean files some clean);
+    last_lines = ends-well;
+    stray_lines = λ r e line closed.
+        not-one (counts_tests e) (sym (stray-shows r e closed) ∙ (clean-line r (SuiteEnds e) line).none_disagree);
+    one_without_key = λ r count line.
+        let none = known-by weight r (SuiteStarts None count) line in
+        none-ends r count (open_suite r None) refl (numbered r line.before line.lines line.run_is) (omega (arith, none, no-cause));
+    none_open = λ r end.
+        nothing-in r.suites (omega (arith, no-cause, end-weighs weight files r end, end-causes r (numbered r end.before end.file end.run_is)));
+    none_outside = λ r end. zero-or-absurd r.outside.started
+        (λ some. absurd (omega (arith, no-cause, end-weighs weight files r end, outside-cause r some)));
+    announced = omega (arith, announced-counted files, (totals-count files).not_run, clean.all_run);
+    cargo = λ r f line plain at none.
+        let known = all_notes at.before ++ (notes_of (run_after_files run_start at.before) at.lines ++ notes_at r (CargoFails f line plain)) in
+        absurd (omega (
+          arith,
+          no-cause,
+          causes-of known,
+          line-weighs weight files r (CargoFails f line plain) at,
+          cargo-shows at.before at.lines r f line plain at.run_is none,
+        ));
+  }
+
+pub success-in-order : SuccessIsInOrder
+success-in-order files =
+    let means = outcome-means files in (
+      (λ h. let m = means.success.0 h in (m.1, in-order files m.0)),
+      (λ h. let m = means.no_tests.0 h in (m.1, in-order files m.0)),
+    )

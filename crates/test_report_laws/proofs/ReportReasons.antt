@@ -1,0 +1,233 @@
+-- Why the run of a report does not succeed.
+use Rattle.std.proofs.Common.{◌≡◌, ◌∙◌, ◌++◌, ◌<◌, ℕ, zero, suc, List, [], ◌∷◌, Option, Some, None, IfSome, Bool, ap, arith, false, inl, inr, length, option_map, refl, true, subst, sym}
+use Rattle.std.specs.List.{All, AllZip, flat_map, slice_index_or}
+use Rattle.std.specs.Prelude.{◌⊎◌, Contains, IsTrue}
+use Rattle.std.proofs.lemmas.List.Elements.{Contains-append_right}
+use Rattle.test_report_forms.specs.Collected.{cause_line, no_tests_ran}
+use Rattle.test_report_forms.specs.Entry.{EntryView, IsEntryOf, IsTestEntry, LinesDisagree, SuiteNotRun, SuiteOver, TestFailed, TestPassed, TestSkipped}
+use Rattle.test_report_forms.specs.Files.{html_last, junit_last, markdown_last}
+use Rattle.test_report_forms.specs.Github.{github_last, github_line, message, property}
+use Rattle.test_report_forms.specs.Html.{html_of}
+use Rattle.test_report_forms.specs.Junit.{junit_text, junit_tree}
+use Rattle.test_report_laws.specs.Forms.{GithubNamesCauses, HasJunitCase, HasJunitCases, HasPart, HtmlNamesCauses, JunitCause, JunitNamesCauses, MarkdownNamesCauses, NamesCauses, TextNamesCauses, failed_name, junit_cause, no_test_cause}
+use Rattle.test_report_forms.specs.Markdown.{markdown_of, plain}
+use Rattle.test_report_forms.specs.Shown.{shown_name}
+use Rattle.test_report_forms.specs.Text.{text_last, text_line}
+use Rattle.test_report_forms.specs.Title.{title_name}
+use Rattle.test_report_forms.specs.Tree.{data_text}
+use Rattle.test_report_forms.specs.Words.{disagreement_line, not_run_line, outcome_word}
+use Rattle.test_report_forms.specs.declared.html.HtmlForm.{HtmlForm}
+use Rattle.test_report_forms.specs.declared.junit.JunitForm.{JunitForm}
+use Rattle.test_report_forms.specs.declared.markdown.MarkdownForm.{MarkdownForm}
+use Rattle.test_report_forms.specs.declared.options.Options.{Options}
+use Rattle.test_report_run.specs.Note.{Disagrees, Fails, IsNotRun, IsSkipped, NoteView, OutcomeView, Passes, SuiteIs, TestIs, TestNoteView, text_view}
+use Rattle.test_report_run.specs.Run.{end_of, has_failed}
+use Rattle.test_report_laws.specs.Status as status
+use Rattle.test_report_laws.specs.Status.{RanNoTests, Succeeds}
+use Rattle.test_report_laws.specs.Whole.{all_notes}
+use Rattle.test_report_run.specs.declared.note.RunEnd.{RunEnd}
+use Rattle.test_report_laws.proofs.SameRun.{one-run}
+use Rattle.test_report_laws.specs.Report.{FailureHasReason, FilesNameReason, GithubNamesReason, HasReasonCase, HtmlNamesReason, JunitNamesReason, MarkdownNamesReason, NamesReason, SuccessMeans, TextNamesReason, is_reason}
+use Rattle.test_report_engine.specs.Report.{IsReport}
+
+-- what status 0 means
+pub success-means : status.SuccessIsInOrder → SuccessMeans
+success-means in-order inputs entries run are =
+    let same = one-run inputs entries run are in
+    let files = same.0 in
+    let end = same.1.end_is in
+    let means = in-order files in (
+      files,
+      same.1,
+      (λ is. means.0 (sym (ap (λ (e : RunEnd). e.outcome) end) ∙ is)),
+      (λ is. means.1 (sym (ap (λ (e : RunEnd). e.outcome) end) ∙ is)),
+    )
+
+-- an element of a list, and the one beside it
+module _ {A B : Type 0} (R : A → B → Type 0) where
+  pub record BesideAt (ys : List B) (x : A) : Type 0 where
+    pub other : B
+    pub is_one : Contains ys other
+    pub related : R x other
+
+  beside-at : (xs : List A) (ys : List B) (x : A) (k : ℕ) → AllZip R xs ys → k < length xs → slice_index_or xs k x ≡ x → BesideAt ys x
+  beside-at [] ys x k zip low is = absurd (omega arith)
+  beside-at (a ∷ xs) [] x k zip low is = absurd zip
+  beside-at (a ∷ xs) (b ∷ ys) x zero zip low is =
+      record { other = b; is_one = (0, omega arith, refl); related = subst (λ z. R z b) is zip.0 }
+  beside-at (a ∷ xs) (b ∷ ys) x (suc k) zip low is =
+      let rest = beside-at xs ys x k zip.1 (omega arith) is in
+      record { other = rest.other; is_one = Contains-append_right (b ∷ []) ys rest.other rest.is_one; related = rest.related }
+
+-- the entry of a note that is a reason is one, too
+test-reason : (t : TestNoteView) (o : OutcomeView) (e : EntryView) → IsTestEntry t o e → has_failed o ≡ true → IsTrue (is_reason e)
+test-reason t Passes e is failed = absurd (cc)
+test-reason t IsSkipped e is failed = absurd (cc)
+test-reason t (Fails f) e is failed = subst (λ x. IsTrue (is_reason x)) (sym is.2) refl
+
+entry-reason : (note : NoteView) (e : EntryView) → IsEntryOf note e → IsTrue (status.is_reason note) → IsTrue (is_reason e)
+entry-reason (TestIs t) e is reason = test-reason t t.outcome e is (grind arith)
+entry-reason (Disagrees d) e is reason = subst (λ x. IsTrue (is_reason x)) (sym is) refl
+entry-reason (IsNotRun suite n of) e is reason = subst (λ x. IsTrue (is_reason x)) (sym is) refl
+entry-reason (SuiteIs s) e is reason = absurd (cc)
+
+pub has-reason : status.FailureHasReason → FailureHasReason
+has-reason reasons inputs entries run are fails =
+    let same = one-run inputs entries run are in
+    let files = same.0 in
+    let end = ap (λ (e : RunEnd). e.outcome) same.1.end_is in
+    elim (reasons files (λ is. fails (end ∙ is))) [
+      | inl found ↦
+          let place = found.1 in
+          let beside = beside-at IsEntryOf (all_notes files) entries found.0 place.0 same.1.are place.1 place.2 in
+          inl (beside.other, beside.is_one, entry-reason found.0 beside.other beside.related found.2)
+      | inr none ↦ inr (end ∙ none.0)
+    ]
+
+-- what all entries have, one of them has
+at-entry : (entries : List EntryView) (P : EntryView → Type 0) (e : EntryView) → Contains entries e → All P entries → P e
+at-entry entries P e is_one all = subst P is_one.2 (all is_one.0 e is_one.1)
+
+-- a text that names all causes names a reason
+module _ (name line : List ℕ → List ℕ) (entries : List EntryView) (end : RunEnd) (text : List ℕ) (causes : NamesCauses name line entries end text) where
+  names-entry : (e : EntryView) → Contains entries e → IsTrue (is_reason e) → NamesReason name line entries end text
+  names-entry (TestPassed t) is_one reason = absurd (cc)
+  names-entry (TestSkipped t) is_one reason = absurd (cc)
+  names-entry (TestFailed t f w) is_one reason = inl record {
+    entry = TestFailed t f w;
+    own = shown_name (title_name t);
+    is_one = is_one;
+    has_name = refl;
+    is_named = at-entry entries (λ e. IfSome (failed_name e) (λ n. HasPart text (name n))) (TestFailed t f w) is_one causes.tests;
+  }
+  names-entry (LinesDisagree d) is_one reason = inr (inl record {
+    entry = LinesDisagree d;
+    own = disagreement_line d;
+    is_one = is_one;
+    has_line = refl;
+    is_there = at-entry entries (λ e. IfSome (cause_line e) (λ l. HasPart text (line l))) (LinesDisagree d) is_one causes.lines;
+  })
+  names-entry (SuiteNotRun suite n of) is_one reason = inr (inl record {
+    entry = SuiteNotRun suite n of;
+    own = not_run_line suite n of;
+    is_one = is_one;
+    has_line = refl;
+    is_there = at-entry entries (λ e. IfSome (cause_line e) (λ l. HasPart text (line l))) (SuiteNotRun suite n of) is_one causes.lines;
+  })
+  names-entry (SuiteOver s) is_one reason = absurd (cc)
+
+  names-reason : ((e : EntryView) × Contains entries e × IsTrue (is_reason e)) ⊎ RanNoTests end → NamesReason name line entries end text
+  names-reason (inl found) = names-entry found.0 found.1 found.2
+  names-reason (inr none) = inr (inr record { is = none; said = subst (λ o. HasPart text (outcome_word o)) none causes.outcome })
+
+-- the cause of an entry that is a reason
+cause-of : (limit : ℕ) (e : EntryView) → IsTrue (is_reason e) → (c : JunitCause) × (junit_cause limit e ≡ Some c)
+cause-of limit (TestPassed t) reason = absurd (cc)
+cause-of limit (TestSkipped t) reason = absurd (cc)
+cause-of limit (TestFailed t f w) reason = (_, refl)
+cause-of limit (LinesDisagree d) reason = (_, refl)
+cause-of limit (SuiteNotRun suite n of) reason = (_, refl)
+cause-of limit (SuiteOver s) reason = absurd (cc)
+
+not-true : (b : Bool) → ¬ (IsTrue b) → b ≡ false
+not-true true fails = absurd (fails refl)
+not-true false fails = refl
+
+-- JUnit's XML, which has the test case of each cause, has one of a reason
+module _ (o : Options) (entries : List EntryView) (end : RunEnd) (text : List ℕ) (is : text ≡ junit_text (junit_tree o entries end))
+    (cases : HasJunitCases o entries end) (fails : ¬ (RanNoTests end × IsTrue o.no_tests_pass)) where
+  has-case : ((e : EntryView) × Contains entries e × IsTrue (is_reason e)) ⊎ RanNoTests end → HasReasonCase o entries end text
+  has-case (inl found) =
+      let cause = cause-of o.limit found.0 found.2 in
+      let case = at-entry entries (λ e. IfSome (junit_cause o.limit e) (HasJunitCase (junit_tree o entries end))) found.0 found.1 cases.causes in
+      record {
+        cause = cause.0;
+        reason = inl (found.0, found.1, cause.1);
+        has_case = subst (λ c. IfSome c (HasJunitCase (junit_tree o entries end))) cause.1 case;
+        is = is;
+      }
+  has-case (inr none) = record {
+    cause = no_test_cause;
+    reason = inr (none, refl);
+    has_case = cases.no_tests (ap no_tests_ran none) (not-true o.no_tests_pass (λ pass. fails (none, pass)));
+    is = is;
+  }
+
+-- forms that write all at the end
+abbrev nothing : EntryView → List ℕ
+nothing e = []
+
+none-first : (entries : List EntryView) → flat_map nothing entries ≡ []
+none-first [] = refl
+none-first (e ∷ entries) = none-first entries
+
+-- a file, if it is there
+if-there : {F : Type 0} (P : List ℕ → Type 0) (last : F → List ℕ) (form : Option F) (text : Option (List ℕ)) → text ≡ option_map last form
+    → ((f : F) → P (last f)) → IfSome text P
+if-there P last None text is each = subst (λ t. IfSome t P) (sym is) tt
+if-there P last (Some f) text is each = subst (λ t. IfSome t P) (sym is) (each f)
+
+-- the text of JUnit's form, if there is one
+if-junit : (P : JunitForm → List ℕ → Type 0) (last : JunitForm → List ℕ) (Q : JunitForm → Type 0) (form : Option JunitForm) (text : Option (List ℕ))
+    → text ≡ option_map last form → ((f : JunitForm) → Q f → P f (last f)) → IfSome form (λ f. Q f → IfSome text (P f))
+if-junit P last Q None text is each = tt
+if-junit P last Q (Some f) text is each = λ q. subst (λ t. IfSome t (P f)) (sym is) (each f q)
+
+-- a report, and the texts of files
+module _ (has_reason : FailureHasReason) where
+  reason-of : (line : EntryView → List ℕ) (last : List EntryView → RunEnd → List ℕ) (inputs : List (List ℕ)) (text : List ℕ) (end : RunEnd)
+      (report : IsReport line last inputs text end) → ¬ (Succeeds end)
+      → ((e : EntryView) × Contains report.entries e × IsTrue (is_reason e)) ⊎ RanNoTests end
+  reason-of line last inputs text end report fails =
+      let same = ap (λ (e : RunEnd). e.outcome) report.end_is in
+      elim (has_reason inputs report.entries report.run report.are (λ is. fails (same ∙ is))) [
+        | inl found ↦ inl found
+        | inr none ↦ inr (same ∙ none)
+      ]
+
+  report-names : (name written : List ℕ → List ℕ) (line : EntryView → List ℕ) (last : List EntryView → RunEnd → List ℕ) (inputs : List (List ℕ))
+      (text : List ℕ) (end : RunEnd) (report : IsReport line last inputs text end) → NamesCauses name written report.entries end text
+      → ¬ (Succeeds end) → NamesReason name written report.entries end text
+  report-names name written line last inputs text end report causes fails =
+      names-reason name written report.entries end text causes (reason-of line last inputs text end report fails)
+
+  pub text-names : TextNamesCauses → TextNamesReason
+  text-names causes o inputs text end report =
+      report-names (λ name. name) (λ line. line) (text_line o) (text_last o) inputs text end report
+      (subst (NamesCauses (λ name. name) (λ line. line) report.entries end) (sym report.is) (causes o report.entries end))
+
+  pub github-names : GithubNamesCauses → GithubNamesReason
+  github-names causes limit inputs text end report =
+      report-names property message (github_line limit) (λ entries end. github_last end) inputs text end report
+      (subst (NamesCauses property message report.entries end) (sym report.is) (causes limit report.entries end))
+
+  pub html-names : HtmlNamesCauses → HtmlNamesReason
+  html-names causes limit inputs text end report =
+      let is = report.is ∙ ap (λ x. x ++ html_of limit report.entries end) (none-first report.entries) in
+      report-names data_text data_text (λ e. []) (html_of limit) inputs text end report
+      (subst (NamesCauses data_text data_text report.entries end) (sym is) (causes limit report.entries end))
+
+  pub junit-names : JunitNamesCauses → JunitNamesReason
+  junit-names causes o inputs text end report fails to_pass =
+      let last : List EntryView → RunEnd → List ℕ = λ entries end. junit_text (junit_tree o entries end) in
+      let is = report.is ∙ ap (λ x. x ++ junit_text (junit_tree o report.entries end)) (none-first report.entries) in
+      has-case o report.entries end text is (causes o report.entries end) to_pass (reason-of nothing last inputs text end report fails)
+
+  pub markdown-names : MarkdownNamesCauses → MarkdownNamesReason
+  markdown-names causes limit inputs text end report =
+      let is = report.is ∙ ap (λ x. x ++ markdown_of limit report.entries end) (none-first report.entries) in
+      report-names plain plain (λ e. []) (markdown_of limit) inputs text end report
+      (subst (NamesCauses plain plain report.entries end) (sym is) (causes limit report.entries end))
+
+  pub files-name : JunitNamesCauses → HtmlNamesCauses → MarkdownNamesCauses → FilesNameReason
+  files-name junit html markdown files inputs texts are fails =
+      let end = end_of are.run in
+      let found = has_reason inputs are.entries are.run are.are fails in (
+        if-junit (λ f. HasReasonCase f.options are.entries end) (λ f. junit_last f are.entries end)
+            (λ f. ¬ (RanNoTests end × IsTrue f.options.no_tests_pass)) files.junit (text_view texts.junit) are.say.junit
+            (λ f to_pass. has-case f.options are.entries end _ refl (junit f.options are.entries end) to_pass found),
+        if-there (NamesReason data_text data_text are.entries end) (λ (f : HtmlForm). html_last f are.entries end) files.html (text_view texts.html)
+            are.say.html (λ f. names-reason data_text data_text are.entries end _ (html f.collected.limit are.entries end) found),
+        if-there (NamesReason plain plain are.entries end) (λ (f : MarkdownForm). markdown_last f are.entries end) files.markdown (text_view texts.markdown)
+            are.say.markdown (λ f. names-reason plain plain are.entries end _ (markdown f.collected.limit are.entries end) found),
+      )

@@ -1,0 +1,54 @@
+-- Why a run does not succeed.
+use Rattle.std.proofs.Common.{◌≡◌, ◌≢◌, ◌<◌, ◌+◌, ◌∷◌, [], ℕ, List, refl, arith, inl, inr}
+use Rattle.std.specs.List.{sum_by}
+use Rattle.std.specs.Prelude.{◌⊎◌, Contains, IsTrue}
+use Rattle.std.proofs.lemmas.Bool.{cases_lt}
+use Rattle.std.proofs.lemmas.List.Elements.{Contains-append_right}
+use Rattle.std.proofs.lemmas.List.Sums.{sum_by-cons}
+use Rattle.run_events_stats.specs.declared.outcome.run_outcome.RunOutcome.{RunOutcome}
+use Rattle.run_events_stats.specs.declared.outcome.run_outcome.RunOutcome.TheVariants as outcome
+use Rattle.test_report_laws.proofs.RunCauses.{causes-of, weight}
+use Rattle.test_report_laws.proofs.NotRun.{not-run-named}
+use Rattle.test_report_laws.proofs.Outcomes.{outcome-means}
+use Rattle.test_report_laws.proofs.Sums.{sum-both}
+use Rattle.test_report_laws.specs.Run.{Means, not_run_in, passed_in}
+use Rattle.test_report_run.specs.Note.{Disagrees, IsNotRun, NoteView, SuiteIs, TestIs}
+use Rattle.test_report_laws.specs.Status.{FailureHasReason, is_reason, named_not_run}
+use Rattle.test_report_laws.specs.Whole.{all_notes, whole_end}
+
+-- an element that weighs something
+some-in : {X : Type 0} (w : X → ℕ) (xs : List X) → 0 < sum_by w xs → (x : X) × Contains xs x × (0 < w x)
+some-in w [] some = absurd (omega arith)
+some-in w (x ∷ xs) some = elim (cases_lt 0 (w x)) [
+  | inl more ↦ (x, (0, omega arith, refl), more)
+  | inr none ↦
+      let rest = some-in w xs (omega (arith, sum_by-cons w x xs)) in
+      (rest.0, Contains-append_right (x ∷ []) xs rest.0 rest.1, rest.2)
+]
+
+-- what a reason weighs
+abbrev reason : NoteView → ℕ
+reason note = weight note + named_not_run note
+
+is-reason : (note : NoteView) → 0 < reason note → IsTrue (is_reason note)
+is-reason (TestIs t) some = grind arith
+is-reason (Disagrees d) some = refl
+is-reason (IsNotRun suite n of) some = refl
+is-reason (SuiteIs s) some = absurd (omega arith)
+
+reason-in : (notes : List NoteView) → 0 < sum_by reason notes → (note : NoteView) × Contains notes note × IsTrue (is_reason note)
+reason-in notes some = let found = some-in reason notes some in (found.0, found.1, is-reason found.0 found.2)
+
+by-outcome : (notes : List NoteView) (o : RunOutcome) → sum_by named_not_run notes ≡ not_run_in notes → Means notes o → o ≢ outcome.Success
+    → ((note : NoteView) × Contains notes note × IsTrue (is_reason note)) ⊎ ((o ≡ outcome.NoTestsRun) × (passed_in notes ≡ 0))
+by-outcome notes outcome.NoTestsRun named means fails = inr (refl, (means.no_tests.0 refl).1)
+by-outcome notes o named means fails = inl (reason-in notes (omega (
+  arith,
+  named,
+  causes-of notes,
+  sum-both reason weight named_not_run (λ x. refl) notes,
+  means.others fails (λ h. cc),
+)))
+
+pub failure-reason : FailureHasReason
+failure-reason files = by-outcome (all_notes files) (whole_end files).outcome (not-run-named files) (outcome-means files)

@@ -1,0 +1,127 @@
+-- What becomes known where lines disagree.
+use Rattle.std.proofs.Common.{◌≡◌, ◌≢◌, ◌∙◌, ℕ, List, [], ◌∷◌, ◌+◌, ◌<◌, Bool, true, false, cond, Option, Some, None, refl, arith, length, subst, sym, take}
+use Rattle.std.specs.List.{sum_by}
+use Rattle.std.specs.Option.{option_map_or}
+use Rattle.std.specs.Prelude.{◌==◌, ◌↔◌, IfSome, IsTrue, if◌then◌else◌, nat_lt, not}
+use Rattle.std.proofs.lemmas.Bool.Decides.{nat_tests}
+use Rattle.std.proofs.lemmas.Bool.{or_from, or_parts}
+use Rattle.test_report_events.specs.Event.{SuiteEndView}
+use Rattle.test_report_laws.proofs.Counters.{after-last, of_test}
+use Rattle.test_report_laws.proofs.EndSums as ends
+use Rattle.test_report_laws.proofs.EndSums.{last_by}
+use Rattle.test_report_laws.proofs.Sums.{sum-none}
+use Rattle.test_report_laws.proofs.Tallies.{count-of, crashed_weight, finished-counts, finished-of, finished_weight, passed-counts, passed_weight}
+use Rattle.test_report_run.specs.LastLine.{is_contradicted}
+use Rattle.test_report_laws.specs.Run.{Agrees, EarlyEndShows, LastLineAgrees, StrayEndShows, crashed_in, disagreements_in, failed_in, fails_by, has_passed, is_crash, passed_in}
+use Rattle.test_report_run.specs.Note.{Disagrees, HasCrashed, HasNoEnd, NoteView, StraySuiteEnds}
+use Rattle.test_report_run.specs.Over.{crash_of, early_disagreements, early_notes, explained_of, failed_note, flaky_note, last_disagreement, last_state, lost, skipped_note}
+use Rattle.test_report_run.specs.Run.{RunState, counts_tests, ended_at, is_disagreement, open_suite, step, stray_suite_notes}
+use Rattle.test_report_run.specs.Said.{numbers_of}
+use Rattle.test_report_run.specs.Suite.{SuiteState, failed_of}
+use Rattle.test_report_run.specs.declared.last_line.Explanation.{Explanation}
+use Rattle.test_report_run.specs.declared.note.SaidNumbers.{SaidNumbers}
+
+abbrev weight : NoteView → ℕ
+weight note = cond (is_disagreement note) 1 0
+
+pub one-if : (b : Bool) (note : NoteView) → weight note ≡ 1 → sum_by weight (if b then note ∷ [] else []) ≡ cond b 1 0
+one-if b note h = grind (arith, h)
+
+-- the disagreement of a suite that has a number
+one-disagreement : (s : SuiteState) → s.number ≢ 0
+    → sum_by weight (last_disagreement s) ≡ cond (is_contradicted (numbers_of s.said) s.stats.passed (failed_of s.stats)) 1 0
+one-disagreement s some = grind (arith, nat_tests)
+
+of-last : (s : SuiteState) (e : Explanation) (names : List (List ℕ)) → s.number ≢ 0
+    → disagreements_in (last_by s e names)
+    ≡ cond (is_contradicted (numbers_of s.said) (last_state s e names).stats.passed (failed_of (last_state s e names).stats)) 1 0
+of-last s e names some = omega (
+  arith,
+  ends.of-last-all weight (λ suite n of. refl) s e names,
+  sum-none (λ n. weight (failed_note s HasNoEnd n)) (λ n. refl) (lost e names),
+  sum-none (λ f. weight (flaky_note s e.flaky_failed f)) (λ f. grind arith) s.flaky,
+  sum-none (λ n. weight (skipped_note s n)) (λ n. refl) (take e.skipped names),
+  one-disagreement (last_state s e names) some,
+)
+
+-- a last line agrees with the tests where it does not contradict them
+numbers-agree : (o : Option ℕ) (n : ℕ) → (option_map_or (λ k. not (k == n)) o false ≡ false) ↔ IfSome o (λ k. k ≡ n)
+numbers-agree None n = ((λ _. tt), (λ _. refl))
+numbers-agree (Some k) n = ((λ h. grind (arith, nat_tests)), (λ h. grind (arith, nat_tests)))
+
+verdicts-agree : (verdict : Bool) (failed : ℕ) → ((if verdict then nat_lt failed 1 else nat_lt 0 failed) ≡ false) ↔ (IsTrue verdict ↔ (0 < failed))
+verdicts-agree verdict failed =
+    ((λ h. ((λ is. grind (arith, nat_tests)), (λ some. grind (arith, nat_tests)))), (λ h. grind (arith, nat_tests, h.0, h.1)))
+
+agrees : (said : SaidNumbers) (passed failed : ℕ) → (is_contradicted said passed failed ≡ false) ↔ Agrees said passed failed
+agrees said passed failed =
+    let verdict = verdicts-agree said.failed_verdict failed in
+    let p = numbers-agree said.passed passed in
+    let f = numbers-agree said.failed failed in (
+      (λ h.
+          let parts = or_parts _ _ h in
+          let others = or_parts _ _ parts.1 in
+          record { verdict = verdict.0 parts.0; passed_number = p.0 others.0; failed_number = f.0 others.1 }),
+      (λ h. or_from _ _ (verdict.1 h.verdict) (or_from _ _ (p.1 h.passed_number) (f.1 h.failed_number))),
+    )
+
+one-false : (b : Bool) → (◌≡◌ {A = ℕ} (cond b 1 0) 0) ↔ (b ≡ false)
+one-false b = ((λ h. grind arith), (λ h. grind arith))
+
+pub last-agrees : LastLineAgrees
+last-agrees s names some sound =
+    let e = explained_of s (length names) in
+    let t = last_state s e names in
+    let said = numbers_of s.said in
+    let notes = last_by s e names in
+    let passed : t.stats.passed ≡ s.stats.passed + passed_in notes = omega (
+      arith,
+      after-last (λ x. x.passed) passed_weight refl passed-counts (λ n h. refl) (λ n. refl) s e names sound.retried,
+      count-of (λ x. has_passed x.outcome) passed_weight (λ x. refl) notes,
+    ) in
+    let finished : t.stats.finished_count ≡ s.stats.finished_count + (passed_in notes + failed_in notes) = omega (
+      arith,
+      after-last (λ x. x.finished_count) finished_weight refl finished-counts (λ n h. refl) (λ n. refl) s e names sound.retried,
+      finished-of notes,
+    ) in
+    let failed : failed_of t.stats ≡ failed_of s.stats + failed_in notes = omega (arith, sound.passed) in
+    let count = of-last s e names some in
+    let agree = agrees said t.stats.passed (failed_of t.stats) in (
+      (λ none. rw (← passed, ← failed) (agree.0 ((one-false _).0 (sym count ∙ none)))),
+      (λ h. count ∙ (one-false _).1 (agree.1
+          (subst (Agrees said t.stats.passed) (sym failed) (subst (λ p. Agrees said p (failed_of s.stats + failed_in notes)) (sym passed) h)))),
+    )
+
+-- the disagreements of a suite that ends early
+of-early : (s : SuiteState) (names : List (List ℕ))
+    → disagreements_in (early_notes s names) ≡ sum_by weight (early_disagreements s (length names))
+of-early s names = omega (
+  arith,
+  ends.of-early-all weight (λ suite n of. refl) s names,
+  sum-none (λ n. weight (failed_note s (HasCrashed (crash_of s (length names))) n)) (λ n. refl) names,
+  sum-none (λ f. weight (flaky_note s false f)) (λ f. refl) s.flaky,
+)
+
+crashes : (s : SuiteState) (names : List (List ℕ)) → crashed_in (early_notes s names) ≡ length names
+crashes s names = omega (
+  arith,
+  count-of (λ t. fails_by is_crash t.outcome) crashed_weight (λ t. refl) (early_notes s names),
+  ends.by-early (of_test crashed_weight) (λ d. refl) (λ suite n of. refl) true s names (λ name. refl) (λ f. refl),
+)
+
+-- no test runs: the end of a suite with a number disagrees, and tests outside of a suite do
+shows : (s : SuiteState) → (s.number ≡ 0 → 0 < s.started) → sum_by weight (early_disagreements s 0) ≡ 1
+shows s some = grind (arith, nat_tests)
+
+pub early-shows : EarlyEndShows
+early-shows s [] some = omega (arith, of-early s [], shows s some)
+early-shows s (name ∷ names) some = omega (arith, crashes s (name ∷ names))
+
+-- a last line of a suite that is not open
+pub stray-one : (r : RunState) (e : SuiteEndView) (at : Option ℕ) → at ≡ None
+    → disagreements_in (option_map_or (ended_at r e) at (step r (stray_suite_notes e))).notes ≡ (if counts_tests e then 1 else 0)
+stray-one r e None h = one-if (counts_tests e) (Disagrees (StraySuiteEnds e.key e.failed_verdict)) refl
+stray-one r e (Some at) h = absurd (cc)
+
+pub stray-shows : StrayEndShows
+stray-shows r e h = stray-one r e (open_suite r e.key) h

@@ -1,0 +1,248 @@
+-- The sums at the end of a run count its tests.
+use Rattle.std.proofs.Common.{◌≡◌, ◌∙◌, ℕ, List, ◌+◌, Bool, true, false, cond, ◌&&◌, refl, ap, arith, length, length-take, take, subst, sym}
+use Rattle.std.specs.List.{count_by, fold, sum_by}
+use Rattle.std.specs.Prelude.{if◌then◌else◌, nat_lt}
+use Rattle.run_events_stats.specs.Counters.{with_test}
+use Rattle.run_events_stats.specs.Summary.{failed_tests}
+use Rattle.run_events_stats.specs.declared.stats.RunStats.{RunStats}
+use Rattle.test_report_events.specs.Event.{EventView, TestEndView}
+use Rattle.test_report_events.specs.declared.event.TestResult.{TestResult}
+use Rattle.test_report_events.specs.declared.event.TestResult.TheVariants.{Ok, Failed, Ignored}
+use Rattle.test_report_laws.proofs.Books.{HoldsAll, holds-whole, sums_in, sums_of}
+use Rattle.test_report_laws.proofs.Counters.{early-suite, exactly, finish_for, fits, fits_kind, last-suite, of_suite, of_test, sum-of, total, with_outcome}
+use Rattle.test_report_laws.proofs.EndSums as ends
+use Rattle.test_report_laws.proofs.EndSums.{last_by}
+use Rattle.test_report_laws.proofs.Sums.{sum-both, sum-same}
+use Rattle.test_report_run.specs.Counted.{view_of_finish}
+use Rattle.test_report_laws.specs.Run.{Counts, TotalsAreCounts, failed_in, fails_by, has_passed, is_crash, is_test, is_timed_out, not_run_in, not_run_of, passed_in, was_skipped}
+use Rattle.test_report_run.specs.Note.{Fails, HasTimedOut, IsFlaky, IsSkipped, KindView, NoteView, OutcomeView, Passes, TestIs, TestNoteView}
+use Rattle.test_report_run.specs.Ended.{after_end, end_notes}
+use Rattle.test_report_run.specs.Suite.{OverView, SuiteState}
+use Rattle.test_report_run.specs.declared.last_line.Explanation.{Explanation}
+use Rattle.test_report_run.specs.Run.{has_failed, run_start, with_note}
+use Rattle.test_report_run.specs.Totals.{ending, no_suites}
+use Rattle.test_report_laws.specs.Whole.{all_notes, run_after_files}
+use Rattle.run_events_stats.specs.declared.outcome.RunFailureStep.TheVariants as step
+use Rattle.run_events_stats.specs.declared.outcome.run_outcome.RunOutcome.{RunOutcome}
+use Rattle.run_events_stats.specs.declared.outcome.run_outcome.RunOutcome.TheVariants as outcome
+
+-- a rule as a weight
+abbrev one : Bool → ℕ
+one b = cond b 1 0
+
+-- `passed`
+passed-kind : (stats : RunStats) (kind : KindView) (n : ℕ) → fits_kind kind n ≡ true
+    → (with_test stats (view_of_finish (finish_for kind) n)).passed ≡ stats.passed + 0
+passed-kind stats IsFlaky n fit = grind (arith, fit)
+passed-kind stats kind n fit = refl
+
+abbrev pub passed_weight : OutcomeView → ℕ → ℕ
+passed_weight outcome n = one (has_passed outcome)
+
+pub passed-counts : (stats : RunStats) (outcome : OutcomeView) (n : ℕ) → fits outcome n ≡ true
+    → (with_outcome stats outcome n).passed ≡ stats.passed + passed_weight outcome n
+passed-counts stats Passes n fit = grind arith
+passed-counts stats IsSkipped n fit = omega arith
+passed-counts stats (Fails f) n fit = passed-kind stats f.kind n fit
+
+-- `finished_count`
+abbrev pub finished_weight : OutcomeView → ℕ → ℕ
+finished_weight outcome n = one (has_passed outcome) + one (has_failed outcome)
+
+pub finished-counts : (stats : RunStats) (outcome : OutcomeView) (n : ℕ) → fits outcome n ≡ true
+    → (with_outcome stats outcome n).finished_count ≡ stats.finished_count + finished_weight outcome n
+finished-counts stats Passes n fit = refl
+finished-counts stats IsSkipped n fit = omega arith
+finished-counts stats (Fails f) n fit = refl
+
+-- `flaky`
+abbrev flaky_weight : OutcomeView → ℕ → ℕ
+flaky_weight outcome n = one (has_passed outcome && nat_lt 1 n)
+
+flaky-kind : (stats : RunStats) (kind : KindView) (n : ℕ) → (with_test stats (view_of_finish (finish_for kind) n)).flaky ≡ stats.flaky + 0
+flaky-kind stats IsFlaky n = grind arith
+flaky-kind stats kind n = refl
+
+flaky-counts : (stats : RunStats) (outcome : OutcomeView) (n : ℕ) → fits outcome n ≡ true
+    → (with_outcome stats outcome n).flaky ≡ stats.flaky + flaky_weight outcome n
+flaky-counts stats Passes n fit = grind arith
+flaky-counts stats IsSkipped n fit = omega arith
+flaky-counts stats (Fails f) n fit = flaky-kind stats f.kind n
+
+-- `failed_timed_out`
+abbrev timed_out_weight : OutcomeView → ℕ → ℕ
+timed_out_weight outcome n = one (fails_by is_timed_out outcome)
+
+timed_out-kind : (stats : RunStats) (kind : KindView) (n : ℕ)
+    → (with_test stats (view_of_finish (finish_for kind) n)).failed_timed_out ≡ stats.failed_timed_out + one (is_timed_out kind)
+timed_out-kind stats HasTimedOut n = refl
+timed_out-kind stats kind n = refl
+
+timed_out-counts : (stats : RunStats) (outcome : OutcomeView) (n : ℕ) → fits outcome n ≡ true
+    → (with_outcome stats outcome n).failed_timed_out ≡ stats.failed_timed_out + timed_out_weight outcome n
+timed_out-counts stats Passes n fit = refl
+timed_out-counts stats IsSkipped n fit = omega arith
+timed_out-counts stats (Fails f) n fit = timed_out-kind stats f.kind n
+
+-- the three counters of failed tests together
+abbrev pub failed_weight : OutcomeView → ℕ → ℕ
+failed_weight outcome n = one (has_failed outcome)
+
+failed-kind : (stats : RunStats) (kind : KindView) (n : ℕ) → fits_kind kind n ≡ true
+    → failed_tests (with_test stats (view_of_finish (finish_for kind) n)) ≡ failed_tests stats + 1
+failed-kind stats IsFlaky n fit = grind (arith, fit)
+failed-kind stats kind n fit = omega arith
+
+pub failed-counts : (stats : RunStats) (outcome : OutcomeView) (n : ℕ) → fits outcome n ≡ true
+    → failed_tests (with_outcome stats outcome n) ≡ failed_tests stats + failed_weight outcome n
+failed-counts stats Passes n fit = grind arith
+failed-counts stats IsSkipped n fit = omega arith
+failed-counts stats (Fails f) n fit = failed-kind stats f.kind n fit
+
+-- the tests that crashed
+abbrev pub crashed_weight : OutcomeView → ℕ → ℕ
+crashed_weight outcome n = one (fails_by is_crash outcome)
+
+abbrev crashed_said : NoteView → ℕ
+crashed_said note = of_suite (λ s. s.crashed) note
+
+end-crash : (s : SuiteState) (t : OverView) (order : ℕ) (e : TestEndView) (how : TestResult)
+    → sum_by (of_test crashed_weight) (end_notes s t (record e { result = how })) + s.crashed
+    ≡ sum_by crashed_said (end_notes s t (record e { result = how })) + (after_end s t order (record e { result = how })).crashed
+end-crash s t order e Ok = grind arith
+end-crash s t order e Failed = grind arith
+end-crash s t order e Ignored = refl
+
+crashed-sums : (files : List (List EventView)) → HoldsAll 0 (of_test crashed_weight) crashed_said (all_notes files) (run_after_files run_start files)
+crashed-sums = holds-whole {h = λ k. k.crashed} {Fine = λ k. Unit {0}} record {
+  w_disagree = λ d. refl;
+  v_disagree = λ d. refl;
+  empty = refl;
+  fine_empty = tt;
+  of_end = λ s t order e f. (end-crash s t order e e.result, tt);
+  of_early = λ s names f. exactly (omega (
+    arith,
+    ends.by-early (of_test crashed_weight) (λ d. refl) (λ suite n of. refl) true s names (λ name. refl) (λ x. refl),
+    early-suite (λ n. n.crashed) s names,
+  ));
+  of_last = λ s e names f. exactly (omega (
+    arith,
+    ends.by-last (of_test crashed_weight) (λ d. refl) (λ suite n of. refl) false false s e names (λ name. refl) (λ x. grind arith) (λ name. refl),
+    last-suite (λ n. n.crashed) s e names,
+  ));
+}
+
+-- the tests that were skipped
+abbrev pub skipped_weight : OutcomeView → ℕ → ℕ
+skipped_weight outcome n = one (was_skipped outcome)
+
+abbrev skipped_said : NoteView → ℕ
+skipped_said note = of_suite (λ s. s.skipped) note
+
+end-skip : (s : SuiteState) (t : OverView) (order : ℕ) (e : TestEndView) (how : TestResult)
+    → sum_by (of_test skipped_weight) (end_notes s t (record e { result = how })) + s.skipped
+    ≡ sum_by skipped_said (end_notes s t (record e { result = how })) + (after_end s t order (record e { result = how })).skipped
+end-skip s t order e Ok = grind arith
+end-skip s t order e Failed = refl
+end-skip s t order e Ignored = omega arith
+
+pub skipped-last : (s : SuiteState) (e : Explanation) (names : List (List ℕ))
+    → sum_by (of_test skipped_weight) (last_by s e names) ≡ length (take e.skipped names)
+skipped-last s e names =
+    let w = of_test skipped_weight in
+    omega (arith, ends.by-last w (λ d. refl) (λ suite n of. refl) false true s e names (λ name. refl) (λ x. grind arith) (λ name. refl))
+
+skipped-sums : (files : List (List EventView)) → HoldsAll 1 (of_test skipped_weight) skipped_said (all_notes files) (run_after_files run_start files)
+skipped-sums = holds-whole {h = λ k. k.skipped} {Fine = λ k. Unit {0}} record {
+  w_disagree = λ d. refl;
+  v_disagree = λ d. refl;
+  empty = refl;
+  fine_empty = tt;
+  of_end = λ s t order e f. (end-skip s t order e e.result, tt);
+  of_early = λ s names f.
+      let early = ends.by-early (of_test skipped_weight) (λ d. refl) (λ suite n of. refl) false s names (λ name. refl) (λ x. refl) in
+      exactly (omega (arith, early, early-suite (λ n. n.skipped) s names));
+  of_last = λ s e names f. record {
+    low = omega (arith, skipped-last s e names, last-suite (λ n. n.skipped) s e names, length-take e.skipped names);
+    high = λ never. absurd (omega arith);
+  };
+}
+
+-- a count is the sum of a weight
+pub count-of : (rule : TestNoteView → Bool) (weight : OutcomeView → ℕ → ℕ) → ((t : TestNoteView) → one (rule t) ≡ weight t.outcome t.attempts)
+    → (notes : List NoteView) → count_by (is_test rule) notes ≡ sum_by (of_test weight) notes
+count-of rule weight h notes = sum-same (λ x. one (is_test rule x)) (of_test weight) each notes
+  where
+    each : (note : NoteView) → one (is_test rule note) ≡ of_test weight note
+    each (TestIs t) = h t
+    each note = refl
+
+pub finished-of : (notes : List NoteView) → sum_by (of_test finished_weight) notes ≡ passed_in notes + failed_in notes
+finished-of notes = sum-both (of_test finished_weight) (λ x. one (is_test (λ t. has_passed t.outcome) x))
+    (λ x. one (is_test (λ t. has_failed t.outcome) x)) each notes
+  where
+    each : (note : NoteView) → of_test finished_weight note
+        ≡ one (is_test (λ t. has_passed t.outcome) note) + one (is_test (λ t. has_failed t.outcome) note)
+    each (TestIs t) = refl
+    each note = refl
+
+pub same-not_run : (notes : List NoteView) → sum_by (of_suite (λ s. s.not_run)) notes ≡ not_run_in notes
+same-not_run notes = sum-same (of_suite (λ s. s.not_run)) not_run_of each notes
+  where
+    each : (note : NoteView) → of_suite (λ s. s.not_run) note ≡ not_run_of note
+    each (TestIs t) = refl
+    each note = refl
+
+pub failed-total : (files : List (List EventView)) → failed_tests (fold with_note no_suites (all_notes files)).stats ≡ failed_in (all_notes files)
+failed-total files = omega (
+  arith,
+  total failed_tests failed_weight refl failed-counts (λ n h. refl) (λ n. refl) (λ a b. omega arith) files,
+  count-of (λ t. has_failed t.outcome) failed_weight (λ t. refl) (all_notes files),
+)
+
+-- the sums over the notes of a whole run, whatever the outcome
+pub counted : (files : List (List EventView)) (o : RunOutcome)
+    → Counts (all_notes files) record (fold with_note no_suites (all_notes files)) { outcome = o }
+counted files o =
+    let notes = all_notes files in
+    let crashed = (crashed-sums files).whole in
+    let skipped = (skipped-sums files).whole in
+    let sum_crashed = sum-of (λ e. e.crashed) (λ s. s.crashed) (λ e s. refl) refl notes in
+    let sum_skipped = sum-of (λ e. e.skipped) (λ s. s.skipped) (λ e s. refl) refl notes in
+    let finished = total (λ s. s.finished_count) finished_weight refl finished-counts (λ n h. refl) (λ n. refl) (λ a b. refl) files in
+    let passed = total (λ s. s.passed) passed_weight refl passed-counts (λ n h. refl) (λ n. refl) (λ a b. refl) files in
+    let passed_count = count-of (λ t. has_passed t.outcome) passed_weight (λ t. refl) notes in
+    let finished_count = finished-of notes in
+    record {
+      finished = omega arith;
+      passed = omega arith;
+      failed = omega arith;
+      flaky = omega (
+        arith,
+        total (λ s. s.flaky) flaky_weight refl flaky-counts (λ n h. ap one h) (λ n. refl) (λ a b. refl) files,
+        count-of (λ t. has_passed t.outcome && nat_lt 1 t.attempts) flaky_weight (λ t. refl) notes,
+      );
+      timed_out = omega (
+        arith,
+        total (λ s. s.failed_timed_out) timed_out_weight refl timed_out-counts (λ n h. refl) (λ n. refl) (λ a b. refl) files,
+        count-of (λ t. fails_by is_timed_out t.outcome) timed_out_weight (λ t. refl) notes,
+      );
+      crashed = omega (arith, crashed.high refl, count-of (λ t. fails_by is_crash t.outcome) crashed_weight (λ t. refl) notes);
+      skipped = omega (arith, count-of (λ t. was_skipped t.outcome) skipped_weight (λ t. refl) notes);
+      not_run = sum-of (λ e. e.not_run) (λ s. s.not_run) (λ e s. refl) refl notes ∙ same-not_run notes;
+    }
+
+pub run-sums : (files : List (List EventView)) → sums_of (run_after_files run_start files) ≡ sums_in (all_notes files)
+run-sums files = (crashed-sums files).all_sums
+
+counted-end : (files : List (List EventView)) (disagree : Bool)
+    → let e = fold with_note no_suites (all_notes files) in
+    Counts (all_notes files) (if disagree then record e { outcome = outcome.Failed step.Test } else e)
+counted-end files true = counted files (outcome.Failed step.Test)
+counted-end files false = counted files (fold with_note no_suites (all_notes files)).outcome
+
+pub totals-count : TotalsAreCounts
+totals-count files =
+    let r = run_after_files run_start files in
+    subst (λ e. Counts (all_notes files) (ending e r.disagreements)) (sym (ap (λ s. s.0) (run-sums files)))
+    (counted-end files (nat_lt 0 r.disagreements))

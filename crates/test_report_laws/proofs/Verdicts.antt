@@ -1,0 +1,198 @@
+-- The last lines of suites with a failed verdict.
+use Rattle.std.proofs.Common.{◌≡◌, ◌≢◌, ℕ, List, [], ◌∷◌, ◌++◌, ◌+◌, ◌<◌, ◌≤◌, Bool, true, false, cond, Option, Some, None, refl, ap, arith, inl, inr, length}
+use Rattle.std.specs.List.{count_by, fold, remove, sum_by}
+use Rattle.std.specs.Option.{option_map_or}
+use Rattle.std.specs.Prelude.{◌==◌, ◌||◌, if◌then◌else◌}
+use Rattle.std.proofs.lemmas.Bool.{cases_lt}
+use Rattle.std.proofs.lemmas.List.Elements.{All-get_or}
+use Rattle.std.proofs.lemmas.List.Sums.{count_by-le-length, get_or-le-sum_by, sum_by-append, sum_by-cons, sum_by-le-sum_by, sum_by-remove, sum_by-set, sum_by_push}
+use Rattle.test_report_events.specs.Event.{EventView, SuiteEndView, SuiteStarts, SuiteEnds}
+use Rattle.test_report_laws.proofs.Books.{Holds, IsIn, holds-whole, position-in, with-books}
+use Rattle.test_report_laws.proofs.RunCauses.{causes-of, weight}
+use Rattle.test_report_laws.proofs.Outcomes.{outcome-means}
+use Rattle.test_report_laws.proofs.Shown.{early-shows, last-agrees, stray-one}
+use Rattle.test_report_laws.proofs.Sound.{all-known, all-sound, failed-rules}
+use Rattle.test_report_laws.proofs.Sums.{one-most}
+use Rattle.test_report_laws.proofs.Weights.{Keeps, has-number, keeps-line, numbered-end, numbered-line, unnumbered, weigh, weight_of}
+use Rattle.test_report_laws.specs.Run.{FailedVerdictShows, IsClean, IsSound, crashed_in, disagreements_in, failed_in, failed_verdicts_of, fails_by, is_crash, is_test, says_failed_verdict}
+use Rattle.test_report_run.specs.Note.{Fails, NoteView, OutcomeView, TestIs}
+use Rattle.test_report_run.specs.Over.{early_notes, last_notes}
+use Rattle.test_report_run.specs.Run.{RunState, Step, after, after_file, ended_at, ended_early, file_notes, has_failed, is_cause, learned, names_in, notes_at, open_suite, opened, started_again, step, stray_suite_notes, suite_at, with_suite_at, without_tests}
+use Rattle.test_report_run.specs.Said.{no_lines}
+use Rattle.test_report_run.specs.Suite.{SuiteState, failed_of, has_key, joined, outside_start, suite_start, with_line}
+use Rattle.test_report_laws.specs.Whole.{all_notes}
+use Rattle.test_report_run.specs.declared.said.Said.{Said}
+
+abbrev failing : ℕ → Said → Option ℕ → ℕ
+failing number said count = cond said.failed_verdict 1 0
+
+-- of a failed verdict something failed or disagreed, or a suite is open that has one
+abbrev Seen : ℕ → List NoteView → RunState → Type 0
+Seen n notes r = 0 < n → 0 < count_by is_cause notes + weight_of failing r
+
+abbrev verdict : EventView → ℕ
+verdict e = cond (says_failed_verdict e) 1 0
+
+seen-kept : (n : ℕ) (notes : List NoteView) (r : RunState) (e : EventView) → verdict e ≡ 0 → Keeps r (after r e) → Seen n notes r
+    → Seen (n + verdict e) (notes ++ notes_at r e) (after r e)
+seen-kept n notes r e none keeps i some = omega (arith, i (omega arith), keeps failing, sum_by-append weight notes (notes_at r e))
+
+-- a suite that ends early makes a cause known
+crash-fails : (o : OutcomeView) → cond (fails_by is_crash o) 1 0 ≤ cond (has_failed o) 1 0
+crash-fails (Fails f) = one-most (is_crash f.kind)
+crash-fails o = omega arith
+
+crashes-fail : (notes : List NoteView) → crashed_in notes ≤ failed_in notes
+crashes-fail notes =
+    sum_by-le-sum_by (λ x. cond (is_test (λ t. fails_by is_crash t.outcome) x) 1 0) (λ x. cond (is_test (λ t. has_failed t.outcome) x) 1 0) notes each
+  where
+    each : (note : NoteView) → cond (is_test (λ t. fails_by is_crash t.outcome) note) 1 0 ≤ cond (is_test (λ t. has_failed t.outcome) note) 1 0
+    each (TestIs t) = crash-fails t.outcome
+    each note = omega arith
+
+pub early-cause : (s : SuiteState) (names : List (List ℕ)) → s.number ≢ 0 → 0 < count_by is_cause (early_notes s names)
+early-cause s names some =
+    let notes = early_notes s names in
+    omega (arith, early-shows s names (λ zero. absurd (some zero)), causes-of notes, crashes-fail notes)
+
+-- and so does one with a failed verdict that ends by its last line, unless a test of it failed before
+last-cause : (s : SuiteState) (names : List (List ℕ)) (known : ℕ) → s.number ≢ 0 → IsSound s → failed_of s.stats ≤ known → s.said.failed_verdict ≡ true
+    → 0 < known + count_by is_cause (last_notes s names)
+last-cause s names known some sound low failed =
+    let notes = last_notes s names in
+    elim (cases_lt 0 (disagreements_in notes)) [
+      | inl more ↦ omega (arith, causes-of notes)
+      | inr none ↦ let agrees = (last-agrees s names some sound).0 (omega arith) in omega (arith, agrees.verdict.0 failed, causes-of notes)
+    ]
+
+-- the first line of a suite
+seen-first : (n : ℕ) (notes : List NoteView) (r : RunState) (key : Option (List ℕ)) (count : Option ℕ) (at : Option ℕ) → weight_of unnumbered r ≡ 0
+    → Seen n notes r → IsIn r.suites at
+    → let t = option_map_or (started_again r key count) at (step (opened r key count) []) in Seen (n + 0) (notes ++ t.notes) (learned t.run t.notes)
+seen-first n notes r key count None numbered i in' some =
+    let start = suite_start (r.suites_started + 1) key r.heading count in
+    omega (arith, i (omega arith), sum_by_push (weigh failing) r.suites start, sum_by-append weight notes [])
+seen-first n notes r (Some key) count (Some at) numbered i in' some =
+    let s = joined (suite_at r (Some at)) count in
+    omega (arith, i (omega arith), sum_by-set (weigh failing) r.suites at s r.outside in', sum_by-append weight notes [])
+seen-first n notes r None count (Some at) numbered i in' some =
+    let s = suite_at r (Some at) in
+    let names = names_in r s in
+    omega (arith, early-cause s names (has-number r at numbered in'), sum_by-append weight notes (early_notes s names))
+
+-- a last line of a suite
+still-shown : (n known left rest more : ℕ) (old e : Bool) → (0 < n → 0 < known + left) → rest + cond old 1 0 ≡ left
+    → ((old || e) ≡ true → 0 < known + more) → 0 < n + cond e 1 0 → 0 < known + more + rest
+still-shown n known left rest more old e before parts last some = grind arith
+
+seen-over : (n : ℕ) (notes : List NoteView) (r : RunState) (e : SuiteEndView) (at : ℕ) (over : Bool) → Holds failed-rules notes r
+    → weight_of unnumbered r ≡ 0 → Seen n notes r → at < length r.suites
+    → let s = with_line (suite_at r (Some at)) e in
+    let t = if over then step (without_tests (record r { suites = remove r.suites at }) s) (last_notes s (names_in r s))
+    else step (with_suite_at r (Some at) s) [] in
+    Seen (n + cond e.failed_verdict 1 0) (notes ++ t.notes) (learned t.run t.notes)
+seen-over n notes r e at true holds numbered i in' some =
+    let old = suite_at r (Some at) in
+    let s = with_line old e in
+    let names = names_in r s in
+    let sound = All-get_or IsSound r.suites at r.outside in' (all-sound notes r holds).1 in
+    let known : failed_of old.stats ≤ count_by is_cause notes = omega (arith, all-known notes r holds at r.outside in', causes-of notes) in
+    let last = last-cause s names (count_by is_cause notes) (has-number r at numbered in') record { retried = sound.retried; passed = sound.passed }
+    known in
+    omega (
+      arith,
+      still-shown n _ _ _ _ old.said.failed_verdict e.failed_verdict i (sum_by-remove (weigh failing) r.suites at r.outside in') last some,
+      sum_by-append weight notes (last_notes s names),
+    )
+seen-over n notes r e at false holds numbered i in' some =
+    let s = with_line (suite_at r (Some at)) e in
+    grind (
+      arith,
+      i,
+      get_or-le-sum_by (weigh failing) r.suites at r.outside in',
+      sum_by-set (weigh failing) r.suites at s r.outside in',
+      sum_by-append weight notes [],
+    )
+
+seen-last : (n : ℕ) (notes : List NoteView) (r : RunState) (e : SuiteEndView) (at : Option ℕ) → open_suite r e.key ≡ at → Holds failed-rules notes r
+    → weight_of unnumbered r ≡ 0 → Seen n notes r
+    → let t = option_map_or (ended_at r e) at (step r (stray_suite_notes e)) in
+    Seen (n + cond e.failed_verdict 1 0) (notes ++ t.notes) (learned t.run t.notes)
+seen-last n notes r e None is holds numbered i some = grind (
+  arith,
+  i,
+  stray-one r e None refl,
+  causes-of (stray_suite_notes e),
+  sum_by-append weight notes (stray_suite_notes e),
+)
+seen-last n notes r e (Some at) is holds numbered i some =
+    let in' = position-in (has_key e.key) r.suites (Some at) is in
+    seen-over n notes r e at ((with_line (suite_at r (Some at)) e).open_lines == 0) holds numbered i in' some
+
+-- a line
+seen-line : (n : ℕ) (notes : List NoteView) (r : RunState) (e : EventView) → Holds failed-rules notes r → weight_of unnumbered r ≡ 0 → Seen n notes r
+    → Seen (n + verdict e) (notes ++ notes_at r e) (after r e)
+seen-line n notes r (SuiteStarts key count) holds numbered i =
+    seen-first n notes r key count (open_suite r key) numbered i (position-in (has_key key) r.suites (open_suite r key) refl)
+seen-line n notes r (SuiteEnds e) holds numbered i = seen-last n notes r e (open_suite r e.key) refl holds numbered i
+seen-line n notes r e holds numbered i = seen-kept n notes r e refl (keeps-line r e refl) i
+
+-- the end of a file
+early-causes : (t : Step) (suites : List SuiteState) → sum_by (weigh unnumbered) suites ≡ 0
+    → count_by is_cause t.notes + length suites ≤ count_by is_cause (fold ended_early t suites).notes
+early-causes t [] none = omega arith
+early-causes t (s ∷ suites) none =
+    let names = names_in t.run s in
+    let parts = sum_by-cons (weigh unnumbered) s suites in
+    omega (
+      arith,
+      early-cause s names (λ zero. absurd (omega (arith, ap (λ n. unnumbered n no_lines None) zero))),
+      sum_by-append weight t.notes (early_notes s names),
+      early-causes (ended_early t s) suites (omega arith),
+    )
+
+-- and so do all that are open at the end of a file
+pub end-causes : (r : RunState) → weight_of unnumbered r ≡ 0 → length r.suites ≤ count_by is_cause (file_notes r)
+end-causes r numbered =
+    let none = step (record r { suites = [] }) [] in
+    let ended = fold ended_early none r.suites in
+    let last = early_notes r.outside (names_in (record (ended.run) { outside = outside_start }) r.outside) in
+    omega (arith, early-causes none r.suites numbered, sum_by-append weight ended.notes last)
+
+-- tests that started outside of a suite make a cause known, too
+pub outside-cause : (r : RunState) → 0 < r.outside.started → 0 < count_by is_cause (file_notes r)
+outside-cause r some =
+    let ended = fold ended_early (step (record r { suites = [] }) []) r.suites in
+    let names = names_in (record (ended.run) { outside = outside_start }) r.outside in
+    let last = early_notes r.outside names in
+    omega (arith, early-shows r.outside names (λ zero. some), causes-of last, crashes-fail last, sum_by-append weight ended.notes last)
+
+seen-end : (n : ℕ) (notes : List NoteView) (r : RunState) → weight_of unnumbered r ≡ 0 → Seen n notes r → Seen n (notes ++ file_notes r) (after_file r)
+seen-end n notes r numbered i some = omega (
+  arith,
+  i some,
+  end-causes r numbered,
+  count_by-le-length (λ s. s.said.failed_verdict) r.suites,
+  sum_by-append weight notes (file_notes r),
+)
+
+abbrev SeenNumbered : ℕ → List NoteView → RunState → Type 0
+SeenNumbered n notes r = (weight_of unnumbered r ≡ 0) × Seen n notes r
+
+pub unclean : (files : List (List EventView)) → 0 < failed_verdicts_of files → IsClean (all_notes files) → ⊥
+unclean files some clean =
+    let seen = with-books failed-rules SeenNumbered verdict (λ n notes r e holds i. (numbered-line r e i.0, seen-line n notes r e holds i.0 i.1))
+    (λ n notes r holds i. (numbered-end r, seen-end n notes r i.0 i.1)) (refl, λ some. absurd (omega arith)) files in
+    omega (
+      arith,
+      seen.1 some,
+      clean.none_failed,
+      clean.none_disagree,
+      causes-of (all_notes files),
+      ap (λ (suites : List SuiteState). sum_by (weigh failing) suites) (holds-whole failed-rules files).suites,
+    )
+
+pub verdict-shows : FailedVerdictShows
+verdict-shows files some =
+    let means = outcome-means files in
+    ((λ h. unclean files some (means.success.0 h).0), (λ h. unclean files some (means.no_tests.0 h).0))

@@ -1,0 +1,156 @@
+-- Weights of the open suites, which lines of tests keep, and the numbers of the open suites.
+use Rattle.std.proofs.Common.{◌≡◌, ◌≢◌, ◌∙◌, ℕ, List, [], ◌+◌, ◌<◌, Bool, true, false, cond, Option, Some, None, refl, ap, arith, length}
+use Rattle.std.specs.List.{position, remove, sum_by}
+use Rattle.std.specs.Option.{option_map_or}
+use Rattle.std.specs.Prelude.{◌==◌, if◌then◌else◌}
+use Rattle.std.proofs.lemmas.Bool.{ne_eqb}
+use Rattle.std.proofs.lemmas.List.Sums.{get_or-le-sum_by, sum_by-remove, sum_by-set, sum_by_push}
+use Rattle.test_report_events.specs.Event.{EventView, SuiteEndView, TestEndView, SuiteStarts, SuiteEnds, TestStarts, TestEnds, OtherLine, HeadingLine, CargoFails, Prints}
+use Rattle.test_report_events.specs.declared.event.TestResult.{TestResult}
+use Rattle.test_report_events.specs.declared.event.TestResult.TheVariants.{Ok, Failed, Ignored}
+use Rattle.test_report_laws.proofs.Books.{IsIn, ends-keep, place-in, position-in}
+use Rattle.test_report_laws.proofs.OverRuns.{up-to-line}
+use Rattle.test_report_laws.proofs.Sums.{sum-map}
+use Rattle.test_report_run.specs.Ended.{after_end}
+use Rattle.test_report_run.specs.Over.{last_notes}
+use Rattle.test_report_run.specs.Prints.{AFailure, AHeading, APrint, PrintedView}
+use Rattle.test_report_run.specs.Run.{RunState, after, after_file, ended_at, names_in, open_suite, opened, printed_to, run_start, running_ends, running_over, started_again, step, stray_ends, stray_over, stray_suite_notes, suite_at, suite_place, suite_prints, with_suite_at, without_tests}
+use Rattle.test_report_run.specs.Running.{RunningView, place_of_end, running_at}
+use Rattle.test_report_run.specs.Said.{no_lines}
+use Rattle.test_report_run.specs.Suite.{OverView, SuiteState, has_key, joined, named, suite_start, with_line, with_start}
+use Rattle.test_report_laws.specs.Whole.{run_after, run_after_files}
+use Rattle.test_report_run.specs.declared.said.Said.{Said}
+
+-- a weight of suites by their numbers, what their last lines say and how many tests they announce, summed over the open suites
+abbrev pub weigh : (ℕ → Said → Option ℕ → ℕ) → SuiteState → ℕ
+weigh g s = g s.number s.said s.test_count
+
+abbrev pub weight_of : (ℕ → Said → Option ℕ → ℕ) → RunState → ℕ
+weight_of g r = sum_by (weigh g) r.suites
+
+abbrev pub unnumbered : ℕ → Said → Option ℕ → ℕ
+unnumbered number said count = cond (number == 0) 1 0
+
+-- lines that are not those of suites keep these weights
+abbrev pub Alike : SuiteState → SuiteState → Type 0
+Alike s t = (g : ℕ → Said → Option ℕ → ℕ) → weigh g s ≡ weigh g t
+
+abbrev pub Keeps : RunState → RunState → Type 0
+Keeps r now = (g : ℕ → Said → Option ℕ → ℕ) → weight_of g now ≡ weight_of g r
+
+keeps-set : (r : RunState) (running : List RunningView) (at : Option ℕ) (s : SuiteState) → IsIn r.suites at → Alike s (suite_at r at)
+    → Keeps r (with_suite_at (record r { running = running }) at s)
+keeps-set r running None s in' same g = refl
+keeps-set r running (Some at) s in' same g = omega (arith, same g, sum_by-set (weigh g) r.suites at s r.outside in')
+
+end-alike : (s : SuiteState) (t : OverView) (order : ℕ) (e : TestEndView) (how : TestResult) → Alike (after_end s t order (record e { result = how })) s
+end-alike s t order e Ok g = grind arith
+end-alike s t order e Failed g = refl
+end-alike s t order e Ignored g = refl
+
+keeps-stray : (r : RunState) (e : TestEndView) (how : TestResult) → Keeps r (stray_ends r (record e { result = how })).run
+keeps-stray r e Ok = λ g. refl
+keeps-stray r e Failed =
+    let at = suite_place r e.name in
+    keeps-set r r.running at _ (place-in r e.name) (end-alike (named (suite_at r at) e.name) (stray_over r e) 0 e Failed)
+keeps-stray r e Ignored =
+    let at = suite_place r e.name in
+    keeps-set r r.running at _ (place-in r e.name) (end-alike (named (suite_at r at) e.name) (stray_over r e) 0 e Ignored)
+
+keeps-test : (r : RunState) (e : TestEndView) (place : Option (ℕ × ℕ))
+    → Keeps r (option_map_or (λ p. running_ends r e p.0 p.1) place (stray_ends r e)).run
+keeps-test r e None = keeps-stray r e e.result
+keeps-test r e (Some p) =
+    let test = running_at r.running p.0 in
+    let at = position (λ s. s.number == test.suite) r.suites in
+    keeps-set r (remove r.running p.0) at _ (position-in (λ s. s.number == test.suite) r.suites at refl)
+    (end-alike (suite_at r at) (running_over r e test p.1) test.order e e.result)
+
+keeps-print : (r : RunState) (line : PrintedView) → Keeps r (printed_to r line)
+keeps-print r line g = sum-map (weigh g) (suite_prints line) r.suites
+
+-- the line is the first or a last one of a suite
+abbrev pub is_of_suite : EventView → Bool
+is_of_suite (SuiteStarts key count) = true
+is_of_suite (SuiteEnds e) = true
+is_of_suite (TestStarts name) = false
+is_of_suite (TestEnds e) = false
+is_of_suite OtherLine = false
+is_of_suite (HeadingLine suite) = false
+is_of_suite (CargoFails f line plain) = false
+is_of_suite (Prints line plain) = false
+
+-- any other line
+pub keeps-line : (r : RunState) (e : EventView) → is_of_suite e ≡ false → Keeps r (after r e)
+keeps-line r (SuiteStarts key count) never = absurd (cc)
+keeps-line r (SuiteEnds e) never = absurd (cc)
+keeps-line r (TestStarts name) other =
+    let at = suite_place r name in keeps-set r r.running at (with_start (suite_at r at) name) (place-in r name) (λ g. refl)
+keeps-line r (TestEnds e) other = keeps-test r e (place_of_end r.running e.name)
+keeps-line r OtherLine other = λ g. refl
+keeps-line r (HeadingLine suite) other = keeps-print r AHeading
+keeps-line r (CargoFails f line plain) other = λ g. grind (arith, keeps-print r (AFailure line) g)
+keeps-line r (Prints line plain) other = keeps-print r (APrint line plain)
+
+-- an open suite has a number
+pub has-number : (r : RunState) (at : ℕ) → weight_of unnumbered r ≡ 0 → at < length r.suites → (suite_at r (Some at)).number ≢ 0
+has-number r at none in' zero = absurd (omega (
+  arith,
+  get_or-le-sum_by (weigh unnumbered) r.suites at r.outside in',
+  ap (λ n. unnumbered n no_lines None) zero,
+))
+
+pub start-numbered : (n : ℕ) → unnumbered (n + 1) no_lines None ≡ 0
+start-numbered n = ap (λ b. cond b 1 0) (ne_eqb (n + 1) 0 (λ h. omega arith))
+
+-- each open suite has a number after the first line of a suite
+numbered-first : (r : RunState) (key : Option (List ℕ)) (count : Option ℕ) (at : Option ℕ) → IsIn r.suites at → weight_of unnumbered r ≡ 0
+    → weight_of unnumbered (option_map_or (started_again r key count) at (step (opened r key count) [])).run ≡ 0
+numbered-first r key count None in' none =
+    let start = suite_start (r.suites_started + 1) key r.heading count in
+    omega (arith, none, start-numbered r.suites_started, sum_by_push (weigh unnumbered) r.suites start)
+numbered-first r (Some key) count (Some at) in' none =
+    let s = joined (suite_at r (Some at)) count in omega (arith, none, sum_by-set (weigh unnumbered) r.suites at s r.outside in')
+numbered-first r None count (Some at) in' none =
+    let start = suite_start (r.suites_started + 1) None r.heading count in
+    omega (
+      arith,
+      none,
+      start-numbered r.suites_started,
+      sum_by_push (weigh unnumbered) (remove r.suites at) start,
+      sum_by-remove (weigh unnumbered) r.suites at r.outside in',
+    )
+
+-- and after a last line
+numbered-over : (r : RunState) (e : SuiteEndView) (at : ℕ) (over : Bool) → at < length r.suites → weight_of unnumbered r ≡ 0
+    → let s = with_line (suite_at r (Some at)) e in
+    weight_of unnumbered (if over then step (without_tests (record r { suites = remove r.suites at }) s) (last_notes s (names_in r s))
+    else step (with_suite_at r (Some at) s) []).run ≡ 0
+numbered-over r e at true in' none = omega (arith, none, sum_by-remove (weigh unnumbered) r.suites at r.outside in')
+numbered-over r e at false in' none =
+    omega (arith, none, sum_by-set (weigh unnumbered) r.suites at (with_line (suite_at r (Some at)) e) r.outside in')
+
+numbered-last : (r : RunState) (e : SuiteEndView) (at : Option ℕ) → IsIn r.suites at → weight_of unnumbered r ≡ 0
+    → weight_of unnumbered (option_map_or (ended_at r e) at (step r (stray_suite_notes e))).run ≡ 0
+numbered-last r e None in' none = none
+numbered-last r e (Some at) in' none = numbered-over r e at ((with_line (suite_at r (Some at)) e).open_lines == 0) in' none
+
+-- after each line and each end of a file
+pub numbered-line : (r : RunState) (e : EventView) → weight_of unnumbered r ≡ 0 → weight_of unnumbered (after r e) ≡ 0
+numbered-line r (SuiteStarts key count) none =
+    numbered-first r key count (open_suite r key) (position-in (has_key key) r.suites (open_suite r key) refl) none
+numbered-line r (SuiteEnds e) none =
+    numbered-last r e (open_suite r e.key) (position-in (has_key e.key) r.suites (open_suite r e.key) refl) none
+numbered-line r e none = keeps-line r e refl unnumbered ∙ none
+
+pub none-open : (r : RunState) → (after_file r).suites ≡ []
+none-open r = (ends-keep (step (record r { suites = [] }) []) r.suites).0
+
+pub numbered-end : (r : RunState) → weight_of unnumbered (after_file r) ≡ 0
+numbered-end r = ap (λ (suites : List SuiteState). sum_by (weigh unnumbered) suites) (none-open r)
+
+-- and so at every line of a run
+pub all-numbered : (files : List (List EventView)) (events : List EventView)
+    → weight_of unnumbered (run_after (run_after_files run_start files) events) ≡ 0
+all-numbered = up-to-line (λ n notes r. weight_of unnumbered r ≡ 0) (λ n notes r. weight_of unnumbered r ≡ 0) (λ e. 0) (λ n notes r none. none)
+    (λ n notes r e none. numbered-line r e none) (λ n notes r none. numbered-end r) refl

@@ -1,0 +1,23 @@
+use Rattle.test_report_laws.proofs.CleanForms.{github-has-no-controls, names-are-lines, text-has-no-controls}
+use Rattle.test_report_laws.proofs.CleanHtml.{html-has-no-controls}
+use Rattle.test_report_laws.proofs.CleanJunit.{junit-has-no-controls}
+use Rattle.test_report_laws.proofs.CleanMarkdown.{markdown-has-no-controls}
+use Rattle.test_report_laws.proofs.forms.no_controls.Goals as goal
+
+pub returns-clause-text : goal.returns-clause-text
+returns-clause-text c = text-has-no-controls
+
+pub returns-clause-names : goal.returns-clause-names
+returns-clause-names c = names-are-lines
+
+pub returns-clause-github : goal.returns-clause-github
+returns-clause-github c = github-has-no-controls
+
+pub returns-clause-junit : goal.returns-clause-junit
+returns-clause-junit c = junit-has-no-controls
+
+pub returns-clause-html : goal.returns-clause-html
+returns-clause-html c = html-has-no-controls
+
+pub returns-clause-markdown : goal.returns-clause-markdown
+returns-clause-markdown c = markdown-has-no-controls

@@ -1,0 +1,13 @@
+use Rattle.test_report_laws.proofs.RunCauses.{cargo-shows}
+use Rattle.test_report_laws.proofs.CleanEnds.{clean-whole}
+use Rattle.test_report_laws.proofs.Verdicts.{verdict-shows}
+use Rattle.test_report_laws.proofs.run.success_means.Goals as goal
+
+pub returns-clause-verdicts : goal.returns-clause-verdicts
+returns-clause-verdicts c = verdict-shows
+
+pub returns-clause-whole : goal.returns-clause-whole
+returns-clause-whole c = clean-whole
+
+pub returns-clause-cargo : goal.returns-clause-cargo
+returns-clause-cargo c = cargo-shows

@@ -1,0 +1,6 @@
+pub mod Forms
+pub mod Reader
+pub mod Report
+pub mod Run
+pub mod Status
+pub mod Whole

@@ -1,0 +1,141 @@
+-- Laws of reports.
+use Rattle.std.specs.Prelude.{◌≡◌, ◌<◌, ◌⊎◌, [], ℕ, Bool, true, false, Contains, IfSome, IsTrue, List, Some, codes}
+use Rattle.std.specs.List.{AllZip}
+use Rattle.test_report_events.specs.Event.{EventView}
+use Rattle.test_report_forms.specs.Collected.{cause_line}
+use Rattle.test_report_forms.specs.Entry.{EntryView, IsEntryOf, LinesDisagree, SuiteNotRun, SuiteOver, TestFailed, TestPassed, TestSkipped}
+use Rattle.test_report_forms.specs.Github.{github_last, github_line, message, property}
+use Rattle.test_report_forms.specs.Html.{html_of}
+use Rattle.test_report_forms.specs.Junit.{junit_text, junit_tree}
+use Rattle.test_report_laws.specs.Forms.{HasJunitCase, HasPart, JunitCause, failed_name, junit_cause, no_test_cause}
+use Rattle.test_report_forms.specs.Markdown.{markdown_of, plain}
+use Rattle.test_report_forms.specs.Text.{text_last, text_line}
+use Rattle.test_report_forms.specs.Tree.{data_text}
+use Rattle.test_report_forms.specs.declared.files.FileForms.{FileForms}
+use Rattle.test_report_forms.specs.declared.files.FileTexts.{FileTexts}
+use Rattle.test_report_forms.specs.declared.options.Options.{Options}
+use Rattle.test_report_laws.specs.Run.{passed_in}
+use Rattle.test_report_run.specs.Note.{text_view}
+use Rattle.test_report_run.specs.Run.{RunState, end_of}
+use Rattle.test_report_laws.specs.Status.{IsInOrder, RanNoTests, Succeeds}
+use Rattle.test_report_laws.specs.Whole.{all_notes, whole_end}
+use Rattle.test_report_run.specs.declared.note.RunEnd.{RunEnd}
+use Rattle.test_report_engine.specs.Lines.{AreEventsOf}
+use Rattle.test_report_engine.specs.Report.{AreEntriesOf, AreTexts, IsReport}
+
+-- Inputs have at most one report in a form, and one end of the run.
+abbrev pub OneReport : Type 0
+OneReport = (line : EntryView → List ℕ) → (last : List EntryView → RunEnd → List ℕ) → (inputs : List (List ℕ))
+    → (a : List ℕ) → (b : List ℕ) → (d : RunEnd) → (e : RunEnd)
+    → IsReport line last inputs a d → IsReport line last inputs b e → (a ≡ b) × (d ≡ e)
+
+-- The run of a report is a run of which the laws of the module `run` speak.
+
+-- these files have the events of inputs, these entries are of what they make known, and this is their end
+pub record AreFilesOf (inputs : List (List ℕ)) (entries : List EntryView) (end : RunEnd) (files : List (List EventView)) : Type 0 where
+  pub say : AllZip AreEventsOf inputs files
+  pub are : AllZip IsEntryOf (all_notes files) entries
+  pub end_is : end ≡ whole_end files
+
+-- The entries and the end of a report are those of files to which these laws apply.
+abbrev pub OneRun : Type 0
+OneRun = (inputs : List (List ℕ)) → (entries : List EntryView) → (run : RunState) → AreEntriesOf inputs entries run
+    → (files : List (List EventView)) × AreFilesOf inputs entries (end_of run) files
+
+-- What status 0 means.
+
+-- If the outcome in a report is `Success`, a test passed and nothing is wrong with the lines of the inputs. If it is `NoTestsRun`, no test passed, and
+-- nothing is wrong either.
+abbrev pub SuccessMeans : Type 0
+SuccessMeans = (inputs : List (List ℕ)) → (entries : List EntryView) → (run : RunState) → AreEntriesOf inputs entries run
+    → (files : List (List EventView)) × AreFilesOf inputs entries (end_of run) files
+    × (Succeeds (end_of run) → (0 < passed_in (all_notes files)) × IsInOrder files)
+    × (RanNoTests (end_of run) → (passed_in (all_notes files) ≡ 0) × IsInOrder files)
+
+-- What status 1 means.
+
+-- the entry says why a run does not succeed: a failed test, a disagreement, or a suite whose tests were not all run
+abbrev pub is_reason : EntryView → Bool
+is_reason (TestPassed t) = false
+is_reason (TestSkipped t) = false
+is_reason (TestFailed t f w) = true
+is_reason (LinesDisagree d) = true
+is_reason (SuiteNotRun suite n of) = true
+is_reason (SuiteOver s) = false
+
+-- If the outcome in a report is not `Success`, an entry says why, or no test ran.
+abbrev pub FailureHasReason : Type 0
+FailureHasReason = (inputs : List (List ℕ)) → (entries : List EntryView) → (run : RunState) → AreEntriesOf inputs entries run
+    → ¬ (Succeeds (end_of run))
+    → ((e : EntryView) × Contains entries e × IsTrue (is_reason e)) ⊎ RanNoTests (end_of run)
+
+-- a text has the name of a failed test. Names are written by this function
+pub record NamesTest (name : List ℕ → List ℕ) (entries : List EntryView) (text : List ℕ) : Type 0 where
+  pub entry : EntryView
+  pub own : List ℕ
+  pub is_one : Contains entries entry
+  pub has_name : failed_name entry ≡ Some own
+  pub is_named : HasPart text (name own)
+
+-- a text has the line of a disagreement, or of a suite whose tests were not all run. Lines are written by this function
+pub record HasLine (line : List ℕ → List ℕ) (entries : List EntryView) (text : List ℕ) : Type 0 where
+  pub entry : EntryView
+  pub own : List ℕ
+  pub is_one : Contains entries entry
+  pub has_line : cause_line entry ≡ Some own
+  pub is_there : HasPart text (line own)
+
+-- a text says that no test ran
+pub record SaysNoTests (end : RunEnd) (text : List ℕ) : Type 0 where
+  pub is : RanNoTests end
+  pub said : HasPart text (codes "no-tests-run")
+
+-- a text names a reason why a run does not succeed
+abbrev pub NamesReason : (name line : List ℕ → List ℕ) → List EntryView → RunEnd → List ℕ → Type 0
+NamesReason name line entries end text = NamesTest name entries text ⊎ (HasLine line entries text ⊎ SaysNoTests end text)
+
+-- The report for people of a run that does not succeed names a reason.
+abbrev pub TextNamesReason : Type 0
+TextNamesReason = (o : Options) → (inputs : List (List ℕ)) → (text : List ℕ) → (end : RunEnd)
+    → (report : IsReport (text_line o) (text_last o) inputs text end) → ¬ (Succeeds end)
+    → NamesReason (λ name. name) (λ line. line) report.entries end text
+
+-- The report for GitHub of such a run names a reason.
+abbrev pub GithubNamesReason : Type 0
+GithubNamesReason = (limit : ℕ) → (inputs : List (List ℕ)) → (text : List ℕ) → (end : RunEnd)
+    → (report : IsReport (github_line limit) (λ entries end. github_last end) inputs text end) → ¬ (Succeeds end)
+    → NamesReason property message report.entries end text
+
+-- JUnit's XML has the test case of a reason why a run does not succeed: the cause of an entry, or that no test ran
+pub record HasReasonCase (o : Options) (entries : List EntryView) (end : RunEnd) (text : List ℕ) : Type 0 where
+  pub cause : JunitCause
+  pub reason : ((e : EntryView) × Contains entries e × (junit_cause o.limit e ≡ Some cause)) ⊎ (RanNoTests end × (cause ≡ no_test_cause))
+  pub has_case : HasJunitCase (junit_tree o entries end) cause
+  pub is : text ≡ junit_text (junit_tree o entries end)
+
+-- JUnit's XML of such a run has the test case of a reason, unless no test ran and a run without tests is to pass.
+abbrev pub JunitNamesReason : Type 0
+JunitNamesReason = (o : Options) → (inputs : List (List ℕ)) → (text : List ℕ) → (end : RunEnd)
+    → (report : IsReport (λ entry. []) (λ entries end. junit_text (junit_tree o entries end)) inputs text end)
+    → ¬ (Succeeds end) → ¬ (RanNoTests end × IsTrue o.no_tests_pass) → HasReasonCase o report.entries end text
+
+-- The page of such a run names a reason.
+abbrev pub HtmlNamesReason : Type 0
+HtmlNamesReason = (limit : ℕ) → (inputs : List (List ℕ)) → (text : List ℕ) → (end : RunEnd)
+    → (report : IsReport (λ entry. []) (html_of limit) inputs text end) → ¬ (Succeeds end)
+    → NamesReason data_text data_text report.entries end text
+
+-- The summary of such a run names a reason.
+abbrev pub MarkdownNamesReason : Type 0
+MarkdownNamesReason = (limit : ℕ) → (inputs : List (List ℕ)) → (text : List ℕ) → (end : RunEnd)
+    → (report : IsReport (λ entry. []) (markdown_of limit) inputs text end) → ¬ (Succeeds end)
+    → NamesReason plain plain report.entries end text
+
+-- The texts of the files name a reason, too.
+abbrev pub FilesNameReason : Type 0
+FilesNameReason = (files : FileForms) → (inputs : List (List ℕ)) → (texts : FileTexts) → (are : AreTexts files inputs texts)
+    → ¬ (Succeeds (end_of are.run))
+    → IfSome files.junit (λ form. ¬ (RanNoTests (end_of are.run) × IsTrue form.options.no_tests_pass)
+    → IfSome (text_view texts.junit) (HasReasonCase form.options are.entries (end_of are.run)))
+    × IfSome (text_view texts.html) (NamesReason data_text data_text are.entries (end_of are.run))
+    × IfSome (text_view texts.markdown) (NamesReason plain plain are.entries (end_of are.run))

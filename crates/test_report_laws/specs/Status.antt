@@ -1,0 +1,126 @@
+-- What the outcome of a whole run says of its lines: what a run that succeeds has no line of, and why another one does not.
+use Rattle.std.specs.Prelude.{◌+◌, ◌++◌, ◌∷◌, [], ◌≡◌, ◌≢◌, ◌≤◌, ◌<◌, ◌⊎◌, ◌||◌, ℕ, Bool, true, false, Contains, IsTrue, List, None, Option, Some, length}
+use Rattle.std.specs.List.{sum_by}
+use Rattle.std.specs.Option.{option_map_or}
+use Rattle.run_events_stats.specs.declared.outcome.run_outcome.RunOutcome.TheVariants as outcome
+use Rattle.test_report_events.specs.Event.{EventView, SuiteEndView, SuiteStarts, SuiteEnds, TestStarts, TestEnds, OtherLine, HeadingLine, CargoFails, Prints}
+use Rattle.test_report_events.specs.declared.event.CargoFailure.{CargoFailure}
+use Rattle.test_report_laws.specs.Run.{Agrees, IsClean, failed_lines_of, failed_verdicts_of, not_run_in, passed_in, skipped_in}
+use Rattle.test_report_run.specs.Note.{Disagrees, IsNotRun, NoteView, SuiteIs, TestIs}
+use Rattle.test_report_run.specs.Over.{last_notes}
+use Rattle.test_report_run.specs.Run.{RunState, counts_tests, is_cause, names_in, open_suite, run_start, suite_at}
+use Rattle.test_report_run.specs.Said.{numbers_of}
+use Rattle.test_report_run.specs.Suite.{SuiteState, with_line}
+use Rattle.test_report_laws.specs.Whole.{all_notes, run_after, run_after_files, whole_end}
+use Rattle.test_report_run.specs.declared.note.RunEnd.{RunEnd}
+
+-- a run with this end succeeded
+abbrev pub Succeeds : RunEnd → Type 0
+Succeeds end = end.outcome ≡ outcome.Success
+
+-- no test of a run with this end ran, and nothing was wrong
+abbrev pub RanNoTests : RunEnd → Type 0
+RanNoTests end = end.outcome ≡ outcome.NoTestsRun
+
+-- Why a run does not succeed.
+
+-- how many tests of a suite were not run, by the note that names the suite
+abbrev pub named_not_run : NoteView → ℕ
+named_not_run (TestIs t) = 0
+named_not_run (Disagrees d) = 0
+named_not_run (IsNotRun suite n of) = n
+named_not_run (SuiteIs s) = 0
+
+-- Each test that was not run is in a note that names its suite.
+abbrev pub NotRunIsNamed : Type 0
+NotRunIsNamed = (files : List (List EventView)) → sum_by named_not_run (all_notes files) ≡ not_run_in (all_notes files)
+
+-- the note is of a suite whose tests were not all run
+abbrev pub is_not_run : NoteView → Bool
+is_not_run (TestIs t) = false
+is_not_run (Disagrees d) = false
+is_not_run (IsNotRun suite n of) = true
+is_not_run (SuiteIs s) = false
+
+-- the note says why a run does not succeed: a failed test, a disagreement, or a suite whose tests were not all run
+abbrev pub is_reason : NoteView → Bool
+is_reason note = is_cause note || is_not_run note
+
+-- A run that does not succeed has such a note, or no test of it ran.
+abbrev pub FailureHasReason : Type 0
+FailureHasReason = (files : List (List EventView)) → ¬ (Succeeds (whole_end files))
+    → ((note : NoteView) × Contains (all_notes files) note × IsTrue (is_reason note))
+    ⊎ (RanNoTests (whole_end files) × (passed_in (all_notes files) ≡ 0))
+
+-- What a run that succeeds has no line of.
+
+-- a line of a run, and the run when the line is read: after files, and after lines of its own file
+pub record IsLineOf (files : List (List EventView)) (r : RunState) (e : EventView) : Type 0 where
+  pub before : List (List EventView)
+  pub lines : List EventView
+  pub rest : List EventView
+  pub after : List (List EventView)
+  pub are : files ≡ before ++ (lines ++ e ∷ rest) ∷ after
+  pub run_is : r ≡ run_after (run_after_files run_start before) lines
+
+-- the run when the end of a file is read
+pub record IsFileEndOf (files : List (List EventView)) (r : RunState) : Type 0 where
+  pub before : List (List EventView)
+  pub file : List EventView
+  pub after : List (List EventView)
+  pub are : files ≡ before ++ file ∷ after
+  pub run_is : r ≡ run_after (run_after_files run_start before) file
+
+-- how many tests a line announces
+abbrev pub announced_by : EventView → ℕ
+announced_by (SuiteStarts key count) = option_map_or (λ n. n) count 0
+announced_by (SuiteEnds e) = 0
+announced_by (TestStarts name) = 0
+announced_by (TestEnds e) = 0
+announced_by OtherLine = 0
+announced_by (HeadingLine suite) = 0
+announced_by (CargoFails f line plain) = 0
+announced_by (Prints line plain) = 0
+
+-- how many tests the first lines of suites announce in all files
+abbrev pub announced_of : List (List EventView) → ℕ
+announced_of files = sum_by (λ file. sum_by announced_by file) files
+
+-- At least as many tests finished, were skipped or were counted as not run as were announced.
+abbrev pub AnnouncedAreCounted : Type 0
+AnnouncedAreCounted = (files : List (List EventView))
+    → announced_of files ≤ (whole_end files).stats.finished_count + (whole_end files).skipped + (whole_end files).not_run
+
+-- a suite that ends by its last line while tests of these names run: its last lines say how many tests passed, and that none failed, and each test
+-- that runs was skipped
+pub record EndsInOrder (s : SuiteState) (names : List (List ℕ)) : Type 0 where
+  pub numbers : Agrees (numbers_of s.said) (s.stats.passed + passed_in (last_notes s names)) 0
+  pub no_test_lost : skipped_in (last_notes s names) ≡ length names
+
+-- nothing is wrong with the lines of a run
+pub record IsInOrder (files : List (List EventView)) : Type 0 where
+  -- no test failed, no lines disagree, and all tests of suites were run
+  pub clean : IsClean (all_notes files)
+  -- no line says that a test failed, and no last line of a suite has a failed verdict
+  pub no_failed_line : failed_lines_of files ≡ 0
+  pub no_failed_verdict : failed_verdicts_of files ≡ 0
+  -- each last line that ends a suite says what the tests of the suite are
+  pub last_lines : (r : RunState) → (e : SuiteEndView) → (at : ℕ) → IsLineOf files r (SuiteEnds e) → open_suite r e.key ≡ Some at
+      → let s = with_line (suite_at r (Some at)) e in s.open_lines ≡ 0 → EndsInOrder s (names_in r s)
+  -- a last line while its suite is not open counts no test that ran
+  pub stray_lines : (r : RunState) → (e : SuiteEndView) → IsLineOf files r (SuiteEnds e) → open_suite r e.key ≡ None → counts_tests e ≡ false
+  -- each suite ends by its last line: none is open when another one without key starts in its place, or at the end of a file
+  pub one_without_key : (r : RunState) → (count : Option ℕ) → IsLineOf files r (SuiteStarts None count) → open_suite r None ≡ None
+  pub none_open : (r : RunState) → IsFileEndOf files r → r.suites ≡ []
+  -- no test starts outside of a suite
+  pub none_outside : (r : RunState) → IsFileEndOf files r → r.outside.started ≡ 0
+  -- at least as many tests finished or were skipped as were announced
+  pub announced : announced_of files ≤ (whole_end files).stats.finished_count + (whole_end files).skipped
+  -- a failure of cargo is read only while a suite is open, when it is a print of a test
+  pub cargo : (r : RunState) → (f : CargoFailure) → (line plain : List ℕ) → IsLineOf files r (CargoFails f line plain) → r.suites ≢ []
+
+-- If a run succeeds, a test passed and nothing is wrong with its lines. If no test ran, no test passed, and nothing is wrong either.
+abbrev pub SuccessIsInOrder : Type 0
+SuccessIsInOrder = (files : List (List EventView))
+    → (Succeeds (whole_end files) → (0 < passed_in (all_notes files)) × IsInOrder files)
+    × (RanNoTests (whole_end files) → (passed_in (all_notes files) ≡ 0) × IsInOrder files)

@@ -1,0 +1,25 @@
+//! Laws of the report of a test run: facts that follow from the contracts of `test_report_run`,
+//! `test_report_forms` and `test_report_engine`. They say what a success and a failure mean, that no
+//! failure is hidden, and that no form writes control characters of the input, unless `TextForm` is set to
+//! keep them.
+//!
+//! A law is a function that does nothing. Its contract is the fact. A function whose proof needs the fact
+//! calls the law. This is the end of such a function, `is_in_order` in `CALLING.md`. Its clause says what
+//! the result `true` means. The law is `success_means` of the module `report`:
+//!
+//! ```rust
+//!     ensures in_order { IfOk result (λ success. IfSome (R.left source.old) (λ input. IsTrue success
+//!         → (files : List (List EventView)) × AllZip AreEventsOf (input ∷ []) files × IsInOrder files)) }
+//! {
+//!     success_means();
+//!     let mut report = Report::new(alloc, TextForm::new(alloc, options));
+//!     report.read_file(alloc, source, sink)?;
+//!     let end = report.finish(alloc, sink)?;
+//!     Ok(end.outcome == RunOutcome::Success)
+//! }
+//! ```
+#![tactic(auto)]
+
+pub mod forms;
+pub mod report;
+pub mod run;

@@ -1,9 +1,0 @@
-use Rattle.test_report_run.proofs.NotRun.{not-run-named}
-use Rattle.test_report_run.proofs.Reasons.{failure-reason}
-use Rattle.test_report_run.proofs.laws.failure_has_reason.Goals as goal
-
-pub returns-clause-named : goal.returns-clause-named
-returns-clause-named c = not-run-named
-
-pub returns-clause-reason : goal.returns-clause-reason
-returns-clause-reason c = failure-reason

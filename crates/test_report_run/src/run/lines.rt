@@ -1,0 +1,92 @@
+//! Lines that are of no suite and of no test: headings, failures of cargo, and what is printed.
+
+ghost use Rattle.std.specs.Prelude.{◌≡◌, ◌++◌, OnOk, map};
+ghost use Rattle.test_report_run.specs.Note.{note_view};
+ghost use Rattle.test_report_run.specs.Prints.{AFailure, APrint, printed_view};
+ghost use Rattle.test_report_run.specs.Run as spec;
+ghost use Rattle.test_report_run.specs.Run.{run_state};
+
+use crate::error::RunError;
+use crate::note::{Disagreement, Note};
+use crate::prints::Printed;
+use crate::run::TestRun;
+use std::alloc::{AllocError, Global};
+use test_report_events::event::CargoFailure;
+
+impl TestRun {
+    /// Takes a heading of cargo.
+    pub(crate) fn on_heading(&mut self, alloc: Global, suite: &str) -> Result<(), RunError>
+        ensures { OnOk result (run_state self.new ≡ spec.headed (run_state self.old) suite.now) }
+    {
+        self.on_print(alloc, Printed::Heading)?;
+        self.heading = Some(String::from_str(alloc, suite)?);
+        Ok(())
+    }
+
+    /// Takes a line in which cargo or nextest reports a failure.
+    pub(crate) fn on_cargo_failed(
+        &mut self,
+        alloc: Global,
+        failure: CargoFailure,
+        line: &str,
+        plain: &str,
+        notes: &mut Vec<Note>,
+    ) -> Result<(), RunError>
+        ensures takes { OnOk result (run_state self.new ≡ spec.printed_to (run_state self.old) (AFailure line.now)) }
+        ensures tells { OnOk result (map note_view notes.new.items ≡ map note_view notes.old.items
+            ++ spec.cargo_notes (run_state self.old) failure plain.now) }
+    {
+        self.count_cargo_failed(alloc, failure, plain, notes)?;
+        self.on_print(alloc, Printed::CargoFailed { line })?;
+        Ok(())
+    }
+
+    /// Appends a disagreement if no suite is open, and no failed test or earlier disagreement explains this
+    /// failure of cargo or nextest. A failed build is never explained.
+    fn count_cargo_failed(
+        &self,
+        alloc: Global,
+        failure: CargoFailure,
+        line: &str,
+        notes: &mut Vec<Note>,
+    ) -> Result<(), RunError>
+        ensures { OnOk result (map note_view notes.new.items ≡ map note_view notes.old.items
+            ++ spec.cargo_notes (run_state self.now) failure line.now) }
+    {
+        let explained = match failure {
+            CargoFailure::Build => false,
+            CargoFailure::Tests => self.causes > self.causes_at_cargo,
+            CargoFailure::Run => self.causes > self.causes_at_file,
+        };
+        if self.suites.is_empty() && !explained {
+            notes.push(Note::Disagreement(Disagreement::Cargo {
+                line: String::from_str(alloc, line)?,
+            }))?;
+        }
+        Ok(())
+    }
+
+    /// Takes a print: any other line.
+    pub(crate) fn on_print_line(
+        &mut self,
+        alloc: Global,
+        line: &str,
+        plain: &str,
+    ) -> Result<(), RunError>
+        ensures { OnOk result (run_state self.new ≡ spec.printed_to (run_state self.old) (APrint line.now plain.now)) }
+    {
+        self.on_print(alloc, Printed::Print { line, plain })?;
+        Ok(())
+    }
+
+    /// Takes a line that is no event of a harness.
+    fn on_print(&mut self, alloc: Global, printed: Printed<'_>) -> Result<(), AllocError>
+        ensures { OnOk result (run_state self.new
+            ≡ spec.printed_to (run_state self.old) (printed_view printed.entry)) }
+    {
+        for suite in self.suites.iter_mut() {
+            suite.on_print(alloc, printed)?;
+        }
+        self.outside.on_print(alloc, printed)
+    }
+}

@@ -1,0 +1,236 @@
+//! The first and the last lines of suites.
+
+ghost use Rattle.std.specs.Prelude.{◌≡◌, ◌++◌, ◌<◌, ◌==◌, Some, IfOk, OnOk, length, map, option_map};
+ghost use Rattle.std.specs.List.{position, remove};
+ghost use Rattle.test_report_events.specs.Event.{suite_end_view, text_of_key};
+ghost use Rattle.test_report_run.specs.Note.{note_view, text_view};
+ghost use Rattle.test_report_run.specs.Over.{last_notes};
+ghost use Rattle.test_report_run.specs.Run as spec;
+ghost use Rattle.test_report_run.specs.Run.{run_state};
+ghost use Rattle.test_report_run.specs.Suite.{has_key, joined, state_of, with_line};
+
+use crate::error::{RunError, one_more};
+use crate::note::{Disagreement, Note};
+use crate::run::TestRun;
+use crate::suite::Suite;
+use std::alloc::{AllocError, Global};
+use test_report_events::event::{SuiteEnd, SuiteKey};
+
+impl TestRun {
+    /// Takes the first line of a suite.
+    pub(crate) fn on_suite_started(
+        &mut self,
+        alloc: Global,
+        key: Option<SuiteKey<'_>>,
+        test_count: Option<u64>,
+        notes: &mut Vec<Note>,
+    ) -> Result<(), RunError>
+        ensures takes { OnOk result (run_state self.new
+            ≡ (spec.suite_starts (run_state self.old) (option_map text_of_key key.entry) test_count).run) }
+        ensures tells { OnOk result (map note_view notes.new.items ≡ map note_view notes.old.items
+            ++ (spec.suite_starts (run_state self.old) (option_map text_of_key key.entry) test_count).notes) }
+    {
+        let key = key_text(alloc, key)?;
+        let test_count = test_count.map(u128::from);
+        match self.open_suite(key.as_ref().map(String::as_str)) {
+            Some(at) => self.start_again(alloc, key, test_count, at, notes),
+            None => self.open(alloc, key, test_count),
+        }
+    }
+
+    /// Takes the first line of a suite while a suite with the same key, or also without a key, is open at a
+    /// position. With a key, the line is added to the open suite. Without a key, the open suite ends early
+    /// and another one starts.
+    fn start_again(
+        &mut self,
+        alloc: Global,
+        key: Option<String>,
+        test_count: Option<u128>,
+        at: usize,
+        notes: &mut Vec<Note>,
+    ) -> Result<(), RunError>
+        requires { at < length self.old.suites.items }
+        ensures takes { OnOk result (run_state self.new
+            ≡ (spec.started_again (run_state self.old) (text_view key) test_count at).run) }
+        ensures tells { OnOk result (map note_view notes.new.items ≡ map note_view notes.old.items
+            ++ (spec.started_again (run_state self.old) (text_view key) test_count at).notes) }
+    {
+        if key.is_some() {
+            self.join(test_count, at)
+        } else {
+            let suite = self.take_out(at);
+            self.end_early(alloc, suite, notes)?;
+            self.open(alloc, key, test_count)
+        }
+    }
+
+    /// Adds a first line to the open suite at a position.
+    fn join(&mut self, test_count: Option<u128>, at: usize) -> Result<(), RunError>
+        requires { at < length self.old.suites.items }
+        ensures { OnOk result (run_state self.new ≡ spec.with_suite_at (run_state self.old) (Some at)
+            (joined (spec.suite_at (run_state self.old) (Some at)) test_count)) }
+    {
+        self.suites[at].join(test_count)
+    }
+
+    /// Removes the open suite at a position, and returns it.
+    fn take_out(&mut self, at: usize) -> Suite
+        requires { at < length self.old.suites.items }
+        ensures suite { state_of result ≡ spec.suite_at (run_state self.old) (Some at) }
+        ensures left { run_state self.new
+            ≡ record (run_state self.old) { suites = remove (run_state self.old).suites at } }
+    {
+        Box::into_inner(self.suites.remove(at))
+    }
+
+    /// Opens a suite.
+    fn open(
+        &mut self,
+        alloc: Global,
+        key: Option<String>,
+        test_count: Option<u128>,
+    ) -> Result<(), RunError>
+        ensures { OnOk result (run_state self.new
+            ≡ spec.opened (run_state self.old) (text_view key) test_count) }
+    {
+        self.suites_started = one_more(self.suites_started)?;
+        let heading = match &self.heading {
+            Some(heading) => Some(heading.clone()?),
+            None => None,
+        };
+        let suite = Suite::new(alloc, self.suites_started, key, heading, test_count)?;
+        self.suites.push(Box::new(alloc, suite)?)?;
+        Ok(())
+    }
+
+    /// Takes a last line of a suite.
+    pub(crate) fn on_suite_ended(
+        &mut self,
+        alloc: Global,
+        end: SuiteEnd<'_>,
+        notes: &mut Vec<Note>,
+    ) -> Result<(), RunError>
+        ensures takes { OnOk result (run_state self.new
+            ≡ (spec.suite_ends (run_state self.old) (suite_end_view end.entry)).run) }
+        ensures tells { OnOk result (map note_view notes.new.items ≡ map note_view notes.old.items
+            ++ (spec.suite_ends (run_state self.old) (suite_end_view end.entry)).notes) }
+    {
+        let key = key_text(alloc, end.key)?;
+        match self.open_suite(key.as_ref().map(String::as_str)) {
+            Some(at) => self.end_at(alloc, end, at, notes),
+            None => {
+                if counts_tests(end) {
+                    notes.push(Note::Disagreement(Disagreement::StraySuiteEnd {
+                        key,
+                        failed_verdict: end.failed_verdict,
+                    }))?;
+                }
+                Ok(())
+            }
+        }
+    }
+
+    /// Takes a last line of the open suite at a position.
+    fn end_at(
+        &mut self,
+        alloc: Global,
+        end: SuiteEnd<'_>,
+        at: usize,
+        notes: &mut Vec<Note>,
+    ) -> Result<(), RunError>
+        requires { at < length self.old.suites.items }
+        ensures takes { OnOk result (run_state self.new
+            ≡ (spec.ended_at (run_state self.old) (suite_end_view end.entry) at).run) }
+        ensures tells { OnOk result (map note_view notes.new.items ≡ map note_view notes.old.items
+            ++ (spec.ended_at (run_state self.old) (suite_end_view end.entry) at).notes) }
+    {
+        if self.add_last_line(end, at)? {
+            let suite = self.take_out(at);
+            self.end_suite(alloc, suite, notes)
+        } else {
+            Ok(())
+        }
+    }
+
+    /// Adds a last line to the open suite at a position. Returns true if the suite is over.
+    fn add_last_line(&mut self, end: SuiteEnd<'_>, at: usize) -> Result<bool, RunError>
+        requires { at < length self.old.suites.items }
+        ensures takes { OnOk result (run_state self.new ≡ spec.with_suite_at (run_state self.old) (Some at)
+            (with_line (spec.suite_at (run_state self.old) (Some at)) (suite_end_view end.entry))) }
+        ensures is_over { IfOk result (λ is_over. is_over
+            ≡ ((with_line (spec.suite_at (run_state self.old) (Some at)) (suite_end_view end.entry)).open_lines == 0)) }
+    {
+        self.suites[at].on_last_line(end)
+    }
+
+    /// Ends a suite that has its last line.
+    fn end_suite(
+        &mut self,
+        alloc: Global,
+        suite: Suite,
+        notes: &mut Vec<Note>,
+    ) -> Result<(), RunError>
+        ensures takes { OnOk result (run_state self.new
+            ≡ spec.without_tests (run_state self.old) (state_of suite)) }
+        ensures tells { OnOk result (map note_view notes.new.items ≡ map note_view notes.old.items
+            ++ last_notes (state_of suite) (spec.names_in (run_state self.old) (state_of suite))) }
+    {
+        let left = self.running.take_suite(alloc, suite.name.number)?;
+        suite.end(alloc, left, notes)
+    }
+
+    /// Ends a suite that has no last line.
+    pub(crate) fn end_early(
+        &mut self,
+        alloc: Global,
+        suite: Suite,
+        notes: &mut Vec<Note>,
+    ) -> Result<(), RunError>
+        ensures { OnOk result (spec.step (run_state self.new) (map note_view notes.new.items)
+            ≡ spec.ended_early (spec.step (run_state self.old) (map note_view notes.old.items)) (state_of suite)) }
+    {
+        let left = self.running.take_suite(alloc, suite.name.number)?;
+        suite.end_early(alloc, left, notes)
+    }
+
+    /// Returns the position of the first open suite with a key, or without a key.
+    pub(crate) fn open_suite(&self, key: Option<&str>) -> Option<usize>
+        ensures { result ≡ spec.open_suite (run_state self.now) (option_map (λ key. key.now) key.entry) }
+    {
+        place_of_key(&self.suites, key)
+    }
+}
+
+/// Returns the position of the first of these suites with a key, or without a key.
+fn place_of_key(suites: &[Box<Suite>], key: Option<&str>) -> Option<usize>
+    ensures { result ≡ position (λ suite. has_key (option_map (λ key. key.now) key.entry) (state_of suite.value)) suites.now }
+{
+    suites.iter().position(|suite| suite.has_key(key))
+}
+
+/// Returns the position of the first of these suites with a number.
+pub(crate) fn place_of_number(suites: &[Box<Suite>], number: usize) -> Option<usize>
+    ensures { result ≡ position (λ suite. (state_of suite.value).number == number) suites.now }
+{
+    suites.iter().position(|suite| suite.name.number == number)
+}
+
+/// Returns the text of a key.
+fn key_text(alloc: Global, key: Option<SuiteKey<'_>>) -> Result<Option<String>, AllocError>
+    ensures { IfOk result (λ text. text_view text ≡ option_map text_of_key key.entry) }
+{
+    match key {
+        Some(key) => Ok(Some(key.to_string(alloc)?)),
+        None => Ok(None),
+    }
+}
+
+/// Returns true if a last line says that the suite failed, or counts a test that ran.
+fn counts_tests(end: SuiteEnd<'_>) -> bool
+    ensures { result ≡ spec.counts_tests (suite_end_view end.entry) }
+{
+    end.failed_verdict
+        || end.passed.is_some_and(|count| count > 0)
+        || end.measured.is_some_and(|count| count > 0)
+        || end.failed.is_some_and(|count| count > 0)
+}

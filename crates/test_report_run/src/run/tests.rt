@@ -1,0 +1,194 @@
+//! The starts and the ends of tests.
+
+ghost use Rattle.std.specs.Prelude.{◌≡◌, ◌++◌, [], IfOk, OnOk, map};
+ghost use Rattle.test_report_events.specs.Event.{TestEnds, test_end_view};
+ghost use Rattle.test_report_run.specs.Note.{note_view};
+ghost use Rattle.test_report_run.specs.Run as spec;
+ghost use Rattle.test_report_run.specs.Run.{run_state};
+ghost use Rattle.test_report_run.specs.Running.{running_test_view};
+
+use crate::error::{RunError, one_more};
+use crate::note::{Disagreement, Note};
+use crate::run::TestRun;
+use crate::run::suites::place_of_number;
+use crate::running::RunningTest;
+use crate::suite::OverTest;
+use std::alloc::Global;
+use test_report_events::event::{TestDetails, TestResult};
+
+impl TestRun {
+    /// Returns the position of the open suite that a starting test with this name belongs to, or `None` if no
+    /// suite is open.
+    fn suite_of(&self, name: &str) -> Option<usize>
+        ensures { result ≡ spec.suite_place (run_state self.now) name.now }
+    {
+        if self.suites.len() == 1 {
+            return Some(0);
+        }
+        let named = match name.split_once('$') {
+            Some((key, _)) => self.open_suite(Some(key)),
+            None => None,
+        };
+        if named.is_some() {
+            return named;
+        }
+        self.open_suite(None).or(self.suites.len().checked_sub(1))
+    }
+
+    /// Takes the start of a test.
+    pub(crate) fn on_test_started(&mut self, alloc: Global, name: &str) -> Result<(), RunError>
+        ensures { OnOk result (run_state self.new ≡ spec.test_starts (run_state self.old) name.now) }
+    {
+        let number = self.count_start(alloc, name)?;
+        self.running.start(alloc, name, number)
+    }
+
+    /// Counts the start of a test in its suite. Returns the number of the suite.
+    fn count_start(&mut self, alloc: Global, name: &str) -> Result<usize, RunError>
+        ensures counts { OnOk result (run_state self.new ≡ spec.start_counted (run_state self.old) name.now) }
+        ensures number { IfOk result (λ number.
+            number ≡ (spec.suite_at (run_state self.old) (spec.suite_place (run_state self.old) name.now)).number) }
+    {
+        match self.suite_of(name) {
+            Some(at) => {
+                let suite = &mut self.suites[at];
+                suite.on_start(alloc, name)?;
+                Ok(suite.name.number)
+            }
+            None => {
+                self.outside.on_start(alloc, name)?;
+                Ok(self.outside.name.number)
+            }
+        }
+    }
+
+    /// Takes the end of a test.
+    pub(crate) fn on_test_ended(
+        &mut self,
+        alloc: Global,
+        name: &str,
+        end: TestResult,
+        details: TestDetails<'_>,
+        notes: &mut Vec<Note>,
+    ) -> Result<(), RunError>
+        ensures takes { OnOk result (run_state self.new
+            ≡ (spec.told (run_state self.old) (TestEnds (test_end_view name.now end details.entry))).run) }
+        ensures tells { OnOk result (map note_view notes.new.items ≡ map note_view notes.old.items
+            ++ (spec.test_ends (run_state self.old) (test_end_view name.now end details.entry)).notes) }
+    {
+        // Most ends make one note known. Room for more would be slow.
+        notes.reserve_exact(1)?;
+        self.end_test(alloc, name, end, details, notes)?;
+        self.ended = one_more(self.ended)?;
+        Ok(())
+    }
+
+    /// Takes the end of a test, except that the number of ended tests stays the same.
+    fn end_test(
+        &mut self,
+        alloc: Global,
+        name: &str,
+        end: TestResult,
+        details: TestDetails<'_>,
+        notes: &mut Vec<Note>,
+    ) -> Result<(), RunError>
+        ensures takes { OnOk result (run_state self.new
+            ≡ (spec.test_ends (run_state self.old) (test_end_view name.now end details.entry)).run) }
+        ensures tells { OnOk result (map note_view notes.new.items ≡ map note_view notes.old.items
+            ++ (spec.test_ends (run_state self.old) (test_end_view name.now end details.entry)).notes) }
+    {
+        match self.running.end(name) {
+            Some((test, attempts)) => self.count_end(alloc, test, attempts, end, details, notes),
+            None => self.on_stray_end(alloc, name, end, details, notes),
+        }
+    }
+
+    /// Counts the end of a test that was running.
+    fn count_end(
+        &mut self,
+        alloc: Global,
+        test: RunningTest,
+        attempts: usize,
+        end: TestResult,
+        details: TestDetails<'_>,
+        notes: &mut Vec<Note>,
+    ) -> Result<(), RunError>
+        ensures takes { OnOk result (run_state self.new
+            ≡ (spec.test_over (run_state self.old) (test_end_view [] end details.entry) (running_test_view test) attempts).run) }
+        ensures tells { OnOk result (map note_view notes.new.items ≡ map note_view notes.old.items
+            ++ (spec.test_over (run_state self.old) (test_end_view [] end details.entry) (running_test_view test) attempts).notes) }
+    {
+        let order = test.order;
+        let place = self.suite_of_number(test.suite);
+        let over = OverTest {
+            name: test.name,
+            attempts,
+            time: details.time,
+            ended: self.ended,
+        };
+        match place {
+            Some(at) => self.suites[at].on_end(alloc, over, order, end, details, notes),
+            None => self.outside.on_end(alloc, over, order, end, details, notes),
+        }
+    }
+
+    /// Returns the position of the open suite with a number.
+    fn suite_of_number(&self, number: usize) -> Option<usize>
+        ensures { result ≡ spec.place_of_number (run_state self.now) number }
+    {
+        place_of_number(&self.suites, number)
+    }
+
+    /// Takes the end of a test that is not running. The test is counted unless it passed. The end is a
+    /// disagreement unless the test was ignored.
+    fn on_stray_end(
+        &mut self,
+        alloc: Global,
+        name: &str,
+        end: TestResult,
+        details: TestDetails<'_>,
+        notes: &mut Vec<Note>,
+    ) -> Result<(), RunError>
+        ensures takes { OnOk result (run_state self.new
+            ≡ (spec.stray_ends (run_state self.old) (test_end_view name.now end details.entry)).run) }
+        ensures tells { OnOk result (map note_view notes.new.items ≡ map note_view notes.old.items
+            ++ (spec.stray_ends (run_state self.old) (test_end_view name.now end details.entry)).notes) }
+    {
+        if end != TestResult::Ok {
+            self.count_stray(alloc, name, end, details, notes)?;
+        }
+        if end != TestResult::Ignored {
+            notes.push(Note::Disagreement(Disagreement::StrayEnd {
+                name: String::from_str(alloc, name)?,
+                result: end,
+            }))?;
+        }
+        Ok(())
+    }
+
+    /// Counts the end of a test that is not running.
+    fn count_stray(
+        &mut self,
+        alloc: Global,
+        name: &str,
+        end: TestResult,
+        details: TestDetails<'_>,
+        notes: &mut Vec<Note>,
+    ) -> Result<(), RunError>
+        ensures takes { OnOk result (run_state self.new
+            ≡ spec.stray_counted (run_state self.old) (test_end_view name.now end details.entry)) }
+        ensures tells { OnOk result (map note_view notes.new.items ≡ map note_view notes.old.items
+            ++ spec.stray_test (run_state self.old) (test_end_view name.now end details.entry)) }
+    {
+        let test = OverTest {
+            name: String::from_str(alloc, name)?,
+            attempts: 1,
+            time: details.time,
+            ended: self.ended,
+        };
+        match self.suite_of(name) {
+            Some(at) => self.suites[at].on_stray_end(alloc, test, end, details, notes),
+            None => self.outside.on_stray_end(alloc, test, end, details, notes),
+        }
+    }
+}

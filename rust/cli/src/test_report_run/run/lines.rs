@@ -1,0 +1,65 @@
+// Made by tools/erase from crates/test_report_run/src/run/lines.rt. Do not edit.
+//! Lines that are of no suite and of no test: headings, failures of cargo, and what is printed.
+
+use crate::test_report_events::event::CargoFailure;
+use crate::test_report_run::error::RunError;
+use crate::test_report_run::note::{Disagreement, Note};
+use crate::test_report_run::prints::Printed;
+use crate::test_report_run::run::TestRun;
+
+impl TestRun {
+    /// Takes a heading of cargo.
+    pub(crate) fn on_heading(&mut self, suite: &str) -> Result<(), RunError> {
+        self.on_print(Printed::Heading);
+        self.heading = Some(String::from(suite));
+        Ok(())
+    }
+
+    /// Takes a line in which cargo or nextest reports a failure.
+    pub(crate) fn on_cargo_failed(
+        &mut self,
+        failure: CargoFailure,
+        line: &str,
+        plain: &str,
+        notes: &mut Vec<Note>,
+    ) -> Result<(), RunError> {
+        self.count_cargo_failed(failure, plain, notes)?;
+        self.on_print(Printed::CargoFailed { line });
+        Ok(())
+    }
+
+    /// Appends a disagreement if no suite is open, and no failed test or earlier disagreement explains this
+    /// failure of cargo or nextest. A failed build is never explained.
+    fn count_cargo_failed(
+        &self,
+        failure: CargoFailure,
+        line: &str,
+        notes: &mut Vec<Note>,
+    ) -> Result<(), RunError> {
+        let explained = match failure {
+            CargoFailure::Build => false,
+            CargoFailure::Tests => self.causes > self.causes_at_cargo,
+            CargoFailure::Run => self.causes > self.causes_at_file,
+        };
+        if self.suites.is_empty() && !explained {
+            notes.push(Note::Disagreement(Disagreement::Cargo {
+                line: String::from(line),
+            }));
+        }
+        Ok(())
+    }
+
+    /// Takes a print: any other line.
+    pub(crate) fn on_print_line(&mut self, line: &str, plain: &str) -> Result<(), RunError> {
+        self.on_print(Printed::Print { line, plain });
+        Ok(())
+    }
+
+    /// Takes a line that is no event of a harness.
+    fn on_print(&mut self, printed: Printed<'_>) {
+        for suite in self.suites.iter_mut() {
+            suite.on_print(printed);
+        }
+        self.outside.on_print(printed);
+    }
+}

@@ -1,0 +1,148 @@
+// Made by tools/erase from crates/test_report_run/src/run/suites.rt. Do not edit.
+//! The first and the last lines of suites.
+
+use crate::test_report_events::event::{SuiteEnd, SuiteKey};
+use crate::test_report_run::error::{RunError, one_more};
+use crate::test_report_run::note::{Disagreement, Note};
+use crate::test_report_run::run::TestRun;
+use crate::test_report_run::suite::Suite;
+
+impl TestRun {
+    /// Takes the first line of a suite.
+    pub(crate) fn on_suite_started(
+        &mut self,
+        key: Option<SuiteKey<'_>>,
+        test_count: Option<u64>,
+        notes: &mut Vec<Note>,
+    ) -> Result<(), RunError> {
+        let key = key_text(key);
+        let test_count = test_count.map(u128::from);
+        match self.open_suite(key.as_deref()) {
+            Some(at) => self.start_again(key, test_count, at, notes),
+            None => self.open(key, test_count),
+        }
+    }
+
+    /// Takes the first line of a suite while a suite with the same key, or also without a key, is open at a
+    /// position. With a key, the line is added to the open suite. Without a key, the open suite ends early
+    /// and another one starts.
+    fn start_again(
+        &mut self,
+        key: Option<String>,
+        test_count: Option<u128>,
+        at: usize,
+        notes: &mut Vec<Note>,
+    ) -> Result<(), RunError> {
+        if key.is_some() {
+            self.join(test_count, at)
+        } else {
+            let suite = self.take_out(at);
+            self.end_early(suite, notes)?;
+            self.open(key, test_count)
+        }
+    }
+
+    /// Adds a first line to the open suite at a position.
+    fn join(&mut self, test_count: Option<u128>, at: usize) -> Result<(), RunError> {
+        self.suites[at].join(test_count)
+    }
+
+    /// Removes the open suite at a position, and returns it.
+    fn take_out(&mut self, at: usize) -> Suite {
+        *self.suites.remove(at)
+    }
+
+    /// Opens a suite.
+    fn open(&mut self, key: Option<String>, test_count: Option<u128>) -> Result<(), RunError> {
+        self.suites_started = one_more(self.suites_started)?;
+        let heading = self.heading.clone();
+        let suite = Suite::new(self.suites_started, key, heading, test_count);
+        self.suites.push(Box::new(suite));
+        Ok(())
+    }
+
+    /// Takes a last line of a suite.
+    pub(crate) fn on_suite_ended(
+        &mut self,
+        end: SuiteEnd<'_>,
+        notes: &mut Vec<Note>,
+    ) -> Result<(), RunError> {
+        let key = key_text(end.key);
+        match self.open_suite(key.as_deref()) {
+            Some(at) => self.end_at(end, at, notes),
+            None => {
+                if counts_tests(end) {
+                    notes.push(Note::Disagreement(Disagreement::StraySuiteEnd {
+                        key,
+                        failed_verdict: end.failed_verdict,
+                    }));
+                }
+                Ok(())
+            }
+        }
+    }
+
+    /// Takes a last line of the open suite at a position.
+    fn end_at(
+        &mut self,
+        end: SuiteEnd<'_>,
+        at: usize,
+        notes: &mut Vec<Note>,
+    ) -> Result<(), RunError> {
+        if self.add_last_line(end, at)? {
+            let suite = self.take_out(at);
+            self.end_suite(suite, notes)
+        } else {
+            Ok(())
+        }
+    }
+
+    /// Adds a last line to the open suite at a position. Returns true if the suite is over.
+    fn add_last_line(&mut self, end: SuiteEnd<'_>, at: usize) -> Result<bool, RunError> {
+        self.suites[at].on_last_line(end)
+    }
+
+    /// Ends a suite that has its last line.
+    fn end_suite(&mut self, suite: Suite, notes: &mut Vec<Note>) -> Result<(), RunError> {
+        let left = self.running.take_suite(suite.name.number);
+        suite.end(left, notes)
+    }
+
+    /// Ends a suite that has no last line.
+    pub(crate) fn end_early(
+        &mut self,
+        suite: Suite,
+        notes: &mut Vec<Note>,
+    ) -> Result<(), RunError> {
+        let left = self.running.take_suite(suite.name.number);
+        suite.end_early(left, notes)
+    }
+
+    /// Returns the position of the first open suite with a key, or without a key.
+    pub(crate) fn open_suite(&self, key: Option<&str>) -> Option<usize> {
+        place_of_key(&self.suites, key)
+    }
+}
+
+/// Returns the position of the first of these suites with a key, or without a key.
+fn place_of_key(suites: &[Box<Suite>], key: Option<&str>) -> Option<usize> {
+    suites.iter().position(|suite| suite.has_key(key))
+}
+
+/// Returns the position of the first of these suites with a number.
+pub(crate) fn place_of_number(suites: &[Box<Suite>], number: usize) -> Option<usize> {
+    suites.iter().position(|suite| suite.name.number == number)
+}
+
+/// Returns the text of a key.
+fn key_text(key: Option<SuiteKey<'_>>) -> Option<String> {
+    key.map(|key| key.to_string())
+}
+
+/// Returns true if a last line says that the suite failed, or counts a test that ran.
+fn counts_tests(end: SuiteEnd<'_>) -> bool {
+    end.failed_verdict
+        || end.passed.is_some_and(|count| count > 0)
+        || end.measured.is_some_and(|count| count > 0)
+        || end.failed.is_some_and(|count| count > 0)
+}

@@ -1,0 +1,147 @@
+// Made by tools/erase from crates/test_report_run/src/run/tests.rt. Do not edit.
+//! The starts and the ends of tests.
+
+use crate::test_report_events::event::{TestDetails, TestResult};
+use crate::test_report_run::error::{RunError, one_more};
+use crate::test_report_run::note::{Disagreement, Note};
+use crate::test_report_run::run::TestRun;
+use crate::test_report_run::run::suites::place_of_number;
+use crate::test_report_run::running::RunningTest;
+use crate::test_report_run::suite::OverTest;
+
+impl TestRun {
+    /// Returns the position of the open suite that a starting test with this name belongs to, or `None` if no
+    /// suite is open.
+    fn suite_of(&self, name: &str) -> Option<usize> {
+        if self.suites.len() == 1 {
+            return Some(0);
+        }
+        let named = match name.split_once('$') {
+            Some((key, _)) => self.open_suite(Some(key)),
+            None => None,
+        };
+        if named.is_some() {
+            return named;
+        }
+        self.open_suite(None).or(self.suites.len().checked_sub(1))
+    }
+
+    /// Takes the start of a test.
+    pub(crate) fn on_test_started(&mut self, name: &str) -> Result<(), RunError> {
+        let number = self.count_start(name)?;
+        self.running.start(name, number)
+    }
+
+    /// Counts the start of a test in its suite. Returns the number of the suite.
+    fn count_start(&mut self, name: &str) -> Result<usize, RunError> {
+        match self.suite_of(name) {
+            Some(at) => {
+                let suite = &mut self.suites[at];
+                suite.on_start(name)?;
+                Ok(suite.name.number)
+            }
+            None => {
+                self.outside.on_start(name)?;
+                Ok(self.outside.name.number)
+            }
+        }
+    }
+
+    /// Takes the end of a test.
+    pub(crate) fn on_test_ended(
+        &mut self,
+        name: &str,
+        end: TestResult,
+        details: TestDetails<'_>,
+        notes: &mut Vec<Note>,
+    ) -> Result<(), RunError> {
+        // Most ends make one note known. Room for more would be slow.
+        notes.reserve_exact(1);
+        self.end_test(name, end, details, notes)?;
+        self.ended = one_more(self.ended)?;
+        Ok(())
+    }
+
+    /// Takes the end of a test, except that the number of ended tests stays the same.
+    fn end_test(
+        &mut self,
+        name: &str,
+        end: TestResult,
+        details: TestDetails<'_>,
+        notes: &mut Vec<Note>,
+    ) -> Result<(), RunError> {
+        match self.running.end(name) {
+            Some((test, attempts)) => self.count_end(test, attempts, end, details, notes),
+            None => self.on_stray_end(name, end, details, notes),
+        }
+    }
+
+    /// Counts the end of a test that was running.
+    fn count_end(
+        &mut self,
+        test: RunningTest,
+        attempts: usize,
+        end: TestResult,
+        details: TestDetails<'_>,
+        notes: &mut Vec<Note>,
+    ) -> Result<(), RunError> {
+        let order = test.order;
+        let place = self.suite_of_number(test.suite);
+        let over = OverTest {
+            name: test.name,
+            attempts,
+            time: details.time,
+            ended: self.ended,
+        };
+        match place {
+            Some(at) => self.suites[at].on_end(over, order, end, details, notes),
+            None => self.outside.on_end(over, order, end, details, notes),
+        }
+    }
+
+    /// Returns the position of the open suite with a number.
+    fn suite_of_number(&self, number: usize) -> Option<usize> {
+        place_of_number(&self.suites, number)
+    }
+
+    /// Takes the end of a test that is not running. The test is counted unless it passed. The end is a
+    /// disagreement unless the test was ignored.
+    fn on_stray_end(
+        &mut self,
+        name: &str,
+        end: TestResult,
+        details: TestDetails<'_>,
+        notes: &mut Vec<Note>,
+    ) -> Result<(), RunError> {
+        if end != TestResult::Ok {
+            self.count_stray(name, end, details, notes)?;
+        }
+        if end != TestResult::Ignored {
+            notes.push(Note::Disagreement(Disagreement::StrayEnd {
+                name: String::from(name),
+                result: end,
+            }));
+        }
+        Ok(())
+    }
+
+    /// Counts the end of a test that is not running.
+    fn count_stray(
+        &mut self,
+        name: &str,
+        end: TestResult,
+        details: TestDetails<'_>,
+        notes: &mut Vec<Note>,
+    ) -> Result<(), RunError> {
+        let test = OverTest {
+            name: String::from(name),
+            attempts: 1,
+            time: details.time,
+            ended: self.ended,
+        };
+        match self.suite_of(name) {
+            Some(at) => self.suites[at].on_stray_end(test, end, details, notes),
+            None => self.outside.on_stray_end(test, end, details, notes),
+        }
+    }
+}
