@@ -42,15 +42,18 @@ def libraries():
 
 
 def laws_of(crate, module):
-    """Returns the path of the file with the laws that a module of a crate has, or None if it has none.
+    """Returns the paths of the files with the laws that a module of a crate has.
 
-    The laws of a module `laws` are in specs/Laws.antt. All modules of a crate `.._laws` have laws, and
-    those of the module `run` are in specs/Run.antt.
+    The laws of a module `laws` are in specs/Laws.antt. All modules of a crate `.._laws` have laws, in the
+    files of specs/ that their contracts name.
     """
-    if module == "laws" or crate.endswith("_laws"):
-        path = FILE.parent / "crates" / crate / "specs" / f"{module.capitalize()}.antt"
-        return path if path.exists() else None
-    return None
+    folder = FILE.parent / "crates" / crate
+    if crate.endswith("_laws"):
+        text = (folder / "src" / f"{module}.rt").read_text(encoding="utf-8")
+        names = re.findall(rf"^ghost use Rattle\.{crate}\.specs\.(\w+)\.", text, re.M)
+    else:
+        names = ["Laws"] if module == "laws" else []
+    return [path for path in (folder / "specs" / f"{name}.antt" for name in names) if path.exists()]
 
 
 if __name__ == "__main__":

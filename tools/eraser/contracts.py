@@ -1,7 +1,7 @@
 """Part 1 of the eraser: takes contracts, ghosts, models, tactics and handles of the runtime out of a file."""
 from .functions import CLAUSES, functions_of
 from .scanner import CLOSING, Source
-from .table import ATTRIBUTES, FOR_PROOFS, HANDLES, MACROS
+from .table import ATTRIBUTES, HANDLES, MACROS, NOT_IN_PLAIN_RUST
 
 KEYWORDS = CLAUSES + ("ghost", "prove", "prove_eq", "prove_ne", "tactic", "invariant")
 RUNTIME_MACROS = ("assert", "assert_eq", "println")
@@ -77,7 +77,7 @@ def _ghost_end(source, i):
 def _on_name(source, i):
     """Edits the item, statement or expression that begins with the name or keyword at `i`."""
     word, after = source.text[i], source.after(i)
-    if word == "mod" and any(source.reads(after, name, ";") for name in FOR_PROOFS):
+    if word == "mod" and any(source.reads(after, name, ";") for name in NOT_IN_PLAIN_RUST):
         first = source.before(i) if source.at(source.before(i)) == "pub" else i
         source.drop_item(first, source.after(i, 2))
     elif source.reads(after, "::", "laws", "::") and source.at(source.before(i)) in (";", "{", "}"):

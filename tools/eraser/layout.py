@@ -19,7 +19,7 @@ from .memory import without_memory
 from .paths import public_names, with_package_paths
 from .places import with_places
 from .scanner import Refused
-from .table import BY_HAND, FOLDERS, FOR_PROOFS, MODULE_OF, PACKAGE_OF, PACKAGES
+from .table import BY_HAND, FOLDERS, MODULE_OF, NOT_IN_PLAIN_RUST, PACKAGE_OF, PACKAGES
 from .twins import without_twins
 
 
@@ -59,7 +59,7 @@ def _sources(top):
     for crate in PACKAGE_OF:
         for path in sorted((top / "crates" / crate / "src").rglob("*.rt")):
             name = path.relative_to(top / "crates").as_posix()
-            if not set(Path(name).with_suffix("").parts) & set(FOR_PROOFS) and name not in BY_HAND:
+            if not set(Path(name).with_suffix("").parts) & set(NOT_IN_PLAIN_RUST) and name not in BY_HAND:
                 texts[name] = path.read_text(encoding="utf-8")
     return texts
 

@@ -29,7 +29,7 @@ BY_HAND = ("run_events_attempts/src/moment.rt",)
 
 # Modules that plain Rust does not have: laws, which are for proofs, and the callers that the pages CALLING.md
 # show, which are examples of contracts.
-FOR_PROOFS = ("laws", "callers")
+NOT_IN_PLAIN_RUST = ("laws", "callers")
 
 ATTRIBUTES = ("inline", "default", "derive", "test", "cfg", "repr", "unsafe")
 MACROS = (

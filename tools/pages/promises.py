@@ -39,7 +39,7 @@ def contracts_of_page(text):
     """Returns the contracts that a page CALLING.md lists. A free function has the name of its module before
     its own, if another module has a function of this name."""
     found, owner, call, trait, module = Contracts(), "", "", "", ""
-    free = re.findall(r"^fn (\w+)", text, re.M)
+    free = re.findall(r"^fn (\w+)[(<]", text, re.M)
     for line in text.split("\n"):
         module = re.match(r"(?:### `(\w+)`)?", line)[1] or module
         block = re.match(r"(impl|trait)\b.*?(\w+)(?:<[^>]*>)?(?: where .*)?$", line)

@@ -1,9 +1,6 @@
 //! Tests of `test_report_engine` and of the crates below it through their public calls alone: what is
 //! written if reading or writing fails, input that is truncated or damaged, long lines, several files,
 //! and each form. Tests with hostile input and whole reports are in `rust/tests/tests/reports`.
-//!
-//! The module `callers` has the callers that the pages CALLING.md of the report's libraries show, that of
-//! `test_report_laws`, too. Plain Rust does not have it, since these callers are examples of contracts.
 #![tactic(auto)]
 
 #[cfg(test)]

@@ -165,16 +165,24 @@ unfoldable pub title_element : RunOutcome → ElementView
 title_element outcome = with_text (new_element (codes "title")) (codes "Test report: " ++ outcome_word outcome)
 
 -- the style sheet of the page
+abbrev pub style_text : List ℕ
+style_text = STYLE.now
+
+-- the element with the style sheet
 unfoldable pub style_element : ElementView
-style_element = with_text (new_element (codes "style")) STYLE.now
+style_element = with_text (new_element (codes "style")) style_text
 
 -- the line that says that the page is UTF-8
 unfoldable pub charset : ElementView
 charset = with_attribute (new_element (codes "meta")) (codes "charset") (codes "utf-8")
 
+-- what the browser may load for the page
+abbrev pub policy_text : List ℕ
+policy_text = POLICY.now
+
 -- the line that forbids scripts and outside resources
 unfoldable pub policy : ElementView
-policy = meta (codes "http-equiv") (codes "Content-Security-Policy") POLICY.now
+policy = meta (codes "http-equiv") (codes "Content-Security-Policy") policy_text
 
 -- the line for small screens
 unfoldable pub viewport : ElementView

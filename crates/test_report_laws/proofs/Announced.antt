@@ -20,9 +20,8 @@ use Rattle.test_report_run.specs.Said.{sum_of}
 use Rattle.test_report_laws.specs.Status.{AnnouncedAreCounted, announced_by}
 use Rattle.test_report_run.specs.Suite.{SuiteState, has_key, joined, outside_start, suite_start, with_line}
 use Rattle.test_report_laws.specs.Whole.{all_notes, run_after_files}
-use Rattle.test_report_run.specs.declared.last_line.Explanation.{Explanation}
+use Rattle.test_report_laws.proofs.Types.{Explanation, Said}
 use Rattle.test_report_run.specs.declared.note.RunEnd.{RunEnd}
-use Rattle.test_report_run.specs.declared.said.Said.{Said}
 
 -- how many tests an open suite announces
 abbrev announcing : ℕ → Said → Option ℕ → ℕ

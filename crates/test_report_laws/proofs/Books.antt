@@ -23,7 +23,7 @@ use Rattle.test_report_run.specs.Run.{RunState, Step, after, after_file, counts_
 use Rattle.test_report_run.specs.Running.{place_of_end, running_at}
 use Rattle.test_report_run.specs.Name.{before_dollar}
 use Rattle.test_report_run.specs.Suite.{FlakyView, OverView, SuiteState, has_key, joined, named, outside_start, suite_start, with_line, with_start}
-use Rattle.test_report_run.specs.declared.last_line.Explanation.{Explanation}
+use Rattle.test_report_laws.proofs.Types.{Explanation}
 use Rattle.test_report_run.specs.Totals.{no_suites}
 use Rattle.test_report_laws.specs.Whole.{all_notes, notes_of, run_after, run_after_files}
 use Rattle.test_report_run.specs.declared.note.RunEnd.{RunEnd}

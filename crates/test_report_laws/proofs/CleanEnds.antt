@@ -14,7 +14,7 @@ use Rattle.test_report_run.specs.Note.{HasNoEnd, SuiteIs, SuiteNoteView}
 use Rattle.test_report_run.specs.Over.{explained_of, failed_note, initial_of, last_state, lost, rest_of}
 use Rattle.test_report_run.specs.Run.{has_failed}
 use Rattle.test_report_run.specs.Suite.{SuiteState}
-use Rattle.test_report_run.specs.declared.last_line.Explanation.{Explanation}
+use Rattle.test_report_laws.proofs.Types.{Explanation}
 
 -- how many tests of a suite failed, as its last line explains them
 failed-last : (s : SuiteState) (e : Explanation) (names : List (List ℕ)) → length (lost e names) ≤ failed_in (last_by s e names)

@@ -13,15 +13,13 @@ use Rattle.test_report_laws.proofs.Controls.{Clean, also, clean-char, clean-deci
 use Rattle.test_report_forms.specs.Collected.{FailedView, cause_lines, failures_of, no_tests_ran}
 use Rattle.test_report_forms.specs.Entry.{EntryView, LinesDisagree, SuiteNotRun, SuiteOver, TestFailed, TestPassed, TestSkipped}
 use Rattle.test_report_forms.specs.Html.{html_of, main_part, page, page_text, put_entry, row_of_entry, slowest_tests, suite_rows, timed_title, with_causes, with_failed, with_slowest}
-use Rattle.test_report_forms.specs.HtmlParts.{RowView, are_zero, bar, causes_section, cell_text, charset, classed, color_scheme, column, empty_bar, failed_heading, failed_section, failed_test, has_row, head, header, heading, item, meta, metas, note_text, numbers_cell, numbers_of_run, numbers_of_suite, outcome_element, part, policy, row, row_header, row_of_suite, section, share_bar, share_of, share_part, slow_row, slow_table, style_element, styled, suite_row, suites_section, summary, table, table_head, time_cell, time_note, title_element, viewport, why_element, with_lines, with_note, with_part, with_span, with_suite, with_words, words, words_text}
+use Rattle.test_report_forms.specs.HtmlParts.{RowView, are_zero, bar, causes_section, cell_text, charset, classed, color_scheme, column, empty_bar, failed_heading, failed_section, failed_test, has_row, head, header, heading, item, meta, metas, note_text, numbers_cell, numbers_of_run, numbers_of_suite, outcome_element, part, policy, row, row_header, row_of_suite, section, share_bar, share_of, share_part, slow_row, slow_table, style_element, styled, suite_row, suites_section, summary, table, table_head, time_cell, time_note, title_element, viewport, why_element, with_lines, with_note, with_part, with_span, with_suite, with_words, words, words_text, policy_text, style_text}
 use Rattle.test_report_laws.specs.Forms.{HtmlHasNoControls}
 use Rattle.test_report_forms.specs.List.{KeyedLine, put_falling}
 use Rattle.test_report_forms.specs.Title.{title}
 use Rattle.test_report_forms.specs.Tree.{ElementView, with_line}
 use Rattle.test_report_forms.specs.Words.{outcome_word, summary_sentence}
-use Rattle.test_report_forms.specs.declared.html.suites.Numbers.{Numbers}
-use Rattle.test_report_forms.specs.declared.html.head.TheConstants.{POLICY}
-use Rattle.test_report_forms.specs.declared.style.TheConstants.{STYLE}
+use Rattle.test_report_laws.proofs.Types.{Numbers}
 use Rattle.test_report_run.specs.Note.{SuiteNoteView, TestNoteView}
 use Rattle.test_report_run.specs.declared.note.RunEnd.{RunEnd}
 
@@ -158,14 +156,14 @@ clean-metas : CleanElement metas
 unfolding metas charset policy viewport color_scheme
 clean-metas =
     let charset = attribute (new (word (codes "meta") refl)) (word (codes "charset") refl) (word (codes "utf-8") refl) in
-    let policy = clean-meta (word (codes "http-equiv") refl) (word (codes "Content-Security-Policy") refl) (word POLICY.now refl) in
+    let policy = clean-meta (word (codes "http-equiv") refl) (word (codes "Content-Security-Policy") refl) (word policy_text refl) in
     let viewport = clean-meta (word (codes "name") refl) (word (codes "viewport") refl) (word (codes "width=device-width, initial-scale=1") refl) in
     let colors = clean-meta (word (codes "name") refl) (word (codes "color-scheme") refl) (word (codes "light dark") refl) in
     line (line (line (line (new (word (codes "head") refl)) charset) policy) viewport) colors
 
 clean-style : CleanElement style_element
 unfolding style_element
-clean-style = text STYLE.now (new (word (codes "style") refl)) (word STYLE.now refl)
+clean-style = text style_text (new (word (codes "style") refl)) (word style_text refl)
 
 clean-page_head : (outcome : RunOutcome) → CleanElement (head outcome)
 unfolding head title_element

@@ -14,7 +14,7 @@ use Rattle.test_report_forms.specs.Shown.{front, is_escaped, shown_text}
 use Rattle.test_report_forms.specs.Title.{title_name}
 use Rattle.test_report_forms.specs.Tree.{ElementView}
 use Rattle.test_report_forms.specs.Why.{WhyView, without_returns}
-use Rattle.test_report_forms.specs.declared.junit_suite.JunitCounts.{JunitCounts}
+use Rattle.test_report_laws.proofs.Types.{JunitCounts}
 use Rattle.test_report_run.specs.Note.{FailureView, HasCrashed, HasFailed, HasNoEnd, HasTimedOut, IsFlaky, KindView, TestNoteView}
 
 -- texts and attributes

@@ -24,18 +24,12 @@ use Rattle.test_report_run.specs.Totals.{no_suites, with_suite}
 use Rattle.test_report_laws.specs.Whole.{all_notes}
 use Rattle.test_report_run.specs.declared.note.RunEnd.{RunEnd}
 use Rattle.test_report_run.specs.Suite.{FlakyView, OverView, SuiteState, with_finish}
-use Rattle.test_report_run.specs.declared.counted.Finish.{Finish}
-use Rattle.test_report_run.specs.declared.counted.Finish.TheVariants as finish
-use Rattle.test_report_run.specs.declared.last_line.Explanation.{Explanation}
+use Rattle.test_report_run.proofs.Finishes.{finish_for, finish_passed}
+use Rattle.test_report_laws.proofs.Types.{Explanation}
 
 -- the statistics with a test that counts so after so many attempts
-abbrev pub finish_for : KindView → Finish
-finish_for HasTimedOut = finish.TimedOut
-finish_for IsFlaky = finish.FlakyFailed
-finish_for kind = finish.Failed
-
 abbrev pub with_outcome : RunStats → OutcomeView → ℕ → RunStats
-with_outcome stats Passes n = with_test stats (view_of_finish finish.Passed n)
+with_outcome stats Passes n = with_test stats (view_of_finish finish_passed n)
 with_outcome stats IsSkipped n = stats
 with_outcome stats (Fails f) n = with_test stats (view_of_finish (finish_for f.kind) n)
 
@@ -81,7 +75,7 @@ pub record Sound (k : Kept) : Type 0 where
 
 -- the end of a test keeps it
 passed-sound : (s : SuiteState) (t : OverView) (order : ℕ) (e : TestEndView) (flaky : Bool) → nat_lt 1 t.attempts ≡ flaky → Sound (kept s)
-    → Sound (kept (if flaky then after_flaky (timed s e) t order e else with_finish (timed s e) finish.Passed 1))
+    → Sound (kept (if flaky then after_flaky (timed s e) t order e else with_finish (timed s e) finish_passed 1))
 passed-sound s t order e true many sound =
     let f : FlakyView = record { test = t; order = order; stdout = e.stdout; message = e.message } in
     let at = position_or_len (starts_later order) s.flaky in
@@ -131,7 +125,7 @@ module _ (counter : RunStats → ℕ) (rule : OutcomeView → ℕ → ℕ) (empt
   v note = of_suite (λ s. counter s.stats) note
 
   -- several tests that failed, and several flaky tests
-  counts-failed : (kind : KindView) → finish_for kind ≡ finish.Failed → ((n : ℕ) → fits_kind kind n ≡ true) → (stats : RunStats) (names : List (List ℕ))
+  counts-failed : (kind : KindView) → finish_for kind ≡ finish_for HasFailed → ((n : ℕ) → fits_kind kind n ≡ true) → (stats : RunStats) (names : List (List ℕ))
       → counter (with_failed stats names) ≡ counter stats + sum_by (λ name. rule (Fails (bare_failure kind)) 1) names
   counts-failed kind is fit stats [] = omega arith
   counts-failed kind is fit stats (name ∷ names) =

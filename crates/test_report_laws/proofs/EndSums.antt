@@ -7,8 +7,7 @@ use Rattle.test_report_laws.proofs.Sums.{sum-all, sum-map}
 use Rattle.test_report_run.specs.Note.{Disagrees, DisagreementView, HasCrashed, HasNoEnd, IsNotRun, NoteView, SuiteIs}
 use Rattle.test_report_run.specs.Over.{crash_of, early_disagreements, early_notes, early_state, failed_note, failed_notes, flaky_note, flaky_notes, initial_of, last_disagreement, last_state, lost, number_notes, rest_of, skipped_note}
 use Rattle.test_report_run.specs.Suite.{FlakyView, SuiteState, suite_name}
-use Rattle.test_report_run.specs.declared.last_line.Explanation.{Explanation}
-use Rattle.test_report_run.specs.declared.over.Rest.{Rest}
+use Rattle.test_report_laws.proofs.Types.{Explanation, Rest}
 
 -- the note with the numbers of a suite
 abbrev pub suite_note : SuiteState → Rest → NoteView

@@ -5,14 +5,12 @@ use Rattle.run_events_stats.specs.declared.outcome.run_outcome.RunOutcome.{RunOu
 use Rattle.test_report_laws.proofs.FormedTrees.{Formed, attribute, child, child-text, document, element-if, is_name, line, new, text}
 use Rattle.test_report_forms.specs.Collected.{FailedView, cause_lines, failures_of, has_causes, no_tests_ran}
 use Rattle.test_report_forms.specs.Html.{html_of, html_tree, main_part, page, page_text, slowest_tests, suite_rows, with_causes, with_failed, with_slowest}
-use Rattle.test_report_forms.specs.HtmlParts.{RowView, are_zero, bar, causes_section, cell_text, charset, classed, color_scheme, column, empty_bar, failed_heading, failed_section, failed_test, head, header, heading, item, meta, metas, note_text, numbers_cell, numbers_of_run, outcome_element, part, policy, row, row_header, section, share_bar, share_of, share_part, slow_row, slow_table, style_element, styled, suites_section, summary, table, table_head, time_cell, title_element, viewport, why_element, with_lines, with_note, with_part, with_span, with_suite, words, words_text}
+use Rattle.test_report_forms.specs.HtmlParts.{RowView, are_zero, bar, causes_section, cell_text, charset, classed, color_scheme, column, empty_bar, failed_heading, failed_section, failed_test, head, header, heading, item, meta, metas, note_text, numbers_cell, numbers_of_run, outcome_element, part, policy, row, row_header, section, share_bar, share_of, share_part, slow_row, slow_table, style_element, styled, suites_section, summary, table, table_head, time_cell, title_element, viewport, why_element, with_lines, with_note, with_part, with_span, with_suite, words, words_text, policy_text, style_text}
 use Rattle.test_report_laws.specs.Forms.{HtmlReadsBack}
 use Rattle.test_report_forms.specs.List.{KeyedLine}
 use Rattle.test_report_forms.specs.Tree.{ElementView, new_element, with_attribute, with_line, with_text}
 use Rattle.test_report_forms.specs.Words.{outcome_word, summary_sentence}
-use Rattle.test_report_forms.specs.declared.html.suites.Numbers.{Numbers}
-use Rattle.test_report_forms.specs.declared.html.head.TheConstants.{POLICY}
-use Rattle.test_report_forms.specs.declared.style.TheConstants.{STYLE}
+use Rattle.test_report_laws.proofs.Types.{Numbers}
 use Rattle.test_report_run.specs.declared.note.RunEnd.{RunEnd}
 
 formed-classed : (name class : List ℕ) → is_name name ≡ true → Formed (classed name class)
@@ -94,7 +92,7 @@ formed-metas : Formed metas
 unfolding metas charset policy viewport color_scheme
 formed-metas =
     let charset = attribute (codes "charset") (codes "utf-8") refl (new (codes "meta") refl) in
-    let policy = formed-meta (codes "http-equiv") (codes "Content-Security-Policy") POLICY.now refl in
+    let policy = formed-meta (codes "http-equiv") (codes "Content-Security-Policy") policy_text refl in
     let viewport = formed-meta (codes "name") (codes "viewport") (codes "width=device-width, initial-scale=1") refl in
     let colors = formed-meta (codes "name") (codes "color-scheme") (codes "light dark") refl in
     line (line (line (line (new (codes "head") refl) charset) policy) viewport) colors
@@ -103,7 +101,7 @@ formed-head : (outcome : RunOutcome) → Formed (head outcome)
 unfolding head title_element style_element new_element
 formed-head outcome =
     let title = text (codes "Test report: " ++ outcome_word outcome) (new (codes "title") refl) refl in
-    line (line formed-metas title) (text STYLE.now (new (codes "style") refl) refl)
+    line (line formed-metas title) (text style_text (new (codes "style") refl) refl)
 
 -- the outcome and the summary of the run
 formed-heading : (outcome : RunOutcome) → Formed (heading outcome)

@@ -12,7 +12,7 @@ use Rattle.test_report_forms.specs.Shown.{seconds, shown_text}
 use Rattle.test_report_forms.specs.Title.{title_name}
 use Rattle.test_report_forms.specs.Tree.{ElementView, new_element, with_attribute}
 use Rattle.test_report_forms.specs.Why.{WhyView, without_returns}
-use Rattle.test_report_forms.specs.declared.junit_suite.JunitCounts.{JunitCounts}
+use Rattle.test_report_laws.proofs.Types.{JunitCounts}
 use Rattle.test_report_run.specs.Note.{FailureView, HasCrashed, HasFailed, HasNoEnd, HasTimedOut, IsFlaky, KindView, TestNoteView}
 
 add-time : {e : ElementView} → (time : Option ℕ) → Formed e → Formed (with_time e time)

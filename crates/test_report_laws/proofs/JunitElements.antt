@@ -9,7 +9,7 @@ use Rattle.test_report_forms.specs.Junit.{JunitState, add_case, add_cause, add_o
 use Rattle.test_report_forms.specs.JunitSuite.{CaseView, CasesView, is_named, new_suite, suite_element, suite_start, with_case, with_lines}
 use Rattle.test_report_forms.specs.Tree.{ElementView, with_line}
 use Rattle.test_report_forms.specs.Why.{WhyView}
-use Rattle.test_report_forms.specs.declared.junit_suite.JunitCounts.{JunitCounts}
+use Rattle.test_report_laws.proofs.Types.{JunitCounts}
 use Rattle.test_report_forms.specs.declared.options.Options.{Options}
 use Rattle.test_report_run.specs.Note.{FailureView, TestNoteView}
 use Rattle.test_report_run.specs.declared.note.RunEnd.{RunEnd}

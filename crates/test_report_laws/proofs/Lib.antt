@@ -39,5 +39,6 @@ pub mod Sums
 pub mod Tallies
 pub mod TextCauses
 pub mod ToldFailures
+pub mod Types
 pub mod Verdicts
 pub mod Weights

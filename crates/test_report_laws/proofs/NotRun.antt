@@ -24,8 +24,7 @@ use Rattle.test_report_run.specs.Running.{place_of_end, running_at}
 use Rattle.test_report_laws.specs.Status.{NotRunIsNamed, named_not_run}
 use Rattle.test_report_run.specs.Name.{given_by}
 use Rattle.test_report_run.specs.Suite.{OverView, SuiteState, has_key, named, outside_start, suite_name, with_line, with_start}
-use Rattle.test_report_run.specs.declared.last_line.Explanation.{Explanation}
-use Rattle.test_report_run.specs.declared.over.Rest.{Rest}
+use Rattle.test_report_laws.proofs.Types.{Explanation, Rest}
 
 -- a weight of notes, in which those of tests and of disagreements weigh nothing
 module _ (w : NoteView → ℕ) (test : (t : TestNoteView) → w (TestIs t) ≡ 0) (disagree : (d : DisagreementView) → w (Disagrees d) ≡ 0) where

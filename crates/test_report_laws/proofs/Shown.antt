@@ -18,7 +18,7 @@ use Rattle.test_report_run.specs.Over.{crash_of, early_disagreements, early_note
 use Rattle.test_report_run.specs.Run.{RunState, counts_tests, ended_at, is_disagreement, open_suite, step, stray_suite_notes}
 use Rattle.test_report_run.specs.Said.{numbers_of}
 use Rattle.test_report_run.specs.Suite.{SuiteState, failed_of}
-use Rattle.test_report_run.specs.declared.last_line.Explanation.{Explanation}
+use Rattle.test_report_laws.proofs.Types.{Explanation}
 use Rattle.test_report_run.specs.declared.note.SaidNumbers.{SaidNumbers}
 
 abbrev weight : NoteView → ℕ

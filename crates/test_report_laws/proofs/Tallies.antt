@@ -9,7 +9,8 @@ use Rattle.test_report_events.specs.Event.{EventView, TestEndView}
 use Rattle.test_report_events.specs.declared.event.TestResult.{TestResult}
 use Rattle.test_report_events.specs.declared.event.TestResult.TheVariants.{Ok, Failed, Ignored}
 use Rattle.test_report_laws.proofs.Books.{HoldsAll, holds-whole, sums_in, sums_of}
-use Rattle.test_report_laws.proofs.Counters.{early-suite, exactly, finish_for, fits, fits_kind, last-suite, of_suite, of_test, sum-of, total, with_outcome}
+use Rattle.test_report_run.proofs.Finishes.{finish_for}
+use Rattle.test_report_laws.proofs.Counters.{early-suite, exactly, fits, fits_kind, last-suite, of_suite, of_test, sum-of, total, with_outcome}
 use Rattle.test_report_laws.proofs.EndSums as ends
 use Rattle.test_report_laws.proofs.EndSums.{last_by}
 use Rattle.test_report_laws.proofs.Sums.{sum-both, sum-same}
@@ -18,7 +19,7 @@ use Rattle.test_report_laws.specs.Run.{Counts, TotalsAreCounts, failed_in, fails
 use Rattle.test_report_run.specs.Note.{Fails, HasTimedOut, IsFlaky, IsSkipped, KindView, NoteView, OutcomeView, Passes, TestIs, TestNoteView}
 use Rattle.test_report_run.specs.Ended.{after_end, end_notes}
 use Rattle.test_report_run.specs.Suite.{OverView, SuiteState}
-use Rattle.test_report_run.specs.declared.last_line.Explanation.{Explanation}
+use Rattle.test_report_laws.proofs.Types.{Explanation}
 use Rattle.test_report_run.specs.Run.{has_failed, run_start, with_note}
 use Rattle.test_report_run.specs.Totals.{ending, no_suites}
 use Rattle.test_report_laws.specs.Whole.{all_notes, run_after_files}

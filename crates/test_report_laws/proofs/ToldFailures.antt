@@ -18,7 +18,7 @@ use Rattle.test_report_run.specs.Over.{early_notes, explained_of}
 use Rattle.test_report_run.specs.Run.{RunState, Step, counts_tests, ended_at, ended_early, is_explained, names_in, notes_at, open_suite, opened, running_ends, running_over, started_again, step, stray_ends, stray_over, stray_suite_notes, stray_test, suite_at, suite_place}
 use Rattle.test_report_run.specs.Running.{RunningView, attempts_of, ends_in_number, has_name, no_test, place_by_attempts, place_of_end, running_at, split_at, without_number}
 use Rattle.test_report_run.specs.Suite.{OverView, SuiteState, named, outside_start, suite_name, with_line}
-use Rattle.test_report_run.specs.declared.last_line.Explanation.{Explanation}
+use Rattle.test_report_laws.proofs.Types.{Explanation}
 
 abbrev pub told : List NoteView → ℕ
 told notes = count_by is_told_failure notes

@@ -21,7 +21,7 @@ use Rattle.test_report_run.specs.Run.{RunState, Step, after, after_file, ended_a
 use Rattle.test_report_run.specs.Said.{no_lines}
 use Rattle.test_report_run.specs.Suite.{SuiteState, failed_of, has_key, joined, outside_start, suite_start, with_line}
 use Rattle.test_report_laws.specs.Whole.{all_notes}
-use Rattle.test_report_run.specs.declared.said.Said.{Said}
+use Rattle.test_report_laws.proofs.Types.{Said}
 
 abbrev failing : ℕ → Said → Option ℕ → ℕ
 failing number said count = cond said.failed_verdict 1 0

@@ -19,7 +19,7 @@ use Rattle.test_report_run.specs.Running.{RunningView, place_of_end, running_at}
 use Rattle.test_report_run.specs.Said.{no_lines}
 use Rattle.test_report_run.specs.Suite.{OverView, SuiteState, has_key, joined, named, suite_start, with_line, with_start}
 use Rattle.test_report_laws.specs.Whole.{run_after, run_after_files}
-use Rattle.test_report_run.specs.declared.said.Said.{Said}
+use Rattle.test_report_laws.proofs.Types.{Said}
 
 -- a weight of suites by their numbers, what their last lines say and how many tests they announce, summed over the open suites
 abbrev pub weigh : (ℕ → Said → Option ℕ → ℕ) → SuiteState → ℕ

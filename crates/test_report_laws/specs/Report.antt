@@ -42,7 +42,7 @@ abbrev pub OneRun : Type 0
 OneRun = (inputs : List (List ℕ)) → (entries : List EntryView) → (run : RunState) → AreEntriesOf inputs entries run
     → (files : List (List EventView)) × AreFilesOf inputs entries (end_of run) files
 
--- What status 0 means.
+-- What the outcomes `Success` and `NoTestsRun` mean.
 
 -- If the outcome in a report is `Success`, a test passed and nothing is wrong with the lines of the inputs. If it is `NoTestsRun`, no test passed, and
 -- nothing is wrong either.
@@ -52,7 +52,7 @@ SuccessMeans = (inputs : List (List ℕ)) → (entries : List EntryView) → (ru
     × (Succeeds (end_of run) → (0 < passed_in (all_notes files)) × IsInOrder files)
     × (RanNoTests (end_of run) → (passed_in (all_notes files) ≡ 0) × IsInOrder files)
 
--- What status 1 means.
+-- What every outcome except `Success` means.
 
 -- the entry says why a run does not succeed: a failed test, a disagreement, or a suite whose tests were not all run
 abbrev pub is_reason : EntryView → Bool

@@ -181,7 +181,7 @@ TotalsAreCounts = (files : List (List EventView)) → Counts (all_notes files) (
 abbrev pub disagreements_in : List NoteView → ℕ
 disagreements_in notes = count_by is_disagreement notes
 
--- no test failed, no lines disagree, and all tests of suites were run
+-- no test failed, no lines disagree, and no suite has tests that were not run
 pub record IsClean (notes : List NoteView) : Type 0 where
   pub none_failed : failed_in notes ≡ 0
   pub none_disagree : disagreements_in notes ≡ 0
@@ -240,7 +240,7 @@ failed_lines_of files = sum_by failed_lines_in files
 abbrev pub FailedLinesAreTold : Type 0
 FailedLinesAreTold = (files : List (List EventView)) → count_by is_told_failure (all_notes files) ≡ failed_lines_of files
 
--- If a line of a run says that a test failed, the outcome is a failure.
+-- If a line of a run says that a test failed, the outcome is neither `Success` nor `NoTestsRun`.
 abbrev pub FailedLineShows : Type 0
 FailedLineShows = (files : List (List EventView)) → 0 < failed_lines_of files
     → ((whole_end files).outcome ≢ outcome.Success) × ((whole_end files).outcome ≢ outcome.NoTestsRun)
@@ -278,7 +278,7 @@ failed_verdicts_in file = count_by says_failed_verdict file
 abbrev pub failed_verdicts_of : List (List EventView) → ℕ
 failed_verdicts_of files = sum_by failed_verdicts_in files
 
--- If the last line of a suite has a failed verdict, the outcome is a failure.
+-- If the last line of a suite has a failed verdict, the outcome is neither `Success` nor `NoTestsRun`.
 abbrev pub FailedVerdictShows : Type 0
 FailedVerdictShows = (files : List (List EventView)) → 0 < failed_verdicts_of files
     → ((whole_end files).outcome ≢ outcome.Success) × ((whole_end files).outcome ≢ outcome.NoTestsRun)

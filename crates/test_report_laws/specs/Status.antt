@@ -91,15 +91,15 @@ abbrev pub AnnouncedAreCounted : Type 0
 AnnouncedAreCounted = (files : List (List EventView))
     → announced_of files ≤ (whole_end files).stats.finished_count + (whole_end files).skipped + (whole_end files).not_run
 
--- a suite that ends by its last line while tests of these names run: its last lines say how many tests passed, and that none failed, and each test
--- that runs was skipped
+-- a suite that ends by its last line while tests of these names run: its last lines agree with its tests, of which none failed, and each test that
+-- runs was skipped
 pub record EndsInOrder (s : SuiteState) (names : List (List ℕ)) : Type 0 where
   pub numbers : Agrees (numbers_of s.said) (s.stats.passed + passed_in (last_notes s names)) 0
   pub no_test_lost : skipped_in (last_notes s names) ≡ length names
 
 -- nothing is wrong with the lines of a run
 pub record IsInOrder (files : List (List EventView)) : Type 0 where
-  -- no test failed, no lines disagree, and all tests of suites were run
+  -- no test failed, no lines disagree, and no suite has tests that were not run
   pub clean : IsClean (all_notes files)
   -- no line says that a test failed, and no last line of a suite has a failed verdict
   pub no_failed_line : failed_lines_of files ≡ 0

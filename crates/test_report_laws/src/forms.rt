@@ -2,7 +2,8 @@
 
 ghost use Rattle.test_report_laws.specs.Forms.{GithubHasNoControls, GithubNamesCauses, HtmlHasNoControls, HtmlNamesCauses, HtmlReadsBack, JunitHasNoControls, JunitNamesCauses, JunitReadsBack, JunitSaysNoTests, MarkdownHasNoControls, MarkdownNamesCauses, NamesAreLines, OneTreeOfText, OnlyCommands, ReadsBack, TextHasNoControls, TextNamesCauses};
 
-/// Every line that the form for GitHub writes is a command for an error or a notice, or empty.
+/// Every line that the form for GitHub writes of entries of notes (`IsEntryOf`) is a command for an error or a
+/// notice, or empty.
 pub fn only_commands()
     ensures { OnlyCommands }
 {}

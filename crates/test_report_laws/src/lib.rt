@@ -1,7 +1,7 @@
 //! Laws of the report of a test run: facts that follow from the contracts of `test_report_run`,
-//! `test_report_forms` and `test_report_engine`. They say what a success and a failure mean, that no
-//! failure is hidden, and that no form writes control characters of the input, unless `TextForm` is set to
-//! keep them.
+//! `test_report_forms` and `test_report_engine`. They say what a success and a failure mean, that each
+//! line that says that a test failed is a failed test of the report, and that no form writes control
+//! characters of the input except tab and line feed, unless `TextForm` is set to keep them.
 //!
 //! A law is a function that does nothing. Its contract is the fact. A function whose proof needs the fact
 //! calls the law. This is the end of such a function, `is_in_order` in `CALLING.md`. Its clause says what

@@ -15,8 +15,8 @@ pub fn one_run()
     ensures { OneRun }
 {}
 
-/// Says what the outcomes `Success` and `NoTestsRun` mean. If the outcome in a report is `Success`, a test passed and nothing is wrong with
-/// the lines of the inputs: `run::success_is_in_order` has the list. If the outcome is
+/// Says what the outcomes `Success` and `NoTestsRun` mean. If the outcome in a report is `Success`, a test passed
+/// and nothing is wrong with the lines of the inputs: `run::success_is_in_order` has the list. If the outcome is
 /// `NoTestsRun`, no test passed, and nothing is wrong either.
 pub fn success_means()
     ensures { SuccessMeans }
@@ -24,10 +24,10 @@ pub fn success_means()
     crate::run::success_is_in_order();
 }
 
-/// Says what every outcome except `Success` means. If the outcome in a report is not `Success`, an entry is of a failed test, of a
-/// disagreement, or of a suite whose tests were not all run; or no test ran. Then `text`, `github`, `html`
-/// and `markdown` have the name of a failed test, or the line of a disagreement or of such a suite, or
-/// say that no test ran. `junit` has a test case that says one of these, unless no test ran and
+/// Says what every outcome except `Success` means. If the outcome in a report is not `Success`, an entry is of a
+/// failed test, of a disagreement, or of a suite whose tests were not all run; or no test ran. Then `text`,
+/// `github`, `html` and `markdown` have the name of a failed test, or the line of a disagreement or of such a
+/// suite, or say that no test ran. `junit` has a test case that says one of these, unless no test ran and
 /// `no_tests_pass` is true.
 pub fn failure_has_reason()
     ensures reason { FailureHasReason }

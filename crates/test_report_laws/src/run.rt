@@ -12,7 +12,8 @@ pub fn one_failure_of_line()
     ensures told { FailureIsTold }
 {}
 
-/// The sums at the end of a run count the tests that became known.
+/// The sums at the end of a run count the tests that became known. The number of skipped tests is at least that
+/// of those that became known.
 pub fn totals_are_counts()
     ensures { TotalsAreCounts }
 {}

@@ -3,14 +3,16 @@ use Rattle.test_report_engine_tests.proofs.WholeReports.{if_known, is-written}
 use Rattle.test_report_engine_tests.proofs.callers.of_test_report_laws.is_in_order.Goals as goal
 
 pub returns : goal.returns
-returns g c =
-    if_known (g.R.Source.left c.args.source.now)
-    (λ input reads success.
-    let written =
-    is-written _ _ _ c.new.result c.new-report.result c.read_file.new.self input c.in_ok-end.end (g.W.Sink.written c.args.sink.now)
-    (g.W.Sink.written c.read_file.new.sink) (g.W.Sink.written c.finish.new.sink)
-    (c.new-report.ensures.reads c.new.ensures.nothing) reads c.in_ok-end.ensures.finishes in
-    let report = written.1 in
-    let means = c.success_means.ensures (input ∷ []) report.entries report.run report.are in
-    (means.0, means.1.say, (means.2 (sym (ap (λ end. end.outcome) report.end_is) ∙ search (rules, c.eq.ensures success))).1))
-    c.in_ok-read_file.ensures.reads
+returns g c = record {
+  in_order =
+      if_known (g.R.Source.left c.args.source.now)
+      (λ input reads success.
+      let written =
+      is-written _ _ _ c.new.result c.new-report.result c.read_file.new.self input c.in_ok-end.end (g.W.Sink.written c.args.sink.now)
+      (g.W.Sink.written c.read_file.new.sink) (g.W.Sink.written c.finish.new.sink) (c.new-report.ensures.reads c.new.ensures.nothing) reads
+      c.in_ok-end.ensures.finishes in
+      let report = written.1 in
+      let means = c.success_means.ensures (input ∷ []) report.entries report.run report.are in
+      (means.0, means.1.say, (means.2 (sym (ap (λ end. end.outcome) report.end_is) ∙ search (rules, c.eq.ensures, success))).1))
+      c.in_ok-read_file.ensures.reads;
+}

@@ -1,0 +1,32 @@
+-- The types that the run and the forms keep to themselves. Each is the type of what a definition takes.
+use Rattle.test_report_forms.specs.HtmlParts.{bar}
+use Rattle.test_report_forms.specs.JunitSuite.{with_counts}
+use Rattle.test_report_run.specs.Over.{initial_of, lost}
+use Rattle.test_report_run.specs.Said.{numbers_of}
+
+-- what a function takes, first and second
+abbrev first_of : {A B : Type 0} → (A → B) → Type 0
+first_of {A} {B} f = A
+
+abbrev second_of : {A B C : Type 0} → (A → B → C) → Type 0
+second_of {A} {B} {C} f = B
+
+-- what a last line explains
+abbrev pub Explanation : Type 0
+Explanation = first_of lost
+
+-- what is left of a suite that ends: its tests that were not run, and its time
+abbrev pub Rest : Type 0
+Rest = second_of initial_of
+
+-- what the last lines of a suite said
+abbrev pub Said : Type 0
+Said = first_of numbers_of
+
+-- how many tests passed, failed, were skipped and were not run
+abbrev pub Numbers : Type 0
+Numbers = first_of bar
+
+-- the counts of test cases in JUnit's XML
+abbrev pub JunitCounts : Type 0
+JunitCounts = first_of with_counts
