@@ -43,8 +43,8 @@ pub struct ExecutionStatusesIter<'a, S: OutputSpec> {
     # The crates are modules.
     (
         "run_events/src/lib.rt",
-        """//! Most of it is in the crates `run_events_..`, which this crate re-exports. A user needs only this
-//! crate.
+        """//! Most of it is in the crates `run_events_..`, which this crate re-exports. So code needs only this
+//! crate. Contracts that name definitions of a crate `run_events_..` need that crate, too.
 //!
 """,
         "",

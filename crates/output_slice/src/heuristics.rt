@@ -1,6 +1,6 @@
 //! The three heuristics, and the choice between them.
 
-ghost use Rattle.std.specs.Prelude.{codes, ◌≡◌, ◌≤◌, ◌<◌, ℕ, ◌+◌, ◌-◌, length, slice_index, Option, None, Some, option_map, IfSome};
+ghost use Rattle.std.specs.Prelude.{codes, ◌≡◌, ◌≤◌, ◌<◌, ◌+◌, ◌-◌, length, slice_index, Option, None, Some, option_map, IfSome};
 ghost use Rattle.std.specs.Option.{option_copied};
 ghost use Rattle.bstr.specs.Text.{without_terminator};
 ghost use Rattle.bstr.specs.Find.{IsFirst};

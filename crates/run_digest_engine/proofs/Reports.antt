@@ -27,11 +27,6 @@ pub reports_many : (runs : List RunStats) (o : RunOutcome) → ¬ (length runs �
 reports_many (run ∷ []) o many = absurd (many (omega arith))
 reports_many _ o many = refl
 
--- the text for one run
-pub reports_one : (runs : List RunStats) (o : RunOutcome) → length runs ≡ 1 → concat (map report_of runs) ≡ stats_reports runs o
-reports_one (run ∷ []) o one = append-nil (report_of run)
-reports_one _ o one = absurd (omega (arith, one))
-
 -- the text from the statistics of runs is that of the runs
 pub told : (runs : List Run) (o : RunOutcome) → stats_reports (map run_stats runs) o ≡ reports_of runs o
 told (run ∷ next ∷ runs) o = ap (λ texts. concat texts ++ outcome_line o) (map-map report_of run_stats (run ∷ next ∷ runs))

@@ -1,5 +1,5 @@
-//! The attempts of a finished test, whether together they are a success, flaky or a failure
-//! (`ExecutionDescription`), and times of the clock (`Moment`).
+//! The attempts of a finished test. `ExecutionDescription` says whether the test succeeded, was flaky or
+//! failed. `Moment` is a date and time.
 //!
 //! A function that returns the result of a test in one word:
 //!

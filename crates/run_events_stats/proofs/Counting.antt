@@ -4,18 +4,13 @@ use Rattle.std.specs.Prelude.{map, Option}
 use Rattle.std.specs.List.{filter_map}
 use Rattle.std.proofs.lemmas.List.{append-nil, length-map, map_more}
 use Rattle.std.proofs.lemmas.List.Elements.{filter_map-append}
-use Rattle.run_events_stats.specs.Counters.{UnitView, ScriptUnit, TestUnit, unit_view, count_of, counters_of, stats_of, with_test, with_script, TestCountersFit, ScriptCountersFit}
+use Rattle.run_events_stats.specs.Counters.{UnitView, ScriptUnit, TestUnit, unit_view, count_of, stats_of, with_test, with_script, TestCountersFit, ScriptCountersFit}
 use Rattle.run_events_levels.specs.TestView.{TestView}
 use Rattle.run_events_results.specs.declared.results.ExecutionResultDescription.{ExecutionResultDescription}
 use Rattle.run_events_stats.specs.declared.stats.FinishedUnit.{FinishedUnit}
 use Rattle.run_events_stats.specs.declared.stats.RunStart.{RunStart}
 use Rattle.run_events_stats.specs.declared.stats.RunStats.{RunStats}
 use Rattle.run_events_stats.proofs.Counts.{count_of-push, count_of-le, length-filter_map-le}
-
--- one more test at the end
-pub counters_of-test : (tests : List TestView) (scripts : List ExecutionResultDescription) (start : RunStart) (t : TestView)
-    → counters_of (tests ++ t ∷ []) scripts start ≡ with_test (counters_of tests scripts start) t
-counters_of-test tests scripts start t = simp (length-append, count_of-push)
 
 -- one more unit at the end, which is a test
 pub stats_of-test : (us : List UnitView) (t : TestView) (start : RunStart) → stats_of (us ++ TestUnit t ∷ []) start ≡ with_test (stats_of us start) t

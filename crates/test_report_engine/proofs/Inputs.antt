@@ -1,5 +1,5 @@
 -- What a report reads of an input.
-use Rattle.std.proofs.Common.{◌≡◌, ◌∙◌, ◌-◌, ◌<◌, ℕ, List, [], ◌∷◌, ◌++◌, Option, ap, append_assoc, arith, drop, length, map, refl, subst, sym, take}
+use Rattle.std.proofs.Common.{◌≡◌, ◌∙◌, ◌-◌, ◌<◌, ℕ, List, [], ◌∷◌, ◌++◌, Option, ap, append_assoc, arith, drop, length, map, subst, sym, take}
 use Rattle.std.specs.Prelude.{◌==◌, Bool, false, slice_index, true}
 use Rattle.test_report_events.specs.Event.{EventView}
 use Rattle.test_report_events.specs.Laws.{OneEventOfLine}
@@ -185,10 +185,6 @@ module _ {F : Type 0} (line : F → EntryView → List ℕ) (last : F → List E
     pub done : List ℕ
     pub are : bytes ≡ done ++ rest
     pub leads : LeadsTo line last Knows old new begun begun_then done b w
-
-  -- no bytes
-  pub bytes-none : (old : Report F) (begun bytes : List ℕ) (b : Option (List ℕ)) → TakesBytes old old begun begun bytes bytes b b
-  bytes-none old begun bytes b = record { done = []; are = refl; leads = leads-none old begun b }
 
   -- the rest, which is a beginning of a line
   pub bytes-rest : (old new : Report F) (x y z bytes rest : List ℕ) (b w : Option (List ℕ)) → TakesBytes old new x y bytes rest b w → z ≡ y ++ rest

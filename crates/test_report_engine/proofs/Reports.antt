@@ -1,6 +1,6 @@
 -- What a report has read and written of its inputs.
 use Rattle.std.proofs.Common.{◌≡◌, ◌∙◌, ℕ, List, [], ◌∷◌, ◌++◌, None, Some, IfSome, Option, ap, append-nil, append_assoc, refl, subst, sym, take}
-use Rattle.std.proofs.KnownBytes.{Appends-nil, Consumes-nil, Consumes-trans}
+use Rattle.std.proofs.KnownBytes.{Appends-nil, Consumes-trans}
 use Rattle.std.proofs.lemmas.List.{append_cancel_left}
 use Rattle.std.proofs.lemmas.List.Concat.{flat_map-append}
 use Rattle.std.specs.Io.KnownBytes.{Appends, Consumes, IsAtEnd}
@@ -18,10 +18,10 @@ use Rattle.test_report_run.specs.Run.{RunState, end_of, run_start, run_state}
 use Rattle.test_report_run.specs.declared.note.RunEnd.{RunEnd}
 use Rattle.test_report_run.specs.declared.run.TestRun.{TestRun}
 use Rattle.test_report_engine.specs.Lines.{AreEventsOf}
-use Rattle.test_report_engine.specs.Reading.{BreaksOff, BreaksOffEnd, FilesHaveRead, Finishes, HasRead, LeadsTo, ReadsInput, ReadsOneMore, ReadsPiece, ReadsStart}
+use Rattle.test_report_engine.specs.Reading.{BreaksOff, BreaksOffEnd, FilesHaveRead, Finishes, HasRead, ReadsInput, ReadsOneMore, ReadsPiece, ReadsStart}
 use Rattle.test_report_engine.specs.Report.{AreEntriesOf, AreTexts, IsReport, notes_of_input, notes_of_inputs, run_after_input, run_after_inputs, run_of}
 use Rattle.test_report_engine.specs.declared.report.Report.{Report}
-use Rattle.test_report_engine.proofs.Inputs.{input-none, leads-none, leads-then}
+use Rattle.test_report_engine.proofs.Inputs.{input-none, leads-then}
 use Rattle.test_report_engine.proofs.Lines.{one-events}
 use Rattle.test_report_engine.proofs.Lists.{zip-append, zip-one, zip-split}
 
@@ -183,14 +183,6 @@ module _ {F : Type 0} (line : F → EntryView → List ℕ) (last : F → List E
         say = λ entries end texts say. has.say entries end texts (took.files.say entries end texts say);
       }
 
-  -- no piece of a source was taken
-  pub pieces-none : (old : Report F) (begun : List ℕ) (a b : Option (List ℕ)) → begun ≡ [] → ReadsPiece line last Knows old old [] begun a a b b
-  pieces-none old begun a b none = record {
-    bytes = [];
-    consumed = Consumes-nil a;
-    leads = subst (λ l. LeadsTo line last Knows old old [] l [] b b) (sym none) (leads-none line last Knows old [] b);
-  }
-
   -- pieces, and one more
   pub pieces-more : (old mid new : Report F) (x y : List ℕ) (a m n b v w : Option (List ℕ)) → ReadsPiece line last Knows old mid [] x a m b v
       → ReadsPiece line last Knows mid new x y m n v w → ReadsPiece line last Knows old new [] y a n b w
@@ -220,14 +212,6 @@ module _ {F : Type 0} (line : F → EntryView → List ℕ) (last : F → List E
   pieces-files old mid new x None m b v w pieces read = tt
   pieces-files old mid new x (Some xs) m b v w pieces read =
       files-more old new xs b w (pieces-end old mid new x (Some xs) m b v w pieces read)
-
-  -- the end of an input, after which nothing is left
-  pub rest-read : (old new : Report F) (x y : List ℕ) (k : ℕ) (bytes : List ℕ) (m n v w : Option (List ℕ)) → Consumes m n (take k bytes) → k ≡ 0 → IsAtEnd n
-      → y ≡ x → ReadsInput line last Knows old new y v w → IfSome m (λ rest. ReadsInput line last Knows old new (x ++ rest) v w)
-  rest-read old new x y k bytes None n v w consumed none end same read = tt
-  rest-read old new x y k bytes (Some xs) None v w consumed none end same read = absurd consumed
-  rest-read old new x y k bytes (Some xs) (Some ys) v w consumed none end same read =
-      subst (λ l. ReadsInput line last Knows old new l v w) (nothing-left x y xs ys k bytes consumed none end same) read
 
   -- a report that has read nothing
   pub read-none : (report : Report F) → run_state report.run ≡ run_start → Knows report.form [] → HasRead line last Knows report.form report [] []

@@ -10,7 +10,7 @@ mod of_test_report_run;
 use crate::callers::of_test_report_engine::succeeds;
 use crate::callers::of_test_report_events::test_count_of;
 use crate::callers::of_test_report_forms::text_of_note;
-use crate::callers::of_test_report_laws::is_in_order;
+use crate::callers::of_test_report_laws::succeeds_in_order;
 use crate::callers::of_test_report_run::end_of_lines;
 use crate::devices::OPTIONS;
 use program_io::memory_device::{MemorySink, MemorySource};
@@ -101,19 +101,19 @@ fn a_run_whose_test_passes_succeeds(rt: HostRuntime) {
 }
 
 #[test]
-fn a_run_whose_test_passes_is_in_order(rt: HostRuntime) {
+fn a_run_whose_test_passes_succeeds_in_order(rt: HostRuntime) {
     let mut buffer = [0; 1_024];
     let mut source = MemorySource::new(PASSING_RUN.as_bytes(), None);
     let mut sink = MemorySink::new(&mut buffer, None);
-    let success = is_in_order(rt.alloc(), &mut source, &mut sink, OPTIONS);
+    let success = succeeds_in_order(rt.alloc(), &mut source, &mut sink, OPTIONS);
     assert!(rt; success.is_ok_and(|success| success));
 }
 
 #[test]
-fn a_run_that_ended_early_is_not_in_order(rt: HostRuntime) {
+fn a_run_that_ended_early_does_not_succeed_in_order(rt: HostRuntime) {
     let mut buffer = [0; 1_024];
     let mut source = MemorySource::new(ABORTED_RUN.as_bytes(), None);
     let mut sink = MemorySink::new(&mut buffer, None);
-    let success = is_in_order(rt.alloc(), &mut source, &mut sink, OPTIONS);
+    let success = succeeds_in_order(rt.alloc(), &mut source, &mut sink, OPTIONS);
     assert!(rt; success.is_ok_and(|success| !success));
 }

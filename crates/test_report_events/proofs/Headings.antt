@@ -1,5 +1,5 @@
 -- The headings of cargo.
-use Rattle.std.proofs.Common.{◌≡◌, ◌≢◌, ◌∙◌, ◌==◌, ◌||◌, not, refl, ℕ, suc, ◌+◌, ◌-◌, ◌<◌, ◌≤◌, Bool, true, Option, Some, None, Result, Ok, Err, List, [], ◌∷◌, ◌++◌, length, length-drop, get_or, get_or-drop, take, drop, drop-drop, take-append-drop, inl, inr, arith, sym, ap, subst, codes, MatchOption, IfOk}
+use Rattle.std.proofs.Common.{◌≡◌, ◌≢◌, ◌∙◌, ◌==◌, ◌||◌, not, refl, ℕ, ◌+◌, ◌-◌, ◌<◌, ◌≤◌, Bool, true, Option, Some, None, Result, Ok, Err, List, [], ◌∷◌, ◌++◌, length, length-drop, get_or, get_or-drop, take, drop, drop-drop, take-append-drop, inl, inr, arith, sym, ap, subst, codes, MatchOption, IfOk}
 use Rattle.std.proofs.Math.Logic.{⊎_elim}
 use Rattle.std.proofs.lemmas.Bool.{cases_Bool, false≢true}
 use Rattle.std.proofs.lemmas.Bool.Decides.{nat_tests}
@@ -15,6 +15,7 @@ use Rattle.std.specs.Str.{NoCharPasses}
 use Rattle.std.specs.Str.Pattern.{RFindsBy, RFindsChar, RFindsText, SplitsAroundMatch}
 use Rattle.std.specs.String.{string_bytes}
 use Rattle.std.specs.declared.string.String.{String}
+use Rattle.test_report_events.proofs.LastCut.{Lacks, cut-same, lacks-later}
 use Rattle.test_report_events.specs.Cargo.{IsBinary, IsHashed, IsHeading, IsTarget, file_name}
 
 -- a text without a character has no byte of it
@@ -52,21 +53,6 @@ file_after path file i j h fits is =
 
 pub file_whole : (path : List ℕ) → RFindsBy is_separator path None → path ≡ file_name path
 file_whole path none = begins-after path 0 (omega arith) none (λ some. absurd (omega arith))
-
--- a byte is nowhere in a text
-abbrev Lacks : ℕ → List ℕ → Type 0
-Lacks c text = (i : ℕ) → i < length text → get_or text i 0 ≡ c → ⊥
-
-lacks-later : (c : ℕ) (front back : List ℕ) → Lacks c (front ++ c ∷ back) → ⊥
-lacks-later c [] back none = none 0 (omega arith) refl
-lacks-later c (b ∷ front) back none = lacks-later c front back (λ i inside. none (suc i) (omega arith))
-
--- a text is cut in one way at the last place of a byte
-cut-same : (c : ℕ) (a b f g : List ℕ) → a ++ c ∷ f ≡ b ++ c ∷ g → Lacks c f → Lacks c g → (a ≡ b) × (f ≡ g)
-cut-same c [] [] f g same m n = (refl, cc)
-cut-same c [] (y ∷ b) f g same m n = absurd (lacks-later c b g (let e : f ≡ b ++ c ∷ g = cc in subst (Lacks c) e m))
-cut-same c (x ∷ a) [] f g same m n = absurd (lacks-later c a f (let e : g ≡ a ++ c ∷ f = cc in subst (Lacks c) e n))
-cut-same c (x ∷ a) (y ∷ b) f g same m n = let tails : a ++ c ∷ f ≡ b ++ c ∷ g = cc in let rest = cut-same c a b f g tails m n in (cc, rest.1)
 
 hash-lacks : (hash : List ℕ) → AllPass is_ascii_hexdigit hash → Lacks 45 hash
 hash-lacks hash all i inside is = let h = all i 0 inside in absurd (false≢true (ap is_ascii_hexdigit (sym is) ∙ h))

@@ -2,6 +2,7 @@ mod Colours
 mod Events
 mod Headings
 mod Keys
+pub mod LastCut
 mod MemberLists
 mod Objects
 mod Readings

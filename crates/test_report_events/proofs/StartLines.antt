@@ -1,5 +1,5 @@
 -- What a line says that starts a test, as the harness or nextest write it.
-use Rattle.std.proofs.Common.{◌≡◌, ◌≢◌, ◌∙◌, ◌++◌, ◌==◌, ◌⊎◌, ◌<◌, ℕ, Bool, Bor, IfSome, MatchOption, true, List, [], ◌∷◌, Option, Some, None, All, ap, arith, codes, inl, inr, ltb-true, option_and_then, refl, subst, sym}
+use Rattle.std.proofs.Common.{◌≡◌, ◌≢◌, ◌∙◌, ◌++◌, ◌<◌, ℕ, Bool, Bor, IfSome, MatchOption, true, List, [], ◌∷◌, Option, Some, None, ap, arith, codes, inl, inr, ltb-true, option_and_then, refl, subst, sym}
 use Rattle.std.specs.List.{AllPass, list_all}
 use Rattle.std.specs.Prelude.{nat_lt}
 use Rattle.std.specs.Str.{IsUtf8}

@@ -1,15 +1,15 @@
 -- The lines that start tests, as Rust's harness and nextest write them.
 use Rattle.std.specs.Prelude.{◌≡◌, ◌⊎◌, ◌++◌, ◌==◌, ◌&&◌, ℕ, Bool, List, codes, nat_le, not}
 
--- no quote, no backslash, and no control character: JSON strings have this byte as it is
+-- the byte is no quote, no backslash and not below 0x20, so a JSON string has it as it is
 abbrev pub is_plain : ℕ → Bool
 is_plain b = nat_le 32 b && not (b == 34) && not (b == 92)
 
--- the line that Rust's harness writes when a test starts whose name has no escapes
+-- the line that Rust's harness writes when a test starts, if its name has no escapes
 abbrev pub harness_line : List ℕ → List ℕ
 harness_line name = codes "{ \"type\": \"test\", \"event\": \"started\", \"name\": \"" ++ (name ++ codes "\" }")
 
--- the line that nextest writes then
+-- the line that nextest writes then, on the same condition
 abbrev pub nextest_line : List ℕ → List ℕ
 nextest_line name = codes "{\"type\":\"test\",\"event\":\"started\",\"name\":\"" ++ (name ++ codes "\"}")
 

@@ -1,6 +1,6 @@
 //! Recognizes the lines of cargo and nextest that are not JSON.
 
-ghost use Rattle.std.specs.Prelude.{◌≡◌, ◌↔◌, ◌++◌, ℕ, List, IfOk, IsTrue, MatchOption, codes, drop, length, nat_eq, ◌&&◌};
+ghost use Rattle.std.specs.Prelude.{◌≡◌, ◌↔◌, ◌++◌, ℕ, List, IfOk, IsTrue, MatchOption, codes, drop, length, ◌&&◌};
 ghost use Rattle.std.specs.Char.{is_ascii_hexdigit};
 ghost use Rattle.std.specs.List.{AllPass};
 ghost use Rattle.std.specs.String.{string_bytes};

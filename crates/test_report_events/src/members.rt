@@ -1,11 +1,11 @@
 //! The members of the JSON object of an event.
 
-ghost use Rattle.std.specs.Prelude.{◌≡◌, ℕ, List, Option, Some, MatchOption, codes, is_some, option_and_then, option_map, if◌then◌else◌};
+ghost use Rattle.std.specs.Prelude.{◌≡◌, Option, Some, codes, option_and_then, option_map, if◌then◌else◌};
 ghost use Rattle.std.specs.Str.{bytes_eq};
 ghost use Rattle.serde_json.specs.Data.{Members as MemberList, object, put};
-ghost use Rattle.serde_json.specs.Find.{as_number, as_str, get};
+ghost use Rattle.serde_json.specs.Find.{as_str, get};
 ghost use Rattle.serde_json.specs.View.{view};
-ghost use Rattle.test_report_events.specs.Event.{EventView, TestEnds, event_view, suite_end_view, text_of_key};
+ghost use Rattle.test_report_events.specs.Event.{TestEnds, event_view, suite_end_view, text_of_key};
 ghost use Rattle.test_report_events.specs.Members.{AreMembersOf};
 ghost use Rattle.test_report_events.specs.Said as said;
 ghost use Rattle.test_report_events.specs.Table.{bench_result, object_said, suite_end_said, suite_said, test_end_said, test_said, typed_said};

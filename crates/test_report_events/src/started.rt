@@ -40,14 +40,14 @@ fn between<'a>(line: &'a [u8], start: &[u8], end: &[u8]) -> Option<&'a [u8]>
     line.strip_prefix(start)?.strip_suffix(end)
 }
 
-/// Returns true if no byte is a quote, a backslash or a control character, so that JSON text has them as they are.
+/// Returns true if no byte is a quote, a backslash or below 0x20, so that a JSON string has them as they are.
 fn are_plain(bytes: &[u8]) -> bool
     ensures { IsTrue result ↔ AllPass spec.is_plain bytes.now }
 {
     bytes.iter().all(|byte| is_plain(*byte))
 }
 
-/// Returns true unless the byte is a quote, a backslash or a control character.
+/// Returns true unless the byte is a quote, a backslash or below 0x20.
 fn is_plain(byte: u8) -> bool
     ensures { result ≡ spec.is_plain byte }
 {

@@ -11,7 +11,7 @@ ghost use Rattle.test_report_run.specs.Note.{test_view};
 
 mod failures;
 mod head;
-mod slowest;
+mod slow_tests;
 mod suites;
 mod tables;
 
@@ -21,7 +21,7 @@ use crate::entry::Entry;
 use crate::form::Form;
 use crate::html::failures::{causes_section, failed_section};
 use crate::html::head::{head, header};
-use crate::html::slowest::slowest_section;
+use crate::html::slow_tests::slowest_section;
 use crate::html::suites::{SuiteRow, suites_section};
 use crate::options::Options;
 use crate::slowest::{SlowTest, Slowest};

@@ -10,7 +10,7 @@ ghost use Rattle.test_report_forms.specs.Junit.{junit_view};
 ghost use Rattle.test_report_forms.specs.JunitSuite.{case_view, cases_view, is_named};
 ghost use Rattle.test_report_forms.specs.Tree.{element_view, tree_view};
 ghost use Rattle.test_report_forms.specs.Why.{why_view};
-ghost use Rattle.test_report_run.specs.Note.{failure_view, kind_view, suite_view, test_view, text_view};
+ghost use Rattle.test_report_run.specs.Note.{failure_view, kind_view, test_view, text_view};
 
 use crate::collected::{Cause, FailedTest, cause_of, shown_failure};
 use crate::element::{Element, Node, push_node};

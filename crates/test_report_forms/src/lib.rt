@@ -1,11 +1,13 @@
 //! Writes the report of a test run: as text for people, as names of failed tests, as commands for GitHub, as
 //! JUnit's XML, as an HTML page, or as Markdown.
 //!
-//! Each of these is a `Form`, which takes the entries of a run one by one. `TextForm`, `GithubForm` and
-//! `NamesForm` append the text of an entry at once. The others append their text at the end of the run.
-//! Control characters of the input, except tab and line feed in output, and characters that change the
-//! direction of writing are written as escapes such as `\u{1b}`, so a report cannot control the reader's
-//! terminal. Only `TextForm` with `raw` keeps them, in the reasons of failures.
+//! Each of these is a `Form`, which takes the entries of a run one by one. An entry is a note of
+//! `test_report_run`, with the reason if a test failed. `TextForm`, `GithubForm` and `NamesForm` append the
+//! text of an entry at once. The others append their text at the end of the run.
+//!
+//! Two kinds of characters of the input are written as escapes such as `\u{1b}`, so that a report cannot
+//! control the reader's terminal: control characters, except tab and line feed in output, and characters
+//! that change the direction of writing. Only `TextForm` with `raw` keeps them, in the reasons of failures.
 //!
 //! This function returns the text that the form for people writes for one note:
 //!

@@ -1,9 +1,9 @@
 -- JUnit's XML says that no test ran.
-use Rattle.std.proofs.Common.{◌≡◌, ◌&&◌, refl, sym, subst, inl, inr, ℕ, Bool, true, false, not, List, [], ◌∷◌, ◌++◌, codes, None}
+use Rattle.std.proofs.Common.{◌≡◌, ◌&&◌, refl, sym, subst, inl, inr, ℕ, Bool, true, false, not, List, [], ◌∷◌, codes, None}
 use Rattle.std.specs.Char.{encode_utf8}
 use Rattle.std.specs.Str.{chars}
 use Rattle.test_report_laws.proofs.CausesHtml.{Says, in-element, line-has, line-kept}
-use Rattle.test_report_laws.proofs.Parts.{OneHas, in-left, in-right, whole-part}
+use Rattle.test_report_laws.proofs.Parts.{OneHas, in-left, in-right, one-last, whole-part}
 use Rattle.test_report_forms.specs.Collected.{no_tests_ran}
 use Rattle.test_report_forms.specs.Junit.{JunitState, all_over, cause_case, close_cases, ended, junit_state, junit_text, junit_tree, own_cases, run_element, with_own, xml_header}
 use Rattle.test_report_forms.specs.JunitSuite.{CasesView, suite_element, suite_start, with_lines, xml_text}
@@ -33,15 +33,11 @@ lines-have e part [] h = absurd h
 lines-have e part (c ∷ es) (inl h) = lines-kept es (line-has e c h)
 lines-have e part (c ∷ es) (inr h) = lines-have (with_line e c) part es h
 
-last-has : {X : Type 0} (P : X → Type 0) (xs : List X) (x : X) → P x → OneHas P (xs ++ x ∷ [])
-last-has P [] x h = inl h
-last-has P (y ∷ xs) x h = inr (last-has P xs x h)
-
 -- the suite of causes is closed
 close-has : (j : JunitState) (part : List ℕ) (cases : List ElementView) (own : CasesView) → OneHas (Has part) cases → Has part (suite_element own None)
     → OneHas (Has part) (close_cases j cases own).over
 close-has j part [] own h is = absurd h
-close-has j part (c ∷ cases) own h is = last-has (Has part) j.over (suite_element own None) is
+close-has j part (c ∷ cases) own h is = one-last (Has part) j.over (suite_element own None) is
 
 own-has : (j : JunitState) (part : List ℕ) (own : CasesView) → OneHas (Has part) own.cases → OneHas (Has part) (with_own j own).over
 own-has j part own h = close-has j part own.cases own h (in-element (lines-have (suite_start own None) part own.cases h))
@@ -53,7 +49,7 @@ shown = refl
 no-tests-case : (own : CasesView) → OneHas (Has (codes "no test ran")) (own_cases true own).cases
 no-tests-case own =
     let case = cause_case (codes "no test ran") (codes "no tests") in
-    last-has (Has (codes "no test ran")) own.cases case.element
+    one-last (Has (codes "no test ran")) own.cases case.element
     (subst (λ part. Has part case.element) shown (name-in-case (codes "no test ran") (codes "no tests")))
 
 pub both-true : (a b : Bool) → a ≡ true → b ≡ false → (a && not b) ≡ true

@@ -6,7 +6,7 @@ use Rattle.std.specs.List.{All, find, fold}
 use Rattle.std.specs.Option.{IfSome, option_map_or}
 use Rattle.std.specs.Prelude.{Contains}
 use Rattle.test_report_laws.proofs.CausesJunit.{both-true}
-use Rattle.test_report_laws.proofs.Parts.{KeptHas, OneHas, all-weaker-named, some-weaker}
+use Rattle.test_report_laws.proofs.Parts.{KeptHas, OneHas, all-weaker-named, one-last, some-weaker}
 use Rattle.test_report_forms.specs.Collected.{CauseView, cause_of_entry, no_tests_ran, shown_failure_of}
 use Rattle.test_report_forms.specs.Entry.{EntryView, LinesDisagree, SuiteNotRun, SuiteOver, TestFailed, TestPassed, TestSkipped}
 use Rattle.test_report_forms.specs.Junit as junit
@@ -102,11 +102,6 @@ lines-have : (P : ElementView → Type 0) (e : ElementView) (es : List ElementVi
 lines-have P e [] h = absurd h
 lines-have P e (c ∷ es) (inl h) = record { one = c; is_child = lines-kept es (line-child e c); is = h }
 lines-have P e (c ∷ es) (inr h) = lines-have P (with_line e c) es h
-
--- lists with one more element
-one-last : {X : Type 0} (P : X → Type 0) (xs : List X) (x : X) → P x → OneHas P (xs ++ x ∷ [])
-one-last P [] x h = inl h
-one-last P (y ∷ xs) x h = inr (one-last P xs x h)
 
 one-kept : {X : Type 0} (P : X → Type 0) (xs ys : List X) → OneHas P xs → OneHas P (xs ++ ys)
 one-kept P [] ys h = absurd h

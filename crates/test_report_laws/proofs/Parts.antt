@@ -31,6 +31,12 @@ abbrev pub OneHas : {X : Type 0} → (X → Type 0) → List X → Type 0
 OneHas P [] = ⊥
 OneHas P (x ∷ xs) = P x ⊎ OneHas P xs
 
+-- an element that is added last is one of the list
+pub one-last : {X : Type 0} (P : X → Type 0) (xs : List X) (x : X) → P x → OneHas P (xs ++ x ∷ [])
+one-last P [] x h = inl h
+one-last P (y ∷ xs) x h = inr (one-last P xs x h)
+
+-- a part of what is written of an element is a part of what is written of the list
 pub one-part : {X : Type 0} (f : X → List ℕ) (part : List ℕ) (xs : List X) → OneHas (λ x. HasPart (f x) part) xs → HasPart (flat_map f xs) part
 one-part f part [] h = absurd h
 one-part f part (x ∷ xs) (inl h) = in-left (flat_map f xs) h

@@ -1,7 +1,8 @@
 -- Why the run of a report does not succeed.
-use Rattle.std.proofs.Common.{◌≡◌, ◌∙◌, ◌++◌, ◌<◌, ℕ, zero, suc, List, [], ◌∷◌, Option, Some, None, IfSome, Bool, ap, arith, false, inl, inr, length, option_map, refl, true, subst, sym}
+use Rattle.std.proofs.Common.{◌≡◌, ◌∙◌, ◌++◌, ◌<◌, ℕ, zero, suc, List, [], ◌∷◌, Option, Some, None, IfSome, ap, arith, inl, inr, length, option_map, refl, true, subst, sym}
 use Rattle.std.specs.List.{All, AllZip, flat_map, slice_index_or}
 use Rattle.std.specs.Prelude.{◌⊎◌, Contains, IsTrue}
+use Rattle.std.proofs.lemmas.Bool.{false_from_ne_true}
 use Rattle.std.proofs.lemmas.List.Elements.{Contains-append_right}
 use Rattle.test_report_forms.specs.Collected.{cause_line, no_tests_ran}
 use Rattle.test_report_forms.specs.Entry.{EntryView, IsEntryOf, IsTestEntry, LinesDisagree, SuiteNotRun, SuiteOver, TestFailed, TestPassed, TestSkipped}
@@ -129,10 +130,6 @@ cause-of limit (LinesDisagree d) reason = (_, refl)
 cause-of limit (SuiteNotRun suite n of) reason = (_, refl)
 cause-of limit (SuiteOver s) reason = absurd (cc)
 
-not-true : (b : Bool) → ¬ (IsTrue b) → b ≡ false
-not-true true fails = absurd (fails refl)
-not-true false fails = refl
-
 -- JUnit's XML, which has the test case of each cause, has one of a reason
 module _ (o : Options) (entries : List EntryView) (end : RunEnd) (text : List ℕ) (is : text ≡ junit_text (junit_tree o entries end))
     (cases : HasJunitCases o entries end) (fails : ¬ (RanNoTests end × IsTrue o.no_tests_pass)) where
@@ -149,7 +146,7 @@ module _ (o : Options) (entries : List EntryView) (end : RunEnd) (text : List �
   has-case (inr none) = record {
     cause = no_test_cause;
     reason = inr (none, refl);
-    has_case = cases.no_tests (ap no_tests_ran none) (not-true o.no_tests_pass (λ pass. fails (none, pass)));
+    has_case = cases.no_tests (ap no_tests_ran none) (false_from_ne_true o.no_tests_pass (λ pass. fails (none, pass)));
     is = is;
   }
 

@@ -83,7 +83,7 @@ FailureIsTold = (r : RunState) → (e : TestEndView) → e.result ≡ Failed
 
 -- Totals are counts over all tests.
 
--- a test of which this holds
+-- the note is of a test, and the rule is true of this test
 abbrev pub is_test : (TestNoteView → Bool) → NoteView → Bool
 is_test rule (TestIs t) = rule t
 is_test rule (Disagrees d) = false
@@ -245,7 +245,7 @@ abbrev pub FailedLineShows : Type 0
 FailedLineShows = (files : List (List EventView)) → 0 < failed_lines_of files
     → ((whole_end files).outcome ≢ outcome.Success) × ((whole_end files).outcome ≢ outcome.NoTestsRun)
 
--- Each suite of a run of which these files and lines are read is sound.
+-- When these files, and these lines of the next file, are read, each open suite is sound. So are the tests outside of suites.
 abbrev pub SuitesAreSound : Type 0
 SuitesAreSound = (files : List (List EventView)) → (events : List EventView) → (r : RunState)
     → r ≡ run_after (run_after_files run_start files) events

@@ -1,15 +1,16 @@
 //! Laws of the report of a test run: facts that follow from the contracts of `test_report_run`,
 //! `test_report_forms` and `test_report_engine`. They say what a success and a failure mean, that each
 //! line that says that a test failed is a failed test of the report, and that no form writes control
-//! characters of the input except tab and line feed, unless `TextForm` is set to keep them.
+//! characters, except tab and line feed. For `TextForm` this is proved if `raw` and `color` are false.
 //!
 //! A law is a function that does nothing. Its contract is the fact. A function whose proof needs the fact
-//! calls the law. This is the end of such a function, `is_in_order` in `CALLING.md`. Its clause says what
-//! the result `true` means. The law is `success_means` of the module `report`:
+//! calls the law. This is the end of such a function, `succeeds_in_order` in `CALLING.md`. Its clause says
+//! what the result means. The law is `success_means` of the module `report`:
 //!
 //! ```rust
-//!     ensures in_order { IfOk result (λ success. IfSome (R.left source.old) (λ input. IsTrue success
-//!         → (files : List (List EventView)) × AllZip AreEventsOf (input ∷ []) files × IsInOrder files)) }
+//!     ensures in_order { IfOk result (λ success. IfSome (R.left source.old) (λ input.
+//!         (files : List (List EventView)) × AllZip AreEventsOf (input ∷ []) files
+//!         × (IsTrue success ↔ Succeeds (whole_end files)) × (IsTrue success → IsInOrder files))) }
 //! {
 //!     success_means();
 //!     let mut report = Report::new(alloc, TextForm::new(alloc, options));

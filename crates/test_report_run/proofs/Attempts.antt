@@ -1,5 +1,5 @@
 -- The number of attempts in a written name.
-use Rattle.std.proofs.Common.{◌≡◌, ◌≢◌, ◌∙◌, ℕ, zero, suc, ◌+◌, ◌-◌, ◌<◌, ◌≤◌, Bool, true, false, List, [], ◌∷◌, ◌++◌, length, length-append, get_or, take, drop, take-append-drop, Some, None, Result, Ok, Err, option_map, refl, ap, sym, subst, arith}
+use Rattle.std.proofs.Common.{◌≡◌, ◌≢◌, ◌∙◌, ℕ, zero, suc, ◌+◌, ◌-◌, ◌<◌, ◌≤◌, Bool, true, false, List, ◌∷◌, ◌++◌, length, length-append, get_or, take, drop, take-append-drop, Some, None, Result, Ok, Err, option_map, refl, ap, sym, subst, arith}
 use Rattle.std.proofs.Math.Logic.{⊎_elim}
 use Rattle.std.proofs.lemmas.Bool.{cases_Bool, cases_lt}
 use Rattle.std.proofs.lemmas.Bool.Decides.{Decides-eqb}
@@ -14,6 +14,7 @@ use Rattle.std.specs.List.{find, range_with_len}
 use Rattle.std.specs.Result.{result_ok}
 use Rattle.std.specs.Str.Parse.{AllDigits, ParsesUnsigned, digits_value}
 use Rattle.std.specs.Str.Pattern.{RFindsChar, SplitsAroundMatch}
+use Rattle.test_report_events.proofs.LastCut.{Lacks, cut-same, lacks-later}
 use Rattle.test_report_run.specs.Running.{CountsAttempts, attempts_of, ends_in_number, split_at, split_of}
 
 -- the first number of a range that passes a test
@@ -41,21 +42,6 @@ attempts-some : (written : List ℕ) (n : ℕ) → 2 ≤ n → n ≤ 1000 → en
 unfolding attempts_of
 attempts-some written n low high is before = find-first (ends_in_number written) 2 999 n low (omega arith) is before
 
--- a byte is nowhere in a text
-abbrev Lacks : ℕ → List ℕ → Type 0
-Lacks c text = (i : ℕ) → i < length text → get_or text i 0 ≡ c → ⊥
-
-lacks-later : (c : ℕ) (front back : List ℕ) → Lacks c (front ++ c ∷ back) → ⊥
-lacks-later c [] back none = none 0 (omega arith) refl
-lacks-later c (b ∷ front) back none = lacks-later c front back (λ i inside. none (suc i) (omega arith))
-
--- a text has one end behind the last place of a byte
-end-same : (c : ℕ) (a b f g : List ℕ) → a ++ c ∷ f ≡ b ++ c ∷ g → Lacks c f → Lacks c g → f ≡ g
-end-same c [] [] f g same m n = cc
-end-same c [] (y ∷ b) f g same m n = absurd (lacks-later c b g (let e : f ≡ b ++ c ∷ g = cc in subst (Lacks c) e m))
-end-same c (x ∷ a) [] f g same m n = absurd (lacks-later c a f (let e : g ≡ a ++ c ∷ f = cc in subst (Lacks c) e n))
-end-same c (x ∷ a) (y ∷ b) f g same m n = let tails : a ++ c ∷ f ≡ b ++ c ∷ g = cc in end-same c a b f g tails m n
-
 -- digits have no `#`
 own : IsNumeralModel (AllDigits 10) (digits_value 10)
 own = numerals_by_value (AllDigits 10) tells_digits
@@ -81,7 +67,7 @@ number-behind : (written front back : List ℕ) (n : ℕ) → SplitsAroundMatch 
 number-behind written front back n h few is =
     let cut = cut-last written front back h in
     let ends = (ends_is Decides-eqb written (35 ∷ decimal n) _ refl).0 is in
-    end-same 35 front _ back (decimal n) (sym cut.0 ∙ ends) cut.1 (decimal-lacks n few)
+    (cut-same 35 front _ back (decimal n) (sym cut.0 ∙ ends) cut.1 (decimal-lacks n few)).1
 
 -- a name without `#`
 pub split-none : (written : List ℕ) → RFindsChar 35 written None → split_of written ≡ None

@@ -1,6 +1,6 @@
 //! The tests that the last line of a suite explains.
 
-ghost use Rattle.std.specs.Prelude.{◌≡◌, ◌+◌, ◌-◌, ◌≤◌, ◌<◌, ◌^◌, ℕ, false, nat_le, min};
+ghost use Rattle.std.specs.Prelude.{◌≡◌, ◌+◌, ◌-◌, ◌≤◌, ◌<◌, ◌^◌, false, nat_le, min};
 ghost use Rattle.std.specs.Option.{option_map_or};
 ghost use Rattle.test_report_run.specs.LastLine.{ended_of, room_of, not_started_of, explanation_of, flaky_failed, is_contradicted};
 

@@ -1,14 +1,10 @@
 //! A suite that is over.
 
-ghost use Rattle.std.specs.Prelude.{◌≡◌, ◌++◌, ◌∷◌, [], ◌+◌, is_some, IfOk, OnOk, map, option_map, true, length, if◌then◌else◌, ◌≤◌};
-ghost use Rattle.std.specs.Option.{option_to_list};
-ghost use Rattle.run_events_stats.specs.Counters.{with_test};
-ghost use Rattle.test_report_run.specs.Counted.{view_of_finish};
-ghost use Rattle.test_report_run.specs.Note.{Disagrees, Fails, HasCrashed, HasNoEnd, crash_view, disagreement_view, kind_view, note_view};
+ghost use Rattle.std.specs.Prelude.{◌≡◌, ◌++◌, ◌∷◌, [], ◌+◌, is_some, IfOk, OnOk, map, true, length, if◌then◌else◌, ◌≤◌};
+ghost use Rattle.test_report_run.specs.Note.{HasCrashed, HasNoEnd, crash_view, kind_view, note_view};
 ghost use Rattle.test_report_run.specs.Over as spec;
 ghost use Rattle.test_report_run.specs.Running.{names_of, running_test_view};
-ghost use Rattle.test_report_run.specs.Suite.{flaky_view, over_view, state_of, test_note};
-ghost use Rattle.test_report_run.specs.declared.counted.Finish.TheVariants as finish;
+ghost use Rattle.test_report_run.specs.Suite.{flaky_view, over_view, state_of};
 
 use crate::counted::{Finish, count};
 use crate::error::{RunError, one_more};

@@ -8,7 +8,7 @@ ghost use Rattle.test_report_run.specs.Run.{run_state};
 
 mod lines;
 mod suites;
-mod tests;
+mod test_lines;
 
 use crate::error::{RunError, one_more};
 use crate::note::{Note, RunEnd, TestOutcome};

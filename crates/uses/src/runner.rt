@@ -6,7 +6,7 @@ ghost use Rattle.std.specs.List.{filter_map, range_with_len};
 ghost use Rattle.run_events.specs.Counters.{TestUnit, stats_of, unit_view};
 ghost use Rattle.run_events.specs.Described.{described_result};
 ghost use Rattle.run_events.specs.Attempts.{attempts_of, view_of};
-ghost use Rattle.uses.specs.Runner.{last_stderr, left_by, numbered_of, stderr_of, told_name, told_stats, told_unit, view_of_attempts};
+ghost use Rattle.uses.specs.Runner.{last_stderr, left_by, numbered_of, told_name, told_stats, told_unit, view_of_attempts};
 
 use crate::of_run_events::{EndedAttempt, epoch, status_of};
 use run_events::attempts::{ExecutionStatuses, RetryData};

@@ -26,9 +26,10 @@
  *   no other argument. While a function runs, no other thread writes the memory of its arguments, and
  *   none reads the memory that it writes. Two threads may read the same bytes at once.
  *
- * Lengths, offsets and limits are in bytes. An enumeration is a uint32_t. Its table is the list of
- * constants with its prefix. Any number may be passed as a code: if it is not in the table and not
- * ignored, the function returns DEODARSIEVE_BAD_CODE.
+ * Lengths, offsets and limits are in bytes. An enumeration is a uint32_t. The constants of an
+ * enumeration share a prefix, such as DEODARSIEVE_RESULT_, and are called its table. Any number may be
+ * passed as a code: if it is not in the table and not ignored, the function returns
+ * DEODARSIEVE_BAD_CODE.
  */
 #ifndef DEODARSIEVE_H
 #define DEODARSIEVE_H
@@ -55,9 +56,9 @@ extern "C" {
 uint32_t deodarsieve_version(void);
 
 /*
- * Does nothing. The number in its name changes with the layout of a struct and the signature of a
- * function. With GCC, Clang and compatible compilers, every file that includes this header refers to
- * it. So a program does not link with a library that has other layouts.
+ * Does nothing. The number in its name is raised when the layout of a struct or the signature of a
+ * function changes. With GCC, Clang and compatible compilers, every file that includes this header
+ * refers to it. So a program does not link with a library that has other layouts.
  */
 void deodarsieve_layouts_1(void);
 
@@ -96,7 +97,7 @@ __attribute__((used)) static void (*const deodarsieve_layouts)(void) = deodarsie
 #define DEODARSIEVE_RESULT_TIMEOUT_PASS 8u       /* timed out; counts as passed for a test */
 #define DEODARSIEVE_RESULT_TIMEOUT_FAIL 9u       /* timed out; counts as failed */
 
-/* How a flaky test counts. A test is flaky if it succeeded after at least one failed attempt. */
+/* How a flaky test counts. A test is flaky if it had several attempts and the last one succeeded. */
 #define DEODARSIEVE_FLAKY_PASS 0u
 #define DEODARSIEVE_FLAKY_FAIL 1u
 
@@ -178,10 +179,10 @@ typedef struct deodarsieve_slice {
 
 /*
  * Finds the part of a test's output that explains its failure. This is the first of these that is
- * there:
+ * present:
  *
  * - the message of the last panic in standard error;
- * - standard error from its first line that begins with `Error: ` to its end;
+ * - standard error from its first line that begins with `Error: ` on, without white space at the end;
  * - the line of standard output that has `note: test did not panic as expected`.
  *
  * `out` is standard output and `err` standard error. The bytes of a stream that was not captured are
@@ -269,8 +270,8 @@ typedef struct deodarsieve_run_stats {
 
 /*
  * Counts a finished test: adds 1 to `finished_count`, and to each of the counters from `passed` to
- * `exec_failed` whose comment describes the test. Returns DEODARSIEVE_BAD_CODE if a code is not in its table, and
- * DEODARSIEVE_COUNTER_FULL if one of these counters is SIZE_MAX.
+ * `exec_failed` whose comment describes the test. Returns DEODARSIEVE_BAD_CODE if a code is not in its
+ * table, and DEODARSIEVE_COUNTER_FULL if one of these counters is SIZE_MAX.
  */
 uint32_t deodarsieve_run_stats_count_test(deodarsieve_run_stats *stats,
                                           const deodarsieve_test_view *test);

@@ -52,7 +52,7 @@
 //!
 //! # Panics
 //!
-//! A function panics if a condition that its types do not express is false, in release builds too.
+//! A function panics, in release builds too, if its caller breaks a condition that the types do not express.
 //! The section `Panics` of its documentation has the condition, and the message names the function
 //! that tests it. Counters never wrap: [`RunStats::try_on_test_view`] returns an error if a counter is
 //! full, and [`RunStats::on_test_view`] panics.

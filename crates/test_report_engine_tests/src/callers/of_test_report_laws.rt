@@ -1,10 +1,11 @@
 //! The caller that the page on calling `test_report_laws` shows.
 
-ghost use Rattle.std.specs.Prelude.{◌≡◌, ◌∷◌, [], false, IfOk, IfSome, IsTrue, List};
+ghost use Rattle.std.specs.Prelude.{◌≡◌, ◌↔◌, ◌∷◌, [], false, IfOk, IfSome, IsTrue, List};
 ghost use Rattle.std.specs.List.{AllZip};
 ghost use Rattle.test_report_engine.specs.Lines.{AreEventsOf};
 ghost use Rattle.test_report_events.specs.Event.{EventView};
-ghost use Rattle.test_report_laws.specs.Status.{IsInOrder};
+ghost use Rattle.test_report_laws.specs.Status.{IsInOrder, Succeeds};
+ghost use Rattle.test_report_laws.specs.Whole.{whole_end};
 
 use program_io::device::{Sink, Source};
 use run_events_stats::outcome::RunOutcome;
@@ -15,9 +16,9 @@ use test_report_forms::options::Options;
 use test_report_forms::text::TextForm;
 use test_report_laws::report::success_means;
 
-/// Writes the report of a run, and returns true if the run succeeded. If so, its lines are in order. For
-/// example, no line says that a test failed.
-pub fn is_in_order<R: Source, W: Sink>(
+/// Writes the report of a run, and returns true if and only if the run succeeded. If so, its lines are in
+/// order. For example, no line says that a test failed.
+pub fn succeeds_in_order<R: Source, W: Sink>(
     alloc: Global,
     source: &mut R,
     sink: &mut W,
@@ -25,8 +26,9 @@ pub fn is_in_order<R: Source, W: Sink>(
 ) -> Result<bool, Fault>
     requires source_works { R.failed source.old ≡ false }
     requires sink_works { W.failed sink.old ≡ false }
-    ensures in_order { IfOk result (λ success. IfSome (R.left source.old) (λ input. IsTrue success
-        → (files : List (List EventView)) × AllZip AreEventsOf (input ∷ []) files × IsInOrder files)) }
+    ensures in_order { IfOk result (λ success. IfSome (R.left source.old) (λ input.
+        (files : List (List EventView)) × AllZip AreEventsOf (input ∷ []) files
+        × (IsTrue success ↔ Succeeds (whole_end files)) × (IsTrue success → IsInOrder files))) }
 {
     success_means();
     let mut report = Report::new(alloc, TextForm::new(alloc, options));

@@ -17,21 +17,6 @@ use test_report_run::note::RunEnd;
 const POLICY: &str =
     "default-src 'none'; style-src 'unsafe-inline'; base-uri 'none'; form-action 'none'";
 
-/// Returns a `meta` element with a content.
-#[tactic(auto, unfolding(crate::specs::HtmlParts::meta))]
-fn meta(
-    alloc: Global,
-    attribute: &'static str,
-    name: &str,
-    content: &str,
-) -> Result<Element, AllocError>
-    ensures { IfOk result (λ e. element_view e ≡ spec.meta attribute.now name.now content.now) }
-{
-    Element::new(alloc, "meta")
-        .with_attribute(alloc, attribute, name)?
-        .with_attribute(alloc, "content", content)
-}
-
 /// Returns the head of the page.
 #[tactic(auto, unfolding(crate::specs::HtmlParts::head))]
 pub(crate) fn head(alloc: Global, outcome: RunOutcome) -> Result<Element, AllocError>
@@ -89,6 +74,21 @@ fn color_scheme(alloc: Global) -> Result<Element, AllocError>
     ensures { IfOk result (λ e. element_view e ≡ spec.color_scheme) }
 {
     meta(alloc, "name", "color-scheme", "light dark")
+}
+
+/// Returns a `meta` element with a content.
+#[tactic(auto, unfolding(crate::specs::HtmlParts::meta))]
+fn meta(
+    alloc: Global,
+    attribute: &'static str,
+    name: &str,
+    content: &str,
+) -> Result<Element, AllocError>
+    ensures { IfOk result (λ e. element_view e ≡ spec.meta attribute.now name.now content.now) }
+{
+    Element::new(alloc, "meta")
+        .with_attribute(alloc, attribute, name)?
+        .with_attribute(alloc, "content", content)
 }
 
 /// Returns the title of the page.

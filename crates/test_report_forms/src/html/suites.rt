@@ -9,6 +9,7 @@ ghost use Rattle.test_report_run.specs.Note.{suite_view, text_view};
 use crate::element::Element;
 use crate::html::tables::{classed, empty_bar, row_header, section, table, time_cell, with_part};
 use crate::shown::push_name;
+use run_events_stats::stats::RunStats;
 use std::alloc::{AllocError, Global};
 use std::fmt::Write;
 use test_report_run::note::{RunEnd, SuiteNote};
@@ -90,25 +91,25 @@ impl Numbers {
     fn of_suite(suite: &SuiteNote) -> Numbers
         ensures { result ≡ spec.numbers_of_suite (suite_view suite.now) }
     {
-        let (finished, passed) = (suite.stats.finished_count, suite.stats.passed);
-        Numbers {
-            passed: passed as u128,
-            failed: finished.saturating_sub(passed) as u128,
-            skipped: suite.skipped,
-            not_run: suite.not_run,
-        }
+        Numbers::of(&suite.stats, suite.skipped, suite.not_run)
     }
 
     /// Returns the numbers of a run.
     pub(crate) fn of_run(end: &RunEnd) -> Numbers
         ensures { result ≡ spec.numbers_of_run end.now }
     {
-        let (finished, passed) = (end.stats.finished_count, end.stats.passed);
+        Numbers::of(&end.stats, end.skipped, end.not_run)
+    }
+
+    /// Returns the numbers of tests: of those that finished, by their statistics, and of the others.
+    fn of(stats: &RunStats, skipped: u128, not_run: u128) -> Numbers
+        ensures { result ≡ spec.numbers_of stats.now.finished_count stats.now.passed skipped not_run }
+    {
         Numbers {
-            passed: passed as u128,
-            failed: finished.saturating_sub(passed) as u128,
-            skipped: end.skipped,
-            not_run: end.not_run,
+            passed: stats.passed as u128,
+            failed: stats.finished_count.saturating_sub(stats.passed) as u128,
+            skipped,
+            not_run,
         }
     }
 
@@ -132,7 +133,7 @@ impl Numbers {
 
     /// Returns the numbers in words.
     #[tactic(auto, unfolding(crate::specs::HtmlParts::words))]
-    pub(crate) fn words(&self, alloc: Global) -> Result<Element, AllocError>
+    fn words(&self, alloc: Global) -> Result<Element, AllocError>
         ensures { IfOk result (λ e. element_view e ≡ spec.words self.now) }
     {
         let words = self.words_text(alloc)?;

@@ -3,8 +3,8 @@
 //! and cargo nextest, in one file or several.
 //!
 //! Make a `Report` in a form of `test_report_forms`, and call `read_file` for each file and then `finish`.
-//! Call `read_piece` instead to do something between the pieces of a file, for example to show how far the
-//! run is.
+//! To do something between the pieces of a file, such as showing how far the run is, call `read_piece`
+//! instead of `read_file`.
 //!
 //! These calls report a run of one file, and return true if it succeeded:
 //!

@@ -3,7 +3,7 @@
 
 mod failures;
 mod head;
-mod slowest;
+mod slow_tests;
 mod suites;
 mod tables;
 
@@ -13,7 +13,7 @@ use crate::test_report_forms::entry::Entry;
 use crate::test_report_forms::form::Form;
 use crate::test_report_forms::html::failures::{causes_section, failed_section};
 use crate::test_report_forms::html::head::{head, header};
-use crate::test_report_forms::html::slowest::slowest_section;
+use crate::test_report_forms::html::slow_tests::slowest_section;
 use crate::test_report_forms::html::suites::{SuiteRow, suites_section};
 use crate::test_report_forms::options::Options;
 use crate::test_report_forms::slowest::{SlowTest, Slowest};

@@ -3,7 +3,7 @@
 
 mod lines;
 mod suites;
-mod tests;
+mod test_lines;
 
 use crate::test_report_events::event::Event;
 use crate::test_report_run::error::{RunError, one_more};

@@ -1,6 +1,6 @@
 // Made by tools/erase from crates/run_events_attempts/src/lib.rt. Do not edit.
-//! The attempts of a finished test, whether together they are a success, flaky or a failure
-//! (`ExecutionDescription`), and times of the clock (`Moment`).
+//! The attempts of a finished test. `ExecutionDescription` says whether the test succeeded, was flaky or
+//! failed. `Moment` is a date and time.
 //!
 //! A function that returns the result of a test in one word:
 //!

@@ -9,7 +9,7 @@
 //! counters is one read of each, and a pass over the lines of a test run parses each as JSON.
 //!
 //! The exit status is 1 if a call takes more than 1.1 times as long as the library's and 25 ns
-//! more, or if an extraction takes more passes than its limit. The 25 ns are for the searcher that
+//! more, or if a call takes more passes than its limit. The 25 ns are for the searcher that
 //! bstr builds at each search. If a result is wrong, the program panics.
 
 /// Makes an `Option` of a step of the proved library: `None` without the feature `archive`.

@@ -1,8 +1,4 @@
-use Rattle.std.proofs.Common.{refl, subst}
-use Rattle.std.specs.Str.{IsUtf8}
 use Rattle.test_report_events.proofs.StartLines.{start-says}
-use Rattle.test_report_events.specs.Event.{TestStarts}
-use Rattle.test_report_events.specs.Line.{LineSays}
 use Rattle.test_report_events.proofs.started.started_test.Goals as goal
 
 pub returns-in-Ok : goal.returns-in-Ok

@@ -13,13 +13,6 @@ use deodarsieve::RunOutcome;
 const POLICY: &str =
     "default-src 'none'; style-src 'unsafe-inline'; base-uri 'none'; form-action 'none'";
 
-/// Returns a `meta` element with a content.
-fn meta(attribute: &'static str, name: &str, content: &str) -> Element {
-    Element::new("meta")
-        .with_attribute(attribute, name)
-        .with_attribute("content", content)
-}
-
 /// Returns the head of the page.
 pub(crate) fn head(outcome: RunOutcome) -> Element {
     metas()
@@ -54,6 +47,13 @@ fn viewport() -> Element {
 /// Returns the `meta` element with the colour schemes of the page, light and dark.
 fn color_scheme() -> Element {
     meta("name", "color-scheme", "light dark")
+}
+
+/// Returns a `meta` element with a content.
+fn meta(attribute: &'static str, name: &str, content: &str) -> Element {
+    Element::new("meta")
+        .with_attribute(attribute, name)
+        .with_attribute("content", content)
 }
 
 /// Returns the title of the page.

@@ -7,6 +7,7 @@ use crate::test_report_forms::html::tables::{
 };
 use crate::test_report_forms::shown::push_name;
 use crate::test_report_run::note::{RunEnd, SuiteNote};
+use deodarsieve::RunStats;
 
 /// How many tests passed, and how many did not.
 #[derive(Clone, Copy)]
@@ -71,23 +72,21 @@ fn suite_name(name: &Option<String>) -> String {
 impl Numbers {
     /// Returns the numbers of a suite.
     fn of_suite(suite: &SuiteNote) -> Numbers {
-        let (finished, passed) = (suite.stats.finished_count, suite.stats.passed);
-        Numbers {
-            passed: passed as u128,
-            failed: finished.saturating_sub(passed) as u128,
-            skipped: suite.skipped,
-            not_run: suite.not_run,
-        }
+        Numbers::of(&suite.stats, suite.skipped, suite.not_run)
     }
 
     /// Returns the numbers of a run.
     pub(crate) fn of_run(end: &RunEnd) -> Numbers {
-        let (finished, passed) = (end.stats.finished_count, end.stats.passed);
+        Numbers::of(&end.stats, end.skipped, end.not_run)
+    }
+
+    /// Returns the numbers of tests: of those that finished, by their statistics, and of the others.
+    fn of(stats: &RunStats, skipped: u128, not_run: u128) -> Numbers {
         Numbers {
-            passed: passed as u128,
-            failed: finished.saturating_sub(passed) as u128,
-            skipped: end.skipped,
-            not_run: end.not_run,
+            passed: stats.passed as u128,
+            failed: stats.finished_count.saturating_sub(stats.passed) as u128,
+            skipped,
+            not_run,
         }
     }
 
@@ -105,7 +104,7 @@ impl Numbers {
     }
 
     /// Returns the numbers in words.
-    pub(crate) fn words(&self) -> Element {
+    fn words(&self) -> Element {
         let words = self.words_text();
         classed("div", "words").with_text(words.as_str())
     }

@@ -1,4 +1,4 @@
-// Made by tools/erase from crates/test_report_forms/src/html/slowest.rt. Do not edit.
+// Made by tools/erase from crates/test_report_forms/src/html/slow_tests.rt. Do not edit.
 //! The slowest tests.
 
 use crate::test_report_forms::element::Element;
@@ -12,7 +12,7 @@ pub(crate) fn slowest_section(slowest: &[SlowTest]) -> Option<Element> {
     slowest.first().map(|first| slow_table(first.time, slowest))
 }
 
-/// Returns the table of slow tests, the slowest of which took this time.
+/// Returns the table of the slowest tests. `slowest` is the time of the slowest one, in microseconds.
 fn slow_table(slowest: u64, tests: &[SlowTest]) -> Element {
     let rows = with_slow_rows(Element::new("tbody"), slowest, tests);
     let table = table("Test", "Share of the slowest", rows);

@@ -24,7 +24,7 @@ pub(crate) fn slowest_section(
     }
 }
 
-/// Returns the table of slow tests, the slowest of which took this time.
+/// Returns the table of the slowest tests. `slowest` is the time of the slowest one, in microseconds.
 #[tactic(auto, unfolding(crate::specs::HtmlParts::slow_table))]
 fn slow_table(alloc: Global, slowest: u64, tests: &[SlowTest]) -> Result<Element, AllocError>
     ensures { IfOk result (λ e. element_view e ≡ spec.slow_table slowest (map slow_line_view tests.now)) }

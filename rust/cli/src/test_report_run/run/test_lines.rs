@@ -1,4 +1,4 @@
-// Made by tools/erase from crates/test_report_run/src/run/tests.rt. Do not edit.
+// Made by tools/erase from crates/test_report_run/src/run/test_lines.rt. Do not edit.
 //! The starts and the ends of tests.
 
 use crate::test_report_events::event::{TestDetails, TestResult};
@@ -10,22 +10,6 @@ use crate::test_report_run::running::RunningTest;
 use crate::test_report_run::suite::OverTest;
 
 impl TestRun {
-    /// Returns the position of the open suite that a starting test with this name belongs to, or `None` if no
-    /// suite is open.
-    fn suite_of(&self, name: &str) -> Option<usize> {
-        if self.suites.len() == 1 {
-            return Some(0);
-        }
-        let named = match name.split_once('$') {
-            Some((key, _)) => self.open_suite(Some(key)),
-            None => None,
-        };
-        if named.is_some() {
-            return named;
-        }
-        self.open_suite(None).or(self.suites.len().checked_sub(1))
-    }
-
     /// Takes the start of a test.
     pub(crate) fn on_test_started(&mut self, name: &str) -> Result<(), RunError> {
         let number = self.count_start(name)?;
@@ -45,6 +29,22 @@ impl TestRun {
                 Ok(self.outside.name.number)
             }
         }
+    }
+
+    /// Returns the position of the open suite that a starting test with this name belongs to, or `None` if no
+    /// suite is open.
+    fn suite_of(&self, name: &str) -> Option<usize> {
+        if self.suites.len() == 1 {
+            return Some(0);
+        }
+        let named = match name.split_once('$') {
+            Some((key, _)) => self.open_suite(Some(key)),
+            None => None,
+        };
+        if named.is_some() {
+            return named;
+        }
+        self.open_suite(None).or(self.suites.len().checked_sub(1))
     }
 
     /// Takes the end of a test.

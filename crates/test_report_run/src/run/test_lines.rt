@@ -17,24 +17,6 @@ use std::alloc::Global;
 use test_report_events::event::{TestDetails, TestResult};
 
 impl TestRun {
-    /// Returns the position of the open suite that a starting test with this name belongs to, or `None` if no
-    /// suite is open.
-    fn suite_of(&self, name: &str) -> Option<usize>
-        ensures { result ≡ spec.suite_place (run_state self.now) name.now }
-    {
-        if self.suites.len() == 1 {
-            return Some(0);
-        }
-        let named = match name.split_once('$') {
-            Some((key, _)) => self.open_suite(Some(key)),
-            None => None,
-        };
-        if named.is_some() {
-            return named;
-        }
-        self.open_suite(None).or(self.suites.len().checked_sub(1))
-    }
-
     /// Takes the start of a test.
     pub(crate) fn on_test_started(&mut self, alloc: Global, name: &str) -> Result<(), RunError>
         ensures { OnOk result (run_state self.new ≡ spec.test_starts (run_state self.old) name.now) }
@@ -60,6 +42,24 @@ impl TestRun {
                 Ok(self.outside.name.number)
             }
         }
+    }
+
+    /// Returns the position of the open suite that a starting test with this name belongs to, or `None` if no
+    /// suite is open.
+    fn suite_of(&self, name: &str) -> Option<usize>
+        ensures { result ≡ spec.suite_place (run_state self.now) name.now }
+    {
+        if self.suites.len() == 1 {
+            return Some(0);
+        }
+        let named = match name.split_once('$') {
+            Some((key, _)) => self.open_suite(Some(key)),
+            None => None,
+        };
+        if named.is_some() {
+            return named;
+        }
+        self.open_suite(None).or(self.suites.len().checked_sub(1))
     }
 
     /// Takes the end of a test.

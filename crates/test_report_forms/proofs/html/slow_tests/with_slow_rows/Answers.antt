@@ -4,7 +4,7 @@ use Rattle.test_report_forms.proofs.Lines.{lines_next}
 use Rattle.test_report_forms.specs.HtmlParts.{slow_row}
 use Rattle.test_report_forms.specs.List.{slow_line_view}
 use Rattle.test_report_forms.specs.Tree.{element_view, with_line}
-use Rattle.test_report_forms.proofs.html.slowest.with_slow_rows.Goals as goal
+use Rattle.test_report_forms.proofs.html.slow_tests.with_slow_rows.Goals as goal
 
 pub loop-test-preserved : goal.loop-test-preserved
 loop-test-preserved c =
