@@ -43,8 +43,9 @@ pub struct ExecutionStatusesIter<'a, S: OutputSpec> {
     # The crates are modules.
     (
         "run_events/src/lib.rt",
-        """//! Most of it is in the crates `run_events_..`, which this crate re-exports. So code needs only this
-//! crate. Contracts that name definitions of a crate `run_events_..` need that crate, too.
+        """//! Most of it is in the crates `run_events_..`. This crate re-exports their modules, and most of their
+//! definitions, so your crate needs only this one. If a definition or a proof of yours names a declared
+//! type, it also needs the crate that declares the type.
 //!
 """,
         "",

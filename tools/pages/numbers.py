@@ -1,8 +1,9 @@
 """Checks numbers of a page against what a command prints.
 
 A comment right after a number, `<!-- count: COMMAND -->`, has the command that prints it. With `about:` in
-place of `count:` the number may differ by a twentieth of what the command prints. The number is
-written in digits, with or without commas, or as a word from `zero` to `twelve`. A reader of the page does not see the comment.
+place of `count:` the number may differ by a twentieth of what the command prints. The number is written
+in digits, with or without commas, or as a word from `zero` to `twenty`. With `count:` it may also be a
+version such as `1.95`. A reader of the page does not see the comment.
 """
 
 import re
@@ -11,7 +12,11 @@ from .commands import run_shell
 
 MARK = re.compile(r"(?:(?<=[\s|])|^)[*`(]*(\S*?)[*`]*<!-- (count|about): (.+?) -->", re.M)
 ANY_MARK = re.compile(r"<!-- *(?:count|about)\b")
-WORDS = "zero one two three four five six seven eight nine ten eleven twelve".split()
+WORDS = (
+    "zero one two three four five six seven eight nine ten eleven twelve "
+    "thirteen fourteen fifteen sixteen seventeen eighteen nineteen twenty"
+).split()
+VERSION = re.compile(r"\d+(\.\d+)+")
 LOGIC = re.compile(r"\blogic ([0-9a-f]{16})\b")
 
 
@@ -24,6 +29,10 @@ def value_of(number):
 
 def fault_of(number, kind, command, top):
     """Returns what is wrong with a number that a command prints, exactly or about so, or None."""
+    if VERSION.fullmatch(number) and kind == "count":
+        status, printed = run_shell(command, top, "-euo", "pipefail")
+        right = status == 0 and printed.strip() == number
+        return None if right else f"the version {number} is {printed.strip()} by `{command}`"
     value = value_of(number)
     if value is None:
         return f"`{number}` is no number, and has a command that counts"

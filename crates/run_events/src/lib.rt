@@ -1,8 +1,9 @@
 //! The events that a test runner sends to its reporters, and the types in them: results, output and
 //! errors of child processes, attempts, levels, counters, summaries and outcomes.
 //!
-//! Most of it is in the crates `run_events_..`, which this crate re-exports. So code needs only this
-//! crate. Contracts that name definitions of a crate `run_events_..` need that crate, too.
+//! Most of it is in the crates `run_events_..`. This crate re-exports their modules, and most of their
+//! definitions, so your crate needs only this one. If a definition or a proof of yours names a declared
+//! type, it also needs the crate that declares the type.
 //!
 //! This returns the part of a test's output that explains its failure, or `None`. `new` must not be
 //! called for a failed test whose output was not loaded, which `can_describe` tests:

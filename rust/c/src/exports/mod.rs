@@ -1,5 +1,6 @@
 // Made by tools/erase from crates/deodarsieve/src/lib.rt. Do not edit.
-//! The C interface of the libraries in this repository, for any language that can call C.
+//! The C interface of `output_slice`, and of the counters, results, levels, outcomes and repeated runs of
+//! the crates `run_events_..`, for any language that can call C.
 //!
 //! The header `deodarsieve.h` declares every function, with its result and its preconditions. Each
 //! function checks the codes and numbers in its arguments, calls these libraries, and writes the result
