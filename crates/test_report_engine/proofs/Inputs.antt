@@ -143,10 +143,6 @@ module _ {F : Type 0} (line : F → EntryView → List ℕ) (last : F → List E
             (writes-then line last Knows old mid new (line_notes r e) (notes_of_input (run_of mid.run) es) b m w first.writes others.writes);
       }
 
-  -- no bytes lead to the same state
-  pub leads-none : (old : Report F) (begun : List ℕ) (b : Option (List ℕ)) → LeadsTo line last Knows old old begun begun [] b b
-  leads-none old begun b = record { reads = λ rest end w read. read; starts = λ rest w starts. starts }
-
   -- bytes, and then others
   pub leads-then : (old mid new : Report F) (x y z p q : List ℕ) (b m w : Option (List ℕ)) → LeadsTo line last Knows old mid x y p b m
       → LeadsTo line last Knows mid new y z q m w → LeadsTo line last Knows old new x z (p ++ q) b w

@@ -91,8 +91,8 @@ abbrev pub AnnouncedAreCounted : Type 0
 AnnouncedAreCounted = (files : List (List EventView))
     → announced_of files ≤ (whole_end files).stats.finished_count + (whole_end files).skipped + (whole_end files).not_run
 
--- A suite ends in order by its last line, while tests with these names run. So its last lines agree with its tests, no test failed, and each of the
--- running tests was skipped.
+-- the last line of a suite is in order, while tests with these names run: it has no failed verdict, counts no failed test, and counts the passed tests
+-- as they are; and each of the running tests was skipped
 pub record EndsInOrder (s : SuiteState) (names : List (List ℕ)) : Type 0 where
   pub numbers : Agrees (numbers_of s.said) (s.stats.passed + passed_in (last_notes s names)) 0
   pub no_test_lost : skipped_in (last_notes s names) ≡ length names

@@ -4,7 +4,7 @@
 //! `include/deodarsieve.h` declares their functions and documents the conditions of each call. The
 //! README shows how to install the library and how to link it.
 //!
-//! The module [`exports`] has the functions. Each of them converts its arguments, makes a call of the
+//! The module [`exports`] has the functions. Each of them converts its arguments, calls the
 //! crate `deodarsieve`, and converts the result. From Rust, use that crate instead: this one has no
 //! stable Rust API, and its functions are public for its tests.
 //!

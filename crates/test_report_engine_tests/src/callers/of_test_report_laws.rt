@@ -16,8 +16,9 @@ use test_report_forms::options::Options;
 use test_report_forms::text::TextForm;
 use test_report_laws::report::success_means;
 
-/// Writes the report of a run, and returns true if and only if the run succeeded. If so, its lines are in
-/// order. For example, no line says that a test failed.
+/// Returns true if and only if the run of a source succeeded. If so, its lines are in order: for example,
+/// no line says that a test failed. The report is written to the sink, as by the caller of
+/// `test_report_engine`, whose contract says which text it is.
 pub fn succeeds_in_order<R: Source, W: Sink>(
     alloc: Global,
     source: &mut R,
