@@ -97,7 +97,7 @@ __attribute__((used)) static void (*const deodarsieve_layouts)(void) = deodarsie
 #define DEODARSIEVE_RESULT_TIMEOUT_PASS 8u       /* timed out; counts as passed for a test */
 #define DEODARSIEVE_RESULT_TIMEOUT_FAIL 9u       /* timed out; counts as failed */
 
-/* How a flaky test counts. A test is flaky if it had several attempts and the last one succeeded. */
+/* How a flaky test counts. A test is flaky if it had more than one attempt and the last one succeeded. */
 #define DEODARSIEVE_FLAKY_PASS 0u
 #define DEODARSIEVE_FLAKY_FAIL 1u
 
