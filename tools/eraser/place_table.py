@@ -44,8 +44,8 @@ pub struct ExecutionStatusesIter<'a, S: OutputSpec> {
     (
         "run_events/src/lib.rt",
         """//! Most of it is in the crates `run_events_..`. This crate re-exports their modules, and most of their
-//! definitions, so your crate needs only this one. If a definition or a proof of yours names a declared
-//! type, it also needs the crate that declares the type.
+//! definitions, so your code needs only this one. If one of your definitions or proofs uses a type that a
+//! crate `run_events_..` declares, add that crate to the line of your crate in `crates.txt`.
 //!
 """,
         "",

@@ -5,8 +5,8 @@
 //! NAME` allocates its argument, then the values that it passes to the call, and then makes the
 //! call. It prints one line. After a call with the right result it allocates nothing, so the
 //! allocation that failed is one of the call or one before it. Only `long-error` and `many-errors`,
-//! whose values are large, allocate after the call. They are run without failing allocations, and
-//! test that such calls succeed. A line has the name of the call and its result:
+//! which pass large values, allocate after the call. No allocation is made to fail for these two: they
+//! test that a call with large values succeeds. A line has the name of the call and its result:
 //!
 //! - `not reached`: an allocation failed before the call;
 //! - `out of memory`: the call returned this error, and what it borrowed is unchanged;

@@ -1,11 +1,11 @@
-//! The C interface to the extraction of output, the counters, results, levels, outcomes and repeated
+//! The C interface to the extraction from output, the counters, results, levels, outcomes and repeated
 //! runs, for any language that can call C.
 //!
-//! The header `deodarsieve.h` declares every function, with its result and its preconditions. Each
-//! function checks the codes and numbers in its arguments, calls the libraries, and writes the result
-//! through a pointer. Its return value is one of the constants in [`status`]. If this is not `OK`, it
-//! writes nothing. An enumeration is passed as a number, its code. The functions of [`version`] call no
-//! library and return no status.
+//! The header `deodarsieve.h` declares every function, with its result and its preconditions. An
+//! enumeration is passed as a number, its code. Each function checks the codes and numbers in its
+//! arguments, calls the library that does the work, and writes the result through a pointer. Its
+//! return value is one of the constants in [`status`]. If this is not `OK`, it writes nothing. The
+//! functions of [`version`] call no library and return no status.
 #![tactic(auto)]
 
 mod codes;

@@ -103,12 +103,12 @@ fn note_slice(stdout: Option<&[u8]>, end: usize) -> Option<TestOutputErrorSlice<
     })
 }
 
-/// Returns the last panic message in `stderr`, without the white space at the end, or `None`.
+/// Returns `stderr` from its last panic message to the end, without the white space there, or `None`.
 ///
-/// The message begins at the last head: `thread '`, a name and `' panicked at ` at the start of a
-/// line, as Rust's panic hook writes it. Heads are matched from left to right and do not overlap. If
-/// the line before the head begins with `Error:`, the message begins at that line. Empty lines
-/// between the two are skipped, and the first line of `stderr` is never taken for such a line.
+/// The message begins at the last head: `thread '` at the start of a line, a name, and `' panicked at `
+/// or `' (N) panicked at `, as Rust's panic hook writes it. Heads are matched from left to right and do
+/// not overlap. If the line before the head begins with `Error:`, the message begins at that line. Empty
+/// lines between the two are skipped, and the first line of `stderr` is never taken for such a line.
 pub fn heuristic_panic_message(stderr: &[u8]) -> Option<ByteSubslice<'_>>
     ensures value { IsPanicSlice stderr.now (option_map slice_of result) }
     ensures only { (found : Option Slice) → IsPanicSlice stderr.now found
@@ -120,8 +120,8 @@ pub fn heuristic_panic_message(stderr: &[u8]) -> Option<ByteSubslice<'_>>
     Some(trimmed(stderr, start))
 }
 
-/// Returns the part of `stderr` from its first line that begins with `Error: `, without the white
-/// space at the end, or `None` if no line begins with it.
+/// Returns `stderr` from its first line that begins with `Error: ` to the end, without the white space
+/// there, or `None` if no line begins with it.
 ///
 /// Rust prints the error of a test or of a `main` that returns a `Result` in this form.
 pub fn heuristic_error_str(stderr: &[u8]) -> Option<ByteSubslice<'_>>

@@ -1,5 +1,5 @@
-//! `run-digest`. Both commands read standard input. `count` counts the tests of the run that it
-//! describes. `extract` finds the part of it that explains why a test failed.
+//! `run-digest`. Both commands read standard input. `count` reads the description of a run, and counts
+//! its tests. `extract` reads the output of a test, and finds the part that explains why the test failed.
 #![tactic(auto)]
 
 use program_io::std_device::{StdSink, StdSource};
@@ -30,7 +30,8 @@ Options:
 Both commands read standard input. Without a command, `count` is run.
 
 This input of `count` describes a run of 2 tests and no setup scripts that was
-not cancelled (`-`). Each `test` line has the results of the test's attempts:
+not cancelled (`-`). Each `test` line has the results of the test's attempts,
+separated by commas. ` slow` after them says that the last attempt was slow:
   run 2 0 -
   test fail,pass
   test fail slow

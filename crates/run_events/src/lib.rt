@@ -2,11 +2,11 @@
 //! errors of child processes, attempts, levels, counters, summaries and outcomes.
 //!
 //! Most of it is in the crates `run_events_..`. This crate re-exports their modules, and most of their
-//! definitions, so your crate needs only this one. If a definition or a proof of yours names a declared
-//! type, it also needs the crate that declares the type.
+//! definitions, so your code needs only this one. If one of your definitions or proofs uses a type that a
+//! crate `run_events_..` declares, add that crate to the line of your crate in `crates.txt`.
 //!
-//! This returns the part of a test's output that explains its failure, or `None`. `new` must not be
-//! called for a failed test whose output was not loaded, which `can_describe` tests:
+//! This returns the part of a test's output that explains its failure, or `None`. `new` requires that
+//! the output of a failed test is not `NotLoaded`, and `can_describe` tests this:
 //!
 //! ```rust
 //! fn message_of(

@@ -34,7 +34,8 @@ impl RetryData {
     }
 }
 
-/// The errors of an attempt as texts.
+/// The errors of an attempt as texts. A runner makes them for its reporters, for example from a
+/// `UnitErrorDescription`.
 #[derive(Debug, PartialEq, Eq, Drop)]
 pub struct ErrorSummary {
     /// A summary in one line.
@@ -44,13 +45,14 @@ pub struct ErrorSummary {
     pub description: String,
 }
 
-/// The part of an attempt's output that explains its failure.
+/// The part of an attempt's output that explains its failure. A runner makes it for its reporters, for
+/// example from the `output_slice` of a `UnitErrorDescription`.
 #[derive(Debug, PartialEq, Eq, Drop)]
 pub struct OutputErrorSlice {
     /// The part as text, with U+FFFD in place of each piece that is not UTF-8.
     pub slice: String,
 
-    /// The offset of the part in the output, in bytes.
+    /// The offset of the part in the stream in which it was found, in bytes.
     pub start: usize,
 }
 

@@ -1,5 +1,5 @@
 //! The attempts of a finished test. `ExecutionDescription` says whether the test succeeded, was flaky or
-//! failed. `Moment` is a date and time.
+//! failed. `Moment` is a point in time, with an offset from UTC.
 //!
 //! A function that returns the result of a test in one word:
 //!

@@ -1,9 +1,9 @@
-//! Times of day with an offset from UTC.
+//! Points in time with an offset from UTC.
 
 use jiff::Timestamp;
 use jiff::tz::Offset;
 
-/// A time of the clock, with the offset from UTC of the place where the clock was read.
+/// A point in time, and the offset from UTC of the place where the clock was read.
 #[derive(Clone, Copy, Debug)]
 pub struct Moment {
     /// The instant.

@@ -16,7 +16,8 @@ pub enum StatusLevel {
     /// Tests that succeeded after a retry, and attempts that are retried.
     Retry,
 
-    /// Tests that took longer than the slow timeout.
+    /// Tests that are still running after the slow timeout, and finished tests whose timeout counts as
+    /// passed. A slow test that passed has the level `Pass`.
     Slow,
 
     /// Tests that left a handle open.
@@ -61,7 +62,7 @@ pub enum FinalStatusLevel {
     All,
 }
 
-/// The levels of a reporter.
+/// The levels of a reporter. nextest's defaults are `Pass` and `Flaky`.
 #[derive(Clone, Copy)]
 pub struct StatusLevels {
     /// The level of the attempts and tests that get a line.

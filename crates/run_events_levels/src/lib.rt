@@ -1,4 +1,5 @@
-//! How urgently a finished test is to be shown (its levels), and what a reporter shows of it.
+//! The levels of a finished test, which rank how much attention it needs, and what a reporter shows of
+//! it.
 //!
 //! A reporter's method that decides what to show of a finished test. `reason` is why the run was
 //! cancelled, or `None`:

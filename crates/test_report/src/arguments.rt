@@ -32,8 +32,8 @@ Examples (with `set -o pipefail` a pipe also fails if the test command does):
 
 Exit status:
   0  the run succeeded; or no test ran, nothing else is wrong, and `--no-tests` is `pass`
-  1  the run did not succeed: a test failed, an announced test neither ended nor was ignored, lines contradict
-     each other, cargo reported a failure that no test explains, or no test ran
+  1  the run did not succeed: a test failed, some of the tests that a suite's first line announces neither ended
+     nor were ignored, lines contradict each other, cargo reported a failure that no test explains, or no test ran
   2  an argument is invalid
   3  reading or writing failed, a file cannot be opened or written, a number is too large to count, or there was not
      enough memory";

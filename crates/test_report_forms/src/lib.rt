@@ -3,13 +3,14 @@
 //!
 //! Each of these is a `Form`, which takes the entries of a run one by one. An entry is a note of
 //! `test_report_run`, with the reason if a test failed. `TextForm`, `GithubForm` and `NamesForm` append the
-//! text of an entry at once. The others append their text at the end of the run.
+//! text of each entry as soon as they get it. The others append all of their text at the end of the run.
 //!
-//! Two kinds of characters of the input are written as escapes such as `\u{1b}`, so that a report cannot
-//! control the reader's terminal: control characters, except tab and line feed in output, and characters
-//! that change the direction of writing. Only `TextForm` with `raw` keeps them, in the reasons of failures.
+//! Control characters of the input, except tab and line feed in the captured output of tests, become
+//! escapes such as `\u{1b}`. So do characters that change the direction of writing. So a test cannot
+//! control the reader's terminal. The exception is `TextForm` with `raw`: its reasons of failures keep
+//! these characters.
 //!
-//! This function returns the text that the form for people writes for one note:
+//! This function returns the text that `TextForm` writes for one note:
 //!
 //! ```rust
 //! pub fn text_of_note(alloc: Global, note: &Note, options: Options) -> Result<String, AllocError>

@@ -1,7 +1,9 @@
 //! Laws of the report of a test run: facts that follow from the contracts of `test_report_run`,
-//! `test_report_forms` and `test_report_engine`. They say what a success and a failure mean, that each
-//! line that says that a test failed is a failed test of the report, and that no form but `TextForm` with
-//! `raw` or `color` writes control characters, except tab and line feed.
+//! `test_report_forms` and `test_report_engine`. The laws say:
+//!
+//! - what a success and a failure mean;
+//! - the report has exactly one failed test for each line that says that a test failed;
+//! - only `TextForm` with `raw` or `color` writes control characters other than tab and line feed.
 //!
 //! A law is a function that does nothing. Its contract is the fact. A function whose proof needs the fact
 //! calls the law. This is the end of such a function, `succeeds_in_order` in `CALLING.md`. Its clause says

@@ -3,9 +3,9 @@
 //!
 //! Make a `TestRun`, and pass the event of each line to `on_event`. Call `end_file` after the last line of
 //! each file, and `end` after the last file. `on_event` and `end_file` return notes, for example that a test
-//! failed. `end` returns the sums and the outcome of the run.
+//! failed. `end` returns the counts and the outcome of the run.
 //!
-//! This function does so for a run of one file that has these lines:
+//! This function does so for a run of one file, with the lines `lines`:
 //!
 //! ```rust
 //! pub fn end_of_lines(alloc: Global, lines: &[&[u8]]) -> Result<RunEnd, RunError>

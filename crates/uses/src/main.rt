@@ -1,8 +1,8 @@
 //! Examples of use of the libraries, each on a small input: a runner, a reporter, a JUnit writer, a
 //! recorder and the exit status of a run. The example in the page CALLING.md of a library is in the
-//! file `of_LIBRARY.rt`, and most examples on first pages are from these files. `first_pages.rt` has
-//! those that no other file has. The examples of the report's libraries are in
-//! `test_report_engine_tests`.
+//! file `of_LIBRARY.rt`. Most examples in the comments at the head of a library's `src/lib.rt` are from
+//! these files, and `first_pages.rt` has those that no other file has. The examples of the crates
+//! `test_report_..` are in `test_report_engine_tests`.
 #![tactic(auto)]
 
 mod demo;

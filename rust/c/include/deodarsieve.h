@@ -181,9 +181,13 @@ typedef struct deodarsieve_slice {
  * Finds the part of a test's output that explains its failure. This is the first of these that is
  * present:
  *
- * - the message of the last panic in standard error;
- * - standard error from its first line that begins with `Error: ` on, without white space at the end;
- * - the line of standard output that has `note: test did not panic as expected`.
+ * - standard error from the head of its last panic message to its end, without white space at the end.
+ *   If the line before the head begins with `Error:`, the part begins at that line. Empty lines between
+ *   the two are skipped, and the first line of standard error is not such a line;
+ * - standard error from its first line that begins with `Error: ` to its end, without white space at
+ *   the end;
+ * - the first line of standard output that has `note: test did not panic as expected`, without its line
+ *   end.
  *
  * `out` is standard output and `err` standard error. The bytes of a stream that was not captured are
  * not read. Pass the same bytes twice if both streams were captured as one. The part lies within the
@@ -202,7 +206,11 @@ uint32_t deodarsieve_slice_extract_capped(bool is_out_captured, const uint8_t *o
                                           const uint8_t *err, size_t err_length, size_t limit,
                                           deodarsieve_slice *answer);
 
-/* The head of a panic message: its `thread '..' panicked at `. */
+/*
+ * The head of a panic message: `thread '` at the start of a line, a name, `'`, and ` panicked at ` or
+ * ` (N) panicked at `. The name is one or more UTF-8 characters except quotes; line feeds are allowed. N
+ * is one or more decimal digits.
+ */
 typedef struct deodarsieve_head {
     bool is_found;  /* whether there is a head; if not, start and stop are 0 */
     size_t start;   /* the offset of `thread '` */
@@ -235,8 +243,12 @@ typedef struct deodarsieve_test_view {
 } deodarsieve_test_view;
 
 /*
- * The counters of a run. `leaky` also has tests that are in `failed`: flaky tests that count as failed
- * and whose last result is LEAK_PASS.
+ * The counters of a run, and four members that no function of this library changes: set
+ * `initial_run_count`, `setup_scripts_initial_count`, `skipped` and `cancel_reason` yourself. If the two
+ * initial counts are too low, the summary of a run that ended early can be a success.
+ *
+ * `leaky` also has tests that are in `failed`: flaky tests that count as failed and whose last result
+ * is LEAK_PASS.
  */
 typedef struct deodarsieve_run_stats {
     size_t initial_run_count;            /* tests that were to run */
@@ -251,11 +263,11 @@ typedef struct deodarsieve_run_stats {
     size_t passed_slow;                  /* slow tests among `passed`, except timeouts */
     size_t passed_timed_out;             /* timeouts among `passed` */
     size_t flaky;                        /* flaky tests among `passed` */
-    size_t failed;                       /* failed; or leaked and counts as failed; or flaky and does */
+    size_t failed;                       /* failed; or LEAK_FAIL; or flaky and counts as failed */
     size_t failed_slow;                  /* slow tests among `failed` */
-    size_t failed_timed_out;             /* timed out and counts as failed; not in `failed` */
-    size_t leaky;                        /* leaked, and the leak counts as passed */
-    size_t leaky_failed;                 /* leaked and counts as failed; in `failed` */
+    size_t failed_timed_out;             /* TIMEOUT_FAIL; not in `failed` */
+    size_t leaky;                        /* LEAK_PASS */
+    size_t leaky_failed;                 /* LEAK_FAIL; in `failed` */
     size_t exec_failed;                  /* could not be executed; not in `failed` */
     size_t skipped;                      /* skipped */
     uint32_t cancel_reason;              /* DEODARSIEVE_REASON_... */
@@ -270,8 +282,10 @@ typedef struct deodarsieve_run_stats {
 
 /*
  * Counts a finished test: adds 1 to `finished_count`, and to each of the counters from `passed` to
- * `exec_failed` whose comment describes the test. Returns DEODARSIEVE_BAD_CODE if a code is not in its
- * table, and DEODARSIEVE_COUNTER_FULL if one of these counters is SIZE_MAX.
+ * `exec_failed` whose comment describes the test. A name such as LEAK_PASS is that of the test's last
+ * result. Returns DEODARSIEVE_BAD_CODE if a code in `stats` or `test` is not in its table, even the
+ * `flaky_result` of a test that is not flaky. Otherwise returns DEODARSIEVE_COUNTER_FULL if one of these
+ * counters is SIZE_MAX.
  */
 uint32_t deodarsieve_run_stats_count_test(deodarsieve_run_stats *stats,
                                           const deodarsieve_test_view *test);
@@ -291,7 +305,7 @@ typedef struct deodarsieve_failed_counts {
 
 /*
  * Adds up the tests that did not pass, and the setup scripts that did not pass. Returns
- * DEODARSIEVE_BAD_CODE if the code of the cancel reason is not in its table, and
+ * DEODARSIEVE_BAD_CODE if the code of the cancel reason is not in its table, and otherwise
  * DEODARSIEVE_COUNTER_FULL if one of the two sums does not fit size_t.
  */
 uint32_t deodarsieve_run_stats_failed_counts(const deodarsieve_run_stats *stats,
@@ -365,13 +379,25 @@ uint32_t deodarsieve_outcome_combine(uint32_t outcome, uint32_t other, uint32_t 
 /* ---- Levels and display ---- */
 
 /*
- * Finds the level of a test that finishes. Writes a DEODARSIEVE_STATUS_LEVEL_.... Returns
- * DEODARSIEVE_BAD_CODE if a code is not in its table.
+ * Finds the level of a test that finishes. Writes a DEODARSIEVE_STATUS_LEVEL_...:
+ *
+ * - FAIL if the last attempt did not succeed;
+ * - for a flaky test, RETRY, or FAIL if it counts as failed;
+ * - for a success at the first attempt, PASS, LEAK for LEAK_PASS, or SLOW for TIMEOUT_PASS. `is_slow`
+ *   does not matter.
+ *
+ * Returns DEODARSIEVE_BAD_CODE if a code is not in its table.
  */
 uint32_t deodarsieve_test_view_status_level(const deodarsieve_test_view *test, uint32_t *answer);
 
 /*
- * Finds the level of a test at the end of the run. Writes a DEODARSIEVE_FINAL_STATUS_LEVEL_....
+ * Finds the level of a test at the end of the run. Writes a DEODARSIEVE_FINAL_STATUS_LEVEL_...:
+ *
+ * - FAIL if the last attempt did not succeed;
+ * - for a flaky test, FLAKY, or FAIL if it counts as failed;
+ * - for a success at the first attempt, SLOW if it was slow or is TIMEOUT_PASS, LEAK for LEAK_PASS, or
+ *   PASS.
+ *
  * Returns DEODARSIEVE_BAD_CODE if a code is not in its table.
  */
 uint32_t deodarsieve_test_view_final_status_level(const deodarsieve_test_view *test,

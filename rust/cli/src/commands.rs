@@ -7,7 +7,8 @@ const AFTER_DIGEST_HELP: &str = "\
 Both commands read standard input. Without a command, `count` is run.
 
 This input of `count` describes a run of 2 tests and no setup scripts that was
-not cancelled (`-`). Each `test` line has the results of the test's attempts:
+not cancelled (`-`). Each `test` line has the results of the test's attempts,
+separated by commas. ` slow` after them says that the last attempt was slow:
   run 2 0 -
   test fail,pass
   test fail slow
@@ -40,8 +41,8 @@ Examples (with `set -o pipefail` a pipe also fails if the test command does):
 
 Exit status:
   0  the run succeeded; or no test ran, nothing else is wrong, and `--no-tests` is `pass`
-  1  the run did not succeed: a test failed, an announced test neither ended nor was ignored, lines contradict
-     each other, cargo reported a failure that no test explains, or no test ran
+  1  the run did not succeed: a test failed, some of the tests that a suite's first line announces neither ended
+     nor were ignored, lines contradict each other, cargo reported a failure that no test explains, or no test ran
   2  an argument is invalid
   3  reading or writing failed, a file cannot be opened or written, or a number is too large to count";
 

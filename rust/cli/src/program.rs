@@ -1,4 +1,5 @@
-//! Code of both programs: devices that keep the system's error, failures, and exit statuses.
+//! Code that both programs use: readers and writers that keep the system's error, the failures of a program,
+//! and exit statuses.
 
 use crate::program_io::fault::DeviceFault;
 use crate::program_io::std_device::{StdSink, StdSource};

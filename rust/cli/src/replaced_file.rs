@@ -1,4 +1,4 @@
-//! Writes files so that a reader never sees a part of them.
+//! Writes files so that a reader never sees a partly written file.
 
 use std::fs::{self, File, OpenOptions};
 use std::io::{self, Write};

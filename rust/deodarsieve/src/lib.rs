@@ -6,14 +6,16 @@
 //! - counters of what passed, failed, was flaky, slow or leaky ([`RunStats`]);
 //! - the summary and the outcome of the run ([`FinalRunStats`], [`RunOutcome`]);
 //! - the part of a failed test's output that explains the failure ([`TestOutputErrorSlice`]);
-//! - which lines and which output a reporter shows ([`StatusLevels`]);
-//! - the types of all events that reporters receive ([`TestEventKind`]).
+//! - which lines and which output a reporter shows ([`StatusLevels`]).
 //!
-//! The names and the behaviour are those of the reporter of [nextest](https://nexte.st). The modules
+//! The crate also declares the types of all events that reporters receive ([`TestEventKind`]).
+//!
+//! The names and the behaviour are those of the reporter of [nextest](https://nexte.st), except for the
+//! items that `docs/UPSTREAM.md` in the repository lists as different or left out. The modules
 //! are at nextest's paths, and every name is at the root of the crate too. A few items are not
-//! nextest's, for runners that keep less: [`TestView`] counts a test without its attempts,
-//! [`FinishedTest`] owns the same parts, and [`RunOutcome::of_sub_runs`] decides the outcome of a
-//! repeated run.
+//! nextest's. A runner that does not keep the attempts of a test can count it by a [`TestView`], which
+//! borrows the result of the last attempt, or by a [`FinishedTest`], which owns it.
+//! [`RunOutcome::of_sub_runs`] decides the outcome of a repeated run.
 //!
 //! # Example
 //!
@@ -53,8 +55,8 @@
 //! # Panics
 //!
 //! A function panics, in release builds too, if its caller breaks a condition that the types do not express.
-//! The section `Panics` of its documentation has the condition, and the message names the function
-//! that tests it. Counters never wrap: [`RunStats::try_on_test_view`] returns an error if a counter is
+//! The section `Panics` of its documentation has the condition. Most messages name a function that tests
+//! the condition, such as `can_count_view`. Counters never wrap: [`RunStats::try_on_test_view`] returns an error if a counter is
 //! full, and [`RunStats::on_test_view`] panics.
 
 #![no_std]

@@ -1,6 +1,6 @@
 //! The tests of deodarsieve.
 //!
-//! The folders are erased from the crates of the same names. `output_slice_tests` is a program:
+//! `tools/erase` writes the folders here from the crates of the same names in `crates/`. `output_slice_tests` is a program:
 //! `tests/programs.rs` compares its output with the stored one. The other files of `tests/` are
 //! written by hand.
 

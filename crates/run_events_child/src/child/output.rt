@@ -6,7 +6,7 @@ ghost use Rattle.run_events_child.specs.ChildOutput.{IsLoaded, captured_lengths}
 use bytes::Bytes;
 use std::marker::Model;
 
-/// The captured bytes of one stream, or of both streams in one.
+/// The captured bytes of one stream, or of both streams in one. It is made from `bytes::Bytes`.
 #[derive(Drop)]
 pub struct ChildSingleOutput {
     buf: Bytes,

@@ -9,8 +9,9 @@ use crate::stats::{CounterFull, RunStats};
 use run_events_results::results::CancelReason;
 
 impl RunStats {
-    /// Adds the statistics of another part of the run, such as another suite. Each counter becomes the
-    /// sum of both. The reason to cancel becomes the greater one, if there is one.
+    /// Adds the statistics of another part of the run, such as another suite. Each number becomes the
+    /// sum of both, also the numbers of what was to run and of skipped tests. The reason to cancel
+    /// becomes the greater one, if there is one.
     ///
     /// The error is [`CounterFull`] if a sum does not fit `usize`. The statistics are then unchanged.
     pub fn try_add(&mut self, part: &RunStats) -> Result<(), CounterFull>

@@ -1,5 +1,5 @@
-//! `run-digest`: counts a run of tests that standard input describes, or extracts from it, as the
-//! output of a test, the part that explains why the test failed.
+//! `run-digest`: reads standard input. `count` reads the description of a run, and counts its tests.
+//! `extract` reads the output of a test, and finds the part that explains why the test failed.
 
 use deodarsieve_cli::commands::run_digest;
 use deodarsieve_cli::program::{Failure, print_clap, run_engine};

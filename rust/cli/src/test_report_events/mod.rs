@@ -1,7 +1,8 @@
 // Made by tools/erase from crates/test_report_events/src/lib.rt. Do not edit.
 //! Parses the lines of a test run, and returns the event of each line: a suite starts or ends, a test starts
 //! or ends, cargo announces a test binary or documentation tests, or cargo or nextest reports a failure.
-//! Other lines of a test harness are `Other`, and every remaining line is a print.
+//! Other lines of a test harness give `Event::Other`. Every remaining line, such as what a test printed,
+//! gives `Event::Print`.
 //!
 //! The lines are those of Rust's test harness (`--format json`), of cargo nextest (`--message-format
 //! libtest-json`) and of cargo. Any bytes are accepted, and they need not be UTF-8.

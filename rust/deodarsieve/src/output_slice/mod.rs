@@ -2,8 +2,9 @@
 //! Finds the part of a test's output that explains why the test failed.
 //!
 //! [`TestOutputErrorSlice::heuristic_extract`] looks for the last panic message in standard error, or
-//! else for the first line there that begins with `Error: `, or else for the note in standard output
-//! that a test did not panic. Output is any bytes; it need not be UTF-8.
+//! else for the first line there that begins with `Error: `, or else for the first line in standard
+//! output with `note: test did not panic as expected`, which the harness writes for a test with
+//! `should_panic`. Output is any bytes; it need not be UTF-8.
 //!
 //! If standard output and standard error were captured as one, the same bytes are passed twice:
 //!

@@ -29,13 +29,14 @@ impl<'a> ByteSubslice<'a> {
 /// The part of a test's output that explains its failure.
 #[derive(Clone, Copy, Debug, PartialEq, Eq)]
 pub enum TestOutputErrorSlice<'a> {
-    /// The message of the last panic, with the line before it if that begins with `Error:`.
+    /// The message of the last panic and what follows it, with the line before it if that begins with
+    /// `Error:`.
     PanicMessage {
         /// A part of standard error.
         stderr_subslice: ByteSubslice<'a>,
     },
 
-    /// The error that a test which returns a `Result` printed, from `Error: ` on.
+    /// The error that a test which returns a `Result` printed, from `Error: ` on, and what follows it.
     ErrorStr {
         /// A part of standard error.
         stderr_subslice: ByteSubslice<'a>,

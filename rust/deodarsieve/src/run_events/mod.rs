@@ -2,8 +2,8 @@
 //! The events that a test runner sends to its reporters, and the types in them: results, output and
 //! errors of child processes, attempts, levels, counters, summaries and outcomes.
 //!
-//! This returns the part of a test's output that explains its failure, or `None`. `new` must not be
-//! called for a failed test whose output was not loaded, which `can_describe` tests:
+//! This returns the part of a test's output that explains its failure, or `None`. `new` requires that
+//! the output of a failed test is not `NotLoaded`, and `can_describe` tests this:
 //!
 //! ```
 //! use deodarsieve::{

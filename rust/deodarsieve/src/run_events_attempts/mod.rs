@@ -1,6 +1,6 @@
 // Made by tools/erase from crates/run_events_attempts/src/lib.rt. Do not edit.
 //! The attempts of a finished test. `ExecutionDescription` says whether the test succeeded, was flaky or
-//! failed. `Moment` is a date and time.
+//! failed. `Moment` is a point in time, with an offset from UTC.
 //!
 //! A function that returns the result of a test in one word:
 //!

@@ -1,5 +1,6 @@
 // Made by tools/erase from crates/run_events_levels/src/lib.rt. Do not edit.
-//! How urgently a finished test is to be shown (its levels), and what a reporter shows of it.
+//! The levels of a finished test, which rank how much attention it needs, and what a reporter shows of
+//! it.
 //!
 //! A reporter's method that decides what to show of a finished test. `reason` is why the run was
 //! cancelled, or `None`:

@@ -66,11 +66,12 @@ pub struct RunStats {
     /// The tests that failed because they ran out of time. They are not among `failed`.
     pub failed_timed_out: usize,
 
-    /// The tests that leaked if that counts as passed. A flaky one that counts as failed is among
-    /// `failed`, and the others are among `passed`.
+    /// The tests whose last result is a leak that counts as passed. A flaky one that counts as failed
+    /// is among `failed`, and the others are among `passed`.
     pub leaky: usize,
 
-    /// The tests among `failed` that leaked if that counts as failed.
+    /// The tests among `failed` whose last result is a leak that counts as failed. A failure that also
+    /// left a handle open (`Fail` with `leaked`) is not among them.
     pub leaky_failed: usize,
 
     /// The tests that could not be executed. They are not among `failed`.

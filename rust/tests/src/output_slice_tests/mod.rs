@@ -3,9 +3,10 @@
 //! lines of `rust/tests/data/upstream_replay.txt`. This program has the other tests. Its output is
 //! compared with the file `stdout`.
 //!
-//! The program compares the searches for the last head of a panic message (`last_head`,
-//! `last_panic_head`, `heuristic_panic_message`) with slow functions that are written as the
-//! definitions are. It does so on
+//! The head of a panic message is its beginning, such as `thread 'main' panicked at `. The program
+//! compares the searches for the last head (`last_head`, `last_panic_head`,
+//! `heuristic_panic_message`) with slow functions that are written as the definitions are. It does
+//! so on
 //!
 //! - inputs that were chosen by hand, whose heads it prints;
 //! - all inputs that are made of a few pieces;
@@ -25,8 +26,8 @@
 //! search whose time grows faster than its input would not finish in a reasonable time on these.
 //!
 //! The expected heads in the file `stdout` were worked out by hand. The expected numbers of inputs
-//! of each kind were computed with a regular expression engine and upstream's pattern, so the test
-//! notices if a kind of input is missing. The expected greatest numbers of reads are the measured
+//! of each kind were computed with a regular expression engine and nextest-runner's pattern. If the
+//! program no longer made the inputs of some kind, its numbers would differ from these. The expected greatest numbers of reads are the measured
 //! ones. For every input the program also checks that a search takes few reads.
 
 use crate::output_slice_tests::beginnings::beginnings;

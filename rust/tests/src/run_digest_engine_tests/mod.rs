@@ -1,7 +1,7 @@
 // Made by tools/erase from crates/run_digest_engine_tests/src/lib.rt. Do not edit.
-//! Tests of `run_digest_engine` and of the crates below it through their public calls only:
-//! arguments and faults, devices that fail, runs of many lines, the report of finished runs, and
-//! how `StdSource` and `StdSink` call the readers and writers of `std`. Whole inputs, with the
+//! Tests of `run_digest_engine` and of the crates that it uses, through their public functions only:
+//! arguments and errors, reads and writes that fail, runs of many lines, the report of finished runs,
+//! and how `StdSource` and `StdSink` call the readers and writers of `std`. Whole inputs, with the
 //! output for each, are in `rust/tests/data/upstream_replay.txt`.
 
 #[cfg(test)]

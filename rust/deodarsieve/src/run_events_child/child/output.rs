@@ -3,7 +3,7 @@
 
 use bytes::Bytes;
 
-/// The captured bytes of one stream, or of both streams in one.
+/// The captured bytes of one stream, or of both streams in one. It is made from `bytes::Bytes`.
 #[derive(Clone, Debug, PartialEq, Eq)]
 pub struct ChildSingleOutput {
     buf: Bytes,

@@ -6,8 +6,9 @@ use crate::run_events_results::results::ExecutionResultDescription;
 use crate::run_events_settings::config::{FlakyResult, LeakTimeoutResult, SlowTimeoutResult};
 
 impl StatusLevel {
-    /// Returns the level of a test that succeeded at its first attempt, or `None` if the result is not
-    /// a success.
+    /// Returns the level of a test that succeeded at its first attempt: `Pass`, `Leak` for a leak that
+    /// counts as passed, or `Slow` for a timeout that counts as passed. Returns `None` if the result is
+    /// not a success.
     #[must_use]
     pub fn of_success(attempt: &ExecutionResultDescription) -> Option<StatusLevel> {
         match attempt {

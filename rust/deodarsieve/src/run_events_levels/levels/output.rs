@@ -11,6 +11,9 @@ impl StatusLevels {
     /// Returns what a reporter shows of a test when it finishes, and what it stores for the end of
     /// the run.
     ///
+    /// `display` is the reporter's setting for failed tests if the test failed, and otherwise the one
+    /// for tests that succeeded. nextest's defaults are `Immediate` and `Never`.
+    ///
     /// The reporter writes a line if its status level is at least that of the test. It displays the
     /// output at once if `display` is immediate. It stores the test if `display` is final or its
     /// final level is at least that of the test, and then displays the output at the end if

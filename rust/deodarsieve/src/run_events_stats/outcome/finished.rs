@@ -29,13 +29,13 @@ impl RunFinishedStats {
 /// The statistics of a repeated run.
 #[derive(Clone, Copy, Debug, PartialEq, Eq)]
 pub struct StressRunStats {
-    /// The number of completed sub-runs, and how many there were to be.
+    /// How many sub-runs are complete (`current`), and how many there were to be.
     pub completed: StressIndex,
 
-    /// The number of sub-runs that succeeded.
+    /// The number of sub-runs that succeeded, as the runner counts them.
     pub success_count: u32,
 
-    /// The number of sub-runs that failed.
+    /// The number of sub-runs that failed, as the runner counts them.
     pub failed_count: u32,
 
     /// The summary of the last sub-run.
@@ -46,6 +46,9 @@ impl StressRunStats {
     /// Returns the summary of the repeated run: `Failed` if `failed_count` is not 0, or else
     /// `Cancelled` or `NoTestsRun` if the last sub-run was that, or else `Success`. This includes a
     /// last sub-run that failed but is not in `failed_count`.
+    ///
+    /// This is nextest's summary. It knows only the last sub-run, so it can differ from
+    /// `RunOutcome::of_sub_runs`, which is given all of them.
     #[must_use]
     pub fn summarize_final(&self) -> StressFinalRunStats {
         if self.failed_count > 0 {

@@ -66,6 +66,9 @@ impl RunOutcome {
 
     /// Returns the outcome of a repeated run, given the summaries of its sub-runs: the highest of
     /// their outcomes, or `NoTestsRun` if there are none.
+    ///
+    /// It can differ from `StressRunStats::summarize_final`, which knows only the last sub-run and how
+    /// many failed.
     pub fn of_sub_runs(sub_runs: &[FinalRunStats]) -> Self {
         let mut highest = RunOutcome::NoTestsRun;
         for summary in sub_runs {

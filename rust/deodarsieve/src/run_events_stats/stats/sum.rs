@@ -5,8 +5,9 @@ use crate::run_events_results::results::CancelReason;
 use crate::run_events_stats::stats::{CounterFull, RunStats};
 
 impl RunStats {
-    /// Adds the statistics of another part of the run, such as another suite. Each counter becomes the
-    /// sum of both. The reason to cancel becomes the greater one, if there is one.
+    /// Adds the statistics of another part of the run, such as another suite. Each number becomes the
+    /// sum of both, also the numbers of what was to run and of skipped tests. The reason to cancel
+    /// becomes the greater one, if there is one.
     ///
     /// # Errors
     ///
