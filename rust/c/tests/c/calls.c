@@ -301,7 +301,7 @@ static void test_refused_tests(void)
     expect_refusal(stats, view_of(10, 1, false, 0), DEODARSIEVE_BAD_CODE);
     expect_refusal(stats, view_of(UINT32_MAX, 1, false, 0), DEODARSIEVE_BAD_CODE);
     expect_refusal(stats, view_of(0, 1, false, 2), DEODARSIEVE_BAD_CODE);
-    stats.cancel_reason = 10;
+    stats.cancel_reason = 1001;
     expect_refusal(stats, good, DEODARSIEVE_BAD_CODE);
     stats.passed = SIZE_MAX;
     expect_refusal(stats, good, DEODARSIEVE_BAD_CODE);
@@ -368,7 +368,7 @@ static void test_run_stats_failed_counts(void)
     CHECK(answer.tests == 113 + 115 + 118 && answer.setup_scripts == 106 + 107 + 108);
     stats.setup_scripts_failed = SIZE_MAX;
     CHECK(deodarsieve_run_stats_failed_counts(&stats, &answer) == DEODARSIEVE_COUNTER_FULL);
-    stats.cancel_reason = 12;
+    stats.cancel_reason = 1002;
     CHECK(deodarsieve_run_stats_failed_counts(&stats, &answer) == DEODARSIEVE_BAD_CODE);
     CHECK(answer.tests == 113 + 115 + 118 && answer.setup_scripts == 106 + 107 + 108);
     stats = different_counters();
@@ -400,7 +400,7 @@ static void test_run_stats_has_failures(void)
         CHECK(deodarsieve_run_stats_has_failures(&stats, &answer) == DEODARSIEVE_OK && answer);
         *failures_of[i] = 0;
     }
-    stats.cancel_reason = 13;
+    stats.cancel_reason = 1003;
     CHECK(deodarsieve_run_stats_has_failures(&stats, &answer) == DEODARSIEVE_BAD_CODE && answer);
 }
 
@@ -449,7 +449,7 @@ static void test_run_stats_summarize(void)
     stats.setup_scripts_initial_count = stats.setup_scripts_finished_count = 2;
     stats.setup_scripts_failed = 2;
     expect_summary(stats, failed_script);
-    stats.cancel_reason = 14;
+    stats.cancel_reason = 1004;
     CHECK(deodarsieve_run_stats_summarize(&stats, &answer) == DEODARSIEVE_BAD_CODE);
     CHECK(is_summary(&answer, success));
 }
