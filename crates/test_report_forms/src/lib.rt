@@ -5,10 +5,10 @@
 //! `test_report_run`, with the reason if a test failed. `TextForm`, `GithubForm` and `NamesForm` append the
 //! text of each entry as soon as they get it. The others append all of their text at the end of the run.
 //!
-//! Control characters of the input, except tab and line feed in the captured output of tests, become
-//! escapes such as `\u{1b}`. So do characters that change the direction of writing. So a test cannot
-//! control the reader's terminal. The exception is `TextForm` with `raw`: its reasons of failures keep
-//! these characters.
+//! Control characters of the input, except tab and line feed in the captured output of tests, and
+//! characters that change the direction of writing become escapes such as `\u{1b}`. A test therefore
+//! cannot control the reader's terminal. The exception is `TextForm` with `raw`: its reasons of failures
+//! keep these characters.
 //!
 //! This function returns the text that `TextForm` writes for one note:
 //!

@@ -181,11 +181,12 @@ typedef struct deodarsieve_slice {
  * Finds the part of a test's output that explains its failure. This is the first of these that is
  * present:
  *
- * - standard error from the head of its last panic message to its end, without white space at the end.
- *   If the line before the head begins with `Error:`, the part begins at that line. Empty lines between
- *   the two are skipped, and the first line of standard error is not such a line;
- * - standard error from its first line that begins with `Error: ` to its end, without white space at
- *   the end;
+ * - standard error from the head of the last panic message in it to the end of standard error, without
+ *   the white space there. If the line before the head begins with `Error:`, the part begins at that
+ *   line. Empty lines between the two are skipped, and the first line of standard error is not such a
+ *   line;
+ * - standard error from its first line that begins with `Error: ` to the end of standard error, without
+ *   the white space there;
  * - the first line of standard output that has `note: test did not panic as expected`, without its line
  *   end.
  *
@@ -208,8 +209,8 @@ uint32_t deodarsieve_slice_extract_capped(bool is_out_captured, const uint8_t *o
 
 /*
  * The head of a panic message: `thread '` at the start of a line, a name, `'`, and ` panicked at ` or
- * ` (N) panicked at `. The name is one or more UTF-8 characters except quotes; line feeds are allowed. N
- * is one or more decimal digits.
+ * ` (N) panicked at `. The name is one or more UTF-8 characters other than `'`; line feeds are allowed. N
+ * is one or more decimal digits, of Unicode too.
  */
 typedef struct deodarsieve_head {
     bool is_found;  /* whether there is a head; if not, start and stop are 0 */
@@ -244,8 +245,8 @@ typedef struct deodarsieve_test_view {
 
 /*
  * The counters of a run, and four members that no function of this library changes: set
- * `initial_run_count`, `setup_scripts_initial_count`, `skipped` and `cancel_reason` yourself. If the two
- * initial counts are too low, the summary of a run that ended early can be a success.
+ * `initial_run_count`, `setup_scripts_initial_count`, `skipped` and `cancel_reason` yourself. If one
+ * of the two initial counts is too low, the summary of a run that ended early can be a success.
  *
  * `leaky` also has tests that are in `failed`: flaky tests that count as failed and whose last result
  * is LEAK_PASS.
@@ -284,8 +285,8 @@ typedef struct deodarsieve_run_stats {
  * Counts a finished test: adds 1 to `finished_count`, and to each of the counters from `passed` to
  * `exec_failed` whose comment describes the test. A name such as LEAK_PASS is that of the test's last
  * result. Returns DEODARSIEVE_BAD_CODE if a code in `stats` or `test` is not in its table, even the
- * `flaky_result` of a test that is not flaky. Otherwise returns DEODARSIEVE_COUNTER_FULL if one of these
- * counters is SIZE_MAX.
+ * `flaky_result` of a test that is not flaky. Otherwise returns DEODARSIEVE_COUNTER_FULL if one of the
+ * counters to raise is SIZE_MAX.
  */
 uint32_t deodarsieve_run_stats_count_test(deodarsieve_run_stats *stats,
                                           const deodarsieve_test_view *test);
@@ -395,8 +396,8 @@ uint32_t deodarsieve_test_view_status_level(const deodarsieve_test_view *test, u
  *
  * - FAIL if the last attempt did not succeed;
  * - for a flaky test, FLAKY, or FAIL if it counts as failed;
- * - for a success at the first attempt, SLOW if it was slow or is TIMEOUT_PASS, LEAK for LEAK_PASS, or
- *   PASS.
+ * - for a success at the first attempt, SLOW if it was slow or its result is TIMEOUT_PASS, otherwise LEAK
+ *   for LEAK_PASS, and otherwise PASS.
  *
  * Returns DEODARSIEVE_BAD_CODE if a code is not in its table.
  */

@@ -56,8 +56,8 @@
 //!
 //! A function panics, in release builds too, if its caller breaks a condition that the types do not express.
 //! The section `Panics` of its documentation has the condition. Most messages name a function that tests
-//! the condition, such as `can_count_view`. Counters never wrap: [`RunStats::try_on_test_view`] returns an error if a counter is
-//! full, and [`RunStats::on_test_view`] panics.
+//! the condition, such as `can_count_view`. Counters never wrap: [`RunStats::try_on_test_view`] returns
+//! an error if a counter is full, and [`RunStats::on_test_view`] panics.
 
 #![no_std]
 #![cfg_attr(docsrs, feature(doc_cfg))]

@@ -1,8 +1,8 @@
 //! The tests of deodarsieve.
 //!
-//! `tools/erase` writes the folders here from the crates of the same names in `crates/`. `output_slice_tests` is a program:
-//! `tests/programs.rs` compares its output with the stored one. The other files of `tests/` are
-//! written by hand.
+//! `tools/erase` writes the folders here from the crates of the same names in `crates/`.
+//! `output_slice_tests` is a program: `tests/programs.rs` compares its output with the stored one. The
+//! other files of `tests/` are written by hand.
 
 #![forbid(unsafe_code)]
 

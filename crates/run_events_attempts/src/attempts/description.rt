@@ -102,7 +102,7 @@ impl<'a, S: OutputSpec> ExecutionDescription<'a, S> {
     }
 
     /// Returns the level of the test when it finishes: `Retry` or `Fail` for a flaky test, `Fail` for
-    /// a failed one, and for a success the level of its result, which is [`StatusLevel::of_success`].
+    /// a failed one, and for a success the level that [`StatusLevel::of_success`] returns.
     ///
     /// A `Success` must be of an attempt that succeeded; [`Self::is_consistent`] tests it.
     pub fn status_level(&self) -> StatusLevel

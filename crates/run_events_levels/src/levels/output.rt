@@ -15,8 +15,9 @@ impl StatusLevels {
     /// Returns what a reporter shows of a test when it finishes, and what it stores for the end of
     /// the run.
     ///
-    /// `display` is the reporter's setting for failed tests if the test failed, and otherwise the one
-    /// for tests that succeeded. nextest's defaults are `Immediate` and `Never`.
+    /// `display` is the reporter's setting for tests that succeeded if the last attempt succeeded, even
+    /// of a flaky test that counts as failed, and otherwise its setting for failed tests. The defaults
+    /// of nextest are `Never` and `Immediate`.
     ///
     /// The reporter writes a line if its status level is at least that of the test. It displays the
     /// output at once if `display` is immediate. It stores the test if `display` is final or its

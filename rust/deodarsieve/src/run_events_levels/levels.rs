@@ -19,7 +19,7 @@ pub enum StatusLevel {
     Retry,
 
     /// Tests that are still running after the slow timeout, and finished tests whose timeout counts as
-    /// passed. A slow test that passed has the level `Pass`.
+    /// passed. That a finished test was slow does not change this level.
     Slow,
 
     /// Tests that left a handle open.
@@ -65,7 +65,7 @@ pub enum FinalStatusLevel {
     All,
 }
 
-/// The levels of a reporter. nextest's defaults are `Pass` and `Flaky`.
+/// The levels of a reporter. The defaults of nextest are `Pass` and `Flaky`.
 #[derive(Clone, Copy, Debug, PartialEq, Eq)]
 pub struct StatusLevels {
     /// The level of the attempts and tests that get a line.

@@ -26,8 +26,8 @@ pub struct TestView<'a> {
 
 impl TestView<'_> {
     /// Returns the level of the test when it finishes: `Retry` or `Fail` for a flaky test, `Fail` for
-    /// a failed one, and for a success at the first attempt the level of its result, which is
-    /// [`StatusLevel::of_success`].
+    /// a failed one, and for a success at the first attempt the level that [`StatusLevel::of_success`]
+    /// returns.
     #[must_use]
     pub fn status_level(&self) -> StatusLevel {
         if !self.result.is_success() {

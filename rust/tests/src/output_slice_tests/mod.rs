@@ -27,8 +27,9 @@
 //!
 //! The expected heads in the file `stdout` were worked out by hand. The expected numbers of inputs
 //! of each kind were computed with a regular expression engine and nextest-runner's pattern. If the
-//! program no longer made the inputs of some kind, its numbers would differ from these. The expected greatest numbers of reads are the measured
-//! ones. For every input the program also checks that a search takes few reads.
+//! program no longer made the inputs of some kind, its numbers would differ from these. The expected
+//! greatest numbers of reads are the measured ones. For every input the program also checks that a
+//! search takes few reads.
 
 use crate::output_slice_tests::beginnings::beginnings;
 use crate::output_slice_tests::damage::damaged_outputs;

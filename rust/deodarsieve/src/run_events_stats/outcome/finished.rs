@@ -47,8 +47,8 @@ impl StressRunStats {
     /// `Cancelled` or `NoTestsRun` if the last sub-run was that, or else `Success`. This includes a
     /// last sub-run that failed but is not in `failed_count`.
     ///
-    /// This is nextest's summary. It knows only the last sub-run, so it can differ from
-    /// `RunOutcome::of_sub_runs`, which is given all of them.
+    /// This is nextest's summary. It knows only `failed_count` and the last sub-run, so it can differ
+    /// from `RunOutcome::of_sub_runs`, which is given all of them.
     #[must_use]
     pub fn summarize_final(&self) -> StressFinalRunStats {
         if self.failed_count > 0 {
