@@ -7,7 +7,7 @@ ghost use Rattle.run_digest_engine.specs.Reader.{results_of, script_of_words, te
 use crate::parts::Parts;
 use crate::words::{parse_flags, parse_result};
 use run_events_levels::view::FinishedTest;
-use run_events_results::results::ExecutionResultDescription;
+use run_events_results::results::{ExecutionResult, ExecutionResultDescription};
 
 /// The greatest number of results of a test.
 const MAX_RESULTS: usize = 100;
@@ -20,7 +20,8 @@ pub(crate) fn parse_script(mut words: Parts<'_>) -> Option<ExecutionResultDescri
     let (Some(word), None) = (words.next(), words.next()) else {
         return None;
     };
-    parse_result(word)
+    let result = parse_result(word)?;
+    Some(ExecutionResultDescription::from_status(result, None))
 }
 
 /// Parses the results of a test, which are separated by commas and at most [`MAX_RESULTS`]. Returns the
@@ -29,8 +30,9 @@ pub(crate) fn parse_script(mut words: Parts<'_>) -> Option<ExecutionResultDescri
 fn parse_results(list: &str) -> Option<(ExecutionResultDescription, usize)>
     ensures { result ≡ results_of list.now }
 {
+    // Only the last result is described, because a description owns memory.
     // A text has at least one part, so the first result replaces this one.
-    let mut last = ExecutionResultDescription::Pass;
+    let mut last = ExecutionResult::Pass;
     let mut count = 0;
     let mut words = Parts::new(list, ',');
     while let Some(word) = words.next() {
@@ -40,7 +42,7 @@ fn parse_results(list: &str) -> Option<(ExecutionResultDescription, usize)>
         last = parse_result(word)?;
         count += 1;
     }
-    Some((last, count))
+    Some((ExecutionResultDescription::from_status(last, None), count))
 }
 
 /// Parses the words after `test`: the results of the attempts, and the flags.

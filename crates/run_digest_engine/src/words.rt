@@ -1,12 +1,13 @@
 //! The words of an input.
 
-ghost use Rattle.std.specs.Prelude.{◌≡◌, ◌≤◌, true, length};
+ghost use Rattle.std.specs.Prelude.{◌≡◌, ◌≤◌, None, true, length, option_map};
 ghost use Rattle.std.specs.Char.{is_ascii_digit};
 ghost use Rattle.std.specs.List.{list_all};
+ghost use Rattle.run_events_results.specs.Described.{described_result};
 ghost use Rattle.run_digest_engine.specs.Reader.{flags_of, number_of, reason_of, result_of, start_fields, value_of_digits};
 
 use crate::parts::Parts;
-use run_events_results::results::{CancelReason, ExecutionResultDescription, FailureDescription};
+use run_events_results::results::{CancelReason, ExecutionResult, FailureStatus};
 use run_events_settings::config::{FlakyResult, LeakTimeoutResult, SlowTimeoutResult};
 use run_events_stats::stats::RunStart;
 
@@ -18,26 +19,26 @@ const MAX_NUMBER: usize = 1_000_000;
 
 /// Parses the word for a result.
 #[tactic(auto, unfolding(crate::specs::Reader::result_of))]
-pub(crate) fn parse_result(word: &str) -> Option<ExecutionResultDescription>
-    ensures { result ≡ result_of word.now }
+pub(crate) fn parse_result(word: &str) -> Option<ExecutionResult>
+    ensures { option_map (λ r. described_result r None) result ≡ result_of word.now }
 {
     match word {
-        "pass" => Some(ExecutionResultDescription::Pass),
-        "leak" => Some(ExecutionResultDescription::Leak {
+        "pass" => Some(ExecutionResult::Pass),
+        "leak" => Some(ExecutionResult::Leak {
             result: LeakTimeoutResult::Pass,
         }),
-        "leak-fail" => Some(ExecutionResultDescription::Leak {
+        "leak-fail" => Some(ExecutionResult::Leak {
             result: LeakTimeoutResult::Fail,
         }),
-        "fail" => Some(ExecutionResultDescription::Fail {
-            failure: FailureDescription::ExitCode { code: 1 },
+        "fail" => Some(ExecutionResult::Fail {
+            failure_status: FailureStatus::ExitCode(1),
             leaked: false,
         }),
-        "exec-fail" => Some(ExecutionResultDescription::ExecFail),
-        "timeout" => Some(ExecutionResultDescription::Timeout {
+        "exec-fail" => Some(ExecutionResult::ExecFail),
+        "timeout" => Some(ExecutionResult::Timeout {
             result: SlowTimeoutResult::Fail,
         }),
-        "timeout-pass" => Some(ExecutionResultDescription::Timeout {
+        "timeout-pass" => Some(ExecutionResult::Timeout {
             result: SlowTimeoutResult::Pass,
         }),
         _ => None,

@@ -3,7 +3,7 @@
 
 use crate::run_digest_engine::parts::Parts;
 use crate::run_digest_engine::words::{parse_flags, parse_result};
-use deodarsieve::{ExecutionResultDescription, FinishedTest};
+use deodarsieve::{ExecutionResult, ExecutionResultDescription, FinishedTest};
 
 /// The greatest number of results of a test.
 const MAX_RESULTS: usize = 100;
@@ -13,14 +13,16 @@ pub(crate) fn parse_script(mut words: Parts<'_>) -> Option<ExecutionResultDescri
     let (Some(word), None) = (words.next(), words.next()) else {
         return None;
     };
-    parse_result(word)
+    let result = parse_result(word)?;
+    Some(ExecutionResultDescription::from_status(result, None))
 }
 
 /// Parses the results of a test, which are separated by commas and at most [`MAX_RESULTS`]. Returns the
 /// last one and their number.
 fn parse_results(list: &str) -> Option<(ExecutionResultDescription, usize)> {
+    // Only the last result is described, because a description owns memory.
     // A text has at least one part, so the first result replaces this one.
-    let mut last = ExecutionResultDescription::Pass;
+    let mut last = ExecutionResult::Pass;
     let mut count = 0;
     let words = Parts::new(list, ',');
     for word in words {
@@ -30,7 +32,7 @@ fn parse_results(list: &str) -> Option<(ExecutionResultDescription, usize)> {
         last = parse_result(word)?;
         count += 1;
     }
-    Some((last, count))
+    Some((ExecutionResultDescription::from_status(last, None), count))
 }
 
 /// Parses the words after `test`: the results of the attempts, and the flags.

@@ -3,8 +3,8 @@
 
 use crate::run_digest_engine::parts::Parts;
 use deodarsieve::{
-    CancelReason, ExecutionResultDescription, FailureDescription, FlakyResult, LeakTimeoutResult,
-    RunStart, SlowTimeoutResult,
+    CancelReason, ExecutionResult, FailureStatus, FlakyResult, LeakTimeoutResult, RunStart,
+    SlowTimeoutResult,
 };
 
 /// The greatest number of digits of a number.
@@ -14,24 +14,24 @@ const MAX_DIGITS: usize = 7;
 const MAX_NUMBER: usize = 1_000_000;
 
 /// Parses the word for a result.
-pub(crate) fn parse_result(word: &str) -> Option<ExecutionResultDescription> {
+pub(crate) fn parse_result(word: &str) -> Option<ExecutionResult> {
     match word {
-        "pass" => Some(ExecutionResultDescription::Pass),
-        "leak" => Some(ExecutionResultDescription::Leak {
+        "pass" => Some(ExecutionResult::Pass),
+        "leak" => Some(ExecutionResult::Leak {
             result: LeakTimeoutResult::Pass,
         }),
-        "leak-fail" => Some(ExecutionResultDescription::Leak {
+        "leak-fail" => Some(ExecutionResult::Leak {
             result: LeakTimeoutResult::Fail,
         }),
-        "fail" => Some(ExecutionResultDescription::Fail {
-            failure: FailureDescription::ExitCode { code: 1 },
+        "fail" => Some(ExecutionResult::Fail {
+            failure_status: FailureStatus::ExitCode(1),
             leaked: false,
         }),
-        "exec-fail" => Some(ExecutionResultDescription::ExecFail),
-        "timeout" => Some(ExecutionResultDescription::Timeout {
+        "exec-fail" => Some(ExecutionResult::ExecFail),
+        "timeout" => Some(ExecutionResult::Timeout {
             result: SlowTimeoutResult::Fail,
         }),
-        "timeout-pass" => Some(ExecutionResultDescription::Timeout {
+        "timeout-pass" => Some(ExecutionResult::Timeout {
             result: SlowTimeoutResult::Pass,
         }),
         _ => None,
