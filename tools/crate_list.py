@@ -35,6 +35,11 @@ def below(crate):
     return graph
 
 
+def is_static(crate):
+    """Returns true if a crate is a static library."""
+    return re.search(rf"^{crate} staticlib:", _text(), re.M) is not None
+
+
 def libraries():
     """Returns the crates of the group of libraries, except the static library."""
     group = re.search(r"^# Libraries\n((?:\w.*\n)+)", _text(), re.M)
