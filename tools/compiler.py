@@ -22,6 +22,11 @@ def root_of(crate):
     return "src/main.rt" if os.path.exists(f"{TOP}/crates/{crate}/src/main.rt") else "src/lib.rt"
 
 
+def proved(crate):
+    """Returns the file of a library of this repository that `tools/prove` built."""
+    return f"{TOP}/crates/{crate}/out/proved/{crate}.rlib"
+
+
 def words(toolchain, crate, built):
     """Returns the arguments that name a crate and all that it uses, for a call in the crate's folder.
 
