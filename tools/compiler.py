@@ -9,12 +9,20 @@ import shutil
 import crate_list
 
 TOP = os.path.dirname(os.path.dirname(os.path.realpath(__file__)))
+MEMORY_OF_A_PROOF = 4_000_000  # kB
 
 
 def kit():
     """Returns the toolchain's folder, or None if there is no `rt` on the path."""
     found = shutil.which("rt")
     return found and os.path.dirname(os.path.dirname(os.path.realpath(found)))
+
+
+def lanes():
+    """Returns how many proofs run at the same time: one for each processor, as far as the memory suffices."""
+    with open("/proc/meminfo", encoding="utf-8") as file:
+        memory = next(int(line.split()[1]) for line in file if line.startswith("MemAvailable:"))
+    return max(1, min(len(os.sched_getaffinity(0)), memory // MEMORY_OF_A_PROOF))
 
 
 def root_of(crate):
