@@ -8,11 +8,15 @@
 #[doc(hidden)]
 pub mod commands;
 #[doc(hidden)]
+pub mod interrupt;
+#[doc(hidden)]
 pub mod program;
 #[doc(hidden)]
 pub mod program_io;
 #[doc(hidden)]
 pub mod progress_line;
+#[doc(hidden)]
+pub mod reading;
 #[doc(hidden)]
 pub mod replaced_file;
 #[doc(hidden)]

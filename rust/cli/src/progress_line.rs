@@ -1,54 +1,92 @@
 //! The line on standard error that shows the progress of the run.
 
-use std::io::{self, Write};
+use std::io::{self, Stderr, Write};
 use std::time::{Duration, Instant};
 
-/// The most times that the line is written in a second.
-const MOST_WRITES: u32 = 10;
+/// The least time between two writes of the line.
+const SHORTEST_PAUSE: Duration = Duration::from_millis(100);
 
-/// A line on standard error. While it is shown, the cursor is at its end.
-#[derive(Debug, Default)]
-pub struct ProgressLine {
-    is_shown: bool,
+/// The time after which the line is written again although nothing has changed.
+const LONGEST_PAUSE: Duration = Duration::from_secs(1);
 
-    /// When the current second began, and how often the line was written since then.
-    since: Option<Instant>,
-    writes: u32,
+/// A line on a terminal. While it is shown, the cursor is at its end.
+#[derive(Debug)]
+pub struct ProgressLine<T> {
+    terminal: T,
+
+    /// The text on the terminal, or `None` if the line is hidden.
+    shown: Option<String>,
+
+    /// When the line was last written, or found to be up to date.
+    written: Option<Instant>,
+
+    /// True if input was read or text was written above the line since then.
+    is_stale: bool,
 }
 
-impl ProgressLine {
-    /// Replaces the text of the line, and shows it. The terminal cuts it at its width.
-    pub fn show(&mut self, text: &str) {
-        self.write(&format!("\r\u{1b}[K\u{1b}[?7l{text}\u{1b}[?7h"));
-        self.is_shown = true;
-    }
-
-    /// Returns true if the line may be written once more in this second, and counts that as a write.
-    pub fn is_due(&mut self, now: Instant) -> bool {
-        let second = Duration::from_secs(1);
-        if self
-            .since
-            .is_none_or(|since| now.duration_since(since) >= second)
-        {
-            self.since = Some(now);
-            self.writes = 0;
+impl<T: Write> ProgressLine<T> {
+    /// Returns a line that is hidden.
+    pub fn new(terminal: T) -> ProgressLine<T> {
+        ProgressLine {
+            terminal,
+            shown: None,
+            written: None,
+            is_stale: false,
         }
-        let is_due = self.writes < MOST_WRITES;
-        self.writes += u32::from(is_due);
-        is_due
     }
 
-    /// Hides the line.
+    /// Notes that input was read, so that the line may have to change.
+    pub fn note_input(&mut self) {
+        self.is_stale = true;
+    }
+
+    /// Returns how long after `now` the line is due, or `None` if no input was read yet.
+    pub fn time_until_due(&self, now: Instant) -> Option<Duration> {
+        let Some(written) = self.written else {
+            return self.is_stale.then_some(Duration::ZERO);
+        };
+        let pause = if self.is_stale {
+            SHORTEST_PAUSE
+        } else {
+            LONGEST_PAUSE
+        };
+        Some((written + pause).saturating_duration_since(now))
+    }
+
+    /// Writes the line if it is due. A line that is due because of input is not written if its text is still
+    /// the same.
+    pub fn refresh(&mut self, now: Instant, text: impl FnOnce() -> String) {
+        if self.time_until_due(now) != Some(Duration::ZERO) {
+            return;
+        }
+        let text = text();
+        if !self.is_stale || self.shown.as_ref() != Some(&text) {
+            // The terminal cuts the text at its width, because the line does not wrap.
+            self.write(&format!("\r\u{1b}[K\u{1b}[?7l{text}\u{1b}[?7h"));
+            self.shown = Some(text);
+        }
+        self.written = Some(now);
+        self.is_stale = false;
+    }
+
+    /// Hides the line, because text is written in its place. It is due again a tenth of a second after it was
+    /// last written.
     pub fn hide(&mut self) {
-        if self.is_shown {
+        if self.shown.take().is_some() {
             self.write("\r\u{1b}[K");
-            self.is_shown = false;
+            self.is_stale = true;
         }
     }
 
-    /// Writes a text to standard error. If that fails, the line is missing and the report continues.
-    fn write(&self, text: &str) {
-        let _ = io::stderr().write_all(text.as_bytes());
+    /// Writes a message above the line.
+    pub fn say(&mut self, message: &str) {
+        self.hide();
+        self.write(&format!("{message}\n"));
+    }
+
+    /// Writes a text to the terminal. If that fails, the text is missing and the report continues.
+    fn write(&mut self, text: &str) {
+        let _ = self.terminal.write_all(text.as_bytes());
     }
 }
 
@@ -57,8 +95,8 @@ impl ProgressLine {
 pub struct Output<W> {
     writer: W,
 
-    /// The line of progress.
-    pub line: ProgressLine,
+    /// The line of progress, on standard error.
+    pub line: ProgressLine<Stderr>,
 }
 
 impl<W> Output<W> {
@@ -66,7 +104,7 @@ impl<W> Output<W> {
     pub fn new(writer: W) -> Output<W> {
         Output {
             writer,
-            line: ProgressLine::default(),
+            line: ProgressLine::new(io::stderr()),
         }
     }
 
@@ -91,15 +129,67 @@ impl<W: Write> Write for Output<W> {
 mod tests {
     use super::*;
 
+    /// Runs the line for some milliseconds, and returns when it was due: at each time in `input` a text is
+    /// read, and at each time in `above` text is written above the line.
+    fn due_times(milliseconds: u64, input: &[u64], above: &[u64]) -> Vec<u64> {
+        let (mut line, start) = (ProgressLine::new(io::sink()), Instant::now());
+        let mut due = Vec::new();
+        for time in 0..milliseconds {
+            if above.contains(&time) {
+                line.hide();
+            }
+            if input.contains(&time) {
+                line.note_input();
+            }
+            let now = start + Duration::from_millis(time);
+            line.refresh(now, || {
+                due.push(time);
+                format!("the text at {time}")
+            });
+        }
+        due
+    }
+
     #[test]
-    fn the_line_is_written_ten_times_a_second_at_most() {
-        let (mut line, start) = (ProgressLine::default(), Instant::now());
-        let at = |milliseconds| start + Duration::from_millis(milliseconds);
-        let times: Vec<u64> = (0..2_000)
-            .step_by(10)
-            .filter(|&time| line.is_due(at(time)))
-            .collect();
-        let second = |first: u64| (0..10).map(move |number| first + 10 * number);
-        assert_eq!(times, second(0).chain(second(1_000)).collect::<Vec<_>>());
+    fn there_is_no_line_before_the_first_input() {
+        assert!(due_times(3_000, &[], &[]).is_empty());
+    }
+
+    #[test]
+    fn the_line_follows_the_input_ten_times_a_second_at_most() {
+        let each_time: Vec<u64> = (0..1_000).collect();
+        let tenths: Vec<u64> = (0..1_000).step_by(100).collect();
+        assert_eq!(due_times(1_000, &each_time, &[]), tenths);
+    }
+
+    #[test]
+    fn the_last_change_is_shown_after_a_tenth_of_a_second_at_most() {
+        assert_eq!(due_times(1_000, &[5, 6, 7], &[]), [5, 105]);
+        assert_eq!(due_times(1_000, &[5, 300], &[]), [5, 300]);
+    }
+
+    #[test]
+    fn without_input_the_line_is_written_once_a_second() {
+        assert_eq!(due_times(3_500, &[5], &[]), [5, 1_005, 2_005, 3_005]);
+    }
+
+    #[test]
+    fn the_line_is_shown_again_after_text_above_it() {
+        assert_eq!(due_times(1_000, &[5], &[50]), [5, 105]);
+        assert_eq!(due_times(1_000, &[5], &[400]), [5, 400]);
+    }
+
+    #[test]
+    fn a_line_that_has_not_changed_is_not_written_for_new_input() {
+        let (mut line, start) = (ProgressLine::new(Vec::new()), Instant::now());
+        for tenths in 0..5 {
+            line.note_input();
+            line.refresh(start + tenths * SHORTEST_PAUSE, || "one".to_string());
+        }
+        line.say("a message");
+        assert_eq!(
+            String::from_utf8_lossy(&line.terminal),
+            "\r\u{1b}[K\u{1b}[?7lone\u{1b}[?7h\r\u{1b}[Ka message\n"
+        );
     }
 }

@@ -2,10 +2,9 @@
 
 mod common;
 
-use common::run;
+use common::{Folder, run};
 use std::fs;
-use std::path::{Path, PathBuf};
-use std::process;
+use std::path::Path;
 
 /// A run in which a test passes, one is skipped, one fails with hostile text, one crashes, and one is not run.
 const RUN: &str = r#"
@@ -88,35 +87,6 @@ fn report(arguments: &[&str], input: &str, status: i32) -> String {
     assert_eq!(String::from_utf8_lossy(&output.stderr), "", "{arguments:?}");
     assert_eq!(output.status.code(), Some(status), "{arguments:?}");
     String::from_utf8(output.stdout).expect("the text is UTF-8")
-}
-
-/// A folder that is removed at the end of a test.
-struct Folder(PathBuf);
-
-impl Folder {
-    /// Creates a folder for a test.
-    fn new(test: &str) -> Folder {
-        let name = format!("test-report-{}-{test}", process::id());
-        let path = std::env::temp_dir().join(name);
-        fs::create_dir(&path).expect("the folder is new");
-        Folder(path)
-    }
-
-    /// Returns the path of a file in the folder.
-    fn file(&self, name: &str) -> String {
-        self.0
-            .join(name)
-            .to_str()
-            .expect("the path is UTF-8")
-            .to_string()
-    }
-}
-
-impl Drop for Folder {
-    fn drop(&mut self) {
-        // A folder that is left over is in the way of nothing.
-        let _ = fs::remove_dir_all(&self.0);
-    }
 }
 
 #[test]

@@ -3,12 +3,12 @@
 
 mod common;
 
-use common::{command, run};
+use common::{command, run, wait_for};
 use std::io::{BufRead, BufReader, Read, Write};
 use std::process::{Child, ChildStdin, ChildStdout};
 use std::sync::mpsc;
 use std::thread;
-use std::time::Duration;
+use std::time::{Duration, Instant};
 
 /// The start of a suite and its first failed test.
 const FAILED: &str = r#"{ "type": "suite", "event": "started", "test_count": 9 }
@@ -105,10 +105,13 @@ fn a_reader_that_stops_early_ends_the_program_quietly() {
     }
 }
 
-/// The line of progress, as it is written and taken away.
-fn line(text: &str) -> String {
-    format!("\r\u{1b}[K\u{1b}[?7l{text}\u{1b}[?7h\r\u{1b}[K")
+/// The line of progress, as it is written.
+fn drawn(text: &str) -> String {
+    format!("\r\u{1b}[K\u{1b}[?7l{text}\u{1b}[?7h")
 }
+
+/// What takes the line of progress away.
+const HIDDEN: &str = "\r\u{1b}[K";
 
 #[test]
 fn the_line_of_progress_is_gone_at_the_end() {
@@ -144,7 +147,12 @@ fn the_line_of_progress_is_gone_at_the_end() {
             let output = run("test-report", &arguments, input.as_bytes());
             let shown = String::from_utf8_lossy(&output.stderr).into_owned();
             assert_eq!(output.status.code(), Some(1), "{input}");
-            assert_eq!(shown, wanted.map(line).unwrap_or_default(), "{input}");
+            let line = wanted.map(drawn).unwrap_or_default();
+            // On a slow machine the line is written again, once a second.
+            let first = shown.trim_start_matches(line.as_str());
+            let end = if line.is_empty() { "" } else { HIDDEN };
+            assert!(shown.starts_with(&line), "{input}: {shown:?}");
+            assert_eq!(first, end, "{input}: {shown:?}");
         }
     }
 }
@@ -155,4 +163,68 @@ fn there_is_no_line_of_progress_in_a_pipe() {
         let output = run("test-report", &["--progress", progress], FAILED.as_bytes());
         assert_eq!(String::from_utf8_lossy(&output.stderr), "", "{progress}");
     }
+}
+
+/// Returns the lines of a suite of 41 tests: 40 end at once, and one goes on.
+fn forty_tests() -> String {
+    let mut lines =
+        "{ \"type\": \"suite\", \"event\": \"started\", \"test_count\": 41 }\n".to_string();
+    for number in 0..=40 {
+        lines += &format!(
+            "{{ \"type\": \"test\", \"event\": \"started\", \"name\": \"case_{number}\" }}\n"
+        );
+    }
+    for number in 0..40 {
+        lines +=
+            &format!("{{ \"type\": \"test\", \"event\": \"ok\", \"name\": \"case_{number}\" }}\n");
+    }
+    lines
+}
+
+#[test]
+fn the_line_of_progress_shows_the_last_change_while_no_line_comes() {
+    let mut child = command("test-report", &["--progress", "always"])
+        .spawn()
+        .expect("the program starts");
+    let mut stdin = child.stdin.take().expect("standard input is a pipe");
+    let stderr = child.stderr.take().expect("standard error is a pipe");
+    for line in forty_tests().lines() {
+        stdin
+            .write_all(format!("{line}\n").as_bytes())
+            .expect("the program reads");
+    }
+    let line = drawn("40 of 41 tests, 0 failed: case_40");
+    let (start, stderr) = (Instant::now(), wait_for(stderr, &line));
+    let stderr = wait_for(stderr, &line);
+    // The line comes at once, and then once a second.
+    assert!(
+        start.elapsed() > Duration::from_millis(500),
+        "{:?}",
+        start.elapsed()
+    );
+    drop((stdin, stderr));
+    child.wait().expect("the program ends");
+}
+
+#[test]
+fn the_line_of_progress_is_shown_again_after_a_text() {
+    let mut child = command("test-report", &["--progress", "always"])
+        .spawn()
+        .expect("the program starts");
+    let mut stdin = child.stdin.take().expect("standard input is a pipe");
+    let stderr = child.stderr.take().expect("standard error is a pipe");
+    stdin
+        .write_all([FIRST, RUNNING].concat().as_bytes())
+        .expect("the program reads");
+    let stderr = wait_for(
+        stderr,
+        &drawn("0 of 3 tests, 0 failed: ledger::pays tests::at_once"),
+    );
+    stdin
+        .write_all(FAILED.as_bytes())
+        .expect("the program reads");
+    let again = drawn("1 of 12 tests, 1 failed");
+    let stderr = wait_for(stderr, &[HIDDEN, &again].concat());
+    drop((stdin, stderr));
+    child.wait().expect("the program ends");
 }

@@ -3,9 +3,11 @@
 
 use clap::ArgMatches;
 use deodarsieve_cli::commands::test_report;
+use deodarsieve_cli::interrupt::Interrupt;
 use deodarsieve_cli::program::{BAD_ARGUMENT, DEVICE_FAILED, Failure, KeepError, print_clap};
 use deodarsieve_cli::program_io::std_device::{StdSink, StdSource};
 use deodarsieve_cli::progress_line::Output;
+use deodarsieve_cli::reading::Reading;
 use deodarsieve_cli::replaced_file::{append, replace};
 use deodarsieve_cli::test_report_engine::fault::Fault;
 use deodarsieve_cli::test_report_engine::pieces::Pieces;
@@ -27,6 +29,10 @@ use std::fs::File;
 use std::io::{self, ErrorKind, IsTerminal, Read, Write};
 use std::process::ExitCode;
 use std::time::Instant;
+
+/// What the user sees who has pressed Ctrl-C while the input goes on.
+const STILL_READING: &str =
+    "test-report: the summary follows at the end of the input; a second Ctrl-C ends without it";
 
 /// Returns the program's name and its arguments.
 fn arguments() -> Result<Vec<String>, Failure> {
@@ -105,33 +111,50 @@ fn write_files(matches: &ArgMatches, texts: &FileTexts) -> Result<(), Failure> {
     Ok(())
 }
 
-/// Reads one file of the run.
+/// Reads one file of the run, and shows the progress of the run meanwhile.
 fn read_file<F: Form, W: Write>(
     report: &mut Report<F>,
-    reader: impl Read,
+    reader: impl Read + Send + 'static,
     pieces: &mut Pieces,
     output: &mut Output<W>,
+    interrupt: &Interrupt,
 ) -> Result<(), Failure> {
-    let mut reader = KeepError::new(reader);
-    let read = read_pieces(report, &mut StdSource::new(&mut reader), pieces, output);
-    read.map_err(|fault| Failure::from(fault).caused_by(reader.into_error()))
-}
-
-/// Reads one file of the run, and shows the progress of the run after each piece.
-fn read_pieces<F: Form, W: Write>(
-    report: &mut Report<F>,
-    source: &mut StdSource<impl Read>,
-    pieces: &mut Pieces,
-    output: &mut Output<W>,
-) -> Result<(), Fault> {
-    while report.read_piece(source, pieces, &mut StdSink::new(&mut *output))? {
-        if let Some(progress) = pieces.progress()
-            && output.line.is_due(Instant::now())
-        {
-            output.line.show(&progress.text());
+    let failed = |error| Failure::from(Fault::Read).caused_by(Some(error));
+    let reading = Reading::start(reader).map_err(failed)?;
+    let mut is_unsaid = !interrupt.has_come();
+    loop {
+        let wait = output.line.time_until_due(Instant::now());
+        if let Some(piece) = reading.next_piece(wait).map_err(failed)? {
+            if !take_piece(report, &piece, pieces, output)? {
+                return Ok(());
+            }
+        } else if is_unsaid && interrupt.has_come() {
+            is_unsaid = false;
+            output.line.say(STILL_READING);
+        }
+        if let Some(progress) = pieces.progress() {
+            output.line.refresh(Instant::now(), || progress.text());
         }
     }
-    Ok(())
+}
+
+/// Passes a piece of a file to the report. Returns false if the piece is empty, which is the end of the file.
+fn take_piece<F: Form, W: Write>(
+    report: &mut Report<F>,
+    mut piece: &[u8],
+    pieces: &mut Pieces,
+    output: &mut Output<W>,
+) -> Result<bool, Fault> {
+    loop {
+        let mut source = StdSource::new(&mut piece);
+        let has_more = report.read_piece(&mut source, pieces, &mut StdSink::new(&mut *output))?;
+        if piece.is_empty() {
+            if pieces.progress().is_some() {
+                output.line.note_input();
+            }
+            return Ok(has_more);
+        }
+    }
 }
 
 /// Reads all files of the run, and writes the report. Returns the end of the run, and the texts of the files
@@ -141,14 +164,15 @@ fn report_files<F: Form, W: Write>(
     mut report: Report<F>,
     mut pieces: Pieces,
     output: &mut Output<W>,
+    interrupt: &Interrupt,
 ) -> Result<(RunEnd, FileTexts), Failure> {
     for &path in files {
         if path == "-" {
-            read_file(&mut report, io::stdin().lock(), &mut pieces, output)?;
+            read_file(&mut report, io::stdin(), &mut pieces, output, interrupt)?;
             continue;
         }
         match File::open(path) {
-            Ok(file) => read_file(&mut report, file, &mut pieces, output)?,
+            Ok(file) => read_file(&mut report, file, &mut pieces, output, interrupt)?,
             Err(error) => {
                 let message = format!("{path} cannot be opened");
                 return Err(Failure::new(DEVICE_FAILED, message).caused_by(Some(error)));
@@ -173,9 +197,13 @@ fn report_in<F: Form>(
     if files.is_empty() {
         files.push("-");
     }
+    let interrupt = Interrupt::catch_first().map_err(|error| {
+        let message = "Ctrl-C cannot be caught";
+        Failure::new(DEVICE_FAILED, message).caused_by(Some(error))
+    })?;
     let report = Report::with_files(form, file_forms(matches, options));
     let mut output = Output::new(KeepError::new(io::stdout().lock()));
-    let written = report_files(&files, report, pieces(matches), &mut output);
+    let written = report_files(&files, report, pieces(matches), &mut output, &interrupt);
     output.line.hide();
     match (written, output.into_writer().into_error()) {
         (Ok((end, texts)), _) => {

@@ -4,10 +4,18 @@
     reason = "each file of tests is a program of its own, and calls only some of these"
 )]
 
+use std::env;
 use std::ffi::OsStr;
-use std::fs::File;
-use std::io::Write;
-use std::process::{Command, Output, Stdio};
+use std::fs::{self, File};
+use std::io::{Read, Write};
+use std::path::PathBuf;
+use std::process::{self, Command, Output, Stdio};
+use std::sync::mpsc;
+use std::thread;
+use std::time::Duration;
+
+/// How long a program may take until it has written a text.
+const PATIENCE: Duration = Duration::from_secs(60);
 
 /// Returns the path of a program of this package.
 pub fn path_of(program: &str) -> &'static str {
@@ -63,4 +71,53 @@ pub fn assert_output(output: &Output, stdout: &[u8], stderr: &[u8], status: i32,
         "{what}: bytes that are not UTF-8 differ"
     );
     assert_eq!(output.status.code(), Some(status), "{what}: exit status");
+}
+
+/// Reads a pipe until a text has come, which must be within a minute, and returns the pipe.
+pub fn wait_for<R: Read + Send + 'static>(mut pipe: R, text: &str) -> R {
+    let (sender, receiver) = mpsc::channel();
+    let wanted = text.to_string();
+    thread::spawn(move || {
+        let (mut read, mut byte) = (Vec::new(), [0]);
+        while !read.ends_with(wanted.as_bytes()) {
+            match pipe.read(&mut byte) {
+                Ok(1) => read.push(byte[0]),
+                _ => panic!("the pipe ends after {:?}", String::from_utf8_lossy(&read)),
+            }
+        }
+        // Nobody waits any more if the text comes too late.
+        let _ = sender.send(pipe);
+    });
+    receiver
+        .recv_timeout(PATIENCE)
+        .unwrap_or_else(|_| panic!("{text:?} does not come"))
+}
+
+/// A folder that is removed at the end of a test.
+pub struct Folder(pub PathBuf);
+
+impl Folder {
+    /// Creates a folder for a test.
+    pub fn new(test: &str) -> Folder {
+        let name = format!("test-report-{}-{test}", process::id());
+        let path = env::temp_dir().join(name);
+        fs::create_dir(&path).expect("the folder is new");
+        Folder(path)
+    }
+
+    /// Returns the path of a file in the folder.
+    pub fn file(&self, name: &str) -> String {
+        self.0
+            .join(name)
+            .to_str()
+            .expect("the path is UTF-8")
+            .to_string()
+    }
+}
+
+impl Drop for Folder {
+    fn drop(&mut self) {
+        // A folder that is left over is in the way of nothing.
+        let _ = fs::remove_dir_all(&self.0);
+    }
 }
