@@ -3,7 +3,7 @@
 
 mod common;
 
-use common::{Folder, command, wait_for};
+use common::{Folder, start, wait_for};
 use std::fs;
 use std::io::{Read, Write};
 use std::os::unix::process::ExitStatusExt;
@@ -46,29 +46,24 @@ fn the_first_signal_leaves_the_summary_and_the_files() {
     let folder = Folder::new("signals");
     for signal in ["INT", "TERM"] {
         let file = folder.file(&format!("{signal}.xml"));
-        let mut child = command("test-report", &["--junit", &file])
-            .spawn()
-            .expect("the program starts");
-        let mut stdin = child.stdin.take().expect("standard input is a pipe");
-        let stdout = child.stdout.take().expect("standard output is a pipe");
-        stdin
+        let mut running = start(&["--junit", &file]);
+        running
+            .stdin
             .write_all(FAILED.as_bytes())
             .expect("the program reads");
         let first = "FAIL suite 1 adds\n    Error: no such currency\n";
-        let mut stdout = wait_for(stdout, first);
-        send(signal, &child);
-        stdin
+        let mut stdout = wait_for(running.stdout, first);
+        send(signal, &running.child);
+        running
+            .stdin
             .write_all(LATER.as_bytes())
             .expect("the program still reads");
-        drop(stdin);
+        drop(running.stdin);
         let mut rest = String::new();
         stdout.read_to_string(&mut rest).expect("the text is UTF-8");
         assert_eq!([first, &rest].concat(), REPORT, "{signal}");
-        assert_eq!(
-            child.wait().expect("the program ends").code(),
-            Some(1),
-            "{signal}"
-        );
+        let status = running.child.wait().expect("the program ends");
+        assert_eq!(status.code(), Some(1), "{signal}");
         let xml = fs::read_to_string(&file).expect("the file is there");
         assert!(
             xml.contains("no money") && xml.ends_with("</testsuites>\n"),
@@ -80,21 +75,18 @@ fn the_first_signal_leaves_the_summary_and_the_files() {
 #[test]
 fn a_second_signal_ends_the_program() {
     for (first, second, number) in [("INT", "INT", 2), ("TERM", "TERM", 15), ("INT", "TERM", 15)] {
-        let mut child = command("test-report", &["--progress", "always"])
-            .spawn()
-            .expect("the program starts");
-        let mut stdin = child.stdin.take().expect("standard input is a pipe");
-        let stderr = child.stderr.take().expect("standard error is a pipe");
-        stdin
+        let mut running = start(&["--progress", "always"]);
+        running
+            .stdin
             .write_all(FAILED.as_bytes())
             .expect("the program reads");
-        let stderr = wait_for(stderr, "1 of 2 tests, 1 failed");
-        send(first, &child);
+        let stderr = wait_for(running.stderr, "1 of 2 tests, 1 failed");
+        send(first, &running.child);
         // A user who looks at the line of progress learns what the program waits for.
         let stderr = wait_for(stderr, "; a second Ctrl-C ends without it\n");
-        send(second, &child);
-        let status = child.wait().expect("the program ends");
+        send(second, &running.child);
+        let status = running.child.wait().expect("the program ends");
         assert_eq!(status.signal(), Some(number), "{first} {second}");
-        drop((stdin, stderr));
+        drop(stderr);
     }
 }

@@ -3,9 +3,9 @@
 
 mod common;
 
-use common::{command, run, wait_for};
+use common::{run, start, wait_for};
 use std::io::{BufRead, BufReader, Read, Write};
-use std::process::{Child, ChildStdin, ChildStdout};
+use std::process::ChildStdout;
 use std::sync::mpsc;
 use std::thread;
 use std::time::{Duration, Instant};
@@ -34,16 +34,6 @@ const RETRIED: &str = r#"{"type":"test","event":"ok","name":"ledger::pays$tests:
 /// How long the program may take until it has written a line.
 const PATIENCE: Duration = Duration::from_secs(60);
 
-/// Starts the program in a form, and returns it with the ends of its pipes.
-fn start(form: &str) -> (Child, ChildStdin, ChildStdout) {
-    let mut child = command("test-report", &["--format", form])
-        .spawn()
-        .expect("the program starts");
-    let stdin = child.stdin.take().expect("standard input is a pipe");
-    let stdout = child.stdout.take().expect("standard output is a pipe");
-    (child, stdin, stdout)
-}
-
 /// Returns the next line of a pipe, and the pipe.
 fn next_line(pipe: ChildStdout) -> (String, BufReader<ChildStdout>) {
     let (sender, receiver) = mpsc::channel();
@@ -70,16 +60,17 @@ fn a_failure_is_written_while_the_input_is_open() {
         ("names", "adds\n"),
     ];
     for (form, wanted) in cases {
-        let (mut child, mut stdin, stdout) = start(form);
-        stdin
+        let mut running = start(&["--format", form]);
+        running
+            .stdin
             .write_all(FAILED.as_bytes())
             .expect("the program reads");
-        let (line, mut pipe) = next_line(stdout);
+        let (line, mut pipe) = next_line(running.stdout);
         assert_eq!(line, wanted);
-        drop(stdin);
+        drop(running.stdin);
         let mut rest = String::new();
         pipe.read_to_string(&mut rest).expect("the text is UTF-8");
-        let status = child.wait().expect("the program ends");
+        let status = running.child.wait().expect("the program ends");
         assert_eq!(status.code(), Some(1), "{form}: {rest}");
     }
 }
@@ -87,20 +78,21 @@ fn a_failure_is_written_while_the_input_is_open() {
 #[test]
 fn a_reader_that_stops_early_ends_the_program_quietly() {
     for form in ["text", "github", "names"] {
-        let (mut child, mut stdin, stdout) = start(form);
-        stdin
+        let mut running = start(&["--format", form]);
+        running
+            .stdin
             .write_all(FAILED.as_bytes())
             .expect("the program reads");
-        drop(next_line(stdout));
+        drop(next_line(running.stdout));
         // The write of the next failure fails, and then nobody reads this pipe.
-        while stdin.write_all(FAILED.as_bytes()).is_ok() {}
-        drop(stdin);
+        while running.stdin.write_all(FAILED.as_bytes()).is_ok() {}
+        drop(running.stdin);
         let mut message = String::new();
-        let mut stderr = child.stderr.take().expect("standard error is a pipe");
-        stderr
+        running
+            .stderr
             .read_to_string(&mut message)
             .expect("the text is UTF-8");
-        let status = child.wait().expect("the program ends");
+        let status = running.child.wait().expect("the program ends");
         assert_eq!((status.code(), message.as_str()), (Some(3), ""), "{form}");
     }
 }
@@ -183,18 +175,15 @@ fn forty_tests() -> String {
 
 #[test]
 fn the_line_of_progress_shows_the_last_change_while_no_line_comes() {
-    let mut child = command("test-report", &["--progress", "always"])
-        .spawn()
-        .expect("the program starts");
-    let mut stdin = child.stdin.take().expect("standard input is a pipe");
-    let stderr = child.stderr.take().expect("standard error is a pipe");
+    let mut running = start(&["--progress", "always"]);
     for line in forty_tests().lines() {
-        stdin
+        running
+            .stdin
             .write_all(format!("{line}\n").as_bytes())
             .expect("the program reads");
     }
     let line = drawn("40 of 41 tests, 0 failed: case_40");
-    let (start, stderr) = (Instant::now(), wait_for(stderr, &line));
+    let (start, stderr) = (Instant::now(), wait_for(running.stderr, &line));
     let stderr = wait_for(stderr, &line);
     // The line comes at once, and then once a second.
     assert!(
@@ -202,29 +191,27 @@ fn the_line_of_progress_shows_the_last_change_while_no_line_comes() {
         "{:?}",
         start.elapsed()
     );
-    drop((stdin, stderr));
-    child.wait().expect("the program ends");
+    drop((running.stdin, stderr));
+    running.child.wait().expect("the program ends");
 }
 
 #[test]
 fn the_line_of_progress_is_shown_again_after_a_text() {
-    let mut child = command("test-report", &["--progress", "always"])
-        .spawn()
-        .expect("the program starts");
-    let mut stdin = child.stdin.take().expect("standard input is a pipe");
-    let stderr = child.stderr.take().expect("standard error is a pipe");
-    stdin
+    let mut running = start(&["--progress", "always"]);
+    running
+        .stdin
         .write_all([FIRST, RUNNING].concat().as_bytes())
         .expect("the program reads");
     let stderr = wait_for(
-        stderr,
+        running.stderr,
         &drawn("0 of 3 tests, 0 failed: ledger::pays tests::at_once"),
     );
-    stdin
+    running
+        .stdin
         .write_all(FAILED.as_bytes())
         .expect("the program reads");
     let again = drawn("1 of 12 tests, 1 failed");
     let stderr = wait_for(stderr, &[HIDDEN, &again].concat());
-    drop((stdin, stderr));
-    child.wait().expect("the program ends");
+    drop((running.stdin, stderr));
+    running.child.wait().expect("the program ends");
 }

@@ -9,7 +9,7 @@ use std::ffi::OsStr;
 use std::fs::{self, File};
 use std::io::{Read, Write};
 use std::path::PathBuf;
-use std::process::{self, Command, Output, Stdio};
+use std::process::{self, Child, ChildStderr, ChildStdin, ChildStdout, Command, Output, Stdio};
 use std::sync::mpsc;
 use std::thread;
 use std::time::Duration;
@@ -35,6 +35,27 @@ pub fn command<A: AsRef<OsStr>>(program: &str, arguments: &[A]) -> Command {
         .stdout(Stdio::piped())
         .stderr(Stdio::piped());
     command
+}
+
+/// A program that runs, with the ends of its pipes.
+pub struct Running {
+    pub child: Child,
+    pub stdin: ChildStdin,
+    pub stdout: ChildStdout,
+    pub stderr: ChildStderr,
+}
+
+/// Starts `test-report` with arguments.
+pub fn start(arguments: &[&str]) -> Running {
+    let mut child = command("test-report", arguments)
+        .spawn()
+        .expect("the program starts");
+    Running {
+        stdin: child.stdin.take().expect("standard input is a pipe"),
+        stdout: child.stdout.take().expect("standard output is a pipe"),
+        stderr: child.stderr.take().expect("standard error is a pipe"),
+        child,
+    }
 }
 
 /// Runs a program on a small input, which must fit into the buffer of a pipe.
