@@ -21,7 +21,7 @@ use std::env;
 use std::fs::File;
 use std::io::{self, ErrorKind, IsTerminal, Read, Write};
 use std::process::ExitCode;
-use std::rt::{Clock, Env, Files};
+use std::rt::{Env, Files};
 use test_report_engine::fault::Fault;
 use test_report_engine::pieces::Pieces;
 use test_report_engine::report::Report;
@@ -104,7 +104,7 @@ fn write_files<'a, R: Files + AllocGlobal>(
 }
 
 /// Reads a file of the run, or standard input if its name is `-`.
-fn read_file<'a, R: Files + AllocGlobal + Input + Clock, F: Form + Drop, W: Write>(
+fn read_file<'a, R: Files + AllocGlobal + Input, F: Form + Drop, W: Write>(
     rt: &R,
     path: &'a str,
     report: &mut Report<F>,
@@ -122,7 +122,7 @@ fn read_file<'a, R: Files + AllocGlobal + Input + Clock, F: Form + Drop, W: Writ
 }
 
 /// Reads a file of the run from a reader, and shows the progress of the run after each piece.
-fn read_from<S: Read + Drop, R: AllocGlobal + Clock, F: Form + Drop, W: Write>(
+fn read_from<S: Read + Drop, R: AllocGlobal, F: Form + Drop, W: Write>(
     rt: &R,
     reader: S,
     report: &mut Report<F>,
@@ -135,9 +135,7 @@ fn read_from<S: Read + Drop, R: AllocGlobal + Clock, F: Form + Drop, W: Write>(
             return Ok(());
         }
         if let Some(progress) = pieces.progress() {
-            if output.line.is_due(rt) {
-                output.line.show(progress.text(rt.alloc())?.as_str());
-            }
+            output.line.show(progress.text(rt.alloc())?);
         }
     }
     Err(Fault::CounterFull)
@@ -159,7 +157,7 @@ fn read_piece<S: Read + Drop, F: Form + Drop, W: Write>(
 
 /// Reads the files of the run, and writes the report. Returns the end of the run, and the texts of the files
 /// that the arguments ask for.
-fn report_to<'a, R: Files + AllocGlobal + Input + Clock, F: Form + Drop, W: Write>(
+fn report_to<'a, R: Files + AllocGlobal + Input, F: Form + Drop, W: Write>(
     rt: &R,
     matches: &ArgMatches<'a>,
     mut report: Report<F>,
@@ -190,7 +188,7 @@ fn pieces_of(alloc: Global, settings: Settings) -> Pieces {
 
 /// Writes the report to standard output in a form, and then the files. Returns the exit status. If the reader
 /// of standard output has gone, nothing is written to standard error.
-fn report_in<'a, R: Files + AllocGlobal + Input + Clock + Print, F: Form + Drop>(
+fn report_in<'a, R: Files + AllocGlobal + Input + Print, F: Form + Drop>(
     rt: &R,
     matches: &ArgMatches<'a>,
     settings: Settings,
@@ -214,7 +212,7 @@ fn report_in<'a, R: Files + AllocGlobal + Input + Clock + Print, F: Form + Drop>
 }
 
 /// Writes the report that the arguments ask for, and returns the exit status.
-fn report_of<'a, R: Files + AllocGlobal + Input + Clock + Print>(
+fn report_of<'a, R: Files + AllocGlobal + Input + Print>(
     rt: &R,
     matches: &ArgMatches<'a>,
     settings: Settings,
