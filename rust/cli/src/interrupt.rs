@@ -13,8 +13,8 @@ pub struct Interrupt {
 }
 
 impl Interrupt {
-    /// From now on the first Ctrl-C or SIGTERM does not end the program. The second one ends it, as it would
-    /// have done before.
+    /// From now on the first Ctrl-C or SIGTERM does not end the program. The second one ends it by the default
+    /// action of the signal.
     ///
     /// Fails if the system refuses a handler.
     pub fn catch_first() -> io::Result<Interrupt> {

@@ -7,7 +7,7 @@ use std::time::{Duration, Instant};
 const SHORTEST_PAUSE: Duration = Duration::from_millis(100);
 
 /// The time after which the line is written again although nothing has changed.
-const LONGEST_PAUSE: Duration = Duration::from_secs(1);
+pub const LONGEST_PAUSE: Duration = Duration::from_secs(1);
 
 /// A line on a terminal. While it is shown, the cursor is at its end.
 #[derive(Debug)]

@@ -5,8 +5,8 @@ use std::sync::mpsc::{Receiver, RecvTimeoutError, SyncSender, sync_channel};
 use std::thread;
 use std::time::Duration;
 
-/// The number of bytes that are read at once.
-const PIECE: usize = 16_384;
+/// The most bytes that are read at once. A pipe of Linux holds as many.
+const PIECE: usize = 65_536;
 
 /// The number of pieces that may wait until the program takes them.
 const WAITING: usize = 4;

@@ -3,11 +3,11 @@
 
 mod common;
 
-use common::{Folder, start, wait_for};
-use std::fs;
-use std::io::{Read, Write};
+use common::{Folder, read_until, soon, start, wait_for};
+use std::fs::{self, OpenOptions};
+use std::io::Write;
 use std::os::unix::process::ExitStatusExt;
-use std::process::{Child, Command};
+use std::process::{Child, ChildStderr, Command, ExitStatus};
 
 /// The first lines of a run: a test that fails.
 const FAILED: &str = r#"{ "type": "suite", "event": "started", "test_count": 2 }
@@ -34,6 +34,14 @@ suite 1 ended early
 outcome failed
 ";
 
+/// The end of the line that says what the program waits for.
+const STILL_READING: &str = "; a second Ctrl-C ends without it\n";
+
+/// Returns how a program ends, which must be within a minute.
+fn end_of(mut child: Child) -> ExitStatus {
+    soon("the end of the program", move || child.wait()).expect("the program can be waited for")
+}
+
 /// Sends a signal to a program.
 fn send(signal: &str, child: &Child) {
     let script = format!("kill -s {signal} {}", child.id());
@@ -51,19 +59,16 @@ fn the_first_signal_leaves_the_summary_and_the_files() {
             .stdin
             .write_all(FAILED.as_bytes())
             .expect("the program reads");
-        let first = "FAIL suite 1 adds\n    Error: no such currency\n";
-        let mut stdout = wait_for(running.stdout, first);
+        let (first, stdout) = read_until(running.stdout, "    Error: no such currency\n");
         send(signal, &running.child);
         running
             .stdin
             .write_all(LATER.as_bytes())
             .expect("the program still reads");
         drop(running.stdin);
-        let mut rest = String::new();
-        stdout.read_to_string(&mut rest).expect("the text is UTF-8");
-        assert_eq!([first, &rest].concat(), REPORT, "{signal}");
-        let status = running.child.wait().expect("the program ends");
-        assert_eq!(status.code(), Some(1), "{signal}");
+        let (rest, _) = read_until(stdout, "outcome failed\n");
+        assert_eq!([first, rest].concat(), REPORT, "{signal}");
+        assert_eq!(end_of(running.child).code(), Some(1), "{signal}");
         let xml = fs::read_to_string(&file).expect("the file is there");
         assert!(
             xml.contains("no money") && xml.ends_with("</testsuites>\n"),
@@ -82,11 +87,71 @@ fn a_second_signal_ends_the_program() {
             .expect("the program reads");
         let stderr = wait_for(running.stderr, "1 of 2 tests, 1 failed");
         send(first, &running.child);
-        // A user who looks at the line of progress learns what the program waits for.
-        let stderr = wait_for(stderr, "; a second Ctrl-C ends without it\n");
+        let stderr = wait_for(stderr, STILL_READING);
         send(second, &running.child);
-        let status = running.child.wait().expect("the program ends");
+        let status = end_of(running.child);
         assert_eq!(status.signal(), Some(number), "{first} {second}");
-        drop(stderr);
+        drop((running.stdin, stderr));
     }
+}
+
+#[test]
+fn the_user_is_told_once_what_the_program_waits_for() {
+    let folder = Folder::new("told");
+    let pipe = folder.file("second");
+    let made = Command::new("mkfifo").arg(&pipe).status();
+    assert!(made.expect("mkfifo runs").success());
+    let mut running = start(&["--progress", "always", "-", &pipe]);
+    running
+        .stdin
+        .write_all([FAILED, LATER].concat().as_bytes())
+        .expect("the program reads");
+    let line = "2 of 2 tests, 2 failed\u{1b}[?7h";
+    let stderr = wait_for(running.stderr, line);
+    send("INT", &running.child);
+    // The message comes, and then the line of progress once a second, also while the second file is read.
+    let (told, stderr) = read_until(stderr, STILL_READING);
+    let (first, stderr) = read_lines(stderr, line);
+    drop(running.stdin);
+    let second = soon("the second file", move || {
+        OpenOptions::new().write(true).open(pipe)
+    });
+    let (again, stderr) = read_lines(stderr, line);
+    let told = [told, first, again].concat();
+    assert_eq!(told.matches(STILL_READING).count(), 1, "{told:?}");
+    drop((second, stderr));
+    assert_eq!(end_of(running.child).code(), Some(1));
+}
+
+/// Reads a pipe until a text has come three times more. Returns what was read, and the pipe.
+fn read_lines(mut pipe: ChildStderr, text: &str) -> (String, ChildStderr) {
+    let mut all = String::new();
+    for _ in 0..3 {
+        let (read, rest) = read_until(pipe, text);
+        all += &read;
+        pipe = rest;
+    }
+    (all, pipe)
+}
+
+#[test]
+#[cfg(target_os = "linux")]
+fn the_user_is_told_before_any_input() {
+    let running = start(&["--progress", "always"]);
+    let file = format!("/proc/{}/status", running.child.id());
+    let catches = move || {
+        let status = fs::read_to_string(&file).expect("the program runs");
+        let line = status.lines().find_map(|line| line.strip_prefix("SigCgt:"));
+        let signals = line.and_then(|line| u64::from_str_radix(line.trim(), 16).ok());
+        signals.is_some_and(|signals| signals & (1 << 1) != 0)
+    };
+    soon("the handler of SIGINT", move || {
+        while !catches() {
+            std::thread::yield_now();
+        }
+    });
+    send("INT", &running.child);
+    let stderr = wait_for(running.stderr, STILL_READING);
+    drop((running.stdin, stderr));
+    assert_eq!(end_of(running.child).code(), Some(1));
 }

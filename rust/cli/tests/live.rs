@@ -3,11 +3,8 @@
 
 mod common;
 
-use common::{run, start, wait_for};
-use std::io::{BufRead, BufReader, Read, Write};
-use std::process::ChildStdout;
-use std::sync::mpsc;
-use std::thread;
+use common::{read_until, run, start, wait_for};
+use std::io::{Read, Write};
 use std::time::{Duration, Instant};
 
 /// The start of a suite and its first failed test.
@@ -31,24 +28,6 @@ const RUNNING: &str = r#"{"type":"test","event":"started","name":"ledger::pays$t
 const RETRIED: &str = r#"{"type":"test","event":"ok","name":"ledger::pays$tests::at_once#2"}
 "#;
 
-/// How long the program may take until it has written a line.
-const PATIENCE: Duration = Duration::from_secs(60);
-
-/// Returns the next line of a pipe, and the pipe.
-fn next_line(pipe: ChildStdout) -> (String, BufReader<ChildStdout>) {
-    let (sender, receiver) = mpsc::channel();
-    thread::spawn(move || {
-        let mut pipe = BufReader::with_capacity(1, pipe);
-        let mut line = String::new();
-        pipe.read_line(&mut line).expect("the line is UTF-8");
-        // Nobody waits any more if the line comes too late.
-        let _ = sender.send((line, pipe));
-    });
-    receiver
-        .recv_timeout(PATIENCE)
-        .expect("a line is written while the input is open")
-}
-
 #[test]
 fn a_failure_is_written_while_the_input_is_open() {
     let cases = [
@@ -65,7 +44,7 @@ fn a_failure_is_written_while_the_input_is_open() {
             .stdin
             .write_all(FAILED.as_bytes())
             .expect("the program reads");
-        let (line, mut pipe) = next_line(running.stdout);
+        let (line, mut pipe) = read_until(running.stdout, "\n");
         assert_eq!(line, wanted);
         drop(running.stdin);
         let mut rest = String::new();
@@ -83,7 +62,7 @@ fn a_reader_that_stops_early_ends_the_program_quietly() {
             .stdin
             .write_all(FAILED.as_bytes())
             .expect("the program reads");
-        drop(next_line(running.stdout));
+        drop(wait_for(running.stdout, "\n"));
         // The write of the next failure fails, and then nobody reads this pipe.
         while running.stdin.write_all(FAILED.as_bytes()).is_ok() {}
         drop(running.stdin);

@@ -6,7 +6,7 @@ use deodarsieve_cli::commands::test_report;
 use deodarsieve_cli::interrupt::Interrupt;
 use deodarsieve_cli::program::{BAD_ARGUMENT, DEVICE_FAILED, Failure, KeepError, print_clap};
 use deodarsieve_cli::program_io::std_device::{StdSink, StdSource};
-use deodarsieve_cli::progress_line::Output;
+use deodarsieve_cli::progress_line::{LONGEST_PAUSE, Output, ProgressLine};
 use deodarsieve_cli::reading::Reading;
 use deodarsieve_cli::replaced_file::{append, replace};
 use deodarsieve_cli::test_report_engine::fault::Fault;
@@ -26,9 +26,9 @@ use deodarsieve_cli::test_report_run::note::RunEnd;
 use std::env;
 use std::ffi::OsString;
 use std::fs::File;
-use std::io::{self, ErrorKind, IsTerminal, Read, Write};
+use std::io::{self, ErrorKind, IsTerminal, Read, Stderr, Write};
 use std::process::ExitCode;
-use std::time::Instant;
+use std::time::{Duration, Instant};
 
 /// What the user sees who has pressed Ctrl-C while the input goes on.
 const STILL_READING: &str =
@@ -111,26 +111,50 @@ fn write_files(matches: &ArgMatches, texts: &FileTexts) -> Result<(), Failure> {
     Ok(())
 }
 
+/// What the program waits for besides its input.
+struct Waiting {
+    interrupt: Interrupt,
+
+    /// True until the user was told that the program goes on after Ctrl-C. It is false from the start if nobody
+    /// looks at standard error.
+    is_unsaid: bool,
+}
+
+impl Waiting {
+    /// Returns how long to wait for input at `now`, or `None` if there is nothing else to do.
+    fn time_left(&self, line: &ProgressLine<Stderr>, now: Instant) -> Option<Duration> {
+        line.time_until_due(now)
+            .or(self.is_unsaid.then_some(LONGEST_PAUSE))
+    }
+
+    /// Tells the user once that the program goes on, if Ctrl-C was pressed.
+    fn say_once(&mut self, line: &mut ProgressLine<Stderr>) {
+        if self.is_unsaid && self.interrupt.has_come() {
+            self.is_unsaid = false;
+            line.say(STILL_READING);
+        }
+    }
+}
+
 /// Reads one file of the run, and shows the progress of the run meanwhile.
 fn read_file<F: Form, W: Write>(
     report: &mut Report<F>,
     reader: impl Read + Send + 'static,
     pieces: &mut Pieces,
     output: &mut Output<W>,
-    interrupt: &Interrupt,
+    waiting: &mut Waiting,
 ) -> Result<(), Failure> {
     let failed = |error| Failure::from(Fault::Read).caused_by(Some(error));
     let reading = Reading::start(reader).map_err(failed)?;
-    let mut is_unsaid = !interrupt.has_come();
     loop {
-        let wait = output.line.time_until_due(Instant::now());
-        if let Some(piece) = reading.next_piece(wait).map_err(failed)? {
-            if !take_piece(report, &piece, pieces, output)? {
-                return Ok(());
+        let wait = waiting.time_left(&output.line, Instant::now());
+        match reading.next_piece(wait).map_err(failed)? {
+            Some(piece) => {
+                if !take_piece(report, &piece, pieces, output)? {
+                    return Ok(());
+                }
             }
-        } else if is_unsaid && interrupt.has_come() {
-            is_unsaid = false;
-            output.line.say(STILL_READING);
+            None => waiting.say_once(&mut output.line),
         }
         if let Some(progress) = pieces.progress() {
             output.line.refresh(Instant::now(), || progress.text());
@@ -164,15 +188,15 @@ fn report_files<F: Form, W: Write>(
     mut report: Report<F>,
     mut pieces: Pieces,
     output: &mut Output<W>,
-    interrupt: &Interrupt,
+    waiting: &mut Waiting,
 ) -> Result<(RunEnd, FileTexts), Failure> {
     for &path in files {
         if path == "-" {
-            read_file(&mut report, io::stdin(), &mut pieces, output, interrupt)?;
+            read_file(&mut report, io::stdin(), &mut pieces, output, waiting)?;
             continue;
         }
         match File::open(path) {
-            Ok(file) => read_file(&mut report, file, &mut pieces, output, interrupt)?,
+            Ok(file) => read_file(&mut report, file, &mut pieces, output, waiting)?,
             Err(error) => {
                 let message = format!("{path} cannot be opened");
                 return Err(Failure::new(DEVICE_FAILED, message).caused_by(Some(error)));
@@ -181,6 +205,14 @@ fn report_files<F: Form, W: Write>(
     }
     let texts = report.file_texts()?;
     Ok((report.finish(&mut StdSink::new(output))?, texts))
+}
+
+/// Makes the first Ctrl-C or SIGTERM not end the program.
+fn catch_first_interrupt() -> Result<Interrupt, Failure> {
+    Interrupt::catch_first().map_err(|error| {
+        let message = "Ctrl-C cannot be caught";
+        Failure::new(DEVICE_FAILED, message).caused_by(Some(error))
+    })
 }
 
 /// Writes the report to standard output in a form, and then the files. Returns the exit status. If the reader
@@ -197,13 +229,14 @@ fn report_in<F: Form>(
     if files.is_empty() {
         files.push("-");
     }
-    let interrupt = Interrupt::catch_first().map_err(|error| {
-        let message = "Ctrl-C cannot be caught";
-        Failure::new(DEVICE_FAILED, message).caused_by(Some(error))
-    })?;
     let report = Report::with_files(form, file_forms(matches, options));
+    let pieces = pieces(matches);
+    let mut waiting = Waiting {
+        interrupt: catch_first_interrupt()?,
+        is_unsaid: pieces.progress().is_some() || io::stderr().is_terminal(),
+    };
     let mut output = Output::new(KeepError::new(io::stdout().lock()));
-    let written = report_files(&files, report, pieces(matches), &mut output, &interrupt);
+    let written = report_files(&files, report, pieces, &mut output, &mut waiting);
     output.line.hide();
     match (written, output.into_writer().into_error()) {
         (Ok((end, texts)), _) => {

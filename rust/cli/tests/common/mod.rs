@@ -94,11 +94,20 @@ pub fn assert_output(output: &Output, stdout: &[u8], stderr: &[u8], status: i32,
     assert_eq!(output.status.code(), Some(status), "{what}: exit status");
 }
 
-/// Reads a pipe until a text has come, which must be within a minute, and returns the pipe.
-pub fn wait_for<R: Read + Send + 'static>(mut pipe: R, text: &str) -> R {
+/// Runs an action in a thread, and returns its result, which must come within a minute.
+pub fn soon<T: Send + 'static>(what: &str, action: impl FnOnce() -> T + Send + 'static) -> T {
     let (sender, receiver) = mpsc::channel();
+    // Nobody waits any more if the result comes too late.
+    thread::spawn(move || sender.send(action()));
+    receiver
+        .recv_timeout(PATIENCE)
+        .unwrap_or_else(|_| panic!("{what} does not come"))
+}
+
+/// Reads a pipe until a text has come, which must be within a minute. Returns what was read, and the pipe.
+pub fn read_until<R: Read + Send + 'static>(mut pipe: R, text: &str) -> (String, R) {
     let wanted = text.to_string();
-    thread::spawn(move || {
+    soon(text, move || {
         let (mut read, mut byte) = (Vec::new(), [0]);
         while !read.ends_with(wanted.as_bytes()) {
             match pipe.read(&mut byte) {
@@ -106,12 +115,14 @@ pub fn wait_for<R: Read + Send + 'static>(mut pipe: R, text: &str) -> R {
                 _ => panic!("the pipe ends after {:?}", String::from_utf8_lossy(&read)),
             }
         }
-        // Nobody waits any more if the text comes too late.
-        let _ = sender.send(pipe);
-    });
-    receiver
-        .recv_timeout(PATIENCE)
-        .unwrap_or_else(|_| panic!("{text:?} does not come"))
+        let read = String::from_utf8(read).expect("the text is UTF-8");
+        (read, pipe)
+    })
+}
+
+/// Reads a pipe until a text has come, which must be within a minute, and returns the pipe.
+pub fn wait_for<R: Read + Send + 'static>(pipe: R, text: &str) -> R {
+    read_until(pipe, text).1
 }
 
 /// A folder that is removed at the end of a test.
