@@ -103,6 +103,12 @@ pub struct ExecutionStatusesIter<'a, S: OutputSpec> {
         "String::from_str(rt.alloc(), word)?",
         "String::from_str(rt.alloc(), *word)?",
     ),
+    # No width, fill or precision changes the text, as with nextest's type.
+    (
+        "output_slice/src/subslice.rt",
+        "fmt::Display::fmt(&self.part().slice.as_bstr(), f)",
+        'write!(f, "{}", self.part().slice.as_bstr())',
+    ),
     # The layer has the decimal digits alone.
     (
         "output_slice/src/panic_head/characters.rt",

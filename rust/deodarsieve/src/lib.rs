@@ -180,6 +180,8 @@ pub mod errors {
 /// The forms in which events hold the output of a child process.
 pub mod output_spec {
     pub use crate::run_events_child::child::{LiveSpec, OutputSpec};
+    #[cfg(feature = "serde")]
+    pub use crate::std_impls::serde::SerializableOutputSpec;
 }
 
 /// Settings of a runner.

@@ -18,12 +18,17 @@ const SECONDS_PER_DAY: i32 = 86_400;
 /// # Conversions
 ///
 /// - From [`SystemTime`], at offset 0, with the feature `std`.
-/// - From `chrono::DateTime<chrono::FixedOffset>` and back, with the feature `chrono`.
-/// - From the types of any other library by their numbers. For a `Zoned` of `jiff`:
+/// - From `chrono::DateTime` of any time zone, and to `DateTime<FixedOffset>` and `DateTime<Utc>`, with the
+///   feature `chrono`.
+/// - To and from text in the form of RFC 3339, by `serde`, with the feature `serde`.
+/// - From and to the types of any other library by their numbers. For a `Zoned` of `jiff`, and for a
+///   `Timestamp` from a moment:
 ///
 ///   ```text
 ///   let nanoseconds = zoned.timestamp().as_nanosecond();
 ///   Moment::from_unix_nanoseconds(nanoseconds, zoned.offset().seconds())
+///
+///   Timestamp::from_nanosecond(moment.unix_nanoseconds())
 ///   ```
 ///
 /// ```
@@ -123,6 +128,15 @@ impl Moment {
     pub const fn unix_nanoseconds(self) -> i128 {
         self.unix_seconds as i128 * NANOSECONDS_PER_SECOND as i128
             + self.subsecond_nanoseconds as i128
+    }
+
+    /// Returns the milliseconds from the Unix epoch to the instant, rounded down: negative before the epoch. If an
+    /// `i64` cannot hold the number, returns the nearest that it can. That is some 292 million years away.
+    #[must_use]
+    pub fn timestamp_millis(self) -> i64 {
+        let milliseconds = self.unix_nanoseconds().div_euclid(1_000_000);
+        let nearest = if milliseconds < 0 { i64::MIN } else { i64::MAX };
+        i64::try_from(milliseconds).unwrap_or(nearest)
     }
 
     /// Returns the offset in seconds east of UTC: less than a day in either direction.

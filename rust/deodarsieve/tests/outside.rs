@@ -40,8 +40,8 @@ open!(AbortDescription {
     AbortDescription::WindowsNtStatus { code: _, message: _ },
     AbortDescription::WindowsJobObject,
 });
-open!(AbortStatus { AbortStatus::UnixSignal(_) });
-open!(CancelReason {
+closed!(AbortStatus { AbortStatus::UnixSignal(_) });
+closed!(CancelReason {
     CancelReason::SetupScriptFailure,
     CancelReason::TestFailure,
     CancelReason::ReportError,
@@ -97,8 +97,8 @@ open!(UnitError<'static> {
     UnitError::Abort(_),
     UnitError::Slice(_),
 });
-open!(UnitTerminateMethod { UnitTerminateMethod::Signal(_) });
-open!(TestEventKind<'static> {
+closed!(UnitTerminateMethod { UnitTerminateMethod::Signal(_) });
+closed!(TestEventKind<'static> {
     TestEventKind::RunStarted { test_list: _, run_id: _, profile_name: _, cli_args: _, stress_condition: _ },
     TestEventKind::StressSubRunStarted { progress: _ },
     TestEventKind::SetupScriptStarted {

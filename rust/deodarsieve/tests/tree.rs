@@ -166,6 +166,12 @@ mod output_spec {
         fn at_root<S: deodarsieve::OutputSpec>() {}
         at_root::<S>
     }
+
+    #[cfg(feature = "serde")]
+    fn is_serializable_spec<S: tree::SerializableOutputSpec>() -> fn() {
+        fn at_root<S: deodarsieve::SerializableOutputSpec>() {}
+        at_root::<S>
+    }
 }
 
 mod runner {

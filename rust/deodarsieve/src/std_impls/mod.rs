@@ -1,5 +1,6 @@
 //! Traits of `core` and `std` for the types of the layer, and conversions between them.
 
+mod captured;
 #[cfg(feature = "chrono")]
 mod chrono;
 mod conversions;
@@ -8,8 +9,15 @@ mod error_texts;
 mod errors;
 #[cfg(all(feature = "std", unix))]
 mod exit_status;
+#[cfg(feature = "std")]
+mod io_errors;
+mod non_zero_duration;
 mod records;
+#[cfg(feature = "serde")]
+pub(crate) mod serde;
 mod serializable_error;
+mod signal_names;
 #[cfg(feature = "std")]
 mod system_time;
+mod unit_error_lists;
 mod views;

@@ -28,7 +28,6 @@ impl fmt::Display for UnitTerminateReason {
 
 /// How the runner ends a unit.
 #[derive(Clone, Copy, Debug, PartialEq, Eq)]
-#[non_exhaustive]
 pub enum UnitTerminateMethod {
     /// By a signal.
     Signal(UnitTerminateSignal),

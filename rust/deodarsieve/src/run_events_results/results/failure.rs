@@ -21,7 +21,6 @@ pub enum FailureStatus {
 ///
 /// Its `Debug` is on one line in every style, for example `UnixSignal(15)`.
 #[derive(Clone, Copy, PartialEq, Eq)]
-#[non_exhaustive]
 pub enum AbortStatus {
     /// A signal of this number.
     UnixSignal(i32),
@@ -39,6 +38,11 @@ impl fmt::Debug for AbortStatus {
 /// as the text of its [`AbortDescription`].
 #[derive(Clone, Debug, PartialEq, Eq)]
 #[non_exhaustive]
+#[cfg_attr(
+    feature = "serde",
+    derive(serde::Serialize, serde::Deserialize),
+    serde(tag = "kind", rename_all = "kebab-case")
+)]
 pub enum FailureDescription {
     /// The process exited with this code.
     ExitCode {
@@ -83,6 +87,11 @@ impl fmt::Display for FailureDescription {
 /// `terminated via job object`. A name or a message that is `None` is left out.
 #[derive(Clone, Debug, PartialEq, Eq)]
 #[non_exhaustive]
+#[cfg_attr(
+    feature = "serde",
+    derive(serde::Serialize, serde::Deserialize),
+    serde(tag = "kind", rename_all = "kebab-case")
+)]
 pub enum AbortDescription {
     /// A signal.
     UnixSignal {

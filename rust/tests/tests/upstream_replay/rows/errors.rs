@@ -82,9 +82,9 @@ fn errors_text(kind: UnitKind, output: &ChildExecutionOutputDescription<LiveSpec
     [
         output.has_errors().to_string(),
         slice_text(errors.output_slice()),
-        list_text(errors.all_error_list()),
-        list_text(errors.exec_fail_error_list()),
-        list_text(errors.child_process_error_list()),
+        list_text(errors.unit_errors()),
+        list_text(errors.exec_fail_unit_errors()),
+        list_text(errors.child_process_unit_errors()),
     ]
     .join(" | ")
 }
@@ -214,9 +214,9 @@ fn of_many_errors(count: &str) -> Option<String> {
     let described = ChildExecutionOutputDescription::from_output(left, None);
     let errors = UnitErrorDescription::new(UnitKind::Test, &described);
     let lists = [
-        counted_text(errors.all_error_list()),
-        counted_text(errors.exec_fail_error_list()),
-        counted_text(errors.child_process_error_list()),
+        counted_text(errors.unit_errors()),
+        counted_text(errors.exec_fail_unit_errors()),
+        counted_text(errors.child_process_unit_errors()),
     ];
     Some(lists.join(" | "))
 }
