@@ -222,3 +222,23 @@ fn every_name_of_the_tree_is_compared_here() {
     assert!(names_in_tree().count() > 80);
     assert_eq!(missing, Vec::<&str>::new());
 }
+
+/// The names in the list of types on the root page, each of which is a link or needs a feature.
+fn names_on_the_root_page() -> Vec<&'static str> {
+    let root = include_str!("../src/lib.rs");
+    let start = root
+        .find("//! # The types by what they are for")
+        .expect("the list begins so");
+    let end = root.find("//! # Features").expect("the list ends so");
+    root[start..end].split('`').skip(1).step_by(2).collect()
+}
+
+#[test]
+fn the_root_page_lists_each_name_once() {
+    let mut listed = names_on_the_root_page();
+    listed.retain(|name| !name.starts_with("heuristic_"));
+    let mut declared: Vec<_> = names_in_tree().collect();
+    listed.sort_unstable();
+    declared.sort_unstable();
+    assert_eq!(listed, declared);
+}

@@ -1,6 +1,7 @@
 //! Hand-written methods and traits of [`ErrorList`].
 
 use crate::run_events_child::child::ErrorList;
+use alloc::string::String;
 use core::error::Error;
 use core::fmt::{self, Write};
 
@@ -82,6 +83,13 @@ impl<T: Error> Error for ErrorList<T> {
             _ => None,
         }
     }
+}
+
+/// Returns the text of an error, with each of its causes on a line of its own.
+pub(super) fn text_with_causes(error: &dyn Error) -> String {
+    let mut text = String::new();
+    write_with_causes(&mut text, error).expect("a `Display` fails only if the writer does");
+    text
 }
 
 /// Writes an error, and each of its causes on a line of its own.

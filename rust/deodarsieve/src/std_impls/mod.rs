@@ -1,5 +1,6 @@
 //! Traits of `core` and `std` for the types of the layer, and conversions between them.
 
+mod attempts;
 mod captured;
 #[cfg(feature = "chrono")]
 mod chrono;
