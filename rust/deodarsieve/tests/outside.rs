@@ -40,7 +40,14 @@ open!(AbortDescription {
     AbortDescription::WindowsNtStatus { code: _, message: _ },
     AbortDescription::WindowsJobObject,
 });
+#[cfg(not(windows))]
 closed!(AbortStatus { AbortStatus::UnixSignal(_) });
+#[cfg(windows)]
+closed!(AbortStatus {
+    AbortStatus::UnixSignal(_),
+    AbortStatus::WindowsNtStatus(_),
+    AbortStatus::JobObject,
+});
 closed!(CancelReason {
     CancelReason::SetupScriptFailure,
     CancelReason::TestFailure,
@@ -97,7 +104,14 @@ open!(UnitError<'static> {
     UnitError::Abort(_),
     UnitError::Slice(_),
 });
+#[cfg(not(windows))]
 closed!(UnitTerminateMethod { UnitTerminateMethod::Signal(_) });
+#[cfg(windows)]
+closed!(UnitTerminateMethod {
+    UnitTerminateMethod::Signal(_),
+    UnitTerminateMethod::JobObject,
+    UnitTerminateMethod::Wait,
+});
 closed!(TestEventKind<'static> {
     TestEventKind::RunStarted { test_list: _, run_id: _, profile_name: _, cli_args: _, stress_condition: _ },
     TestEventKind::StressSubRunStarted { progress: _ },

@@ -8,7 +8,7 @@ mod conversions;
 mod error_lists;
 mod error_texts;
 mod errors;
-#[cfg(all(feature = "std", unix))]
+#[cfg(feature = "std")]
 mod exit_status;
 #[cfg(feature = "std")]
 mod io_errors;

@@ -23,10 +23,13 @@ fn signal_name(signal: i32) -> Option<&'static str> {
     }
 }
 
-/// Returns the name of the signal that ended a process.
+/// Returns the name of the signal that ended a process. No message is looked up for a Windows status code: that needs
+/// `unsafe` calls of the system.
 pub(super) fn of_abort(status: AbortStatus) -> Option<String> {
     match status {
         AbortStatus::UnixSignal(signal) => signal_name(signal).map(String::from),
+        #[cfg(windows)]
+        AbortStatus::WindowsNtStatus(_) | AbortStatus::JobObject => None,
     }
 }
 

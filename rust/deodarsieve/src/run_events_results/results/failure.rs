@@ -24,12 +24,24 @@ pub enum FailureStatus {
 pub enum AbortStatus {
     /// A signal of this number.
     UnixSignal(i32),
+
+    /// A Windows status code.
+    #[cfg(windows)]
+    WindowsNtStatus(i32),
+
+    /// The Windows job object that holds the process was ended.
+    #[cfg(windows)]
+    JobObject,
 }
 
 impl fmt::Debug for AbortStatus {
     fn fmt(&self, f: &mut fmt::Formatter<'_>) -> fmt::Result {
         match self {
             AbortStatus::UnixSignal(signal) => write!(f, "UnixSignal({signal})"),
+            #[cfg(windows)]
+            AbortStatus::WindowsNtStatus(code) => write!(f, "WindowsNtStatus({code:x})"),
+            #[cfg(windows)]
+            AbortStatus::JobObject => write!(f, "JobObject"),
         }
     }
 }
@@ -116,11 +128,19 @@ pub enum AbortDescription {
 }
 
 impl AbortDescription {
-    /// Describes an abort. `name` is the name of the signal without `SIG`, such as `TERM`.
+    /// Describes an abort. `name` is the name of the signal without `SIG`, such as `TERM`. For a Windows
+    /// status code it is the message of the system.
     #[must_use]
     pub fn from_status(status: AbortStatus, name: Option<String>) -> Self {
         match status {
             AbortStatus::UnixSignal(signal) => AbortDescription::UnixSignal { signal, name },
+            #[cfg(windows)]
+            AbortStatus::WindowsNtStatus(code) => AbortDescription::WindowsNtStatus {
+                code,
+                message: name,
+            },
+            #[cfg(windows)]
+            AbortStatus::JobObject => AbortDescription::WindowsJobObject,
         }
     }
 
