@@ -32,10 +32,12 @@ STAND_INS = {
 }
 
 # Names of the same type.
-SAME_TYPES = {"c_int": "i32", "ExecutionStatusesIter<S>": "core::slice::Iter<ExecuteStatus<S>>"}
+SAME_TYPES = {"c_int": "i32", "NTSTATUS": "i32"}
 
 # What differs in items whose declarations agree, or differ in more than their visibility.
 DIFFERENCES = {
+    "RunStats::has_failures": "needs no sum, there it panics in debug builds if a sum does not fit",
+    "RunStats::summarize_final": "needs no sum, there it panics in debug builds if a sum does not fit",
     "RunStats::failed_count": "panics if the sum does not fit, there in debug builds alone",
     "RunStats::failed_setup_script_count": "panics if the sum does not fit, there in debug builds alone",
     "RunStats::on_test_finished": "public, there private; panics if a counter is full, there in debug builds alone",
@@ -49,6 +51,9 @@ DIFFERENCES = {
     "AbortStatus::extract": "needs the feature `std`",
     "AbortStatus::UnixSignal": "on every platform, there on Unix",
     "UnitTerminateMethod::Signal": "on every platform, there on Unix",
+    "AbortDescription: From<AbortStatus>": "on Windows no message of a status code is looked up",
+    "FailureDescription: From<FailureStatus>": "on Windows no message of a status code is looked up",
+    "ExecutionResultDescription: From<ExecutionResult>": "on Windows no message of a status code is looked up",
     "UnitTerminateSignal: Display": "on every platform, there on Unix",
 }
 

@@ -384,6 +384,11 @@ fn errors_have_a_message_and_causes() {
         read::<SerializableError>(r#"{"message":"alone","more":1}"#),
         alone
     );
+    assert_eq!(read::<SerializableError>(r#"["alone"]"#), alone);
+    assert_eq!(
+        read::<SerializableError>(r#"["outer",["middle","inner"]]"#),
+        caused()
+    );
     let refused = refusal::<SerializableError>(r#"{"causes":[]}"#);
     assert!(refused.starts_with("missing field `message`"), "{refused}");
 }
