@@ -4,7 +4,7 @@ import re
 from collections import Counter
 from dataclasses import dataclass
 
-from upstream.reasons import ABSENT, CUT_OFF, DIFFERENCES, SAME_TYPES, STAND_INS
+from upstream.reasons import ABSENT, BY_HAND, CUT_OFF, DIFFERENCES, SAME_TYPES, STAND_INS
 
 KINDS = (
     "types", "variants", "fields", "methods", "functions", "constants", "implementations of traits", "attributes"
@@ -48,12 +48,13 @@ def compared(there, here, traits):
     yield from _declared("constants", "", there.constants, here.constants)
 
 
-def _attribute(owner, name, there, here):
-    if name in there & here:
-        return Item("attributes", owner, f"#[{name}]", "the same")
-    if name in there:
-        return Item("attributes", owner, f"#[{name}]", "not here")
-    return Item("", owner, f"#[{name}]", "differs", "here alone")
+def _attribute(owner, text, there, here):
+    """Compares an attribute. One that only the type here has counts as nothing."""
+    if text in there and (text in here or text in BY_HAND.get(owner, ())):
+        return Item("attributes", owner, text, "the same")
+    if text in there:
+        return Item("attributes", owner, text, "not here")
+    return Item("", owner, text, "differs", "here alone")
 
 
 def _whole(name, found):
@@ -66,13 +67,16 @@ def _whole(name, found):
 
 
 def _by_visibility(kind, owner, name, there, here):
+    """Returns an item that is the same, or differs by its visibility or by the table of differences."""
     note = DIFFERENCES.get(f"{owner}::{name}", "")
     if there == here:
         return Item(kind, owner, name, "differs" if note else "the same", note)
-    return Item(kind, owner, name, "differs", note or ("public, there private" if here == "pub" else "private, there public"))
+    by_visibility = "public, there private" if here == "pub" else "private, there public"
+    return Item(kind, owner, name, "differs", note or by_visibility)
 
 
 def _variants(owner, there, here):
+    """Compares variants by their conditions, and yields those that only the type here has, which count as nothing."""
     for name, condition in there.variants.items():
         note = DIFFERENCES.get(f"{owner}::{name}", "")
         if name not in here.variants:
@@ -102,7 +106,9 @@ def _declared(kind, owner, there, here):
 
 
 def _traits(owner, there, here):
-    for name in sorted(there, key=lambda name: (name not in TRAITS, TRAITS.index(name) if name in TRAITS else 0, name)):
+    """Compares the traits of a type, those that can be derived first."""
+    derived = [name for name in TRAITS if name in there]
+    for name in [*derived, *sorted(there.difference(derived))]:
         key = f"{owner}: {name}"
         if name not in here:
             yield Item("implementations of traits", owner, name, "not here", ABSENT.get(key, ""))
@@ -172,7 +178,8 @@ def _listed(items, verdict):
     cells = []
     for note, names in notes.items():
         if verdict == "another type":
-            note = f"`{STAND_INS[note][0]}`" if note == STAND_INS[note][0] else f"`{STAND_INS[note][0]}`, there `{note}`"
+            own = STAND_INS[note][0]
+            note = f"`{own}`" if own == note else f"`{own}`, there `{note}`"
         cells.append(", ".join(names) + (f": {note}" if note else ""))
     return ". ".join(cells)
 

@@ -9,8 +9,9 @@ from dataclasses import dataclass, field
 from upstream.functions import split_at_commas
 from upstream.scanner import CLOSING, NotUnderstood, group_end, tokens_of
 
-# How the first line of an item begins. The body of an item ends before the next one, even if its file was cut.
-ITEM = re.compile(r"^(?=#\[|pub\b|(?:struct|enum|trait|impl|fn|const|static|use|mod|type|extern|macro_rules)\b)", re.M)
+# The first line of an item at the top of a file. The item ends before the next one, even if its file was cut.
+ITEM = re.compile(r"(?:pub|struct|enum|trait|impl|fn|const|static|use|mod|type|extern|macro_rules|unsafe)\b")
+TESTS = re.compile(r"^#\[cfg\(test\)\]\s*mod\b", re.MULTILINE)
 MODIFIERS = ("unsafe", "async", "default")
 WITH_SEMICOLON = ("const", "static", "type", "use", "extern")
 
@@ -44,12 +45,12 @@ class Declarations:
         return found
 
     def read(self, text):
-        """Adds what a file declares."""
-        for chunk in re.split(r"\n(?=#\[cfg\(test\)\]\s*mod\b)", text)[0], :
-            for item in _chunks(chunk):
-                self._read_items(_closed(tokens_of(item)))
+        """Adds what a file declares before its module for tests."""
+        for chunk in _chunks(TESTS.split(text)[0]):
+            self._read_items(_closed(tokens_of(chunk)))
 
     def _read_items(self, tokens):
+        """Adds what some items declare."""
         for attributes, visibility, item in _items(tokens):
             keyword = item[0].text
             if _is_for_tests(attributes):
@@ -72,12 +73,15 @@ class Declarations:
                 self._read_impl(inner)
 
     def _read_type(self, attributes, visibility, item):
+        """Adds a struct or an enum."""
         found = self.type_of(item[1].text, item[0].text)
         found.visibility = visibility
         for attribute in attributes:
             found.traits |= _derived(attribute)
             if attribute[0].text in ("non_exhaustive", "must_use"):
-                found.attributes.add(attribute[0].text)
+                found.attributes.add(f"#[{attribute[0].text}]")
+            remote, representation = _of_serde(attribute)
+            self.type_of(remote or item[1].text).attributes |= representation
         if item[0].text == "enum":
             _read_variants(found, _body(item))
         else:
@@ -86,23 +90,27 @@ class Declarations:
                 _read_fields(found, "", item[item.index(opening):], "")
 
     def _read_impl(self, item):
-        start = _after_generics(item, 1)
-        head = item[start:next(i for i, token in enumerate(item) if token.text == "{" and i >= start)]
-        words = [token.text for token in head]
-        if "where" in words:
-            head = head[:words.index("where")]
+        """Adds the trait that an `impl` is of, or its methods and constants."""
+        head = _head_of_impl(item)
         split = _index_outside_angles(head, "for")
-        name_tokens = head if split is None else head[split + 1:]
-        names = [token.text for token in name_tokens if token.kind == "word" and token.text not in ("mut", "dyn")]
-        found = self.type_of(names[0])
+        of_type = head if split is None else head[split + 1:]
+        name = next(token.text for token in of_type if token.kind == "word")
+        found = self.type_of(name)
         if split is not None:
-            found.traits.add(type_text(head[:split], names[0]))
+            found.traits.add(type_text(head[:split], name))
             return
         for attributes, visibility, inner in _items(_body(item)):
             if inner[0].text == "fn" and not _is_for_tests(attributes):
-                found.methods[inner[1].text] = (visibility, _signature(inner, names[0]))
+                found.methods[inner[1].text] = (visibility, _signature(inner, name))
             elif inner[0].text == "const":
                 found.constants[inner[1].text] = (visibility, _type_of_constant(inner))
+
+
+def _head_of_impl(item):
+    """Returns the tokens of an `impl` between its generic parameters and its bounds or its body."""
+    head = item[_after_generics(item, 1):]
+    end = next(i for i, token in enumerate(head) if token.text in ("{", "where"))
+    return head[:end]
 
 
 def type_text(tokens, name=""):
@@ -115,15 +123,17 @@ def type_text(tokens, name=""):
 
 
 def _chunks(text):
-    """Returns the parts of a text that each begin with an item or its attributes."""
-    starts = [match.start() for match in ITEM.finditer(text)] + [len(text)]
-    chunks, held = [], ""
-    for start, end in zip(starts, starts[1:]):
-        held += text[start:end]
-        if not held.lstrip().startswith("#[") or re.search(r"^(?:pub|struct|enum|impl|fn|const|mod)\b", held, re.M):
-            chunks.append(held)
-            held = ""
-    return chunks
+    """Returns the parts of a text that each have one item, with the attributes above it."""
+    chunks, above = [[]], []
+    for line in text.splitlines(keepends=True):
+        if ITEM.match(line):
+            chunks.append([*above, line])
+            above = []
+        elif above or line.startswith(("#[", "//")):
+            above.append(line)
+        else:
+            chunks[-1].append(line)
+    return ["".join(chunk) for chunk in chunks]
 
 
 def _closed(tokens):
@@ -189,33 +199,50 @@ def _body(item):
 
 
 def _is_for_tests(attributes):
+    """Returns true if an item has the attribute `cfg(test)`."""
     return any([token.text for token in words] == ["cfg", "(", "test", ")"] for words in attributes)
 
 
 def _derived(attribute):
     """Returns the traits that an attribute derives, except for tests."""
     words = [token.text for token in attribute]
-    if words[:4] == ["cfg_attr", "(", "test", ","]:
+    if words[:3] == ["cfg_attr", "(", "test"] or not {"derive", "derive_where"} & set(words):
         return set()
-    for name in ("derive", "derive_where"):
-        while name in words:
-            at = words.index(name)
-            words = words[at + 1:]
-            if words and words[0] == "(":
-                inside = " ".join(words[1:words.index(")")]).split(";")[0]
-                return {part.split()[-1] for part in inside.split(",") if part.split()}
-    return set()
+    # The list is in the brackets after the last of these words. What follows a semicolon are bounds.
+    last = max(index for index, word in enumerate(words) if word in ("derive", "derive_where"))
+    inside = words[last + 2:words.index(")", last)]
+    listed = " ".join(inside).split(";")[0].split(",")
+    return {part.split()[-1] for part in listed if part.split()}
+
+
+def _of_serde(attribute):
+    """Returns the type that an attribute of `serde` is for, if it is remote, and the attribute without bounds."""
+    words = [token.text for token in attribute]
+    at = next((i for i in range(len(words) - 1) if words[i:i + 2] == ["serde", "("]), None)
+    if at is None:
+        return "", set()
+    parts = split_at_commas(attribute[at + 2:group_end(attribute, at + 1)])
+    texts = [" ".join(token.text for token in part) for part in parts if part[0].text != "bound"]
+    remote = next((text for text in texts if text.startswith("remote =")), "")
+    texts = [text for text in texts if text != remote]
+    return remote.removeprefix("remote =").strip(' "'), {f"#[serde({', '.join(texts)})]"} if texts else set()
 
 
 def _read_variants(found, body):
+    """Reads the variants in the body of an enum, with their conditions, except those for tests."""
     for part in split_at_commas(body):
-        attributes, index = [], 0
+        condition, representation, index = "", set(), 0
         while part[index].text == "#":
             end = group_end(part, index + 1)
-            attributes.append(" ".join(token.text for token in part[index + 2:end]))
+            attribute = part[index + 2:end]
+            if attribute[0].text == "cfg":
+                condition = " ".join(token.text for token in attribute)
+            representation |= _of_serde(attribute)[1]
             index = end + 1
-        condition = next((text for text in attributes if text.startswith("cfg (")), "")
+        if condition == "cfg ( test )":
+            continue
         found.variants[part[index].text] = condition
+        found.attributes |= {f"{text} {part[index].text}" for text in representation}
         if index + 1 < len(part):
             _read_fields(found, f"{part[index].text}.", part[index + 1:], "pub")
 
@@ -240,11 +267,11 @@ def _signature(item, name):
     closing = group_end(item, opening)
     parameters = []
     for part in split_at_commas(item[opening + 1:closing]):
-        words = [token.text for token in part]
-        colon = next((i for i, word in enumerate(words) if word == ":"), None)
-        if colon is None:
-            parameters.append("".join(word for word in words if word != "mut" or "&" in words))
+        words = [token.text for token in part if token.kind != "lifetime"]
+        if words[-1] == "self":
+            parameters.append(" ".join(words).removeprefix("mut "))
         else:
+            colon = [token.text for token in part].index(":")
             parameters.append(type_text(part[colon + 1:], name))
     result = item[closing + 1:next(i for i, t in enumerate(item) if t.text in ("{", ";") and i > closing)]
     words = [token.text for token in result]
@@ -253,6 +280,7 @@ def _signature(item, name):
 
 
 def _type_of_constant(item):
+    """Returns the type of a constant."""
     words = [token.text for token in item]
     return type_text(item[words.index(":") + 1:words.index("=")])
 

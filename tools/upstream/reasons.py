@@ -1,4 +1,4 @@
-"""What differs from nextest's items, beyond what declarations say, and what stands for types of nextest's other files."""
+"""What differs from nextest's items beyond declarations, and what stands for types of nextest's other files."""
 
 from upstream.declarations import Type
 
@@ -34,6 +34,9 @@ STAND_INS = {
 # Names of the same type.
 SAME_TYPES = {"c_int": "i32", "NTSTATUS": "i32"}
 
+# Attributes of types whose traits are written by hand. A test of the crate, `nextest_json.rs`, has what they say.
+BY_HAND = {"ExecutionStatuses": ('#[serde(rename_all = "kebab-case")]',)}
+
 # What differs in items whose declarations agree, or differ in more than their visibility.
 DIFFERENCES = {
     "RunStats::has_failures": "needs no sum, there it panics in debug builds if a sum does not fit",
@@ -44,7 +47,7 @@ DIFFERENCES = {
     "RunStats::on_setup_script_finished":
         "public, there private; panics if a counter is full, there in debug builds alone",
     "ExecutionStatuses::new":
-        "public, there private; panics without attempts, there in debug builds alone (in release builds a later call may)",
+        "public, there private; panics without attempts, there in debug builds, and in release builds a later call may",
     "ExecutionStatuses::iter": "returns `slice::Iter`, there an unnamed iterator",
     "UnitAbortDescription::UnitAbortDescription": "public, there private; borrows the abort",
     "FailureStatus::extract": "needs the feature `std`",
