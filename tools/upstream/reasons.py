@@ -34,7 +34,7 @@ STAND_INS = {
 # Names of the same type.
 SAME_TYPES = {"c_int": "i32", "NTSTATUS": "i32"}
 
-# Attributes of types whose traits are written by hand. A test of the crate, `nextest_json.rs`, has what they say.
+# Attributes of types whose traits are written by hand. A test of the crate, `nextest_json`, has what they say.
 BY_HAND = {"ExecutionStatuses": ('#[serde(rename_all = "kebab-case")]',)}
 
 # What differs in items whose declarations agree, or differ in more than their visibility.

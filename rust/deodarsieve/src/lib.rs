@@ -10,17 +10,17 @@
 //!
 //! The crate also declares the types of all events that reporters receive ([`TestEventKind`]).
 //!
-//! The names and the behaviour are those of the reporter of [nextest](https://nexte.st), except for the
-//! items that `docs/UPSTREAM.md` in the repository lists as different or left out. The modules
+//! The names and the behaviour are those of the reporter of [nextest](https://nexte.st), except for
+//! the items that `docs/UPSTREAM.md` in the repository lists as different or left out. The modules
 //! are at nextest's paths, and every name is at the root of the crate too. A few items are not
-//! nextest's. A runner that does not keep the attempts of a test can count it by a [`TestView`], which
-//! borrows the result of the last attempt, or by a [`FinishedTest`], which owns it.
+//! nextest's. A runner that does not keep the attempts of a test can count it by a [`TestView`],
+//! which borrows the result of the last attempt, or by a [`FinishedTest`], which owns it.
 //! [`RunOutcome::of_sub_runs`] decides the outcome of a repeated run.
 //!
 //! # Example
 //!
-//! This counts a run of two tests, one of which failed, and prints why. A runner that keeps the output and the
-//! times of its tests for reporters begins with [`ExecuteStatus::from_captured`].
+//! This counts a run of two tests, one of which failed, and prints why. A runner that keeps the
+//! output and the times of its tests for reporters begins with [`ExecuteStatus::from_captured`].
 //!
 //! ```
 //! use deodarsieve::{
@@ -48,10 +48,11 @@
 //! **Counters and outcome of a run**
 //!
 //! - Counting: [`RunStats`], [`RunStart`], [`FinishedRun`], [`FinishedUnit`], [`CounterFull`].
-//! - The end of a run: [`FinalRunStats`], [`RunStatsFailureKind`], [`RunFailureStep`], [`CancelReason`],
-//!   [`RunOutcome`], [`RunFinishedStats`].
-//! - Repeated runs: [`StressRunStats`], [`StressFinalRunStats`], [`StressIndex`], [`StressProgress`],
-//!   [`StressRemaining`], [`StressCount`], [`StressCondition`], [`NonZeroDuration`].
+//! - The end of a run: [`FinalRunStats`], [`RunStatsFailureKind`], [`RunFailureStep`],
+//!   [`CancelReason`], [`RunOutcome`], [`RunFinishedStats`].
+//! - Repeated runs: [`StressRunStats`], [`StressFinalRunStats`], [`StressIndex`],
+//!   [`StressProgress`], [`StressRemaining`], [`StressCount`], [`StressCondition`],
+//!   [`NonZeroDuration`].
 //!
 //! **Results and attempts**
 //!
@@ -69,8 +70,8 @@
 //!
 //! - Captured output, as the runner has it: [`ChildExecutionOutput`], [`ChildOutput`],
 //!   [`ChildSplitOutput`], [`ChildSingleOutput`].
-//! - The same, as reporters get it: [`ChildExecutionOutputDescription`], [`ChildOutputDescription`],
-//!   [`OutputSpec`], [`LiveSpec`], `SerializableOutputSpec`.
+//! - The same, as reporters get it: [`ChildExecutionOutputDescription`],
+//!   [`ChildOutputDescription`], [`OutputSpec`], [`LiveSpec`], `SerializableOutputSpec`.
 //! - The part of output that explains a failure: [`TestOutputErrorSlice`], [`ByteSubslice`],
 //!   [`OutputErrorSlice`], [`heuristic_panic_message`], [`heuristic_error_str`],
 //!   [`heuristic_should_panic`].
@@ -91,8 +92,8 @@
 //!
 //! - An event: [`ReporterEvent`], [`TestEvent`], [`TestEventKind`], [`Moment`], `MomentOutOfRange`.
 //! - Values in events: [`TestSlotAssignment`], [`TestsNotSeen`], [`TestList`], [`TestInstanceId`],
-//!   [`OwnedTestInstanceId`], [`TestGroup`], [`ScriptId`], [`MismatchReason`], [`ReportSkipPolicy`],
-//!   [`JunitFlakyFailStatus`], [`NextestRunMode`].
+//!   [`OwnedTestInstanceId`], [`TestGroup`], [`ScriptId`], [`MismatchReason`],
+//!   [`ReportSkipPolicy`], [`JunitFlakyFailStatus`], [`NextestRunMode`].
 //! - The state of a running test or script: [`InfoResponse`], [`TestInfoResponse`],
 //!   [`SetupScriptInfoResponse`], [`UnitState`], [`UnitTerminatingState`], [`UnitTerminateReason`],
 //!   [`UnitTerminateMethod`], [`UnitTerminateSignal`].
@@ -101,20 +102,22 @@
 //!
 //! - `std` (default): conversions from `std::process::ExitStatus`, `std::time::SystemTime` and
 //!   `std::io::Error`. Without it the crate is `no_std` and needs `alloc`.
-//! - `serde`: `Serialize` and `Deserialize` for the types that have them in nextest, with the same names, and
-//!   `SerializableOutputSpec`. It turns on `chrono`.
+//! - `serde`: `Serialize` and `Deserialize` for the types that have them in nextest, with the same
+//!   names, and `SerializableOutputSpec`. It turns on `chrono`.
 //! - `serde_json`: `to_value` and `from_value` of [`SerializableError`], to and from JSON values.
-//! - `chrono`: [`Moment`] from `chrono::DateTime` of any time zone, and to `DateTime<FixedOffset>` and
-//!   `DateTime<Utc>`.
+//! - `chrono`: [`Moment`] from `chrono::DateTime` of any time zone, and to `DateTime<FixedOffset>`
+//!   and `DateTime<Utc>`.
 //!
-//! A feature only adds items and implementations of traits. No type and no behaviour changes with a feature.
+//! A feature only adds items and implementations of traits. No type and no behaviour changes with a
+//! feature.
 //!
 //! # Panics
 //!
-//! A function panics, in release builds too, if its caller breaks a condition that the types do not express.
-//! The section `Panics` of its documentation has the condition. Most messages name a function that tests
-//! the condition, such as `can_count_view`. Counters never wrap: [`RunStats::try_on_test_view`] returns
-//! an error if a counter is full, and [`RunStats::on_test_view`] panics.
+//! A function panics, in release builds too, if its caller breaks a condition that the types do not
+//! express. The section `Panics` of its documentation has the condition. Most messages name a
+//! function that tests the condition, such as `can_count_view`. Counters never wrap:
+//! [`RunStats::try_on_test_view`] returns an error if a counter is full, and
+//! [`RunStats::on_test_view`] panics.
 
 #![no_std]
 #![cfg_attr(docsrs, feature(doc_cfg))]

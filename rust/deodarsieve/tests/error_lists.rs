@@ -1,4 +1,5 @@
-//! Lists of errors as errors, the errors of a unit, errors of the operating system, and captured text.
+//! Lists of errors as errors, the errors of a unit, errors of the operating system, and captured
+//! text.
 
 mod common;
 

@@ -52,7 +52,8 @@ fn it_is_debugged_on_one_line() {
     assert!(line.ends_with(&") }".repeat(CAUSES)));
 }
 
-/// Each cause is indented further than the one before it, so the text of 100,000 causes is too long for a test.
+/// Each cause is indented further than the one before it, so the text of 100,000 causes is too long
+/// for a test.
 #[test]
 fn a_shorter_one_is_debugged_on_many_lines() {
     let lines = on_small_stack(|| format!("{:#?}", chain_of(3_000)));

@@ -1,6 +1,6 @@
-//! Each type, matched from outside the crate. The matches are not called: they compile only if every
-//! variant and field that they name is public, if the enums in `open!` are `non_exhaustive`, and if no
-//! other is.
+//! Each type, matched from outside the crate. The matches are not called: they compile only if
+//! every variant and field that they name is public, if the enums in `open!` are `non_exhaustive`,
+//! and if no other is.
 #![deny(unreachable_patterns)]
 #![allow(dead_code, reason = "that it compiles is the test")]
 

@@ -1,5 +1,5 @@
-//! Texts of `Display` and `Debug` that are those of nextest's types. A type here with the same derived traits says
-//! what a derived `Debug` writes.
+//! Texts of `Display` and `Debug` that are those of nextest's types. A type here with the same
+//! derived traits says what a derived `Debug` writes.
 
 mod common;
 

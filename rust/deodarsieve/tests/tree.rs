@@ -1,5 +1,5 @@
-//! Each name is the same item at nextest's path and at the root of the crate. Nothing here is called:
-//! it compiles only if the items are the same.
+//! Each name is the same item at nextest's path and at the root of the crate. Nothing here is
+//! called: it compiles only if the items are the same.
 #![allow(dead_code, reason = "that it compiles is the test")]
 
 /// Returns a value of each type in the module `tree` as the type of the same name at the root.

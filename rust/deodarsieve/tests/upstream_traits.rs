@@ -1,5 +1,5 @@
-//! Each type has the traits that it has in nextest-runner 0.129.0. Nothing here is called: it compiles
-//! only if the types have the traits.
+//! Each type has the traits that it has in nextest-runner 0.129.0. Nothing here is called: it
+//! compiles only if the types have the traits.
 #![allow(dead_code, reason = "that it compiles is the test")]
 
 use std::error::Error;

@@ -1,5 +1,5 @@
-//! What the types have on Windows alone. `tools/rust-workspace` also runs these tests on other systems, over a copy in
-//! which the conditions of Windows are true.
+//! What the types have on Windows alone. `tools/rust-workspace` also runs these tests on other
+//! systems, over a copy in which the conditions of Windows are true.
 #![cfg(windows)]
 
 use deodarsieve::{

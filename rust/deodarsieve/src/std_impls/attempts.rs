@@ -17,12 +17,12 @@ use core::error::Error;
 use core::time::Duration;
 
 impl ExecuteStatus<LiveSpec> {
-    /// Returns the only attempt of a test, from its result, the time when it began, how long it took, and what it
-    /// wrote to standard output and to standard error.
+    /// Returns the only attempt of a test, from its result, the time when it began, how long it
+    /// took, and what it wrote to standard output and to standard error.
     ///
-    /// The attempt was not slow, and the runner did not wait before it. Change the fields `is_slow`, `retry_data`
-    /// and `delay_before_start` if this is wrong. If the test failed, the attempt has the part of the output that
-    /// explains the failure, and a summary of the errors.
+    /// The attempt was not slow, and the runner did not wait before it. Change the fields
+    /// `is_slow`, `retry_data` and `delay_before_start` if this is wrong. If the test failed, the
+    /// attempt has the part of the output that explains the failure, and a summary of the errors.
     ///
     /// ```
     /// use deodarsieve::{ExecuteStatus, ExecutionResult, ExecutionStatuses, FailureStatus};
@@ -91,7 +91,8 @@ impl From<TestOutputErrorSlice<'_>> for OutputErrorSlice {
     }
 }
 
-/// Returns the first line of an error's text, without a colon at its end, and the text with the causes.
+/// Returns the first line of an error's text, without a colon at its end, and the text with the
+/// causes.
 fn summary_of(error: &dyn Error) -> ErrorSummary {
     let text = error.to_string();
     let first_line = text.lines().next().unwrap_or_default();

@@ -3,8 +3,8 @@
 use crate::moment::{Moment, MomentOutOfRange};
 use ::chrono::{DateTime, FixedOffset, Offset, TimeZone, Utc};
 
-/// The same instant at the same offset, from any time zone. An instant inside a leap second becomes one inside the
-/// second after it, as in Unix time.
+/// The same instant at the same offset, from any time zone. An instant inside a leap second becomes
+/// one inside the second after it, as in Unix time.
 impl<Z: TimeZone> From<DateTime<Z>> for Moment {
     fn from(time: DateTime<Z>) -> Self {
         let seconds = i128::from(time.timestamp());

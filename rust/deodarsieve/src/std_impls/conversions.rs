@@ -9,16 +9,16 @@ use crate::run_events_results::results::{
     FailureStatus,
 };
 
-/// The description has the name of the signal if its number means the same on all Unix systems: 1 to 6, 8, 9, 11,
-/// and 13 to 15. [`AbortDescription::from_status`] takes any name.
+/// The description has the name of the signal if its number means the same on Linux, macOS, the BSDs
+/// and illumos: 1 to 6, 8, 9, 11, and 13 to 15. [`AbortDescription::from_status`] takes any name.
 impl From<AbortStatus> for AbortDescription {
     fn from(status: AbortStatus) -> Self {
         AbortDescription::from_status(status, signal_names::of_abort(status))
     }
 }
 
-/// A signal has the name that the [`AbortDescription`] of its number has. [`FailureDescription::from_status`] takes
-/// any name.
+/// A signal has the name that the [`AbortDescription`] of its number has.
+/// [`FailureDescription::from_status`] takes any name.
 impl From<FailureStatus> for FailureDescription {
     fn from(status: FailureStatus) -> Self {
         FailureDescription::from_status(status, signal_names::of_failure(status))

@@ -35,8 +35,8 @@ impl<T> IntoIterator for ErrorList<T> {
     }
 }
 
-/// One error is displayed as itself. Several are displayed with their causes, under a line with their number and
-/// the description of the operation:
+/// One error is displayed as itself. Several are displayed with their causes, under a line with
+/// their number and the description of the operation:
 ///
 /// ```
 /// use deodarsieve::{ErrorList, SerializableError};
@@ -74,8 +74,8 @@ impl<T: Error> fmt::Display for ErrorList<T> {
     }
 }
 
-/// The source of a list of one error is the source of that error. A list of several has none: its text has their
-/// causes.
+/// The source of a list of one error is the source of that error. A list of several has none: its
+/// text has their causes.
 impl<T: Error> Error for ErrorList<T> {
     fn source(&self) -> Option<&(dyn Error + 'static)> {
         match self.errors.as_slice() {

@@ -4,8 +4,8 @@ use crate::run_events_results::results::{AbortStatus, FailureStatus};
 use std::process::ExitStatus;
 
 impl AbortStatus {
-    /// Returns what ended a process from outside, or `None` if the process exited: on Unix the signal, and on
-    /// Windows the status code if it is negative. On other systems there is none.
+    /// Returns what ended a process from outside, or `None` if the process exited: on Unix the
+    /// signal, and on Windows the status code if it is negative. On other systems there is none.
     ///
     /// Only with the feature `std`.
     #[must_use]
@@ -21,8 +21,8 @@ impl FailureStatus {
     ///
     /// # Panics
     ///
-    /// Panics if the process was stopped or continued, and has not ended. [`Child::wait`] returns no such
-    /// status.
+    /// Panics if the process was stopped or continued, and has not ended. [`Child::wait`] returns
+    /// no such status.
     ///
     /// [`Child::wait`]: std::process::Child::wait
     #[must_use]

@@ -3,8 +3,9 @@
 use crate::run_events_results::results::{AbortStatus, ExecutionResult, FailureStatus};
 use alloc::string::String;
 
-/// Returns the name of a signal without `SIG`, or `None` if the number is not one of those that have the same name
-/// on Linux, macOS, the BSDs and illumos. The others have names that depend on the system.
+/// Returns the name of a signal without `SIG`, or `None` if the number is not one of those that
+/// have the same name on Linux, macOS, the BSDs and illumos. The others have names that depend on
+/// the system.
 fn signal_name(signal: i32) -> Option<&'static str> {
     match signal {
         1 => Some("HUP"),
@@ -23,8 +24,8 @@ fn signal_name(signal: i32) -> Option<&'static str> {
     }
 }
 
-/// Returns the name of the signal that ended a process. No message is looked up for a Windows status code: that needs
-/// `unsafe` calls of the system.
+/// Returns the name of the signal that ended a process. No message is looked up for a Windows
+/// status code: that needs `unsafe` calls of the system.
 pub(super) fn of_abort(status: AbortStatus) -> Option<String> {
     match status {
         AbortStatus::UnixSignal(signal) => signal_name(signal).map(String::from),

@@ -5,23 +5,24 @@ use crate::run_events_child::child::ErrorList;
 use core::error::Error;
 
 impl UnitErrorDescription<'_> {
-    /// Returns all errors, or `None` if there are none: those of [`Self::exec_fail_error_list`] and of
-    /// [`Self::child_process_error_list`]. [`Self::unit_errors`] returns them as `UnitError`s.
+    /// Returns all errors, or `None` if there are none: those of [`Self::exec_fail_error_list`] and
+    /// of [`Self::child_process_error_list`]. [`Self::unit_errors`] returns them as `UnitError`s.
     #[must_use]
     pub fn all_error_list(&self) -> Option<ErrorList<&dyn Error>> {
         ErrorList::new(self.kind.executing_message(), self.all_errors().collect())
     }
 
-    /// Returns the errors in running the unit, or `None` if there are none: the error of the start, and those of
-    /// the output. [`Self::exec_fail_unit_errors`] returns them as `UnitError`s.
+    /// Returns the errors in running the unit, or `None` if there are none: the error of the start,
+    /// and those of the output. [`Self::exec_fail_unit_errors`] returns them as `UnitError`s.
     #[must_use]
     pub fn exec_fail_error_list(&self) -> Option<ErrorList<&dyn Error>> {
         let errors = self.exec_fail_errors().collect();
         ErrorList::new(self.kind.executing_message(), errors)
     }
 
-    /// Returns the errors of the process itself, or `None` if there are none: the abort and the part of the output
-    /// that explains the failure. [`Self::child_process_unit_errors`] returns them as `UnitError`s.
+    /// Returns the errors of the process itself, or `None` if there are none: the abort and the
+    /// part of the output that explains the failure. [`Self::child_process_unit_errors`] returns
+    /// them as `UnitError`s.
     #[must_use]
     pub fn child_process_error_list(&self) -> Option<ErrorList<&dyn Error>> {
         let errors = self.child_process_errors().collect();

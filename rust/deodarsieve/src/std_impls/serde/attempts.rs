@@ -1,4 +1,5 @@
-//! The attempts of a test. Their fields have nextest's order in JSON, and a test without attempts is not read.
+//! The attempts of a test. Their fields have nextest's order in JSON, and a test without attempts
+//! is not read.
 
 use crate::moment::Moment;
 use crate::run_events_attempts::attempts::{

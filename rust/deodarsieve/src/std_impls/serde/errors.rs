@@ -69,8 +69,8 @@ impl<T: Serialize> Serialize for ErrorList<T> {
     }
 }
 
-/// An empty list is an error. The descriptions that [`UnitKind`] has are recognized. The text of any other
-/// description that is read is never freed.
+/// An empty list is an error. The descriptions that [`UnitKind`] has are recognized. The text of
+/// any other description that is read is never freed.
 impl<'de, T: Deserialize<'de>> Deserialize<'de> for ErrorList<T> {
     fn deserialize<D: Deserializer<'de>>(deserializer: D) -> Result<Self, D::Error> {
         let read = ReadList::deserialize(deserializer)?;

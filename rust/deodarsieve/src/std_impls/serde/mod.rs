@@ -1,4 +1,5 @@
-//! `Serialize` and `Deserialize` of the types for which derived ones cannot read and write what nextest's types do.
+//! `Serialize` and `Deserialize` of the types for which derived ones cannot read and write what
+//! nextest's types do.
 
 mod attempts;
 mod errors;
@@ -8,11 +9,11 @@ mod test_group;
 use crate::run_events_child::child::OutputSpec;
 use ::serde::{Serialize, de::DeserializeOwned};
 
-/// An [`OutputSpec`] whose description of output can be serialized and deserialized. Every such type has this
-/// trait.
+/// An [`OutputSpec`] whose description of output can be serialized and deserialized. Every such
+/// type has this trait.
 ///
-/// With it, records such as [`ExecutionStatuses`] can be serialized and deserialized. [`LiveSpec`] does not have
-/// it: captured output is not serialized.
+/// With it, records such as [`ExecutionStatuses`] can be serialized and deserialized. [`LiveSpec`]
+/// does not have it: captured output is not serialized.
 ///
 /// [`ExecutionStatuses`]: crate::reporter::events::ExecutionStatuses
 /// [`LiveSpec`]: crate::output_spec::LiveSpec

@@ -8,14 +8,15 @@ use ::serde::{Deserialize, Deserializer, Serialize, Serializer};
 use alloc::string::String;
 use core::ops::RangeInclusive;
 
-/// The seconds from 1970-01-01 00:00:00 to the first second of the year 0 and to the last of the year 9999.
+/// The seconds from 1970-01-01 00:00:00 to the first second of the year 0 and to the last of the
+/// year 9999.
 const WRITABLE_SECONDS: RangeInclusive<i64> = -62_167_219_200..=253_402_300_799;
 
-/// Writes the date and time at the offset of the moment. The fraction of a second has 0, 3, 6 or 9 digits, and the
-/// offset 0 is `Z`.
+/// Writes the date and time at the offset of the moment. The fraction of a second has 0, 3, 6 or 9
+/// digits, and the offset 0 is `Z`.
 ///
-/// An offset is written in whole minutes: its seconds are left out, and the instant is kept. A moment whose date
-/// is before the year 0 or after the year 9999 is an error.
+/// An offset is written in whole minutes: its seconds are left out, and the instant is kept. A
+/// moment whose date is before the year 0 or after the year 9999 is an error.
 impl Serialize for Moment {
     fn serialize<S: Serializer>(&self, serializer: S) -> Result<S::Ok, S::Error> {
         let date = writable_date(*self).map_err(S::Error::custom)?;
