@@ -53,11 +53,11 @@ fn it_is_debugged_on_one_line() {
 }
 
 /// Each cause is indented further than the one before it, so the text of 100,000 causes is too long
-/// for a test.
+/// for a test. A call for each of 1,000 causes would need more than the small stack, too.
 #[test]
 fn a_shorter_one_is_debugged_on_many_lines() {
-    let lines = on_small_stack(|| format!("{:#?}", chain_of(3_000)));
-    assert_eq!(lines.lines().count(), 4 + 5 * 3_000);
+    let lines = on_small_stack(|| format!("{:#?}", chain_of(1_000)));
+    assert_eq!(lines.lines().count(), 4 + 5 * 1_000);
 }
 
 #[test]

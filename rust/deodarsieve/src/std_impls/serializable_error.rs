@@ -34,7 +34,8 @@ impl Clone for SerializableError {
     }
 }
 
-/// Writes what a derived `Debug` would: each cause is inside the error that it caused.
+/// Writes what a derived `Debug` would: each cause is inside the error that it caused. With `{:#?}`
+/// the length of the text grows with the square of the number of causes, as that of a derived one.
 impl fmt::Debug for SerializableError {
     fn fmt(&self, f: &mut fmt::Formatter<'_>) -> fmt::Result {
         if f.alternate() {
@@ -64,23 +65,23 @@ fn write_on_lines(error: &SerializableError, f: &mut fmt::Formatter<'_>) -> fmt:
     write!(f, "SerializableError {{\n    message: {message:?},\n")?;
     let mut depth = 0;
     for cause in error.sources() {
-        write_line(f, depth, "    source: Some(\n")?;
+        write_indented(f, depth, "    source: Some(\n")?;
         depth += 1;
-        write_line(f, depth, "SerializableError {\n")?;
-        write_line(f, depth, "")?;
+        write_indented(f, depth, "SerializableError {\n")?;
+        write_indented(f, depth, "")?;
         writeln!(f, "    message: {:?},", cause.message())?;
     }
-    write_line(f, depth, "    source: None,\n")?;
+    write_indented(f, depth, "    source: None,\n")?;
     while depth > 0 {
-        write_line(f, depth, "},\n")?;
+        write_indented(f, depth, "},\n")?;
         depth -= 1;
-        write_line(f, depth, "    ),\n")?;
+        write_indented(f, depth, "    ),\n")?;
     }
     f.write_str("}")
 }
 
 /// Writes a text after the indent of the error that is `depth` causes inside the outermost one.
-fn write_line(f: &mut fmt::Formatter<'_>, depth: usize, text: &str) -> fmt::Result {
+fn write_indented(f: &mut fmt::Formatter<'_>, depth: usize, text: &str) -> fmt::Result {
     for _ in 0..depth {
         f.write_str("        ")?;
     }
