@@ -98,10 +98,11 @@ def _declared(kind, owner, there, here):
             continue
         own_visibility, own_text = here[name]
         item = _by_visibility(kind, owner, name, visibility, own_visibility)
-        if item.verdict == "the same" and _stand_in(text):
+        if _known(text) != _known(own_text) and f"{owner}::{name}" not in DIFFERENCES:
+            notes = [item.note, f"`{own_text}`, there `{text}`"]
+            item = Item(kind, owner, name, "differs", "; ".join(filter(None, notes)))
+        elif item.verdict == "the same" and _stand_in(text):
             item = Item(kind, owner, name, "another type", _stand_in(text))
-        elif _known(text) != _known(own_text) and not item.note:
-            item = Item(kind, owner, name, "differs", f"`{own_text}`, there `{text}`")
         yield item
 
 

@@ -57,6 +57,7 @@ DIFFERENCES = {
     "AbortDescription: From<AbortStatus>": "on Windows no message of a status code is looked up",
     "FailureDescription: From<FailureStatus>": "on Windows no message of a status code is looked up",
     "ExecutionResultDescription: From<ExecutionResult>": "on Windows no message of a status code is looked up",
+    "UnitTerminateSignal::UnitTerminateSignal": "on every platform, there on Unix",
     "UnitTerminateSignal: Display": "on every platform, there on Unix",
 }
 
