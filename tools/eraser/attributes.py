@@ -1,4 +1,5 @@
 """Gives types and functions the attributes that they have in Rust: derives, `non_exhaustive`, `must_use`."""
+from . import serde_table as serde
 from . import type_table as types
 from .functions import functions_of
 from .scanner import Source
@@ -38,6 +39,8 @@ def _on_type(source, i, is_layer):
     if name in types.NO_DEBUG:
         words.remove("Debug")
     _set_derive(source, first, derive, words, name)
+    if is_layer:
+        _set_serde(source, i, first, name)
     if name in types.CRATE_FIELDS:
         _open_fields(source, i)
 
@@ -97,6 +100,20 @@ def _set_derive(source, first, derive, words, name):
             source.drop_line(hash_token, end)
     elif line:
         source.new[first] = line.strip() + "\n" + source.new[first]
+
+
+def _set_serde(source, i, first, name):
+    """Gives the type that is declared at `i`, and its variants, the attributes of `serde`."""
+    attribute = serde.attribute_of(name)
+    if attribute:
+        source.new[first] = f"{attribute}\n{source.new[first]}"
+    for variant, row in serde.SERDE_OF_VARIANTS.get(name, {}).items():
+        brace = source.find(i, "{")
+        inside = source.between(brace, source.partner[brace])
+        at = next((k for k in inside if source.text[k] == variant), None)
+        if at is None:
+            source.refuse(i, f"the table names a variant that is not there: {variant}")
+        source.new[at] = f'#[cfg_attr(feature = "serde", serde({row}))]\n{source.new[at]}'
 
 
 def _open_fields(source, i):

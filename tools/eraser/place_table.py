@@ -103,6 +103,67 @@ pub struct ExecutionStatusesIter<'a, S: OutputSpec> {
         "String::from_str(rt.alloc(), word)?",
         "String::from_str(rt.alloc(), *word)?",
     ),
+    # No width, fill or precision changes the text, as with nextest's type.
+    (
+        "output_slice/src/subslice.rt",
+        "fmt::Display::fmt(&self.part().slice.as_bstr(), f)",
+        'write!(f, "{}", self.part().slice.as_bstr())',
+    ),
+    # Windows has variants of its own, and so has nextest there. The proved types are those of Unix.
+    (
+        "run_events_results/src/results/failure.rt",
+        "    UnixSignal(i32),\n}",
+        """    UnixSignal(i32),
+
+    /// A Windows status code.
+    #[cfg(windows)]
+    WindowsNtStatus(i32),
+
+    /// The Windows job object that holds the process was ended.
+    #[cfg(windows)]
+    JobObject,
+}""",
+    ),
+    (
+        "run_events_results/src/results/failure.rt",
+        'AbortStatus::UnixSignal(signal) => write!(f, "UnixSignal({signal})"),',
+        """AbortStatus::UnixSignal(signal) => write!(f, "UnixSignal({signal})"),
+            #[cfg(windows)]
+            AbortStatus::WindowsNtStatus(code) => write!(f, "WindowsNtStatus({code:x})"),
+            #[cfg(windows)]
+            AbortStatus::JobObject => write!(f, "JobObject"),""",
+    ),
+    (
+        "run_events_results/src/results/failure.rt",
+        "/// Describes an abort. `name` is the name of the signal without `SIG`, such as `TERM`.",
+        """/// Describes an abort. `name` is the name of the signal without `SIG`, such as `TERM`. For a Windows
+    /// status code it is the message of the system.""",
+    ),
+    (
+        "run_events_results/src/results/failure.rt",
+        "AbortStatus::UnixSignal(signal) => AbortDescription::UnixSignal { signal, name },",
+        """AbortStatus::UnixSignal(signal) => AbortDescription::UnixSignal { signal, name },
+            #[cfg(windows)]
+            AbortStatus::WindowsNtStatus(code) => {
+                AbortDescription::WindowsNtStatus { code, message: name }
+            }
+            #[cfg(windows)]
+            AbortStatus::JobObject => AbortDescription::WindowsJobObject,""",
+    ),
+    (
+        "run_events/src/events/terminate.rt",
+        "    Signal(UnitTerminateSignal),\n}",
+        """    Signal(UnitTerminateSignal),
+
+    /// By ending the Windows job object that holds its process.
+    #[cfg(windows)]
+    JobObject,
+
+    /// The runner waits: a test that got Ctrl-C, too, ends by itself, or its job object is ended later.
+    #[cfg(windows)]
+    Wait,
+}""",
+    ),
     # The layer has the decimal digits alone.
     (
         "output_slice/src/panic_head/characters.rt",

@@ -6,6 +6,7 @@
 import sys
 from pathlib import Path
 
+from .attributes import with_attributes
 from .conditions import Arm, Assertion, Checked, with_conditions
 from .layout import erased_texts
 from .places import with_places
@@ -33,6 +34,9 @@ TABLE_SAMPLES = {
     "the places, without a place": lambda: with_places({"a": "fn f() {}"}, (), (("a", "g()", "h()"),)),
     "the places, with two": lambda: with_places({"a": "fn f() { g(); g(); }"}, (), (("a", "g()", "h()"),)),
     "the dropped items, without an item": lambda: with_places({"a": "fn f() {}"}, (("a", "fn g"),), ()),
+    "the variants, without a variant": lambda: with_attributes(
+        "pub enum FinalStatusLevel { A }", "run_events_levels/src/levels.rt"
+    ),
     "the conditions, without a function": lambda: with_conditions("fn f() {}", "output_slice/src/panic_head.rt"),
 }
 HERE = Path(__file__).resolve().parent

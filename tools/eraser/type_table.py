@@ -38,18 +38,18 @@ REMOVED_DERIVES = {"MemorySource": ("Copy",), "UnitErrorDescription": ("Copy",)}
 # Types that cannot be cloned, since they borrow what they write to exclusively.
 NO_CLONE = ("MemorySink",)
 
-# Types whose `Debug` is written by hand: a derived one would go down a chain of causes.
-NO_DEBUG = ("SerializableError",)
+# Types whose `Debug` is written by hand: a derived one would go down a chain of causes, or would show the names of
+# private fields, which nextest's types do not have.
+NO_DEBUG = ("NonZeroDuration", "SerializableError", "SerializableErrorSources")
 
-# Types to which cases or fields may be added: upstream's, and those of which upstream has more.
+# Types to which cases or fields may be added: those of which nextest says so, and three that nextest does not have.
 NON_EXHAUSTIVE = (
-    "AbortDescription", "AbortStatus", "CancelReason", "ExecutionResultDescription",
-    "FailureDescription", "FinalStatusLevel", "FromValueError", "StatusLevel", "TestEventKind", "TestView",
-    "UnitError", "UnitTerminateMethod",
+    "AbortDescription", "ExecutionResultDescription", "FailureDescription", "FinalStatusLevel", "StatusLevel",
+    "FromValueError", "TestView", "UnitError",
 )
 
 # Types whose private fields are visible to the files that are written by hand.
-CRATE_FIELDS = ("ErrorList",)
+CRATE_FIELDS = ("ErrorList", "UnitErrorDescription")
 
 # Types that get `must_use`, and types of std that have it.
 MUST_USE = ("RunOutcome",)
@@ -65,19 +65,21 @@ BUILDERS = {
 
 # The last arm of matches in other packages over types that may get more cases: file, function, and its value.
 OTHER_ARMS = {
-    "run_digest_engine/src/report.rt": (("reason_text", 'unreachable!("there is no other reason")'),),
     "deodarsieve/src/codes.rt": (
-        ("reason_code", 'unreachable!("there is no other reason")'),
         ("level_code", 'unreachable!("there is no other level")'),
         ("final_level_code", 'unreachable!("there is no other level")'),
     ),
 }
 
-# Methods that have another name in Rust: `source` would hide the method of `std::error::Error`.
+# Methods that have another name in Rust: `source` would hide the method of `std::error::Error`, and nextest's lists of
+# a unit's errors have items of another type, so the methods with nextest's names are written by hand.
 RENAMED_METHODS = {
     "ChildErrorDescription::source": "cause",
     "ChildStartErrorDescription::source": "cause",
     "SerializableError::source": "cause",
+    "UnitErrorDescription::all_error_list": "unit_errors",
+    "UnitErrorDescription::exec_fail_error_list": "exec_fail_unit_errors",
+    "UnitErrorDescription::child_process_error_list": "child_process_unit_errors",
 }
 
 # The files that call them, and their names there.

@@ -1,1 +1,1 @@
-"""The modules of `tools/upstream-tests`: a scanner, items, test functions, and a package that runs them."""
+"""The modules of `tools/upstream-tests` and `tools/upstream-items`, which read nextest's own files."""

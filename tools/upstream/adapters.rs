@@ -1,5 +1,5 @@
-//! What upstream's test functions find around them: the names of the crate, all values of small
-//! types, and what the crate leaves to its callers.
+//! What upstream's test functions find around them: the names of the crate, all values of small types, and
+//! stored texts.
 
 pub use bytes::Bytes;
 pub use deodarsieve::*;
@@ -114,187 +114,26 @@ macro_rules! prop_assert {
 }
 pub use crate::prop_assert;
 
-/// The clock, as far as the tests read it.
-pub mod chrono {
-    /// The time zone of the instants that are read.
-    pub struct Utc;
-
-    /// An instant that was read from the clock.
-    pub struct Now(std::time::SystemTime);
-
-    impl Utc {
-        /// Reads the clock.
-        pub fn now() -> Now {
-            Now(std::time::SystemTime::now())
-        }
-    }
-
-    impl From<Now> for deodarsieve::Moment {
-        fn from(now: Now) -> Self {
-            now.0.into()
-        }
-    }
-}
-
-/// A status with the name that POSIX has for the number of its signal, which the crate takes from
-/// its caller.
-pub enum AbortStatus {
-    /// The process was ended by this signal.
-    UnixSignal(i32),
-}
-
-impl From<AbortStatus> for AbortDescription {
-    fn from(AbortStatus::UnixSignal(signal): AbortStatus) -> Self {
-        let names = [
-            (1, "HUP"),
-            (2, "INT"),
-            (3, "QUIT"),
-            (6, "ABRT"),
-            (9, "KILL"),
-            (14, "ALRM"),
-            (15, "TERM"),
-        ];
-        let name = names
-            .iter()
-            .find(|(number, _)| *number == signal)
-            .map(|(_, name)| String::from(*name));
-        AbortDescription::from_status(deodarsieve::AbortStatus::UnixSignal(signal), name)
-    }
-}
-
-/// Compares JSON with stored text, as far as that can be done without any: it is a JSON object, which
-/// has a member that says its kind.
+/// Compares texts with stored ones.
 pub mod insta {
-    /// Asserts that a text is such an object.
-    pub fn assert_is_description(name: &str, json: &str) {
-        let value: ::serde_json::Value = ::serde_json::from_str(json).expect("the text is JSON");
-        let kind = value.get("kind").or(value.get("status"));
-        assert!(
-            kind.is_some_and(::serde_json::Value::is_string),
-            "{name}: {json}"
-        );
+    /// The stored texts, each after a line `=== NAME`. They are the JSON that `serde` makes of the attributes that
+    /// nextest's types have.
+    const STORED: &str = include_str!("snapshots.txt");
+
+    /// Returns the stored text of a name.
+    pub fn stored(name: &str) -> &'static str {
+        STORED
+            .split("=== ")
+            .find_map(|entry| entry.strip_prefix(name)?.strip_prefix('\n'))
+            .unwrap_or_else(|| panic!("no text is stored for {name}"))
+            .trim_end()
     }
 
     #[macro_export]
     macro_rules! assert_snapshot {
-        ($name:literal, $json:expr) => {
-            $crate::adapters::insta::assert_is_description($name, &$json)
+        ($name:literal, $text:expr) => {
+            assert_eq!($text, $crate::adapters::insta::stored($name))
         };
     }
     pub use crate::assert_snapshot;
-}
-
-/// JSON of descriptions: by types with the same cases, for which `serde` is derived as upstream
-/// derives it.
-pub mod serde_json {
-    use ::serde::{Deserialize, Serialize, de::DeserializeOwned};
-    use ::serde_json::Result;
-
-    /// A description with a type that has the same cases and can be written as JSON.
-    pub trait Mirrored: Sized {
-        /// The type with the same cases.
-        type Mirror: Serialize + DeserializeOwned + From<Self> + Into<Self>;
-    }
-
-    /// Returns the JSON text of a description.
-    pub fn to_string_pretty<T: Mirrored + Clone>(description: &T) -> Result<String> {
-        ::serde_json::to_string_pretty(&T::Mirror::from(description.clone()))
-    }
-
-    /// Returns the description that a text is the JSON of.
-    pub fn from_str<T: Mirrored>(text: &str) -> Result<T> {
-        ::serde_json::from_str::<T::Mirror>(text).map(Into::into)
-    }
-
-    /// Defines the mirror of a type and the conversions in both directions.
-    macro_rules! mirror {
-        ($type:ident, $tag:literal: $($case:ident { $($field:ident: $kind:ty),* })*) => {
-            mod $type {
-                #[allow(unused_imports)]
-                use super::*;
-
-                #[derive(Serialize, Deserialize)]
-                #[serde(tag = $tag, rename_all = "kebab-case")]
-                pub enum Mirror {
-                    $($case { $($field: $kind),* }),*
-                }
-
-                impl From<deodarsieve::$type> for Mirror {
-                    fn from(value: deodarsieve::$type) -> Self {
-                        match value {
-                            $(deodarsieve::$type::$case { $($field),* } => {
-                                Mirror::$case { $($field: $field.into()),* }
-                            })*
-                            #[allow(unreachable_patterns)]
-                            _ => panic!("a case is not mirrored"),
-                        }
-                    }
-                }
-
-                impl From<Mirror> for deodarsieve::$type {
-                    fn from(mirror: Mirror) -> Self {
-                        match mirror {
-                            $(Mirror::$case { $($field),* } => {
-                                deodarsieve::$type::$case { $($field: $field.into()),* }
-                            })*
-                        }
-                    }
-                }
-
-                impl Mirrored for deodarsieve::$type {
-                    type Mirror = Mirror;
-                }
-            }
-        };
-    }
-
-    /// Defines the mirror of a type whose two cases are written as words.
-    macro_rules! mirror_of_words {
-        ($type:ident) => {
-            mod $type {
-                use super::{Deserialize, Serialize};
-
-                #[derive(Serialize, Deserialize)]
-                #[serde(rename_all = "kebab-case")]
-                pub enum Mirror {
-                    Pass,
-                    Fail,
-                }
-
-                impl From<deodarsieve::$type> for Mirror {
-                    fn from(value: deodarsieve::$type) -> Self {
-                        match value {
-                            deodarsieve::$type::Pass => Mirror::Pass,
-                            deodarsieve::$type::Fail => Mirror::Fail,
-                        }
-                    }
-                }
-
-                impl From<Mirror> for deodarsieve::$type {
-                    fn from(mirror: Mirror) -> Self {
-                        match mirror {
-                            Mirror::Pass => deodarsieve::$type::Pass,
-                            Mirror::Fail => deodarsieve::$type::Fail,
-                        }
-                    }
-                }
-            }
-        };
-    }
-
-    mirror_of_words!(LeakTimeoutResult);
-    mirror_of_words!(SlowTimeoutResult);
-    mirror!(AbortDescription, "kind":
-        UnixSignal { signal: i32, name: Option<String> }
-        WindowsNtStatus { code: i32, message: Option<String> }
-        WindowsJobObject {});
-    mirror!(FailureDescription, "kind":
-        ExitCode { code: i32 }
-        Abort { abort: AbortDescription::Mirror });
-    mirror!(ExecutionResultDescription, "status":
-        Pass {}
-        Leak { result: LeakTimeoutResult::Mirror }
-        Fail { failure: FailureDescription::Mirror, leaked: bool }
-        ExecFail {}
-        Timeout { result: SlowTimeoutResult::Mirror });
 }

@@ -12,19 +12,14 @@ ABSENT = {
     "RecordingSpec": "it tests nextest's recorder, which is not part of the layer",
     "Arbitrary": "it is a generator of values",
 }
-# What `adapters.rs` has in the place of something that the crate leaves to its callers.
-ADAPTED = {
-    "serde_json": "JSON by a type of the tool, since the crate's descriptions have no serde",
-    "AbortStatus": "the name of a signal by the tool, since the crate takes it from its caller",
-}
 
 
 @dataclass
 class Selection:
-    """The text of the tests that can be run, their names, what is adapted in them, and what is left out."""
+    """The text of the tests that can be run, their names, and what is left out with the reasons."""
 
     text: str = ""
-    taken: dict = field(default_factory=dict)
+    taken: list = field(default_factory=list)
     left_out: dict = field(default_factory=dict)
 
 
@@ -114,7 +109,7 @@ def select_item(text, module, item, selection):
     if is_test(item) and absent:
         selection.left_out[name] = ABSENT[absent]
     elif is_test(item):
-        selection.taken[name] = ADAPTED.get(first_named(item, ADAPTED), "")
+        selection.taken.append(name)
     return is_test(item)
 
 

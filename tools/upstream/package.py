@@ -1,6 +1,7 @@
 """The package that runs test functions over the crate, and the results that cargo reports."""
 
 import re
+import shutil
 import subprocess
 import tempfile
 from pathlib import Path
@@ -18,17 +19,17 @@ publish = false
 
 [dependencies]
 bytes = "1"
-deodarsieve = {{ path = '{CRATE}' }}
-serde = {{ version = "1", features = ["derive"] }}
+chrono = {{ version = "0.4", default-features = false, features = ["clock"] }}
+deodarsieve = {{ path = '{CRATE}', features = ["chrono", "serde"] }}
 serde_json = "1"
 
 [workspace]
 """
 HEAD = """\
 #![cfg(test)]
-#![allow(non_snake_case, reason = "a module of the adapters has the name of a type")]
 mod adapters;
 """
+HAND_WRITTEN = ("adapters.rs", "snapshots.txt")
 LINE = re.compile(r"^test (\S+) \.\.\. (ok|FAILED)$", re.MULTILINE)
 
 
@@ -37,8 +38,8 @@ def write_package(folder, text):
     (folder / "src").mkdir()
     (folder / "Cargo.toml").write_text(MANIFEST, encoding="utf-8")
     (folder / "src" / "lib.rs").write_text(HEAD + text, encoding="utf-8")
-    adapters = (Path(__file__).parent / "adapters.rs").read_text(encoding="utf-8")
-    (folder / "src" / "adapters.rs").write_text(adapters, encoding="utf-8")
+    for name in HAND_WRITTEN:
+        shutil.copy(Path(__file__).parent / name, folder / "src" / name)
 
 
 def run_tests(text, configs):

@@ -10,16 +10,17 @@
 //!
 //! The crate also declares the types of all events that reporters receive ([`TestEventKind`]).
 //!
-//! The names and the behaviour are those of the reporter of [nextest](https://nexte.st), except for the
-//! items that `docs/UPSTREAM.md` in the repository lists as different or left out. The modules
+//! The names and the behaviour are those of the reporter of [nextest](https://nexte.st), except for
+//! the items that `docs/UPSTREAM.md` in the repository lists as different or left out. The modules
 //! are at nextest's paths, and every name is at the root of the crate too. A few items are not
-//! nextest's. A runner that does not keep the attempts of a test can count it by a [`TestView`], which
-//! borrows the result of the last attempt, or by a [`FinishedTest`], which owns it.
+//! nextest's. A runner that does not keep the attempts of a test can count it by a [`TestView`],
+//! which borrows the result of the last attempt, or by a [`FinishedTest`], which owns it.
 //! [`RunOutcome::of_sub_runs`] decides the outcome of a repeated run.
 //!
 //! # Example
 //!
-//! This counts a run of two tests, one of which failed, and prints why:
+//! This counts a run of two tests, one of which failed, and prints why. A runner that keeps the
+//! output and the times of its tests for reporters begins with [`ExecuteStatus::from_captured`].
 //!
 //! ```
 //! use deodarsieve::{
@@ -42,22 +43,81 @@
 //! # assert!(slice.to_string().ends_with("assertion failed: 1 + 1 == 3"));
 //! ```
 //!
+//! # The types by what they are for
+//!
+//! **Counters and outcome of a run**
+//!
+//! - Counting: [`RunStats`], [`RunStart`], [`FinishedRun`], [`FinishedUnit`], [`CounterFull`].
+//! - The end of a run: [`FinalRunStats`], [`RunStatsFailureKind`], [`RunFailureStep`],
+//!   [`CancelReason`], [`RunOutcome`], [`RunFinishedStats`].
+//! - Repeated runs: [`StressRunStats`], [`StressFinalRunStats`], [`StressIndex`],
+//!   [`StressProgress`], [`StressRemaining`], [`StressCount`], [`StressCondition`],
+//!   [`NonZeroDuration`].
+//!
+//! **Results and attempts**
+//!
+//! - The result of an attempt, as the runner has it: [`ExecutionResult`], [`FailureStatus`],
+//!   [`AbortStatus`], [`SIGTERM`].
+//! - The same, as reporters get it: [`ExecutionResultDescription`], [`FailureDescription`],
+//!   [`AbortDescription`].
+//! - How a result counts: [`FlakyResult`], [`LeakTimeoutResult`], [`SlowTimeoutResult`].
+//! - The attempts of a test: [`ExecuteStatus`], [`RetryData`], [`ExecutionStatuses`],
+//!   [`ExecutionStatusesIter`], [`EmptyStatuses`], [`ExecutionDescription`].
+//! - A test without its attempts: [`TestView`], [`FinishedTest`].
+//! - A setup script: [`SetupScriptExecuteStatus`], [`SetupScriptEnvMap`].
+//!
+//! **Output and errors of a process**
+//!
+//! - Captured output, as the runner has it: [`ChildExecutionOutput`], [`ChildOutput`],
+//!   [`ChildSplitOutput`], [`ChildSingleOutput`].
+//! - The same, as reporters get it: [`ChildExecutionOutputDescription`],
+//!   [`ChildOutputDescription`], [`OutputSpec`], [`LiveSpec`], `SerializableOutputSpec`.
+//! - The part of output that explains a failure: [`TestOutputErrorSlice`], [`ByteSubslice`],
+//!   [`OutputErrorSlice`], [`heuristic_panic_message`], [`heuristic_error_str`],
+//!   [`heuristic_should_panic`].
+//! - Errors of processes: [`ChildStartError`], [`ChildFdError`], [`ChildError`],
+//!   [`ChildStartErrorDescription`], [`ChildErrorDescription`].
+//! - All errors of a test or script: [`UnitErrorDescription`], [`UnitKind`], [`UnitError`],
+//!   [`UnitAbortDescription`], [`ErrorSummary`].
+//! - Errors as text: [`ErrorList`], [`SerializableError`], [`SerializableErrorSources`],
+//!   `FromValueError`.
+//!
+//! **Display**
+//!
+//! - The level of a test: [`StatusLevel`], [`FinalStatusLevel`].
+//! - What is shown of it: [`StatusLevels`], [`TestOutputDisplay`], [`OutputOnTestFinished`],
+//!   [`OutputStoreFinal`].
+//!
+//! **Events**
+//!
+//! - An event: [`ReporterEvent`], [`TestEvent`], [`TestEventKind`], [`Moment`], `MomentOutOfRange`.
+//! - Values in events: [`TestSlotAssignment`], [`TestsNotSeen`], [`TestList`], [`TestInstanceId`],
+//!   [`OwnedTestInstanceId`], [`TestGroup`], [`ScriptId`], [`MismatchReason`],
+//!   [`ReportSkipPolicy`], [`JunitFlakyFailStatus`], [`NextestRunMode`].
+//! - The state of a running test or script: [`InfoResponse`], [`TestInfoResponse`],
+//!   [`SetupScriptInfoResponse`], [`UnitState`], [`UnitTerminatingState`], [`UnitTerminateReason`],
+//!   [`UnitTerminateMethod`], [`UnitTerminateSignal`].
+//!
 //! # Features
 //!
-//! - `std` (default): conversions from `std::process::ExitStatus` and `std::time::SystemTime`.
-//!   Without it the crate is `no_std` and needs `alloc`.
+//! - `std` (default): conversions from `std::process::ExitStatus`, `std::time::SystemTime` and
+//!   `std::io::Error`. Without it the crate is `no_std` and needs `alloc`.
+//! - `serde`: `Serialize` and `Deserialize` for the types that have them in nextest, with the same
+//!   names, and `SerializableOutputSpec`. It turns on `chrono`.
 //! - `serde_json`: `to_value` and `from_value` of [`SerializableError`], to and from JSON values.
-//! - `chrono`: [`Moment`] to and from `chrono::DateTime<chrono::FixedOffset>`.
+//! - `chrono`: [`Moment`] from `chrono::DateTime` of any time zone, and to `DateTime<FixedOffset>`
+//!   and `DateTime<Utc>`.
 //!
-//! A feature only adds items. No type changes with a feature. No feature adds serde's
-//! `Serialize` and `Deserialize`.
+//! A feature only adds items and implementations of traits. No type and no behaviour changes with a
+//! feature.
 //!
 //! # Panics
 //!
-//! A function panics, in release builds too, if its caller breaks a condition that the types do not express.
-//! The section `Panics` of its documentation has the condition. Most messages name a function that tests
-//! the condition, such as `can_count_view`. Counters never wrap: [`RunStats::try_on_test_view`] returns
-//! an error if a counter is full, and [`RunStats::on_test_view`] panics.
+//! A function panics, in release builds too, if its caller breaks a condition that the types do not
+//! express. The section `Panics` of its documentation has the condition. Most messages name a
+//! function that tests the condition, such as `can_count_view`. Counters never wrap:
+//! [`RunStats::try_on_test_view`] returns an error if a counter is full, and
+//! [`RunStats::on_test_view`] panics.
 
 #![no_std]
 #![cfg_attr(docsrs, feature(doc_cfg))]
@@ -180,6 +240,8 @@ pub mod errors {
 /// The forms in which events hold the output of a child process.
 pub mod output_spec {
     pub use crate::run_events_child::child::{LiveSpec, OutputSpec};
+    #[cfg(feature = "serde")]
+    pub use crate::std_impls::serde::SerializableOutputSpec;
 }
 
 /// Settings of a runner.

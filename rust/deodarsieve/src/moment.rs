@@ -12,18 +12,23 @@ const SECONDS_PER_DAY: i32 = 86_400;
 /// are not counted, as in Unix time. The offset does not change the instant; it says how a reporter
 /// shows it.
 ///
-/// Two moments are equal if their instants and their offsets are equal. They are ordered by instant,
-/// then by offset.
+/// Two moments are equal if their instants and their offsets are equal. They are ordered by
+/// instant, then by offset.
 ///
 /// # Conversions
 ///
 /// - From [`SystemTime`], at offset 0, with the feature `std`.
-/// - From `chrono::DateTime<chrono::FixedOffset>` and back, with the feature `chrono`.
-/// - From the types of any other library by their numbers. For a `Zoned` of `jiff`:
+/// - From `chrono::DateTime` of any time zone, and to `DateTime<FixedOffset>` and `DateTime<Utc>`,
+///   with the feature `chrono`.
+/// - To and from text in the form of RFC 3339, by `serde`, with the feature `serde`.
+/// - From and to the types of any other library by their numbers. For a `Zoned` of `jiff`, and for
+///   a `Timestamp` from a moment:
 ///
 ///   ```text
 ///   let nanoseconds = zoned.timestamp().as_nanosecond();
 ///   Moment::from_unix_nanoseconds(nanoseconds, zoned.offset().seconds())
+///
+///   Timestamp::from_nanosecond(moment.unix_nanoseconds())
 ///   ```
 ///
 /// ```
@@ -68,8 +73,8 @@ impl Moment {
     /// Returns the instant `unix_seconds` seconds and `subsecond_nanoseconds` nanoseconds after the
     /// Unix epoch, at `offset_seconds` seconds east of UTC.
     ///
-    /// Before the epoch `unix_seconds` is negative, and the nanoseconds still count forwards: half a
-    /// second before the epoch is `(-1, 500_000_000)`.
+    /// Before the epoch `unix_seconds` is negative, and the nanoseconds still count forwards: half
+    /// a second before the epoch is `(-1, 500_000_000)`.
     ///
     /// Returns `None` if there are 1,000,000,000 nanoseconds or more, or if the offset is a day or
     /// more in either direction.
@@ -123,6 +128,16 @@ impl Moment {
     pub const fn unix_nanoseconds(self) -> i128 {
         self.unix_seconds as i128 * NANOSECONDS_PER_SECOND as i128
             + self.subsecond_nanoseconds as i128
+    }
+
+    /// Returns the milliseconds from the Unix epoch to the instant, rounded down: negative before
+    /// the epoch. If an `i64` cannot hold the number, returns the nearest that it can. That is some
+    /// 292 million years away.
+    #[must_use]
+    pub fn timestamp_millis(self) -> i64 {
+        let milliseconds = self.unix_nanoseconds().div_euclid(1_000_000);
+        let nearest = if milliseconds < 0 { i64::MIN } else { i64::MAX };
+        i64::try_from(milliseconds).unwrap_or(nearest)
     }
 
     /// Returns the offset in seconds east of UTC: less than a day in either direction.

@@ -42,18 +42,50 @@ fn split() -> ChildOutput {
 }
 
 #[test]
-fn statuses_are_described_without_a_name() {
+fn statuses_are_described_with_the_name_of_the_signal() {
     let abort = AbortStatus::UnixSignal(15);
     assert_eq!(
         AbortDescription::from(abort).to_string(),
-        "aborted with signal 15"
+        "aborted with signal 15 (SIGTERM)"
     );
     let failures = [FailureStatus::ExitCode(3), FailureStatus::Abort(abort)];
     let texts = failures.map(|failure| FailureDescription::from(failure).to_string());
-    assert_eq!(texts, ["exited with code 3", "aborted with signal 15"]);
+    assert_eq!(
+        texts,
+        ["exited with code 3", "aborted with signal 15 (SIGTERM)"]
+    );
     assert_eq!(
         ExecutionResultDescription::from(killed_by(9)),
-        described(9, None)
+        described(9, Some("KILL"))
+    );
+}
+
+#[test]
+fn only_signals_that_all_systems_share_have_a_name() {
+    let names = (0..=64).filter_map(|signal| match AbortStatus::UnixSignal(signal).into() {
+        AbortDescription::UnixSignal {
+            signal,
+            name: Some(name),
+        } => Some((signal, name)),
+        _ => None,
+    });
+    let wanted = [
+        (1, "HUP"),
+        (2, "INT"),
+        (3, "QUIT"),
+        (4, "ILL"),
+        (5, "TRAP"),
+        (6, "ABRT"),
+        (8, "FPE"),
+        (9, "KILL"),
+        (11, "SEGV"),
+        (13, "PIPE"),
+        (14, "ALRM"),
+        (15, "TERM"),
+    ];
+    assert_eq!(
+        names.collect::<Vec<_>>(),
+        wanted.map(|(signal, name)| (signal, String::from(name)))
     );
 }
 
@@ -82,7 +114,7 @@ fn results_are_described_case_by_case() {
 }
 
 #[test]
-fn output_is_described_with_a_name_and_without() {
+fn output_is_described_with_the_name_of_the_signal_or_with_another() {
     let left = ChildExecutionOutput::Output {
         result: Some(killed_by(6)),
         output: split(),
@@ -99,10 +131,15 @@ fn output_is_described_with_a_name_and_without() {
             vec![ChildErrorDescription::ReadStderr { source: caused() }],
         ),
     };
-    let name = Some(String::from("ABRT"));
-    let with_name = ChildExecutionOutputDescription::from_output(left.clone(), name);
-    assert_eq!(with_name, wanted(Some("ABRT")));
-    assert_eq!(ChildExecutionOutputDescription::from(left), wanted(None));
+    let other = Some(String::from("IOT"));
+    let with_other = ChildExecutionOutputDescription::from_output(left.clone(), other);
+    assert_eq!(with_other, wanted(Some("IOT")));
+    let without = ChildExecutionOutputDescription::from_output(left.clone(), None);
+    assert_eq!(without, wanted(None));
+    assert_eq!(
+        ChildExecutionOutputDescription::from(left),
+        wanted(Some("ABRT"))
+    );
 }
 
 #[test]
@@ -139,7 +176,7 @@ mod exit_status {
     use std::os::unix::process::ExitStatusExt;
     use std::process::{Command, ExitStatus};
 
-    use deodarsieve::{AbortStatus, FailureStatus, SIGTERM};
+    use deodarsieve::{AbortDescription, AbortStatus, FailureStatus, SIGTERM};
 
     /// Returns the exit status of a shell that runs this script.
     fn ended(script: &str) -> ExitStatus {
@@ -154,6 +191,25 @@ mod exit_status {
         let status = ended("exit 3");
         assert_eq!(AbortStatus::extract(status), None);
         assert_eq!(FailureStatus::extract(status), FailureStatus::ExitCode(3));
+    }
+
+    /// The system's own list of signals, as `kill -l` prints it.
+    #[test]
+    fn the_names_are_those_of_the_system() {
+        for signal in 1..=64 {
+            let described = AbortDescription::from(AbortStatus::UnixSignal(signal));
+            let AbortDescription::UnixSignal {
+                name: Some(name), ..
+            } = described
+            else {
+                continue;
+            };
+            let printed = Command::new("sh")
+                .args(["-c", &format!("kill -l {signal}")])
+                .output()
+                .expect("a shell is started");
+            assert_eq!(String::from_utf8_lossy(&printed.stdout).trim_end(), name);
+        }
     }
 
     #[test]

@@ -21,12 +21,17 @@ fn on_small_stack<T: Send + 'static>(task: fn() -> T) -> T {
         .expect("the task does not panic")
 }
 
-/// An error with a long chain of causes.
-fn long_chain() -> SerializableError {
-    let causes = (0..CAUSES)
+/// An error with this number of causes.
+fn chain_of(causes: usize) -> SerializableError {
+    let causes = (0..causes)
         .map(|number| format!("cause {number}"))
         .collect();
     SerializableError::from_message_and_causes(String::from("outer"), causes)
+}
+
+/// An error with a long chain of causes.
+fn long_chain() -> SerializableError {
+    chain_of(CAUSES)
 }
 
 #[test]
@@ -41,13 +46,18 @@ fn it_is_cloned_compared_and_dropped() {
 }
 
 #[test]
-fn it_is_debugged_on_one_line_and_on_many() {
-    let (line, lines) = on_small_stack(|| {
-        let error = long_chain();
-        (format!("{error:?}"), format!("{error:#?}"))
-    });
-    assert!(line.ends_with(r#""cause 99998", "cause 99999"] }"#));
-    assert_eq!(lines.lines().count(), CAUSES + 5);
+fn it_is_debugged_on_one_line() {
+    let line = on_small_stack(|| format!("{:?}", long_chain()));
+    assert!(line.contains(r#""cause 99998", source: Some(SerializableError {"#));
+    assert!(line.ends_with(&") }".repeat(CAUSES)));
+}
+
+/// Each cause is indented further than the one before it, so the text of 100,000 causes is too long
+/// for a test. A call for each of 1,000 causes would need more than the small stack, too.
+#[test]
+fn a_shorter_one_is_debugged_on_many_lines() {
+    let lines = on_small_stack(|| format!("{:#?}", chain_of(1_000)));
+    assert_eq!(lines.lines().count(), 4 + 5 * 1_000);
 }
 
 #[test]
@@ -58,6 +68,17 @@ fn it_is_copied_from_its_sources() {
         copy.sources().count()
     });
     assert_eq!(length, CAUSES);
+}
+
+#[cfg(feature = "serde")]
+#[test]
+fn it_is_serialized_and_deserialized() {
+    let is_equal = on_small_stack(|| {
+        let error = long_chain();
+        let text = serde_json::to_string(&error).expect("it is written");
+        serde_json::from_str::<SerializableError>(&text).is_ok_and(|read| read == error)
+    });
+    assert!(is_equal);
 }
 
 #[cfg(feature = "serde_json")]

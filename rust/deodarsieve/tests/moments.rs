@@ -58,6 +58,18 @@ fn moments_are_ordered_by_instant_then_by_offset() {
     assert_ne!(moments[1], moments[2]);
 }
 
+#[test]
+fn milliseconds_are_rounded_down() {
+    let milliseconds = |nanoseconds| {
+        Moment::from_unix_nanoseconds(nanoseconds, HOUR).map(Moment::timestamp_millis)
+    };
+    assert_eq!(milliseconds(1_999_999), Some(1));
+    assert_eq!(milliseconds(-1), Some(-1));
+    assert_eq!(milliseconds(-1_000_000), Some(-1));
+    assert_eq!(Moment::MIN.timestamp_millis(), i64::MIN);
+    assert_eq!(Moment::MAX.timestamp_millis(), i64::MAX);
+}
+
 #[cfg(feature = "std")]
 #[test]
 fn a_system_time_is_a_moment_at_utc() {
@@ -73,7 +85,7 @@ fn a_system_time_is_a_moment_at_utc() {
 
 #[cfg(feature = "chrono")]
 mod with_chrono {
-    use chrono::{DateTime, FixedOffset, NaiveDate, TimeZone};
+    use chrono::{DateTime, FixedOffset, NaiveDate, NaiveDateTime, TimeZone, Utc};
     use deodarsieve::{Moment, MomentOutOfRange};
 
     #[test]
@@ -90,6 +102,63 @@ mod with_chrono {
             assert_eq!(moment.offset_seconds(), time.offset().local_minus_utc());
             assert!(back.with_timezone(&offset) == time);
         }
+    }
+
+    /// A time zone of the user, an hour to the east.
+    #[derive(Clone, Debug)]
+    struct East;
+
+    impl TimeZone for East {
+        type Offset = FixedOffset;
+
+        fn from_offset(_: &FixedOffset) -> Self {
+            East
+        }
+
+        fn offset_from_local_date(&self, _: &NaiveDate) -> chrono::LocalResult<FixedOffset> {
+            chrono::LocalResult::Single(self.offset())
+        }
+
+        fn offset_from_local_datetime(
+            &self,
+            _: &NaiveDateTime,
+        ) -> chrono::LocalResult<FixedOffset> {
+            chrono::LocalResult::Single(self.offset())
+        }
+
+        fn offset_from_utc_date(&self, _: &NaiveDate) -> FixedOffset {
+            self.offset()
+        }
+
+        fn offset_from_utc_datetime(&self, _: &NaiveDateTime) -> FixedOffset {
+            self.offset()
+        }
+    }
+
+    impl East {
+        fn offset(&self) -> FixedOffset {
+            FixedOffset::east_opt(3_600).expect("it is in range")
+        }
+    }
+
+    #[test]
+    fn a_date_of_any_zone_is_a_moment() {
+        let utc = Utc.timestamp_opt(86_400, 7).single().expect("it is a date");
+        assert_eq!(Some(Moment::from(utc)), Moment::new(86_400, 7, 0));
+        let east = utc.with_timezone(&East);
+        assert_eq!(Some(Moment::from(east)), Moment::new(86_400, 7, 3_600));
+    }
+
+    #[test]
+    fn a_moment_is_a_date_in_utc() {
+        let moment = Moment::new(-1, 999_000_000, 3_600).expect("it is in range");
+        let utc = DateTime::<Utc>::try_from(moment).expect("chrono has it");
+        assert_eq!(utc.to_rfc3339(), "1969-12-31T23:59:59.999+00:00");
+        assert_eq!(utc.timestamp_millis(), moment.timestamp_millis());
+        assert_eq!(
+            DateTime::<Utc>::try_from(Moment::MAX),
+            Err(MomentOutOfRange)
+        );
     }
 
     #[test]

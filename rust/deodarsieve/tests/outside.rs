@@ -1,6 +1,6 @@
-//! Each type, matched from outside the crate. The matches are not called: they compile only if every
-//! variant and field that they name is public, if the enums in `open!` are `non_exhaustive`, and if no
-//! other is.
+//! Each type, matched from outside the crate. The matches are not called: they compile only if
+//! every variant and field that they name is public, if the enums in `open!` are `non_exhaustive`,
+//! and if no other is.
 #![deny(unreachable_patterns)]
 #![allow(dead_code, reason = "that it compiles is the test")]
 
@@ -40,8 +40,15 @@ open!(AbortDescription {
     AbortDescription::WindowsNtStatus { code: _, message: _ },
     AbortDescription::WindowsJobObject,
 });
-open!(AbortStatus { AbortStatus::UnixSignal(_) });
-open!(CancelReason {
+#[cfg(not(windows))]
+closed!(AbortStatus { AbortStatus::UnixSignal(_) });
+#[cfg(windows)]
+closed!(AbortStatus {
+    AbortStatus::UnixSignal(_),
+    AbortStatus::WindowsNtStatus(_),
+    AbortStatus::JobObject,
+});
+closed!(CancelReason {
     CancelReason::SetupScriptFailure,
     CancelReason::TestFailure,
     CancelReason::ReportError,
@@ -97,8 +104,15 @@ open!(UnitError<'static> {
     UnitError::Abort(_),
     UnitError::Slice(_),
 });
-open!(UnitTerminateMethod { UnitTerminateMethod::Signal(_) });
-open!(TestEventKind<'static> {
+#[cfg(not(windows))]
+closed!(UnitTerminateMethod { UnitTerminateMethod::Signal(_) });
+#[cfg(windows)]
+closed!(UnitTerminateMethod {
+    UnitTerminateMethod::Signal(_),
+    UnitTerminateMethod::JobObject,
+    UnitTerminateMethod::Wait,
+});
+closed!(TestEventKind<'static> {
     TestEventKind::RunStarted { test_list: _, run_id: _, profile_name: _, cli_args: _, stress_condition: _ },
     TestEventKind::StressSubRunStarted { progress: _ },
     TestEventKind::SetupScriptStarted {

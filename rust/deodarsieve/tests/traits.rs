@@ -232,12 +232,7 @@ fn maps_are_keyed_by_a_test() {
 }
 
 #[test]
-fn an_error_is_shown_with_the_messages_of_its_causes() {
-    let shown = format!("{:?}", caused());
-    assert_eq!(
-        shown,
-        r#"SerializableError { message: "outer", causes: ["middle", "inner"] }"#
-    );
+fn errors_are_equal_if_their_causes_are() {
     assert_eq!(caused().clone(), caused());
     assert_ne!(
         caused(),

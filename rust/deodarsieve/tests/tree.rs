@@ -1,5 +1,5 @@
-//! Each name is the same item at nextest's path and at the root of the crate. Nothing here is called:
-//! it compiles only if the items are the same.
+//! Each name is the same item at nextest's path and at the root of the crate. Nothing here is
+//! called: it compiles only if the items are the same.
 #![allow(dead_code, reason = "that it compiles is the test")]
 
 /// Returns a value of each type in the module `tree` as the type of the same name at the root.
@@ -166,6 +166,12 @@ mod output_spec {
         fn at_root<S: deodarsieve::OutputSpec>() {}
         at_root::<S>
     }
+
+    #[cfg(feature = "serde")]
+    fn is_serializable_spec<S: tree::SerializableOutputSpec>() -> fn() {
+        fn at_root<S: deodarsieve::SerializableOutputSpec>() {}
+        at_root::<S>
+    }
 }
 
 mod runner {
@@ -215,4 +221,24 @@ fn every_name_of_the_tree_is_compared_here() {
         .collect();
     assert!(names_in_tree().count() > 80);
     assert_eq!(missing, Vec::<&str>::new());
+}
+
+/// The names in the list of types on the root page, each of which is a link or needs a feature.
+fn names_on_the_root_page() -> Vec<&'static str> {
+    let root = include_str!("../src/lib.rs");
+    let start = root
+        .find("//! # The types by what they are for")
+        .expect("the list begins so");
+    let end = root.find("//! # Features").expect("the list ends so");
+    root[start..end].split('`').skip(1).step_by(2).collect()
+}
+
+#[test]
+fn the_root_page_lists_each_name_once() {
+    let mut listed = names_on_the_root_page();
+    listed.retain(|name| !name.starts_with("heuristic_"));
+    let mut declared: Vec<_> = names_in_tree().collect();
+    listed.sort_unstable();
+    declared.sort_unstable();
+    assert_eq!(listed, declared);
 }

@@ -1,5 +1,5 @@
-//! Each type has the traits that it has in nextest-runner 0.129.0, except those of `serde`. Nothing
-//! here is called: it compiles only if the types have the traits.
+//! Each type has the traits that it has in nextest-runner 0.129.0. Nothing here is called: it
+//! compiles only if the types have the traits.
 #![allow(dead_code, reason = "that it compiles is the test")]
 
 use std::error::Error;
@@ -27,6 +27,7 @@ has! {
     ChildExecutionOutputDescription<LiveSpec>: Clone, Debug, PartialEq, Eq, From<ChildExecutionOutput>;
     ChildOutputDescription: Clone, Debug, From<ChildOutput>;
     ChildStartErrorDescription: Clone, Debug, PartialEq, Eq, Display, Error, From<ChildStartError>;
+    ErrorList<ChildError>: Display, Error;
     ErrorSummary: Clone, Debug, PartialEq, Eq;
     ExecuteStatus<LiveSpec>: Clone, Debug, PartialEq, Eq;
     ExecutionDescription<'static, LiveSpec>: Clone, Copy, Debug;
@@ -75,4 +76,48 @@ has! {
     UnitTerminateReason: Clone, Copy, Debug, Display;
     UnitTerminateSignal: Clone, Copy, Debug, PartialEq, Eq, Display;
     UnitTerminatingState: Clone, Debug;
+}
+
+/// The traits of `serde`. `Serialized` is output that can be serialized.
+#[cfg(feature = "serde")]
+mod of_serde {
+    use super::*;
+    use deodarsieve::output_spec::SerializableOutputSpec;
+    use serde::{Serialize, de::DeserializeOwned};
+
+    struct Serialized;
+
+    impl OutputSpec for Serialized {
+        type ChildOutputDesc = String;
+    }
+
+    has! {
+        Serialized: SerializableOutputSpec;
+        AbortDescription: Serialize, DeserializeOwned;
+        CancelReason: Serialize, DeserializeOwned;
+        ChildErrorDescription: Serialize, DeserializeOwned;
+        ChildExecutionOutputDescription<Serialized>: Serialize, DeserializeOwned;
+        ChildStartErrorDescription: Serialize, DeserializeOwned;
+        ErrorSummary: Serialize, DeserializeOwned;
+        ExecuteStatus<Serialized>: Serialize, DeserializeOwned;
+        ExecutionResultDescription: Serialize, DeserializeOwned;
+        ExecutionStatuses<Serialized>: Serialize, DeserializeOwned;
+        FailureDescription: Serialize, DeserializeOwned;
+        FinalRunStats: Serialize, DeserializeOwned;
+        FinalStatusLevel: DeserializeOwned;
+        NextestRunMode: Serialize, DeserializeOwned;
+        OutputErrorSlice: Serialize, DeserializeOwned;
+        RetryData: Serialize, DeserializeOwned;
+        RunFinishedStats: Serialize, DeserializeOwned;
+        RunStats: Serialize, DeserializeOwned;
+        RunStatsFailureKind: Serialize, DeserializeOwned;
+        SerializableError: Serialize, DeserializeOwned;
+        SetupScriptEnvMap: Serialize, DeserializeOwned;
+        SetupScriptExecuteStatus<Serialized>: Serialize, DeserializeOwned;
+        StatusLevel: DeserializeOwned;
+        StressIndex: Serialize, DeserializeOwned;
+        StressProgress: Serialize, DeserializeOwned;
+        StressRunStats: Serialize, DeserializeOwned;
+        TestSlotAssignment: Serialize, DeserializeOwned;
+    }
 }

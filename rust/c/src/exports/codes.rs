@@ -158,7 +158,6 @@ pub(crate) fn reason_code(reason: Option<CancelReason>) -> u32 {
         Some(CancelReason::Signal) => 7,
         Some(CancelReason::Interrupt) => 8,
         Some(CancelReason::SecondSignal) => 9,
-        _ => unreachable!("there is no other reason"),
     }
 }
 

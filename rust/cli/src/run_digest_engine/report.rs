@@ -19,7 +19,6 @@ fn reason_text(reason: Option<CancelReason>) -> &'static str {
         Some(CancelReason::Signal) => "signal",
         Some(CancelReason::Interrupt) => "interrupt",
         Some(CancelReason::SecondSignal) => "second-signal",
-        _ => unreachable!("there is no other reason"),
     }
 }
 

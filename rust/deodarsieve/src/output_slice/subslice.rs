@@ -105,6 +105,6 @@ impl<'a> TestOutputErrorSlice<'a> {
 /// Writes the part as text, with U+FFFD in place of each piece that is not UTF-8.
 impl<'a> fmt::Display for TestOutputErrorSlice<'a> {
     fn fmt(&self, f: &mut fmt::Formatter<'_>) -> fmt::Result {
-        fmt::Display::fmt(&self.part().slice.as_bstr(), f)
+        write!(f, "{}", self.part().slice.as_bstr())
     }
 }

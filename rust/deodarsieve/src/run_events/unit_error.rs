@@ -20,11 +20,11 @@ pub use crate::run_events::unit_error::errors::{UnitAbortDescription, UnitError}
 /// borrowed from the output of its process.
 #[derive(Clone, Debug)]
 pub struct UnitErrorDescription<'a> {
-    kind: UnitKind,
-    start_error: Option<&'a ChildStartErrorDescription>,
-    output_errors: Option<&'a ErrorList<ChildErrorDescription>>,
-    abort: Option<UnitAbortDescription<'a>>,
-    output_slice: Option<TestOutputErrorSlice<'a>>,
+    pub(crate) kind: UnitKind,
+    pub(crate) start_error: Option<&'a ChildStartErrorDescription>,
+    pub(crate) output_errors: Option<&'a ErrorList<ChildErrorDescription>>,
+    pub(crate) abort: Option<UnitAbortDescription<'a>>,
+    pub(crate) output_slice: Option<TestOutputErrorSlice<'a>>,
 }
 
 impl<'a> UnitErrorDescription<'a> {
@@ -95,7 +95,7 @@ impl<'a> UnitErrorDescription<'a> {
     /// Returns all errors, or `None` if there are none: the error of the start, those of the output,
     /// the abort and the part of the output. Their description is that of the kind of unit.
     #[must_use]
-    pub fn all_error_list(&self) -> Option<ErrorList<UnitError<'a>>> {
+    pub fn unit_errors(&self) -> Option<ErrorList<UnitError<'a>>> {
         let mut errors = Vec::new();
         self.push_exec_fail(&mut errors);
         self.push_child_process(&mut errors);
@@ -105,7 +105,7 @@ impl<'a> UnitErrorDescription<'a> {
     /// Returns the errors in running the unit, or `None` if there are none: the error of the start,
     /// and those of the output. Their description is that of the kind of unit.
     #[must_use]
-    pub fn exec_fail_error_list(&self) -> Option<ErrorList<UnitError<'a>>> {
+    pub fn exec_fail_unit_errors(&self) -> Option<ErrorList<UnitError<'a>>> {
         let mut exec_fail = Vec::new();
         self.push_exec_fail(&mut exec_fail);
         ErrorList::new(self.kind.executing_message(), exec_fail)
@@ -114,7 +114,7 @@ impl<'a> UnitErrorDescription<'a> {
     /// Returns the errors of the process itself, or `None` if there are none: the abort and the part
     /// of the output. Their description is that of the kind of unit.
     #[must_use]
-    pub fn child_process_error_list(&self) -> Option<ErrorList<UnitError<'a>>> {
+    pub fn child_process_unit_errors(&self) -> Option<ErrorList<UnitError<'a>>> {
         let mut child_process = Vec::new();
         self.push_child_process(&mut child_process);
         ErrorList::new(self.kind.executing_message(), child_process)

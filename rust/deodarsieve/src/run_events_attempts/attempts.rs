@@ -19,6 +19,11 @@ pub use crate::run_events_attempts::attempts::statuses::{
 /// The number of an attempt, and how many there are at most. Ordered by the number, then by the
 /// total.
 #[derive(Clone, Copy, Debug, PartialEq, Eq, PartialOrd, Ord)]
+#[cfg_attr(
+    feature = "serde",
+    derive(serde::Serialize, serde::Deserialize),
+    serde(rename_all = "kebab-case")
+)]
 pub struct RetryData {
     /// The number of the attempt, counted from 1.
     pub attempt: u32,
@@ -38,6 +43,11 @@ impl RetryData {
 /// The errors of an attempt as texts. A runner makes them for its reporters, for example from a
 /// `UnitErrorDescription`.
 #[derive(Clone, Debug, PartialEq, Eq)]
+#[cfg_attr(
+    feature = "serde",
+    derive(serde::Serialize, serde::Deserialize),
+    serde(rename_all = "kebab-case")
+)]
 pub struct ErrorSummary {
     /// A summary in one line.
     pub short_message: String,
@@ -49,6 +59,11 @@ pub struct ErrorSummary {
 /// The part of an attempt's output that explains its failure. A runner makes it for its reporters, for
 /// example from the `output_slice` of a `UnitErrorDescription`.
 #[derive(Clone, Debug, PartialEq, Eq)]
+#[cfg_attr(
+    feature = "serde",
+    derive(serde::Serialize, serde::Deserialize),
+    serde(rename_all = "kebab-case")
+)]
 pub struct OutputErrorSlice {
     /// The part as text, with U+FFFD in place of each piece that is not UTF-8.
     pub slice: String,
@@ -59,6 +74,11 @@ pub struct OutputErrorSlice {
 
 /// The environment variables that a setup script sets for the tests after it.
 #[derive(Clone, Debug, PartialEq, Eq)]
+#[cfg_attr(
+    feature = "serde",
+    derive(serde::Serialize, serde::Deserialize),
+    serde(rename_all = "kebab-case")
+)]
 pub struct SetupScriptEnvMap {
     /// The names of the variables and their values.
     pub env_map: BTreeMap<String, String>,
@@ -98,6 +118,17 @@ pub struct ExecuteStatus<S: OutputSpec> {
 }
 
 /// A finished setup script. A script is run only once.
+#[cfg_attr(
+    feature = "serde",
+    derive(serde::Serialize, serde::Deserialize),
+    serde(
+        rename_all = "kebab-case",
+        bound(
+            serialize = "S::ChildOutputDesc: serde::Serialize",
+            deserialize = "S::ChildOutputDesc: serde::Deserialize<'de>"
+        )
+    )
+)]
 pub struct SetupScriptExecuteStatus<S: OutputSpec> {
     /// The output and the errors of its process.
     pub output: ChildExecutionOutputDescription<S>,

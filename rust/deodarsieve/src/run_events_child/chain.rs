@@ -90,7 +90,7 @@ impl PartialEq for SerializableError {
 impl Eq for SerializableError {}
 
 /// An iterator over the causes of an error, the nearest first.
-#[derive(Clone, Debug)]
+#[derive(Clone)]
 pub struct SerializableErrorSources<'a> {
     next: Option<&'a SerializableError>,
 }

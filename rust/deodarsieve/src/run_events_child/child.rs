@@ -33,6 +33,18 @@ impl OutputSpec for LiveSpec {
 }
 
 /// The output and the errors of a child process, or why it was not started, as reporters get it.
+#[cfg_attr(
+    feature = "serde",
+    derive(serde::Serialize, serde::Deserialize),
+    serde(
+        tag = "type",
+        rename_all = "kebab-case",
+        bound(
+            serialize = "S::ChildOutputDesc: serde::Serialize",
+            deserialize = "S::ChildOutputDesc: serde::Deserialize<'de>"
+        )
+    )
+)]
 pub enum ChildExecutionOutputDescription<S: OutputSpec> {
     /// The process was started.
     Output {

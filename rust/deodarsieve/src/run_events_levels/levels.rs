@@ -8,6 +8,11 @@ mod output;
 /// reporter with a level writes a line for the tests of that level and of every lesser level.
 #[derive(Clone, Copy, Debug, PartialEq, Eq, PartialOrd, Ord)]
 #[non_exhaustive]
+#[cfg_attr(
+    feature = "serde",
+    derive(serde::Deserialize),
+    serde(rename_all = "kebab-case")
+)]
 pub enum StatusLevel {
     /// No line.
     None,
@@ -39,6 +44,11 @@ pub enum StatusLevel {
 /// attention. A reporter with a level lists the tests of that level and of every lesser level.
 #[derive(Clone, Copy, Debug, PartialEq, Eq, PartialOrd, Ord)]
 #[non_exhaustive]
+#[cfg_attr(
+    feature = "serde",
+    derive(serde::Deserialize),
+    serde(rename_all = "kebab-case")
+)]
 pub enum FinalStatusLevel {
     /// No test.
     None,
@@ -47,6 +57,7 @@ pub enum FinalStatusLevel {
     Fail,
 
     /// Tests that succeeded after a retry.
+    #[cfg_attr(feature = "serde", serde(alias = "retry"))]
     Flaky,
 
     /// Tests that took longer than the slow timeout.

@@ -82,6 +82,11 @@ impl ExecutionResult {
 /// the message of a Windows status code.
 #[derive(Clone, Debug, PartialEq, Eq)]
 #[non_exhaustive]
+#[cfg_attr(
+    feature = "serde",
+    derive(serde::Serialize, serde::Deserialize),
+    serde(tag = "status", rename_all = "kebab-case")
+)]
 pub enum ExecutionResultDescription {
     /// The attempt succeeded.
     Pass,
@@ -226,7 +231,11 @@ impl UnitKind {
 /// Why a run is cancelled, ordered from the least severe reason to the most severe. The reason of a
 /// run may only be replaced by a greater one.
 #[derive(Clone, Copy, Debug, PartialEq, Eq, PartialOrd, Ord)]
-#[non_exhaustive]
+#[cfg_attr(
+    feature = "serde",
+    derive(serde::Serialize, serde::Deserialize),
+    serde(rename_all = "kebab-case")
+)]
 pub enum CancelReason {
     /// A setup script failed.
     SetupScriptFailure,

@@ -3,6 +3,11 @@
 
 /// How a flaky test counts. A test is flaky if its last attempt succeeded and is not its first.
 #[derive(Clone, Copy, Debug, Default, PartialEq, Eq)]
+#[cfg_attr(
+    feature = "serde",
+    derive(serde::Serialize, serde::Deserialize),
+    serde(rename_all = "kebab-case")
+)]
 pub enum FlakyResult {
     /// It counts as passed.
     #[default]
@@ -15,6 +20,11 @@ pub enum FlakyResult {
 /// How a test counts that exited successfully while a process that it started still held one of its
 /// handles open.
 #[derive(Clone, Copy, Debug, PartialEq, Eq)]
+#[cfg_attr(
+    feature = "serde",
+    derive(serde::Serialize, serde::Deserialize),
+    serde(rename_all = "kebab-case")
+)]
 pub enum LeakTimeoutResult {
     /// The leak is noted and the test passes.
     Pass,
@@ -25,6 +35,11 @@ pub enum LeakTimeoutResult {
 
 /// How a test counts that was ended because its time ran out.
 #[derive(Clone, Copy, Debug, PartialEq, Eq)]
+#[cfg_attr(
+    feature = "serde",
+    derive(serde::Serialize, serde::Deserialize),
+    serde(rename_all = "kebab-case")
+)]
 pub enum SlowTimeoutResult {
     /// The test is meant to run out of time, and passes.
     Pass,

@@ -5,6 +5,11 @@ use core::fmt;
 
 /// The mode of a run, displayed as `test` or `benchmark`.
 #[derive(Clone, Copy, Debug, Default, PartialEq, Eq)]
+#[cfg_attr(
+    feature = "serde",
+    derive(serde::Serialize, serde::Deserialize),
+    serde(rename_all = "kebab-case")
+)]
 pub enum NextestRunMode {
     /// The run runs tests.
     #[default]

@@ -5,7 +5,7 @@ use core::num::NonZero;
 use core::time::Duration;
 
 /// A duration that is not zero.
-#[derive(Clone, Copy, Debug, PartialEq, Eq)]
+#[derive(Clone, Copy, PartialEq, Eq)]
 pub struct NonZeroDuration {
     duration: Duration,
 }
@@ -32,6 +32,11 @@ impl NonZeroDuration {
 ///
 /// Ordered by the number, then by the total. An unknown total is less than a known one.
 #[derive(Clone, Copy, Debug, PartialEq, Eq, PartialOrd, Ord, Hash)]
+#[cfg_attr(
+    feature = "serde",
+    derive(serde::Serialize, serde::Deserialize),
+    serde(rename_all = "kebab-case")
+)]
 pub struct StressIndex {
     /// The number of the sub-run, counted from 0.
     pub current: u32,

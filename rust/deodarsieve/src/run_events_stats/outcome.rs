@@ -13,6 +13,11 @@ pub use crate::run_events_stats::outcome::run_outcome::RunOutcome;
 
 /// The summary of a finished run by its counters. The exit status of a runner follows from it.
 #[derive(Clone, Copy, Debug, PartialEq, Eq)]
+#[cfg_attr(
+    feature = "serde",
+    derive(serde::Serialize, serde::Deserialize),
+    serde(tag = "outcome", rename_all = "kebab-case")
+)]
 pub enum FinalRunStats {
     /// All setup scripts and tests that were to run did run, at least one test did, and none failed.
     Success,
@@ -38,6 +43,11 @@ pub enum FinalRunStats {
 
 /// The step of a run at which it failed or was cancelled.
 #[derive(Clone, Copy, Debug, PartialEq, Eq)]
+#[cfg_attr(
+    feature = "serde",
+    derive(serde::Serialize, serde::Deserialize),
+    serde(tag = "step", rename_all = "kebab-case")
+)]
 pub enum RunStatsFailureKind {
     /// A setup script, before any test.
     SetupScript,

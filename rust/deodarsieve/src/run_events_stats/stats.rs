@@ -17,6 +17,11 @@ mod update;
 /// A finished test is counted by its last attempt, the number of its attempts and its setting for
 /// flaky tests. A setup script is counted by its result.
 #[derive(Clone, Copy, Debug, Default, PartialEq, Eq)]
+#[cfg_attr(
+    feature = "serde",
+    derive(serde::Serialize, serde::Deserialize),
+    serde(rename_all = "kebab-case")
+)]
 pub struct RunStats {
     /// The tests that were to run when the run began. It is greater than `finished_count` if the run
     /// ended early.

@@ -10,6 +10,11 @@ use uuid::Uuid;
 
 /// How many times a run is repeated.
 #[derive(Clone, Copy, Debug, PartialEq, Eq)]
+#[cfg_attr(
+    feature = "serde",
+    derive(serde::Serialize, serde::Deserialize),
+    serde(tag = "kind", rename_all = "kebab-case")
+)]
 pub enum StressCount {
     /// A fixed number of times.
     Count {
@@ -36,6 +41,11 @@ pub enum StressRemaining {
 
 /// The progress of a repeated run. Reporters get it at the start and at the end of each sub-run.
 #[derive(Clone, Copy, Debug, PartialEq, Eq)]
+#[cfg_attr(
+    feature = "serde",
+    derive(serde::Serialize, serde::Deserialize),
+    serde(tag = "progress-type", rename_all = "kebab-case")
+)]
 pub enum StressProgress {
     /// The run is repeated a number of times, or without end.
     Count {

@@ -1,28 +1,28 @@
 //! Results of processes, from the exit statuses of the operating system.
 
 use crate::run_events_results::results::{AbortStatus, FailureStatus};
-use std::os::unix::process::ExitStatusExt;
 use std::process::ExitStatus;
 
 impl AbortStatus {
-    /// Returns the signal that ended a process, or `None` if the process exited.
+    /// Returns what ended a process from outside, or `None` if the process exited: on Unix the
+    /// signal, and on Windows the status code if it is negative. On other systems there is none.
     ///
-    /// Only on Unix, with the feature `std`.
+    /// Only with the feature `std`.
     #[must_use]
     pub fn extract(status: ExitStatus) -> Option<Self> {
-        status.signal().map(AbortStatus::UnixSignal)
+        abort_of(status)
     }
 }
 
 impl FailureStatus {
-    /// Returns the signal that ended a process, or its exit code if it exited.
+    /// Returns what ended a process from outside, or its exit code if it exited.
     ///
-    /// Only on Unix, with the feature `std`.
+    /// Only with the feature `std`.
     ///
     /// # Panics
     ///
-    /// Panics if the process was stopped or continued, and has not ended. [`Child::wait`] returns no such
-    /// status.
+    /// Panics if the process was stopped or continued, and has not ended. [`Child::wait`] returns
+    /// no such status.
     ///
     /// [`Child::wait`]: std::process::Child::wait
     #[must_use]
@@ -33,4 +33,21 @@ impl FailureStatus {
             (None, None) => panic!("the process was stopped or continued, and has not ended"),
         }
     }
+}
+
+#[cfg(unix)]
+fn abort_of(status: ExitStatus) -> Option<AbortStatus> {
+    use std::os::unix::process::ExitStatusExt;
+    status.signal().map(AbortStatus::UnixSignal)
+}
+
+#[cfg(windows)]
+fn abort_of(status: ExitStatus) -> Option<AbortStatus> {
+    let code = status.code().filter(|&code| code < 0)?;
+    Some(AbortStatus::WindowsNtStatus(code))
+}
+
+#[cfg(not(any(unix, windows)))]
+fn abort_of(_: ExitStatus) -> Option<AbortStatus> {
+    None
 }

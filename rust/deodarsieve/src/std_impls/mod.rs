@@ -1,15 +1,24 @@
 //! Traits of `core` and `std` for the types of the layer, and conversions between them.
 
+mod attempts;
+mod captured;
 #[cfg(feature = "chrono")]
 mod chrono;
 mod conversions;
 mod error_lists;
 mod error_texts;
 mod errors;
-#[cfg(all(feature = "std", unix))]
+#[cfg(feature = "std")]
 mod exit_status;
+#[cfg(feature = "std")]
+mod io_errors;
+mod non_zero_duration;
 mod records;
+#[cfg(feature = "serde")]
+pub(crate) mod serde;
 mod serializable_error;
+mod signal_names;
 #[cfg(feature = "std")]
 mod system_time;
+mod unit_error_lists;
 mod views;

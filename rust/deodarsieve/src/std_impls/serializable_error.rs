@@ -1,7 +1,7 @@
 //! Hand-written methods and traits of [`SerializableError`]. Its causes are a linked list, so
 //! everything that visits them is a loop: recursion would overflow the stack on a long chain.
 
-use crate::run_events_child::chain::SerializableError;
+use crate::run_events_child::chain::{SerializableError, SerializableErrorSources};
 use alloc::string::{String, ToString};
 use core::error::Error;
 use core::fmt;
@@ -34,22 +34,65 @@ impl Clone for SerializableError {
     }
 }
 
+/// Writes what a derived `Debug` would: each cause is inside the error that it caused. With `{:#?}`
+/// the length of the text grows with the square of the number of causes, as that of a derived one.
 impl fmt::Debug for SerializableError {
     fn fmt(&self, f: &mut fmt::Formatter<'_>) -> fmt::Result {
-        f.debug_struct("SerializableError")
-            .field("message", &self.message())
-            .field("causes", &Messages(self))
-            .finish()
+        if f.alternate() {
+            write_on_lines(self, f)
+        } else {
+            write_on_one_line(self, f)
+        }
     }
 }
 
-/// Writes, with `Debug`, the list of the messages of an error's causes.
-struct Messages<'a>(&'a SerializableError);
+fn write_on_one_line(error: &SerializableError, f: &mut fmt::Formatter<'_>) -> fmt::Result {
+    let message = error.message();
+    write!(f, "SerializableError {{ message: {message:?}, source: ")?;
+    for cause in error.sources() {
+        let message = cause.message();
+        write!(
+            f,
+            "Some(SerializableError {{ message: {message:?}, source: "
+        )?;
+    }
+    f.write_str("None }")?;
+    error.sources().try_for_each(|_| f.write_str(") }"))
+}
 
-impl fmt::Debug for Messages<'_> {
+fn write_on_lines(error: &SerializableError, f: &mut fmt::Formatter<'_>) -> fmt::Result {
+    let message = error.message();
+    write!(f, "SerializableError {{\n    message: {message:?},\n")?;
+    let mut depth = 0;
+    for cause in error.sources() {
+        write_indented(f, depth, "    source: Some(\n")?;
+        depth += 1;
+        write_indented(f, depth, "SerializableError {\n")?;
+        write_indented(f, depth, "")?;
+        writeln!(f, "    message: {:?},", cause.message())?;
+    }
+    write_indented(f, depth, "    source: None,\n")?;
+    while depth > 0 {
+        write_indented(f, depth, "},\n")?;
+        depth -= 1;
+        write_indented(f, depth, "    ),\n")?;
+    }
+    f.write_str("}")
+}
+
+/// Writes a text after the indent of the error that is `depth` causes inside the outermost one.
+fn write_indented(f: &mut fmt::Formatter<'_>, depth: usize, text: &str) -> fmt::Result {
+    for _ in 0..depth {
+        f.write_str("        ")?;
+    }
+    f.write_str(text)
+}
+
+impl fmt::Debug for SerializableErrorSources<'_> {
     fn fmt(&self, f: &mut fmt::Formatter<'_>) -> fmt::Result {
-        let messages = self.0.sources().map(SerializableError::message);
-        f.debug_list().entries(messages).finish()
+        f.debug_struct("SerializableErrorSources")
+            .field("current", &self.clone().next())
+            .finish()
     }
 }
 

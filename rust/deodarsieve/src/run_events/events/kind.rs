@@ -24,7 +24,6 @@ use uuid::Uuid;
 /// The kind of an event. The kinds are declared in the order of a run. Those that can come at any
 /// time are before the end of the run.
 #[derive(Clone, Debug)]
-#[non_exhaustive]
 pub enum TestEventKind<'a> {
     // The start of the run.
     /// The run begins. This is the first event of a run. Displayers and recorders read it.

@@ -28,10 +28,17 @@ impl fmt::Display for UnitTerminateReason {
 
 /// How the runner ends a unit.
 #[derive(Clone, Copy, Debug, PartialEq, Eq)]
-#[non_exhaustive]
 pub enum UnitTerminateMethod {
     /// By a signal.
     Signal(UnitTerminateSignal),
+
+    /// By ending the Windows job object that holds its process.
+    #[cfg(windows)]
+    JobObject,
+
+    /// The runner waits: a test that got Ctrl-C, too, ends by itself, or its job object is ended later.
+    #[cfg(windows)]
+    Wait,
 }
 
 /// The signal by which the runner ends a unit.

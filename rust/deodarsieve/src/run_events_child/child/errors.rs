@@ -42,6 +42,11 @@ pub enum ChildError {
 
 /// Why a child process was not started. It is displayed without its cause.
 #[derive(Clone, Debug, PartialEq, Eq)]
+#[cfg_attr(
+    feature = "serde",
+    derive(serde::Serialize, serde::Deserialize),
+    serde(tag = "kind", rename_all = "kebab-case")
+)]
 pub enum ChildStartErrorDescription {
     /// No temporary path could be made for a setup script.
     TempPath {
@@ -89,6 +94,11 @@ impl From<ChildStartError> for ChildStartErrorDescription {
 
 /// An error with a child process that was started. It is displayed without its cause.
 #[derive(Clone, Debug, PartialEq, Eq)]
+#[cfg_attr(
+    feature = "serde",
+    derive(serde::Serialize, serde::Deserialize),
+    serde(tag = "kind", rename_all = "kebab-case")
+)]
 pub enum ChildErrorDescription {
     /// The standard output could not be read.
     ReadStdout {

@@ -21,16 +21,27 @@ pub enum FailureStatus {
 ///
 /// Its `Debug` is on one line in every style, for example `UnixSignal(15)`.
 #[derive(Clone, Copy, PartialEq, Eq)]
-#[non_exhaustive]
 pub enum AbortStatus {
     /// A signal of this number.
     UnixSignal(i32),
+
+    /// A Windows status code.
+    #[cfg(windows)]
+    WindowsNtStatus(i32),
+
+    /// The Windows job object that holds the process was ended.
+    #[cfg(windows)]
+    JobObject,
 }
 
 impl fmt::Debug for AbortStatus {
     fn fmt(&self, f: &mut fmt::Formatter<'_>) -> fmt::Result {
         match self {
             AbortStatus::UnixSignal(signal) => write!(f, "UnixSignal({signal})"),
+            #[cfg(windows)]
+            AbortStatus::WindowsNtStatus(code) => write!(f, "WindowsNtStatus({code:x})"),
+            #[cfg(windows)]
+            AbortStatus::JobObject => write!(f, "JobObject"),
         }
     }
 }
@@ -39,6 +50,11 @@ impl fmt::Debug for AbortStatus {
 /// as the text of its [`AbortDescription`].
 #[derive(Clone, Debug, PartialEq, Eq)]
 #[non_exhaustive]
+#[cfg_attr(
+    feature = "serde",
+    derive(serde::Serialize, serde::Deserialize),
+    serde(tag = "kind", rename_all = "kebab-case")
+)]
 pub enum FailureDescription {
     /// The process exited with this code.
     ExitCode {
@@ -83,6 +99,11 @@ impl fmt::Display for FailureDescription {
 /// `terminated via job object`. A name or a message that is `None` is left out.
 #[derive(Clone, Debug, PartialEq, Eq)]
 #[non_exhaustive]
+#[cfg_attr(
+    feature = "serde",
+    derive(serde::Serialize, serde::Deserialize),
+    serde(tag = "kind", rename_all = "kebab-case")
+)]
 pub enum AbortDescription {
     /// A signal.
     UnixSignal {
@@ -107,11 +128,19 @@ pub enum AbortDescription {
 }
 
 impl AbortDescription {
-    /// Describes an abort. `name` is the name of the signal without `SIG`, such as `TERM`.
+    /// Describes an abort. `name` is the name of the signal without `SIG`, such as `TERM`. For a Windows
+    /// status code it is the message of the system.
     #[must_use]
     pub fn from_status(status: AbortStatus, name: Option<String>) -> Self {
         match status {
             AbortStatus::UnixSignal(signal) => AbortDescription::UnixSignal { signal, name },
+            #[cfg(windows)]
+            AbortStatus::WindowsNtStatus(code) => AbortDescription::WindowsNtStatus {
+                code,
+                message: name,
+            },
+            #[cfg(windows)]
+            AbortStatus::JobObject => AbortDescription::WindowsJobObject,
         }
     }
 

@@ -7,6 +7,11 @@ use crate::run_events_stats::stats::RunStats;
 
 /// The statistics of a finished run. They are in the last event of a run.
 #[derive(Clone, Copy, Debug, PartialEq, Eq)]
+#[cfg_attr(
+    feature = "serde",
+    derive(serde::Serialize, serde::Deserialize),
+    serde(tag = "type", rename_all = "kebab-case")
+)]
 pub enum RunFinishedStats {
     /// The run was not repeated.
     Single(RunStats),
@@ -28,6 +33,11 @@ impl RunFinishedStats {
 
 /// The statistics of a repeated run.
 #[derive(Clone, Copy, Debug, PartialEq, Eq)]
+#[cfg_attr(
+    feature = "serde",
+    derive(serde::Serialize, serde::Deserialize),
+    serde(rename_all = "kebab-case")
+)]
 pub struct StressRunStats {
     /// How many sub-runs are complete (`current`), and how many there were to be.
     pub completed: StressIndex,

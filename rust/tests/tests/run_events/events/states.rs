@@ -104,13 +104,10 @@ pub(super) fn is_as_made(state: &UnitState) -> bool {
 
 /// Returns true if it is being ended as `ending` says.
 fn is_as_ending(state: &UnitTerminatingState) -> bool {
-    let UnitTerminateMethod::Signal(signal) = state.method else {
-        return false;
-    };
     state.pid == 4_003
         && state.time_taken == Duration::from_secs(90)
         && matches!(state.reason, UnitTerminateReason::Timeout)
-        && signal == UnitTerminateSignal::Term
+        && state.method == UnitTerminateMethod::Signal(UnitTerminateSignal::Term)
         && state.waiting_duration == Duration::from_secs(3)
         && state.remaining == Duration::from_secs(7)
 }

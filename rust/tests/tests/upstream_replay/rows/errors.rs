@@ -60,7 +60,7 @@ fn of_start(word: &str, source: SerializableError) -> Option<String> {
 }
 
 /// Returns the description of a list, the number of its errors, and the errors; `none` for no list.
-fn list_text(list: Option<ErrorList<UnitError<'_>>>) -> String {
+fn list_text(list: Option<ErrorList<impl std::error::Error>>) -> String {
     let Some(list) = list else {
         return String::from("none");
     };
@@ -79,14 +79,21 @@ fn errors_text(kind: UnitKind, output: &ChildExecutionOutputDescription<LiveSpec
         return String::from("cannot be described");
     }
     let errors = UnitErrorDescription::new(kind, output);
-    [
-        output.has_errors().to_string(),
-        slice_text(errors.output_slice()),
+    let lists = [
+        list_text(errors.unit_errors()),
+        list_text(errors.exec_fail_unit_errors()),
+        list_text(errors.child_process_unit_errors()),
+    ];
+    // The lists that are written by hand have the same errors.
+    let by_hand = [
         list_text(errors.all_error_list()),
         list_text(errors.exec_fail_error_list()),
         list_text(errors.child_process_error_list()),
-    ]
-    .join(" | ")
+    ];
+    assert_eq!(lists, by_hand);
+    let has_errors = output.has_errors();
+    let slice = slice_text(errors.output_slice());
+    format!("{has_errors} | {slice} | {}", lists.join(" | "))
 }
 
 fn captured(word: &str) -> Option<ChildSingleOutput> {
@@ -214,9 +221,9 @@ fn of_many_errors(count: &str) -> Option<String> {
     let described = ChildExecutionOutputDescription::from_output(left, None);
     let errors = UnitErrorDescription::new(UnitKind::Test, &described);
     let lists = [
-        counted_text(errors.all_error_list()),
-        counted_text(errors.exec_fail_error_list()),
-        counted_text(errors.child_process_error_list()),
+        counted_text(errors.unit_errors()),
+        counted_text(errors.exec_fail_unit_errors()),
+        counted_text(errors.child_process_unit_errors()),
     ];
     Some(lists.join(" | "))
 }

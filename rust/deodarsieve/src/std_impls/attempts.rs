@@ -1,0 +1,103 @@
+//! An attempt from what a runner has of it.
+
+use super::error_lists::text_with_causes;
+use crate::moment::Moment;
+use crate::output_slice::TestOutputErrorSlice;
+use crate::run_events::unit_error::UnitErrorDescription;
+use crate::run_events_attempts::attempts::{
+    ErrorSummary, ExecuteStatus, OutputErrorSlice, RetryData,
+};
+use crate::run_events_child::child::{
+    ChildExecutionOutputDescription, ChildOutputDescription, ChildSingleOutput, LiveSpec,
+};
+use crate::run_events_results::results::{ExecutionResultDescription, UnitKind};
+use alloc::string::{String, ToString};
+use bytes::Bytes;
+use core::error::Error;
+use core::time::Duration;
+
+impl ExecuteStatus<LiveSpec> {
+    /// Returns the only attempt of a test, from its result, the time when it began, how long it
+    /// took, and what it wrote to standard output and to standard error.
+    ///
+    /// The attempt was not slow, and the runner did not wait before it. Change the fields
+    /// `is_slow`, `retry_data` and `delay_before_start` if this is wrong. If the test failed, the
+    /// attempt has the part of the output that explains the failure, and a summary of the errors.
+    ///
+    /// ```
+    /// use deodarsieve::{ExecuteStatus, ExecutionResult, ExecutionStatuses, FailureStatus};
+    /// use deodarsieve::{FlakyResult, Moment, RunStats};
+    /// use std::time::Duration;
+    ///
+    /// let failed = ExecutionResult::Fail {
+    ///     failure_status: FailureStatus::ExitCode(101),
+    ///     leaked: false,
+    /// };
+    /// let start = Moment::UNIX_EPOCH;
+    /// let stderr = "Error: no such file\n";
+    /// let attempt =
+    ///     ExecuteStatus::from_captured(failed, start, Duration::from_millis(20), "", stderr);
+    /// let slice = attempt.output_error_slice.as_ref().expect("the output has an error");
+    /// assert_eq!(slice.slice, "Error: no such file");
+    ///
+    /// let mut stats = RunStats::default();
+    /// stats.on_test_finished(&ExecutionStatuses::new(vec![attempt], FlakyResult::Pass));
+    /// assert_eq!(stats.failed, 1);
+    /// ```
+    #[must_use]
+    pub fn from_captured(
+        result: impl Into<ExecutionResultDescription>,
+        start_time: impl Into<Moment>,
+        time_taken: Duration,
+        stdout: impl Into<Bytes>,
+        stderr: impl Into<Bytes>,
+    ) -> Self {
+        let result = result.into();
+        let output = ChildExecutionOutputDescription::Output {
+            result: Some(result.clone()),
+            output: ChildOutputDescription::Split {
+                stdout: Some(ChildSingleOutput::from(stdout.into())),
+                stderr: Some(ChildSingleOutput::from(stderr.into())),
+            },
+            errors: None,
+        };
+        let errors = UnitErrorDescription::new(UnitKind::Test, &output);
+        let error_summary = errors.all_error_list().map(|list| summary_of(&list));
+        let output_error_slice = errors.output_slice().map(OutputErrorSlice::from);
+        ExecuteStatus {
+            retry_data: RetryData {
+                attempt: 1,
+                total_attempts: 1,
+            },
+            output,
+            is_slow: false,
+            result,
+            start_time: start_time.into(),
+            time_taken,
+            delay_before_start: Duration::ZERO,
+            error_summary,
+            output_error_slice,
+        }
+    }
+}
+
+/// The text of the part, and its offset in the stream in which it was found.
+impl From<TestOutputErrorSlice<'_>> for OutputErrorSlice {
+    fn from(slice: TestOutputErrorSlice<'_>) -> Self {
+        OutputErrorSlice {
+            slice: slice.to_string(),
+            start: slice.combined_subslice().map_or(0, |part| part.start),
+        }
+    }
+}
+
+/// Returns the first line of an error's text, without a colon at its end, and the text with the
+/// causes.
+fn summary_of(error: &dyn Error) -> ErrorSummary {
+    let text = error.to_string();
+    let first_line = text.lines().next().unwrap_or_default();
+    ErrorSummary {
+        short_message: String::from(first_line.trim_end_matches(':')),
+        description: text_with_causes(error),
+    }
+}

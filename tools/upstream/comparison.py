@@ -1,0 +1,194 @@
+"""Compares nextest's declarations with the crate's, and writes the tables of docs/UPSTREAM.md."""
+
+import re
+from collections import Counter
+from dataclasses import dataclass
+
+from upstream.reasons import ABSENT, BY_HAND, CUT_OFF, DIFFERENCES, SAME_TYPES, STAND_INS
+
+KINDS = (
+    "types", "variants", "fields", "methods", "functions", "constants", "implementations of traits", "attributes"
+)
+VERDICTS = ("the same", "another type", "differs", "not here")
+# The order in which derived traits are listed.
+TRAITS = (
+    "Clone", "Copy", "Debug", "Default", "PartialEq", "Eq", "PartialOrd", "Ord", "Hash", "Serialize", "Deserialize",
+    "JsonSchema",
+)
+
+
+@dataclass
+class Item:
+    """An item of nextest's: what it is, its type or an empty text, its name, what became of it, and more on that."""
+
+    kind: str
+    owner: str
+    name: str
+    verdict: str
+    note: str = ""
+
+
+def compared(there, here, traits):
+    """Yields the items of `there`. `traits` has the traits that types have here, by their names."""
+    for name, found in there.types.items():
+        found = _whole(name, found)
+        own = here.types.get(name)
+        if own is None:
+            yield Item("types", name, name, "not here")
+            continue
+        yield _by_visibility("types", name, name, found.visibility, own.visibility)
+        yield from _variants(name, found, own)
+        yield from _declared("fields", name, found.fields, own.fields)
+        yield from _declared("methods", name, found.methods, own.methods)
+        yield from _declared("constants", name, found.constants, own.constants)
+        yield from _traits(name, found.traits, traits.get(name, set()))
+        for attribute in sorted(found.attributes | own.attributes):
+            yield _attribute(name, attribute, found.attributes, own.attributes)
+    yield from _declared("functions", "", there.functions, here.functions)
+    yield from _declared("constants", "", there.constants, here.constants)
+
+
+def _attribute(owner, text, there, here):
+    """Compares an attribute. One that only the type here has counts as nothing."""
+    if text in there and (text in here or text in BY_HAND.get(owner, ())):
+        return Item("attributes", owner, text, "the same")
+    if text in there:
+        return Item("attributes", owner, text, "not here")
+    return Item("", owner, text, "differs", "here alone")
+
+
+def _whole(name, found):
+    """Returns a type of nextest's, with what a cut file lost of it."""
+    if found.kind or name not in CUT_OFF:
+        return found
+    whole = CUT_OFF[name]
+    whole.traits |= found.traits
+    return whole
+
+
+def _by_visibility(kind, owner, name, there, here):
+    """Returns an item that is the same, or differs by its visibility or by the table of differences."""
+    note = DIFFERENCES.get(f"{owner}::{name}", "")
+    if there == here:
+        return Item(kind, owner, name, "differs" if note else "the same", note)
+    by_visibility = "public, there private" if here == "pub" else "private, there public"
+    return Item(kind, owner, name, "differs", note or by_visibility)
+
+
+def _variants(owner, there, here):
+    """Compares variants by their conditions, and yields those that only the type here has, which count as nothing."""
+    for name, condition in there.variants.items():
+        note = DIFFERENCES.get(f"{owner}::{name}", "")
+        if name not in here.variants:
+            yield Item("variants", owner, name, "not here", ABSENT.get(f"{owner}::{name}", ""))
+        elif condition == here.variants[name]:
+            yield Item("variants", owner, name, "the same")
+        else:
+            yield Item("variants", owner, name, "differs", note or "its condition")
+    for name in here.variants:
+        if name not in there.variants:
+            yield Item("", owner, name, "differs", "here alone")
+
+
+def _declared(kind, owner, there, here):
+    """Compares fields, methods, functions or constants by their visibility and their types."""
+    for name, (visibility, text) in there.items():
+        if name not in here:
+            yield Item(kind, owner, name, "not here", ABSENT.get(f"{owner}::{name}", ""))
+            continue
+        own_visibility, own_text = here[name]
+        item = _by_visibility(kind, owner, name, visibility, own_visibility)
+        if _known(text) != _known(own_text) and f"{owner}::{name}" not in DIFFERENCES:
+            notes = [item.note, f"`{own_text}`, there `{text}`"]
+            item = Item(kind, owner, name, "differs", "; ".join(filter(None, notes)))
+        elif item.verdict == "the same" and _stand_in(text):
+            item = Item(kind, owner, name, "another type", _stand_in(text))
+        yield item
+
+
+def _traits(owner, there, here):
+    """Compares the traits of a type, those that can be derived first."""
+    derived = [name for name in TRAITS if name in there]
+    for name in [*derived, *sorted(there.difference(derived))]:
+        key = f"{owner}: {name}"
+        if name not in here:
+            yield Item("implementations of traits", owner, name, "not here", ABSENT.get(key, ""))
+        elif key in DIFFERENCES:
+            yield Item("implementations of traits", owner, name, "differs", DIFFERENCES[key])
+        elif _stand_in(name):
+            yield Item("implementations of traits", owner, name, "another type", _stand_in(name))
+        else:
+            yield Item("implementations of traits", owner, name, "the same")
+
+
+def _stand_in(text):
+    """Returns the type of the table in a type, or an empty text."""
+    return next((there for there in STAND_INS if re.search(rf"(?<!\w){re.escape(there)}(?!\w)", text)), "")
+
+
+def _known(text):
+    """Returns the text of a type with the names that it has here."""
+    for there, here in [*SAME_TYPES.items(), *((there, here) for there, (here, _) in STAND_INS.items())]:
+        text = re.sub(rf"(?<!\w){re.escape(there)}(?!\w)", here, text)
+    return text
+
+
+def counts_table(items):
+    """Returns the table of numbers."""
+    counts = Counter((item.kind, item.verdict) for item in items if item.kind)
+    lines = ["| kind | " + " | ".join(VERDICTS) + " |", "|---" * (len(VERDICTS) + 1) + "|"]
+    for kind in KINDS:
+        lines.append(f"| {kind} | " + " | ".join(str(counts[kind, verdict]) for verdict in VERDICTS) + " |")
+    sums = [sum(counts[kind, verdict] for kind in KINDS) for verdict in VERDICTS]
+    lines.append("| all | " + " | ".join(map(str, sums)) + " |")
+    return "\n".join(lines)
+
+
+def items_table(names, items):
+    """Returns the table of the items of some types, and of functions and constants without a type."""
+    lines = ["| item | " + " | ".join(VERDICTS) + " |", "|---" * (len(VERDICTS) + 1) + "|"]
+    for name in names:
+        own = [item for item in items if name == (item.owner or item.name)]
+        cells = [_same(own), *(_listed(own, verdict) for verdict in VERDICTS[1:])]
+        lines.append(f"| `{name}` | " + " | ".join(cells) + " |")
+    return "\n".join(lines)
+
+
+def _same(items):
+    """Returns the cell of what is the same: numbers of variants and fields, and names of the rest."""
+    parts = []
+    for kind in ("variants", "fields"):
+        of_kind = [item for item in items if item.kind == kind]
+        same = sum(item.verdict == "the same" for item in of_kind)
+        if same:
+            total = "" if same == len(of_kind) else f" of {len(of_kind)}"
+            parts.append(f"{same} {kind if same > 1 else kind[:-1]}{total}")
+    for kind in ("methods", "functions", "constants", "attributes", "implementations of traits"):
+        names = [f"`{item.name}`" for item in items if item.kind == kind and item.verdict == "the same"]
+        if names:
+            parts.append(", ".join(names))
+    return "; ".join(parts)
+
+
+def _listed(items, verdict):
+    """Returns the cell of a verdict: the items by their notes."""
+    notes = {}
+    for item in items:
+        if item.verdict == verdict:
+            notes.setdefault(item.note, []).append("the type" if item.kind == "types" else f"`{item.name}`")
+    cells = []
+    for note, names in notes.items():
+        if verdict == "another type":
+            own = STAND_INS[note][0]
+            note = f"`{own}`" if own == note else f"`{own}`, there `{note}`"
+        cells.append(", ".join(names) + (f": {note}" if note else ""))
+    return ". ".join(cells)
+
+
+def stand_ins_table(items):
+    """Returns the table of the types that stand for nextest's."""
+    lines = ["| nextest's type | the type here | items with it |", "|---|---|---|"]
+    for there, (here, what) in STAND_INS.items():
+        number = sum(item.verdict == "another type" and item.note == there for item in items)
+        lines.append(f"| `{there}` | `{here}`: {what} | {number} |")
+    return "\n".join(lines)
