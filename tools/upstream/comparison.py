@@ -4,7 +4,7 @@ import re
 from collections import Counter
 from dataclasses import dataclass
 
-from upstream.reasons import ABSENT, BY_HAND, CUT_OFF, DIFFERENCES, SAME_TYPES, STAND_INS
+from upstream.reasons import ABSENT, BY_HAND, CONDITIONS, CUT_OFF, DIFFERENCES, OTHER_TYPES, SAME_TYPES, STAND_INS
 
 KINDS = (
     "types", "variants", "fields", "methods", "functions", "constants", "implementations of traits", "attributes"
@@ -36,7 +36,7 @@ def compared(there, here, traits):
         if own is None:
             yield Item("types", name, name, "not here")
             continue
-        yield _by_visibility("types", name, name, found.visibility, own.visibility)
+        yield _type(name, found, own)
         yield from _variants(name, found, own)
         yield from _declared("fields", name, found.fields, own.fields)
         yield from _declared("methods", name, found.methods, own.methods)
@@ -46,6 +46,17 @@ def compared(there, here, traits):
             yield _attribute(name, attribute, found.attributes, own.attributes)
     yield from _declared("functions", "", there.functions, here.functions)
     yield from _declared("constants", "", there.constants, here.constants)
+
+
+def _type(name, there, here):
+    """Compares a type by its visibility, and by the order of the variants and fields that both have."""
+    item = _by_visibility("types", name, name, there.visibility, here.visibility)
+    order = (here.remote or here).order
+    for what, names, own in (("variants", [*there.variants], [*here.variants]), ("fields", there.order, order)):
+        if [other for other in names if other in own] != [other for other in own if other in names]:
+            note = f"the order of its {what}"
+            item = Item("types", name, name, "differs", f"{item.note}; {note}" if item.note else note)
+    return item
 
 
 def _attribute(owner, text, there, here):
@@ -78,13 +89,14 @@ def _by_visibility(kind, owner, name, there, here):
 def _variants(owner, there, here):
     """Compares variants by their conditions, and yields those that only the type here has, which count as nothing."""
     for name, condition in there.variants.items():
-        note = DIFFERENCES.get(f"{owner}::{name}", "")
+        conditions = (condition, here.variants.get(name))
         if name not in here.variants:
             yield Item("variants", owner, name, "not here", ABSENT.get(f"{owner}::{name}", ""))
-        elif condition == here.variants[name]:
+        elif conditions[0] == conditions[1]:
             yield Item("variants", owner, name, "the same")
         else:
-            yield Item("variants", owner, name, "differs", note or "its condition")
+            note = CONDITIONS.get(conditions, "its condition is `{1}`, there `{0}`".format(*conditions))
+            yield Item("variants", owner, name, "differs", note)
     for name in here.variants:
         if name not in there.variants:
             yield Item("", owner, name, "differs", "here alone")
@@ -98,7 +110,8 @@ def _declared(kind, owner, there, here):
             continue
         own_visibility, own_text = here[name]
         item = _by_visibility(kind, owner, name, visibility, own_visibility)
-        if _known(text) != _known(own_text) and f"{owner}::{name}" not in DIFFERENCES:
+        stated = OTHER_TYPES.get(f"{owner}::{name}") == (text, own_text)
+        if _known(text) != _known(own_text) and not stated:
             notes = [item.note, f"`{own_text}`, there `{text}`"]
             item = Item(kind, owner, name, "differs", "; ".join(filter(None, notes)))
         elif item.verdict == "the same" and _stand_in(text):
@@ -131,6 +144,21 @@ def _known(text):
     for there, here in [*SAME_TYPES.items(), *((there, here) for there, (here, _) in STAND_INS.items())]:
         text = re.sub(rf"(?<!\w){re.escape(there)}(?!\w)", here, text)
     return text
+
+
+def unused_rows(items):
+    """Yields the names of the rows that no item has: of differences, absent items, attributes and stand-ins."""
+    of_verdict = {verdict: set() for verdict in VERDICTS}
+    for item in items:
+        if item.kind:
+            separator = ": " if item.kind == "implementations of traits" else "::"
+            of_verdict[item.verdict].add(f"{item.owner}{separator}{item.name}")
+    attributes = {(item.owner, item.name) for item in items if item.kind == "attributes"}
+    yield from (key for key in [*DIFFERENCES, *OTHER_TYPES] if key not in of_verdict["differs"])
+    yield from (key for key in ABSENT if key not in of_verdict["not here"])
+    yield from (f"{owner}: {text}" for owner in BY_HAND for text in BY_HAND[owner] if (owner, text) not in attributes)
+    notes = {item.note for item in items if item.verdict == "another type"}
+    yield from (there for there in STAND_INS if there not in notes)
 
 
 def counts_table(items):
@@ -186,7 +214,7 @@ def _listed(items, verdict):
 
 
 def stand_ins_table(items):
-    """Returns the table of the types that stand for nextest's."""
+    """Returns the table of the types that replace nextest's."""
     lines = ["| nextest's type | the type here | items with it |", "|---|---|---|"]
     for there, (here, what) in STAND_INS.items():
         number = sum(item.verdict == "another type" and item.note == there for item in items)

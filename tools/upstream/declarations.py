@@ -1,6 +1,7 @@
 """What Rust files declare: types with their variants, fields, traits and methods, and functions and constants.
 
-Private fields, and items inside functions and inside modules for tests, are not read.
+Of private fields, and of types inside functions and modules, only the attributes of `serde` are read. Items inside
+modules for tests are not read.
 """
 
 import re
@@ -13,12 +14,17 @@ from upstream.scanner import CLOSING, NotUnderstood, group_end, tokens_of
 ITEM = re.compile(r"(?:pub|struct|enum|trait|impl|fn|const|static|use|mod|type|extern|macro_rules|unsafe)\b")
 TESTS = re.compile(r"^#\[cfg\(test\)\]\s*mod\b", re.MULTILINE)
 MODIFIERS = ("unsafe", "async", "default")
+# The attributes of variants that are compared, besides those of `serde`.
+OF_VARIANTS = ("non_exhaustive", "default")
 WITH_SEMICOLON = ("const", "static", "type", "use", "extern")
 
 
 @dataclass
 class Type:
-    """A type: what is declared of it, by names. Fields are named `field`, or `Variant.field`."""
+    """A type: what is declared of it, by names. Fields are named `field`, or `Variant.field`.
+
+    `order` has the names of all fields. `remote` is the type whose fields are serialized in place of these, or None.
+    """
 
     kind: str
     visibility: str = ""
@@ -28,6 +34,8 @@ class Type:
     fields: dict = field(default_factory=dict)
     methods: dict = field(default_factory=dict)
     constants: dict = field(default_factory=dict)
+    order: list = field(default_factory=list)
+    remote: object = None
 
 
 @dataclass
@@ -64,13 +72,16 @@ class Declarations:
             elif keyword == "fn":
                 self.functions[item[1].text] = (visibility, _signature(item, ""))
             elif keyword == "const":
-                self.constants[item[1].text] = (visibility, _type_of_constant(item))
+                self.constants[item[1].text] = (visibility, _constant(item))
 
     def _read_impls_in(self, item):
-        """Reads the `impl`s in a module. Its types are its own."""
-        for attributes, _, inner in _items(_body(item)):
-            if inner[0].text == "impl" and not _is_for_tests(attributes):
-                self._read_impl(inner)
+        """Reads the `impl`s in a module, and the attributes of its types, which belong to the first `impl`'s type."""
+        impls = [inner for attributes, _, inner in _items(_body(item))
+                 if inner[0].text == "impl" and not _is_for_tests(attributes)]
+        for inner in impls:
+            self._read_impl(inner)
+        if impls:
+            self.type_of(_type_of_impl(impls[0])).attributes |= _attributes_inside(_body(item))
 
     def _read_type(self, attributes, visibility, item):
         """Adds a struct or an enum."""
@@ -82,6 +93,8 @@ class Declarations:
                 found.attributes.add(f"#[{attribute[0].text}]")
             remote, representation = _of_serde(attribute)
             self.type_of(remote or item[1].text).attributes |= representation
+            if remote:
+                self.type_of(remote).remote = found
         if item[0].text == "enum":
             _read_variants(found, _body(item))
         else:
@@ -91,19 +104,18 @@ class Declarations:
 
     def _read_impl(self, item):
         """Adds the trait that an `impl` is of, or its methods and constants."""
-        head = _head_of_impl(item)
+        head, name = _head_of_impl(item), _type_of_impl(item)
         split = _index_outside_angles(head, "for")
-        of_type = head if split is None else head[split + 1:]
-        name = next(token.text for token in of_type if token.kind == "word")
         found = self.type_of(name)
         if split is not None:
             found.traits.add(type_text(head[:split], name))
+            found.attributes |= _attributes_inside(_body(item))
             return
         for attributes, visibility, inner in _items(_body(item)):
             if inner[0].text == "fn" and not _is_for_tests(attributes):
                 found.methods[inner[1].text] = (visibility, _signature(inner, name))
             elif inner[0].text == "const":
-                found.constants[inner[1].text] = (visibility, _type_of_constant(inner))
+                found.constants[inner[1].text] = (visibility, _constant(inner))
 
 
 def _head_of_impl(item):
@@ -111,6 +123,14 @@ def _head_of_impl(item):
     head = item[_after_generics(item, 1):]
     end = next(i for i, token in enumerate(head) if token.text in ("{", "where"))
     return head[:end]
+
+
+def _type_of_impl(item):
+    """Returns the name of the type that an `impl` is for."""
+    head = _head_of_impl(item)
+    split = _index_outside_angles(head, "for")
+    of_type = head if split is None else head[split + 1:]
+    return next(token.text for token in of_type if token.kind == "word")
 
 
 def type_text(tokens, name=""):
@@ -228,6 +248,24 @@ def _of_serde(attribute):
     return remote.removeprefix("remote =").strip(' "'), {f"#[serde({', '.join(texts)})]"} if texts else set()
 
 
+def _attributes_inside(tokens):
+    """Returns the attributes of `serde` of the structs inside an item, and of their fields."""
+    found, struct, index = set(), "", 0
+    while index < len(tokens):
+        texts = set()
+        while [token.text for token in tokens[index:index + 2]] == ["#", "["]:
+            end = group_end(tokens, index + 1)
+            texts |= _of_serde(tokens[index + 2:end])[1]
+            index = end + 1
+        index = _visibility(tokens, index)[1]
+        name = f"{struct}.{tokens[index].text}"
+        if tokens[index].text == "struct":
+            name = struct = tokens[index + 1].text
+        found |= {f"{text} {name}" for text in texts}
+        index += 1
+    return found
+
+
 def _read_variants(found, body):
     """Reads the variants in the body of an enum, with their conditions, except those for tests."""
     for part in split_at_commas(body):
@@ -237,6 +275,8 @@ def _read_variants(found, body):
             attribute = part[index + 2:end]
             if attribute[0].text == "cfg":
                 condition = " ".join(token.text for token in attribute)
+            if attribute[0].text in OF_VARIANTS:
+                representation.add(f"#[{attribute[0].text}]")
             representation |= _of_serde(attribute)[1]
             index = end + 1
         if condition == "cfg ( test )":
@@ -251,12 +291,16 @@ def _read_fields(found, prefix, group, visibility_of_all):
     """Reads the fields in a group of a struct, or of a variant, whose fields are as public as the type."""
     is_named = group[0].text == "{"
     for number, part in enumerate(split_at_commas(group[1:group_end(group, 0)])):
-        index = 0
+        index, representation = 0, set()
         while part[index].text == "#":
-            index = group_end(part, index + 1) + 1
+            end = group_end(part, index + 1)
+            representation |= _of_serde(part[index + 2:end])[1]
+            index = end + 1
         visibility, index = _visibility(part, index)
         visibility = visibility_of_all or visibility
         name = part[index].text if is_named else str(number)
+        found.order.append(f"{prefix}{name}")
+        found.attributes |= {f"{text} {prefix}{name}" for text in representation}
         if visibility:
             found.fields[f"{prefix}{name}"] = (visibility, type_text(part[index + 2 * is_named:]))
 
@@ -279,10 +323,11 @@ def _signature(item, name):
     return f"({', '.join(parameters)}) {type_text(result, name)}".strip()
 
 
-def _type_of_constant(item):
-    """Returns the type of a constant."""
+def _constant(item):
+    """Returns the type and the value of a constant."""
     words = [token.text for token in item]
-    return type_text(item[words.index(":") + 1:words.index("=")])
+    equals = words.index("=")
+    return f"{type_text(item[words.index(':') + 1:equals])} = {' '.join(words[equals + 1:-1])}"
 
 
 def _after_generics(tokens, index):

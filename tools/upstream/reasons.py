@@ -1,4 +1,4 @@
-"""What differs from nextest's items beyond declarations, and what stands for types of nextest's other files."""
+"""What differs from nextest's items beyond declarations, and what replaces types of nextest's other files."""
 
 from upstream.declarations import Type
 
@@ -34,8 +34,17 @@ STAND_INS = {
 # Names of the same type.
 SAME_TYPES = {"c_int": "i32", "NTSTATUS": "i32"}
 
-# Attributes of types whose traits are written by hand. A test of the crate, `nextest_json`, has what they say.
-BY_HAND = {"ExecutionStatuses": ('#[serde(rename_all = "kebab-case")]',)}
+# Attributes of types whose traits are written by hand here, and of structs inside nextest's own implementations. A test
+# of the crate, `nextest_json`, has what they say.
+BY_HAND = {
+    "ExecutionStatuses": (
+        '#[serde(rename_all = "kebab-case")]',
+        '#[serde(default)] flaky_result',
+        '#[serde(rename_all = "kebab-case")] Helper',
+        '#[serde(default)] Helper.flaky_result',
+    ),
+    "SerializableError": ('#[serde(default)] Ser.causes',),
+}
 
 # What differs in items whose declarations agree, or differ in more than their visibility.
 DIFFERENCES = {
@@ -52,14 +61,23 @@ DIFFERENCES = {
     "UnitAbortDescription::UnitAbortDescription": "public, there private; borrows the abort",
     "FailureStatus::extract": "needs the feature `std`",
     "AbortStatus::extract": "needs the feature `std`",
-    "AbortStatus::UnixSignal": "on every platform, there on Unix",
-    "UnitTerminateMethod::Signal": "on every platform, there on Unix",
     "AbortDescription: From<AbortStatus>": "on Windows no message of a status code is looked up",
     "FailureDescription: From<FailureStatus>": "on Windows no message of a status code is looked up",
     "ExecutionResultDescription: From<ExecutionResult>": "on Windows no message of a status code is looked up",
     "UnitTerminateSignal::UnitTerminateSignal": "on every platform, there on Unix",
     "UnitTerminateSignal: Display": "on every platform, there on Unix",
 }
+
+# Other types that a row above states: the type there, and the type here.
+OTHER_TYPES = {
+    "ExecutionStatuses::iter": (
+        "(& self) ->impl DoubleEndedIterator<Item=&ExecuteStatus<S>>+",
+        "(& self) ->ExecutionStatusesIter<S>",
+    ),
+}
+
+# What the condition of a variant there, and that of the variant here, mean together.
+CONDITIONS = {("cfg ( unix )", ""): "on every platform, there on Unix"}
 
 # Why an item is not here.
 ABSENT = {
