@@ -228,3 +228,9 @@ mod exit_status {
         let _ = FailureStatus::extract(stopped);
     }
 }
+
+#[test]
+fn errors_of_streams_are_errors_of_child_processes() {
+    let error = ChildFdError::ReadStderr(caused());
+    assert_eq!(ChildError::from(error.clone()), ChildError::Fd(error));
+}

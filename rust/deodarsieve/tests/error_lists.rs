@@ -227,6 +227,9 @@ mod of_the_system {
             messages(&ChildErrorDescription::from(fd)),
             wanted("error waiting for child process to exit")
         );
+        let not_shared = SerializableError::from(io::Error::other(Outermost(caused())));
+        let sources = ["outermost", "outer", "middle", "inner"].map(String::from);
+        assert_eq!(messages(&not_shared), sources);
     }
 }
 

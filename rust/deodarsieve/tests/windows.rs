@@ -1,5 +1,6 @@
 //! What the types have on Windows alone. `tools/rust-workspace` also runs these tests on other
-//! systems, over a copy in which the conditions of Windows are true.
+//! systems, over a copy in which the conditions of Windows are true. The last test, which takes
+//! the exit code of a process, runs on Windows alone.
 #![cfg(windows)]
 
 use deodarsieve::{

@@ -21,8 +21,13 @@ impl ExecuteStatus<LiveSpec> {
     /// took, and what it wrote to standard output and to standard error.
     ///
     /// The attempt was not slow, and the runner did not wait before it. Change the fields
-    /// `is_slow`, `retry_data` and `delay_before_start` if this is wrong. If the test failed, the
-    /// attempt has the part of the output that explains the failure, and a summary of the errors.
+    /// `is_slow`, `retry_data` and `delay_before_start` if this is wrong.
+    ///
+    /// If the test failed and its output has a part that explains the failure, the attempt has this
+    /// part. If there is such a part or an abort, the attempt has a summary of these errors.
+    ///
+    /// A test whose result is `ExecFail` has its output here. In nextest, its output is the error
+    /// that kept it from starting: put this into the field `output`.
     ///
     /// ```
     /// use deodarsieve::{ExecuteStatus, ExecutionResult, ExecutionStatuses, FailureStatus};

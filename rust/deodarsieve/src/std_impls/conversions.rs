@@ -2,12 +2,18 @@
 
 use super::signal_names;
 use crate::run_events_child::child::{
-    ChildExecutionOutput, ChildExecutionOutputDescription, LiveSpec,
+    ChildError, ChildExecutionOutput, ChildExecutionOutputDescription, ChildFdError, LiveSpec,
 };
 use crate::run_events_results::results::{
     AbortDescription, AbortStatus, ExecutionResult, ExecutionResultDescription, FailureDescription,
     FailureStatus,
 };
+
+impl From<ChildFdError> for ChildError {
+    fn from(error: ChildFdError) -> Self {
+        ChildError::Fd(error)
+    }
+}
 
 /// The description has the name of the signal if its number means the same on Linux, macOS, the BSDs
 /// and illumos: 1 to 6, 8, 9, 11, and 13 to 15. [`AbortDescription::from_status`] takes any name.

@@ -43,11 +43,33 @@ fn abort_of(status: ExitStatus) -> Option<AbortStatus> {
 
 #[cfg(windows)]
 fn abort_of(status: ExitStatus) -> Option<AbortStatus> {
-    let code = status.code().filter(|&code| code < 0)?;
+    abort_of_code(status.code())
+}
+
+/// Returns the abort that a negative exit code of Windows means.
+#[cfg(windows)]
+fn abort_of_code(code: Option<i32>) -> Option<AbortStatus> {
+    let code = code.filter(|&code| code < 0)?;
     Some(AbortStatus::WindowsNtStatus(code))
 }
 
 #[cfg(not(any(unix, windows)))]
 fn abort_of(_: ExitStatus) -> Option<AbortStatus> {
     None
+}
+
+#[cfg(all(test, windows))]
+mod tests {
+    use super::{AbortStatus, abort_of_code};
+
+    #[test]
+    fn only_a_negative_code_is_an_abort() {
+        for code in [i32::MIN, -1] {
+            let abort = AbortStatus::WindowsNtStatus(code);
+            assert_eq!(abort_of_code(Some(code)), Some(abort));
+        }
+        for code in [Some(0), Some(3), Some(i32::MAX), None] {
+            assert_eq!(abort_of_code(code), None);
+        }
+    }
 }

@@ -53,7 +53,7 @@ where
     }
 }
 
-/// What is written of a test.
+/// A test as it is written.
 #[derive(Serialize)]
 #[serde(
     rename_all = "kebab-case",
@@ -64,7 +64,7 @@ struct Written<'a, S: OutputSpec> {
     flaky_result: FlakyResult,
 }
 
-/// What is read of a test. Older records have no setting.
+/// A test as it is read. Older records have no setting.
 #[derive(Deserialize)]
 #[serde(
     rename_all = "kebab-case",

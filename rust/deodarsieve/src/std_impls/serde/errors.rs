@@ -8,14 +8,14 @@ use ::serde::{Deserialize, Deserializer, Serialize, Serializer};
 use alloc::string::String;
 use alloc::vec::Vec;
 
-/// What is written of an error: its message, and the messages of its causes.
+/// An error as it is written: its message, and the messages of its causes.
 #[derive(Serialize)]
 struct WrittenError<'a> {
     message: &'a str,
     causes: Vec<&'a str>,
 }
 
-/// What is read of an error. If there are no `causes`, the error has none.
+/// An error as it is read. If there are no `causes`, the error has none.
 #[derive(Deserialize)]
 struct ReadError {
     message: String,
@@ -44,14 +44,14 @@ impl<'de> Deserialize<'de> for SerializableError {
     }
 }
 
-/// What is written of a list of errors.
+/// A list of errors as it is written.
 #[derive(Serialize)]
 struct WrittenList<'a, T> {
     description: &'static str,
     inner: &'a [T],
 }
 
-/// What is read of a list of errors.
+/// A list of errors as it is read.
 #[derive(Deserialize)]
 struct ReadList<T> {
     description: String,
@@ -69,26 +69,27 @@ impl<T: Serialize> Serialize for ErrorList<T> {
     }
 }
 
-/// An empty list is an error. The descriptions that [`UnitKind`] has are recognized. The text of
-/// any other description that is read is never freed.
+/// An empty list is an error. A description that [`UnitKind`] has is kept. Any other is read as
+/// `in an unknown operation`, because a list has a description that lives as long as the program.
 impl<'de, T: Deserialize<'de>> Deserialize<'de> for ErrorList<T> {
     fn deserialize<D: Deserializer<'de>>(deserializer: D) -> Result<Self, D::Error> {
         let read = ReadList::deserialize(deserializer)?;
-        ErrorList::new(static_text(read.description), read.inner)
+        ErrorList::new(known_description(&read.description), read.inner)
             .ok_or_else(|| D::Error::custom("a list of errors is empty"))
     }
 }
 
-/// Returns a text that lives as long as the program.
-fn static_text(text: String) -> &'static str {
+/// The description of a list that was read with a description of another program.
+const UNKNOWN: &str = "in an unknown operation";
+
+/// Returns the description of a unit that equals `text`, or [`UNKNOWN`].
+fn known_description(text: &str) -> &'static str {
     let known = [
         UnitKind::WAITING_ON_TEST_MESSAGE,
         UnitKind::WAITING_ON_SCRIPT_MESSAGE,
         UnitKind::EXECUTING_TEST_MESSAGE,
         UnitKind::EXECUTING_SCRIPT_MESSAGE,
     ];
-    match known.into_iter().find(|&message| message == text) {
-        Some(message) => message,
-        None => text.leak(),
-    }
+    let found = known.into_iter().find(|&message| message == text);
+    found.unwrap_or(UNKNOWN)
 }
