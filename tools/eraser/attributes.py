@@ -2,7 +2,7 @@
 from . import serde_table as serde
 from . import type_table as types
 from .functions import functions_of
-from .scanner import Source
+from .scanner import Refused, Source
 from .table import LAYER, PACKAGE_OF
 
 ORDER = ("Clone", "Copy", "Debug", "Default", "PartialEq", "Eq", "PartialOrd", "Ord", "Hash")
@@ -19,6 +19,18 @@ def with_attributes(text, name):
         for function in functions_of(source):
             _on_function(source, function)
     return source.result()
+
+
+def refuse_unused_rows(texts, rows=(*serde.SERDE, *serde.SERDE_OF_VARIANTS)):
+    """Refuses a row of `serde` for a type that no file of the layer declares. `texts` are the erased texts."""
+    declared = set()
+    for name, text in texts.items():
+        source = Source(text, name)
+        if PACKAGE_OF[name.split("/")[0]] == LAYER:
+            declared |= {source.at(source.after(i)) for i in source.code if source.text[i] in ("struct", "enum")}
+    for row in rows:
+        if row not in declared:
+            raise Refused(f"the table of serde has a row for a type that is not there: {row}")
 
 
 def _on_type(source, i, is_layer):
@@ -108,12 +120,22 @@ def _set_serde(source, i, first, name):
     if attribute:
         source.new[first] = f"{attribute}\n{source.new[first]}"
     for variant, row in serde.SERDE_OF_VARIANTS.get(name, {}).items():
-        brace = source.find(i, "{")
-        inside = source.between(brace, source.partner[brace])
-        at = next((k for k in inside if source.text[k] == variant), None)
+        at = next((k for k in _variants(source, i) if source.text[k] == variant), None)
         if at is None:
             source.refuse(i, f"the table names a variant that is not there: {variant}")
         source.new[at] = f'#[cfg_attr(feature = "serde", serde({row}))]\n{source.new[at]}'
+
+
+def _variants(source, i):
+    """Yields the names of the variants of the enum that is declared at `i`."""
+    brace = source.find(i, "{")
+    at = source.after(brace)
+    while at != source.partner[brace]:
+        while source.at(at) == "#":
+            at = source.after(source.partner[source.after(at)])
+        yield at
+        end = source.find_in(at, source.partner[brace], ",")
+        at = source.after(end) if source.at(end) == "," else end
 
 
 def _open_fields(source, i):

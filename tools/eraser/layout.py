@@ -6,7 +6,7 @@ from pathlib import Path
 import crate_list
 
 from .adapters import adapted
-from .attributes import with_attributes
+from .attributes import refuse_unused_rows, with_attributes
 from .cases import without_memory_cases
 from .conditions import refuse_missing_rows, with_conditions
 from .contracts import without_contracts
@@ -26,6 +26,7 @@ from .twins import without_twins
 def erase_all(top):
     """Returns the erased text of every file, by its path under rust/."""
     erased = erased_texts(_sources(top), _reach())
+    refuse_unused_rows(erased)
     paths = {name: target_of(name) for name in erased}
     headed = {paths[name]: _headed(name, text) for name, text in erased.items()}
     return _formatted(headed)

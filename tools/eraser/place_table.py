@@ -159,7 +159,7 @@ pub struct ExecutionStatusesIter<'a, S: OutputSpec> {
     #[cfg(windows)]
     JobObject,
 
-    /// The runner waits: a test that got Ctrl-C, too, ends by itself, or its job object is ended later.
+    /// The runner waits for the unit to exit. If it does not, its job object is ended.
     #[cfg(windows)]
     Wait,
 }""",

@@ -6,7 +6,7 @@
 import sys
 from pathlib import Path
 
-from .attributes import with_attributes
+from .attributes import refuse_unused_rows, with_attributes
 from .conditions import Arm, Assertion, Checked, with_conditions
 from .layout import erased_texts
 from .places import with_places
@@ -36,6 +36,12 @@ TABLE_SAMPLES = {
     "the dropped items, without an item": lambda: with_places({"a": "fn f() {}"}, (("a", "fn g"),), ()),
     "the variants, without a variant": lambda: with_attributes(
         "pub enum FinalStatusLevel { A }", "run_events_levels/src/levels.rt"
+    ),
+    "the variants, with the name inside another variant": lambda: with_attributes(
+        "pub enum FinalStatusLevel { A(Flaky) }", "run_events_levels/src/levels.rt"
+    ),
+    "the types of serde, without a type": lambda: refuse_unused_rows(
+        {"output_slice/src/sample.rt": "pub struct A;"}, ("A", "B")
     ),
     "the conditions, without a function": lambda: with_conditions("fn f() {}", "output_slice/src/panic_head.rt"),
 }
