@@ -103,7 +103,10 @@ def _variants(owner, there, here):
 
 
 def _declared(kind, owner, there, here):
-    """Compares fields, methods, functions or constants by their visibility and their types."""
+    """Compares fields, methods, functions or constants by their visibility and their types.
+
+    Yields also public fields that only the type here has, which count as nothing.
+    """
     for name, (visibility, text) in there.items():
         if name not in here:
             yield Item(kind, owner, name, "not here", ABSENT.get(f"{owner}::{name}", ""))
@@ -117,6 +120,9 @@ def _declared(kind, owner, there, here):
         elif item.verdict == "the same" and _stand_in(text):
             item = Item(kind, owner, name, "another type", _stand_in(text))
         yield item
+    for name, (visibility, _) in here.items():
+        if kind == "fields" and visibility == "pub" and name not in there:
+            yield Item("", owner, name, "differs", "here alone")
 
 
 def _traits(owner, there, here):

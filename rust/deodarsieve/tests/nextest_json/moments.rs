@@ -25,6 +25,12 @@ fn moments_are_dates_with_an_offset() {
 }
 
 #[test]
+fn a_leap_second_is_read_as_the_second_after_it() {
+    let moment: Moment = read(r#""2016-12-31T23:59:60Z""#);
+    is_json(&moment, r#""2017-01-01T00:00:00Z""#);
+}
+
+#[test]
 fn only_years_of_four_digits_are_written() {
     let first = Moment::new(-62_167_219_200, 0, 0).expect("it is in range");
     let last = Moment::new(253_402_300_799, 999_999_999, 0).expect("it is in range");
