@@ -78,12 +78,11 @@ def _whole(name, found):
 
 
 def _by_visibility(kind, owner, name, there, here):
-    """Returns an item that is the same, or differs by its visibility or by the table of differences."""
-    note = DIFFERENCES.get(f"{owner}::{name}", "")
-    if there == here:
-        return Item(kind, owner, name, "differs" if note else "the same", note)
-    by_visibility = "public, there private" if here == "pub" else "private, there public"
-    return Item(kind, owner, name, "differs", note or by_visibility)
+    """Returns an item that is the same, or differs by its visibility, by the table of differences, or by both."""
+    notes = [DIFFERENCES[f"{owner}::{name}"]] if f"{owner}::{name}" in DIFFERENCES else []
+    if there != here:
+        notes.insert(0, "public, there private" if here == "pub" else "private, there public")
+    return Item(kind, owner, name, "differs" if notes else "the same", "; ".join(notes))
 
 
 def _variants(owner, there, here):
@@ -153,7 +152,7 @@ def _known(text):
 
 
 def unused_rows(items):
-    """Yields the names of the rows that no item has: of differences, absent items, attributes and stand-ins."""
+    """Yields the names of the rows that no item has: of differences, absent items, attributes and other types."""
     of_verdict = {verdict: set() for verdict in VERDICTS}
     for item in items:
         if item.kind:

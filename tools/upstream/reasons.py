@@ -52,13 +52,12 @@ DIFFERENCES = {
     "RunStats::summarize_final": "needs no sum, there it panics in debug builds if a sum does not fit",
     "RunStats::failed_count": "panics if the sum does not fit, there in debug builds alone",
     "RunStats::failed_setup_script_count": "panics if the sum does not fit, there in debug builds alone",
-    "RunStats::on_test_finished": "public, there private; panics if a counter is full, there in debug builds alone",
-    "RunStats::on_setup_script_finished":
-        "public, there private; panics if a counter is full, there in debug builds alone",
+    "RunStats::on_test_finished": "panics if a counter is full, there in debug builds alone",
+    "RunStats::on_setup_script_finished": "panics if a counter is full, there in debug builds alone",
     "ExecutionStatuses::new":
-        "public, there private; panics without attempts, there in debug builds, and in release builds a later call may",
+        "panics without attempts, there in debug builds, and in release builds a later call may",
     "ExecutionStatuses::iter": "returns `slice::Iter`, there an unnamed iterator",
-    "UnitAbortDescription::UnitAbortDescription": "public, there private; borrows the abort",
+    "UnitAbortDescription::UnitAbortDescription": "borrows the abort",
     "FailureStatus::extract": "needs the feature `std`",
     "AbortStatus::extract": "needs the feature `std`",
     "AbortDescription: From<AbortStatus>": "on Windows no message of a status code is looked up",
