@@ -42,8 +42,9 @@ def compared(there, here, traits):
         yield from _declared("methods", name, found.methods, own.methods)
         yield from _declared("constants", name, found.constants, own.constants)
         yield from _traits(name, found.traits, traits.get(name, set()))
-        for attribute in sorted(found.attributes | own.attributes):
-            yield _attribute(name, attribute, found.attributes, own.attributes)
+        attributes = own.attributes | (own.remote.attributes if own.remote else set())
+        for attribute in sorted(found.attributes | attributes):
+            yield _attribute(name, attribute, found.attributes, attributes)
     yield from _declared("functions", "", there.functions, here.functions)
     yield from _declared("constants", "", there.constants, here.constants)
 
