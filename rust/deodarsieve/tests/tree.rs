@@ -223,7 +223,7 @@ fn every_name_of_the_tree_is_compared_here() {
     assert_eq!(missing, Vec::<&str>::new());
 }
 
-/// The names in the list of types on the root page, each of which is a link or needs a feature.
+/// The names in the list of types on the root page. Each name is a link or needs a feature.
 fn names_on_the_root_page() -> Vec<&'static str> {
     let root = include_str!("../src/lib.rs");
     let start = root

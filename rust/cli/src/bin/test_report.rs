@@ -30,7 +30,7 @@ use std::io::{self, ErrorKind, IsTerminal, Read, Stderr, Write};
 use std::process::ExitCode;
 use std::time::{Duration, Instant};
 
-/// What the user sees who has pressed Ctrl-C while the input goes on.
+/// The message after Ctrl-C, if the input stays open.
 const STILL_READING: &str =
     "test-report: the summary follows at the end of the input; a second Ctrl-C ends without it";
 
@@ -115,8 +115,8 @@ fn write_files(matches: &ArgMatches, texts: &FileTexts) -> Result<(), Failure> {
 struct Waiting {
     interrupt: Interrupt,
 
-    /// True until the user was told that the program goes on after Ctrl-C. It is false from the start if nobody
-    /// looks at standard error.
+    /// True until the message after Ctrl-C was written. It is false from the start if standard error is no
+    /// terminal and shows no progress.
     is_unsaid: bool,
 }
 
@@ -127,7 +127,7 @@ impl Waiting {
             .or(self.is_unsaid.then_some(LONGEST_PAUSE))
     }
 
-    /// Tells the user once that the program goes on, if Ctrl-C was pressed.
+    /// Writes the message after Ctrl-C, once.
     fn say_once(&mut self, line: &mut ProgressLine<Stderr>) {
         if self.is_unsaid && self.interrupt.has_come() {
             self.is_unsaid = false;

@@ -149,7 +149,7 @@ impl Folder {
 
 impl Drop for Folder {
     fn drop(&mut self) {
-        // A folder that is left over is in the way of nothing.
+        // A folder that is left over does no harm.
         let _ = fs::remove_dir_all(&self.0);
     }
 }

@@ -6,7 +6,7 @@ use std::time::Duration;
 use crate::{is_json, read, refusal};
 use deodarsieve::*;
 
-/// Counters of which each has another value, and their JSON.
+/// Counters with different values, and their JSON.
 fn counters() -> (RunStats, &'static str) {
     let stats = RunStats {
         initial_run_count: 1,
