@@ -1,47 +1,58 @@
-//! Writes the completions of `run-digest` and `test-report` for bash, zsh and fish.
+//! Writes the completions of `run-digest` and `test-report` for bash, zsh and fish, and their man pages.
 //!
 //! The only argument is the folder for the files, which must be present.
 
-use clap_complete::{Shell, generate_to};
+mod completions;
+mod document;
+mod man_page;
+mod page;
+
+use clap::Command;
+use completions::write_completions;
 use deodarsieve_cli::commands::{run_digest, test_report};
+use man_page::{Document, man_page};
 use std::env;
 use std::fs;
 use std::io;
 use std::path::Path;
 use std::process::ExitCode;
 
-/// The line of a script for bash that reads the word before the one to complete.
-const PREVIOUS: &str = "    prev=\"${COMP_WORDS[COMP_CWORD-1]}\"\n";
-
-/// The lines that follow it: bash splits `--format=text` into three words.
-const SPLIT: &str = "    if [[ ${cur} == = ]]; then
-        cur=\"\"
-    elif [[ ${prev} == = ]]; then
-        prev=\"${COMP_WORDS[COMP_CWORD-2]}\"
-    fi
-";
-
-/// Makes a script for bash complete `--format=te`, and not offer `[FILE]...` as a word.
-fn mend_bash(script: &Path) -> io::Result<()> {
-    let text = fs::read_to_string(script)?;
-    let Some((start, rest)) = text.split_once(PREVIOUS) else {
-        let name = script.display();
-        return Err(io::Error::other(format!("{name} has another form")));
+/// Returns the programs with their documents.
+fn programs() -> [(Command, Document); 2] {
+    let of_run_digest = Document {
+        path: "docs/RUN-DIGEST.md",
+        text: include_str!("../../../docs/RUN-DIGEST.md"),
+        sections: &[
+            ("Input", "Input of count"),
+            ("Report", "Report of count"),
+            ("Repeated runs", "Repeated runs"),
+            ("extract", "extract"),
+        ],
     };
-    let rest = rest.replace(" [FILE]...", "");
-    fs::write(script, format!("{start}{PREVIOUS}{SPLIT}{rest}"))
+    let of_test_report = Document {
+        path: "docs/TEST-REPORT.md",
+        text: include_str!("../../../docs/TEST-REPORT.md"),
+        sections: &[
+            ("What the report has", "What the report has"),
+            ("Contradictions", "Contradictions"),
+            ("Forms", "Forms"),
+        ],
+    };
+    [
+        (run_digest(), of_run_digest),
+        (test_report(), of_test_report),
+    ]
 }
 
-/// Writes the completions of all programs to a folder.
+/// Writes the completions and the man pages of all programs to a folder.
 fn write_to(folder: &Path) -> io::Result<()> {
-    for mut command in [run_digest(), test_report()] {
-        let name = command.get_name().to_owned();
-        for shell in [Shell::Bash, Shell::Zsh, Shell::Fish] {
-            let script = generate_to(shell, &mut command, name.as_str(), folder)?;
-            if shell == Shell::Bash {
-                mend_bash(&script)?;
-            }
-        }
+    for (command, document) in programs() {
+        let file = folder.join(format!("{}.1", command.get_name()));
+        fs::write(
+            file,
+            man_page(command.clone(), &document).map_err(io::Error::other)?,
+        )?;
+        write_completions(command, folder)?;
     }
     Ok(())
 }
@@ -57,6 +68,61 @@ fn main() -> ExitCode {
         Err(error) => {
             eprintln!("deodarsieve-completions: {error}");
             ExitCode::FAILURE
+        }
+    }
+}
+
+#[cfg(test)]
+mod tests {
+    use super::*;
+
+    /// What `--help` of each proved program prints, its last words, and what they are for the plain
+    /// program, which aborts if memory runs out.
+    const PROVED: [(&str, &str, &str); 2] = [
+        (
+            include_str!("../../../tools/help/run-digest.txt"),
+            "writing failed, or there was not enough memory",
+            "writing failed",
+        ),
+        (
+            include_str!("../../../tools/help/test-report.txt"),
+            "a number is too large to count, or there was not enough memory",
+            "or a number is too large to count",
+        ),
+    ];
+
+    /// Returns the words of a text, one a line.
+    fn words_of(text: &str) -> String {
+        text.split_whitespace()
+            .map(|word| format!("{word}\n"))
+            .collect()
+    }
+
+    #[test]
+    fn help_is_that_of_the_proved_programs() {
+        for ((mut command, _), (help, last, own)) in programs().into_iter().zip(PROVED) {
+            // Older versions of clap say `Print help information`.
+            let own_help = command.render_help().to_string();
+            let own_help = words_of(&own_help.replace(" information", ""));
+            let beginning = own_help.strip_suffix(&words_of(own)).expect(&own_help);
+            assert_eq!(beginning.to_owned() + &words_of(last), words_of(help));
+        }
+    }
+
+    #[test]
+    fn each_program_has_a_man_page() {
+        for (command, document) in programs() {
+            let page = man_page(command, &document).expect("the document has all sections");
+            let lines = page.lines();
+            let headings: Vec<_> = lines.filter_map(|line| line.strip_prefix(".SH ")).collect();
+            assert_eq!(headings[..3], ["NAME", "SYNOPSIS", "DESCRIPTION"]);
+            assert_eq!(headings.last(), Some(&"EXIT STATUS"));
+            for (_, heading) in document.sections {
+                assert!(
+                    headings.contains(&heading.to_uppercase().as_str()),
+                    "{headings:?}"
+                );
+            }
         }
     }
 }
