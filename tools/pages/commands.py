@@ -10,14 +10,17 @@ import re
 import subprocess
 import tempfile
 
+from .excerpts import is_excerpt
+
 SECONDS = 600
 PROGRAMS = ("run-digest", "test-report")
 ANY_LINES = "[...]"
 
 
-def is_known(words):
+def is_known(block):
     """Returns true if the words after a fence are those of a plain block, an excerpt or a tested block."""
-    return len(words) < 2 or words in (["console", "tested"], ["sh", "tested"]) or (len(words) == 2 and "/" in words[1])
+    is_tested = block.words in (["console", "tested"], ["sh", "tested"])
+    return len(block.words) < 2 or is_tested or is_excerpt(block)
 
 
 def environment(top, room):
@@ -105,7 +108,7 @@ def faults(page, top):
             commands, more = console_faults(block, top)
         elif block.words == ["sh", "tested"]:
             commands, more = 1, script_faults(block, top)
-        elif not is_known(block.words):
+        elif not is_known(block):
             words = " ".join(block.words)
             commands, more = 1, [f"line {block.line}: a block has the words `{words}`, which nothing reads"]
         else:

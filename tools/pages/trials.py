@@ -1,12 +1,13 @@
 """Tests of the comparisons: what each must refuse, and a page that they must accept.
 
-`refusals.txt` has pages: a line `=== PART OF THE FAULT`, and the page. `accepted.md` has no fault.
+`refusals.txt` has pages: a line `=== PART OF THE FAULT`, and the page. `accepted.md` has no fault. The other
+comparisons are tried on the texts below.
 """
 
 import sys
 from pathlib import Path
 
-from . import commands, edits, links, numbers, promises
+from . import callers, commands, edits, excerpts, first_pages, lengths, links, numbers, promises
 from .page import Page
 
 HERE = Path(__file__).resolve().parent
@@ -43,12 +44,38 @@ PROMISES = (
     ("run_events: Count::of has no clause counts", f"## Another\n{ROW}## A (`a`)\n{ROW}{SHOWN}"),
     ("a row that is not read", ROW + SHOWN.replace("`Count`", "each")),
 )
+PROVED = ["fn one() {\n    let a = 1;\n    let b = 2;\n    a + b\n}\n"]
+# What the comment at the head of a source says, each with the start of its fault.
+FIRST_PAGES = (
+    ("", "```rust\nlet a = 1;\n    let b = 2;\na + b\n}\n```"),
+    ("its example is not proved", "```rust\nlet a = 1;\na + b\nlet b = 2;\n}\n```"),
+    ("its example is not proved", "```rust\nlet a = 1;\nlet b = 2;\na + c\n}\n```"),
+    ("its example has 3 lines", "```rust\nlet a = 1;\nlet b = 2;\na + b\n```"),
+    ("its example has 16 lines", "```rust\n" + "x;\n" * 16 + "```"),
+    ("its first page has no example", "```text\nlet a = 1;\nlet b = 2;\na + b\n}\n```"),
+)
+PRESENCE = (("", "rust a/b.rs"), ("no page has an excerpt", "rust"))
+CALLER = "//! A caller.\n\nuse a::b;\n"
+CALLERS = {
+    ("use a::b;\n", CALLER): True,
+    ("use a::c;\n", CALLER): False,
+    (CALLER, CALLER): False,
+    ("", ""): False,
+}
+LINES = {
+    "x" * 160: True,
+    f"use {'x' * 160}": True,
+    f"pub use {'x' * 160}": True,
+    "x" * 161: False,
+    f"one\n{'≡' * 161}\ntwo": False,
+    f" use {'x' * 160}": False,
+}
 
 
 def page_faults(name, text, top):
     """Returns the faults of a page."""
     page = Page(name, text)
-    results = (it(page, top) for it in (commands.faults, links.faults, numbers.faults))
+    results = (it.faults(page, top) for it in (commands, excerpts, links, numbers))
     found = [fault for _, faults in results for fault in faults]
     return found + numbers.toolchain_faults(page, TOOLCHAIN)[1]
 
@@ -68,29 +95,49 @@ def page_failures(top):
     return len(entries) + 1, failures
 
 
-def edit_failures():
-    """Returns a line for each name of an edit that is judged wrongly."""
-    refused = {name for name in EDITS if edits.faults([name], SOURCES)}
-    return [f"the edit {name} is judged wrongly" for name, is_right in EDITS.items() if is_right == (name in refused)]
+def misjudged(what, texts, is_accepted):
+    """Returns a line for each text that is not judged as a table says."""
+    return [f"{what} is judged wrongly: {text}" for text, is_right in texts.items() if is_accepted(text) != is_right]
 
 
-def promise_failures():
-    """Returns a line for each page of promises that is judged wrongly."""
+def missed(what, trials, faults_of):
+    """Returns a line for each trial whose first fault does not begin as it must, or that has none or any."""
     failures = []
-    crates = {"run_events": promises.Contracts(), "a": promises.contracts_of_page(CONTRACTS)}
-    for wanted, rows in PROMISES:
-        page = rows if rows.startswith("## ") else f"## Calls (`a`)\n{rows}"
-        found = promises.faults(page, crates)
+    for wanted, given in trials:
+        found = faults_of(given)
         if bool(found) != bool(wanted) or not "".join(found[:1]).startswith(wanted):
-            failures.append(f"not refused for `{wanted}`, but: {found}")
+            failures.append(f"{what} is not refused for `{wanted}`, but: {found}")
     return failures
+
+
+def promise_faults(rows):
+    """Returns the faults of rows of promises."""
+    crates = {"run_events": promises.Contracts(), "a": promises.contracts_of_page(CONTRACTS)}
+    return promises.faults(rows if rows.startswith("## ") else f"## Calls (`a`)\n{rows}", crates)
+
+
+def first_page_faults(shown):
+    """Returns the faults of a source whose first page has a text."""
+    comment = "".join(f"//! {line}".rstrip() + "\n" for line in shown.split("\n"))
+    return first_pages.faults(f"{comment}\nfn own() {{}}\n", PROVED)[1]
+
+
+def presence_faults(words):
+    """Returns the faults of a page that has a block with these words."""
+    return excerpts.presence_faults([Page("a.md", f"```{words}\na\n```\n")])[1]
 
 
 def run(top):
     """Runs all tests, and returns the exit status."""
     count, failures = page_failures(top)
-    failures += edit_failures() + promise_failures()
+    failures += misjudged("the edit", EDITS, lambda name: not edits.faults([name], SOURCES))
+    failures += misjudged("a caller", CALLERS, lambda pair: callers.is_caller(*pair))
+    failures += misjudged("a line", LINES, lambda text: not lengths.faults(text)[1])
+    failures += missed("a page of promises", PROMISES, promise_faults)
+    failures += missed("a first page", FIRST_PAGES, first_page_faults)
+    failures += missed("a page without an excerpt", PRESENCE, presence_faults)
     for line in failures:
         print(f"documents: {line}", file=sys.stderr)
-    print(f"documents: {count + len(EDITS) + len(PROMISES)} trials, {len(failures)} failed")
+    count += sum(map(len, (EDITS, CALLERS, LINES, PROMISES, FIRST_PAGES, PRESENCE)))
+    print(f"documents: {count} trials, {len(failures)} failed")
     return 1 if failures else 0
