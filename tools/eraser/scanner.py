@@ -1,23 +1,7 @@
-"""Splits a source file into tokens, matches its brackets, and writes it back with edits."""
-import re
+"""Matches the brackets of a source file, and writes it back with edits of its tokens."""
+from rust_tokens import BLANK, CLOSING, tokens_of
 
-TOKEN = re.compile(
-    r"""
-    (?P<space>\s+)
-  | (?P<comment>//[^\n]*)
-  | (?P<block>/\*.*?\*/)
-  | (?P<string>(?:b|c)?"(?:\\.|[^"\\])*" | (?:b|c)?r(?P<hashes>\#*)".*?"(?P=hashes))
-  | (?P<character>b?'(?:\\(?:u\{[0-9a-fA-F_]+\}|x[0-9a-fA-F]{2}|.)|[^'\\\n])')
-  | (?P<lifetime>'[A-Za-z_]\w*)
-  | (?P<number>\d\w*(?:\.\d\w*)?)
-  | (?P<name>[A-Za-z_]\w*)
-  | (?P<mark>->|=>|::|\.\.=|\.\.\.|\.\.|.)
-    """,
-    re.X | re.S,
-)
-CLOSING = {"(": ")", "[": "]", "{": "}"}
 OPENING = {close: opening for opening, close in CLOSING.items()}
-BLANK = ("space", "comment", "block")
 
 
 class Refused(Exception):
@@ -30,24 +14,21 @@ class Source:
     def __init__(self, text, name):
         """Splits `text`, the content of the file `name`."""
         self.name = name
-        self.kind, self.text, self.line = [], [], []
-        self._split(text)
+        tokens = tokens_of(text)
+        self.kind = [token.kind for token in tokens]
+        self.text = [token.text for token in tokens]
+        self._refuse_nested_comments()
         self.new = list(self.text)
         self.is_dropped = [False] * len(self.text)
         self.partner = self._matched_brackets()
         self.code = [i for i, kind in enumerate(self.kind) if kind not in BLANK]
         self.rank = {i: rank for rank, i in enumerate(self.code)}
 
-    def _split(self, text):
-        """Fills the lists of kinds, texts and line numbers."""
-        line = 1
-        for match in TOKEN.finditer(text):
-            self.kind.append(match.lastgroup)
-            self.text.append(match.group())
-            self.line.append(line)
-            if match.lastgroup == "block" and "/*" in match.group()[2:]:
-                self.refuse(len(self.kind) - 1, "a block comment in another one")
-            line += match.group().count("\n")
+    def _refuse_nested_comments(self):
+        """Refuses a block comment that another one begins in."""
+        for i, kind in enumerate(self.kind):
+            if kind == "block" and "/*" in self.text[i][2:]:
+                self.refuse(i, "a block comment in another one")
 
     def _matched_brackets(self):
         """Returns the partner of every bracket."""
@@ -68,7 +49,8 @@ class Source:
 
     def refuse(self, i, reason):
         """Stops the eraser, with the place of token `i`."""
-        raise Refused(f"{self.name}:{self.line[i]}: {reason}")
+        line = 1 + "".join(self.text[:i]).count("\n")
+        raise Refused(f"{self.name}:{line}: {reason}")
 
     def after(self, i, count=1):
         """Returns the code token `count` places after `i`, or None."""

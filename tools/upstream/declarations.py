@@ -7,8 +7,10 @@ modules for tests are not read.
 import re
 from dataclasses import dataclass, field
 
+from rust_tokens import CLOSING, Token, code_of
+
 from upstream.functions import split_at_commas
-from upstream.scanner import CLOSING, NotUnderstood, group_end, tokens_of
+from upstream.scanner import end_of_item, group_end
 
 # The first line of an item at the top of a file. The item ends before the next one, even if its file was cut.
 ITEM = re.compile(r"(?:pub|struct|enum|trait|impl|fn|const|static|use|mod|type|extern|macro_rules|unsafe)\b")
@@ -16,7 +18,6 @@ TESTS = re.compile(r"^#\[cfg\(test\)\]\s*mod\b", re.MULTILINE)
 MODIFIERS = ("unsafe", "async", "default")
 # The attributes of variants that are compared, besides those of `serde`.
 OF_VARIANTS = ("non_exhaustive", "default")
-WITH_SEMICOLON = ("const", "static", "type", "use", "extern")
 
 
 @dataclass
@@ -55,7 +56,7 @@ class Declarations:
     def read(self, text):
         """Adds what a file declares before its module for tests."""
         for chunk in _chunks(TESTS.split(text)[0]):
-            self._read_items(_closed(tokens_of(chunk)))
+            self._read_items(_closed(code_of(chunk)))
 
     def _read_items(self, tokens):
         """Adds what some items declare."""
@@ -130,14 +131,14 @@ def _type_of_impl(item):
     head = _head_of_impl(item)
     split = _index_outside_angles(head, "for")
     of_type = head if split is None else head[split + 1:]
-    return next(token.text for token in of_type if token.kind == "word")
+    return next(token.text for token in of_type if token.kind == "name")
 
 
 def type_text(tokens, name=""):
     """Returns the text of a type without lifetimes and paths. `name` replaces `Self`."""
     words = [token.text for token in tokens if token.kind != "lifetime"]
     text = " ".join(name if name and word == "Self" else word for word in words)
-    text = re.sub(r"(?:\b\w+ )?: : (?=\w)", "", text)
+    text = re.sub(r"(?:\b\w+ )?:: (?=\w)", "", text)
     text = re.sub(r"< (?:, )*>", "", re.sub(r"< , ", "< ", text))
     return re.sub(r"\s*(\W)\s*", r"\1", re.sub(r" ,? ?>", " >", text)).strip()
 
@@ -165,7 +166,7 @@ def _closed(tokens):
         elif token.kind == "mark" and waiting and token.text == waiting[-1]:
             waiting.pop()
     last = tokens[-1] if tokens else None
-    return tokens + [type(last)("mark", mark, last.end, last.end) for mark in reversed(waiting)]
+    return tokens + [Token("mark", mark, last.end, last.end) for mark in reversed(waiting)]
 
 
 def _items(tokens):
@@ -183,7 +184,7 @@ def _items(tokens):
         visibility, index = _visibility(tokens, index)
         while tokens[index].text in MODIFIERS or [t.text for t in tokens[index:index + 2]] == ["const", "fn"]:
             index += 1
-        end = _end_of_item(tokens, index)
+        end = end_of_item(tokens, index)
         yield attributes, visibility, tokens[index:end + 1]
         index = end + 1
 
@@ -195,21 +196,6 @@ def _visibility(tokens, index):
     if tokens[index + 1].text == "(":
         return "crate", group_end(tokens, index + 1) + 1
     return "pub", index + 1
-
-
-def _end_of_item(tokens, first):
-    """Returns the index of the last token of the item that begins at an index."""
-    index, needs_semicolon = first, tokens[first].text in WITH_SEMICOLON
-    while index < len(tokens):
-        text = tokens[index].text
-        if text == ";" and tokens[index].kind == "mark":
-            return index
-        if tokens[index].kind == "mark" and text in CLOSING:
-            index = group_end(tokens, index)
-            if text == "{" and not needs_semicolon:
-                return index
-        index += 1
-    raise NotUnderstood(f"an item at offset {tokens[first].start} does not end")
 
 
 def _body(item):

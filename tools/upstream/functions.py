@@ -31,7 +31,7 @@ def source(text, tokens):
 def first_named(item, table):
     """Returns the first word of an item that a table has, or None."""
     inside = (token for tokens in [*item.attributes, item.tokens] for token in tokens)
-    return next((token.text for token in inside if token.kind == "word" and token.text in table), None)
+    return next((token.text for token in inside if token.kind == "name" and token.text in table), None)
 
 
 def is_property(item):

@@ -1,32 +1,14 @@
-"""A scanner of Rust: tokens without spaces and comments, and the items of a module."""
+"""The items of a module, as lists of tokens without spaces and comments."""
 
-import re
 from dataclasses import dataclass
 
-TOKEN = re.compile(
-    r"""(?P<skip>\s+|//[^\n]*|/\*.*?\*/)
-      | (?P<text>b?r(?P<marks>\#*)".*?"(?P=marks)|b?"(?:\\.|[^"\\])*"|b?'(?:\\u\{\w+\}|\\x\w\w|\\.|[^'\\])')
-      | (?P<lifetime>'\w+)
-      | (?P<word>\w+)
-      | (?P<mark>.)""",
-    re.DOTALL | re.VERBOSE,
-)
-CLOSING = {"(": ")", "[": "]", "{": "}"}
-ENDS_WITH_SEMICOLON = {"const", "static", "type", "use"}
+from rust_tokens import CLOSING, code_of
+
+ENDS_WITH_SEMICOLON = {"const", "static", "type", "use", "extern"}
 
 
 class NotUnderstood(Exception):
     """The text is not what the scanner expects."""
-
-
-@dataclass
-class Token:
-    """A token: what it is, its text, and the offsets of its start and its end."""
-
-    kind: str
-    text: str
-    start: int
-    end: int
 
 
 @dataclass
@@ -37,17 +19,6 @@ class Item:
     keyword: str
     name: str
     tokens: list
-
-
-def tokens_of(text):
-    """Returns the tokens of a text."""
-    found = []
-    for match in TOKEN.finditer(text):
-        if match.lastgroup == "marks" or match["text"]:
-            found.append(Token("text", match[0], match.start(), match.end()))
-        elif not match["skip"]:
-            found.append(Token(match.lastgroup, match[0], match.start(), match.end()))
-    return found
 
 
 def group_end(tokens, first):
@@ -106,7 +77,7 @@ def items_of(tokens):
 
 def test_modules(text):
     """Yields the bodies of the modules with the attribute `cfg(test)`, as tokens."""
-    tokens = tokens_of(text)
+    tokens = code_of(text)
     attribute = ["#", "[", "cfg", "(", "test", ")", "]", "mod"]
     for index in range(len(tokens) - len(attribute) - 1):
         if [token.text for token in tokens[index:index + len(attribute)]] == attribute:
