@@ -2,15 +2,14 @@
 from .functions import functions_of
 from .scanner import Source
 from .table import LAYER, PACKAGE_OF
-from .type_table import BUILDERS, OTHER_ARMS, RENAMED_CALLS_OF, RENAMED_METHODS
+from .type_table import OTHER_ARMS, RENAMED_CALLS_OF, RENAMED_METHODS
 
 
 def adapted(text, name):
-    """Returns the text of the file `name` with literals and matches that compile in its package."""
+    """Returns the text of the file `name` with matches that compile in its package."""
     source = Source(text, name)
     _rename_methods(source, name)
     if PACKAGE_OF[name.split("/")[0]] != LAYER:
-        _build_literals(source)
         _add_arms(source, name)
     return source.result()
 
@@ -24,41 +23,6 @@ def _rename_methods(source, name):
     for i in source.code:
         if source.at(source.before(i)) == "." and source.reads(source.after(i), "(", ")"):
             source.new[i] = calls.get(source.text[i], source.text[i])
-
-
-def _build_literals(source):
-    """Takes the literal of a type of the table to calls of its methods."""
-    for i in source.code:
-        name, brace = source.text[i], source.after(i)
-        is_declared = source.at(source.before(i)) in ("struct", "for", "->")
-        if name not in BUILDERS or source.at(brace) != "{" or is_declared:
-            continue
-        close = source.partner[brace]
-        values = _field_values(source, brace)
-        calls = []
-        for field, method in BUILDERS[name]:
-            if field not in values:
-                source.refuse(i, f"a literal of `{name}` without `{field}`")
-            calls.append(f"{method}({values.pop(field)})")
-        if values:
-            source.refuse(i, f"a literal of `{name}` with `{next(iter(values))}`")
-        source.replace(i, close, f"{name}::" + ".".join(calls))
-
-
-def _field_values(source, brace):
-    """Returns the texts of the fields in a literal, by their names."""
-    values, at, close = {}, source.after(brace), source.partner[brace]
-    while at != close:
-        end = at
-        while end != close and source.text[end] != ",":
-            end = source.skip(end)
-        field, colon = source.text[at], source.after(at)
-        if source.at(colon) == ":":
-            values[field] = "".join(source.text[colon + 1:end]).strip()
-        else:
-            values[field] = field
-        at = source.after(end) if end != close else close
-    return values
 
 
 def _add_arms(source, name):

@@ -145,7 +145,7 @@ class Body:
             if source.text[i] != "(" or source.is_dropped[i]:
                 continue
             close = source.partner[i]
-            qualified, plain = called_name(source, close)
+            qualified = called_name(source, close)[0]
             if close not in self.settled and self._is_plain_call(close):
                 source.refuse(i, f"the Result of `{qualified}` is looked at")
             new = RENAMED_CALLS.get(qualified)

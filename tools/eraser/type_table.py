@@ -55,14 +55,6 @@ CRATE_FIELDS = ("ErrorList", "UnitErrorDescription")
 MUST_USE = ("RunOutcome",)
 MUST_USE_BY_THEMSELVES = ("ExecutionStatusesIter", "Iter", "Result")
 
-# How other packages make a type that may get more fields: its fields in the order of its methods.
-BUILDERS = {
-    "TestView": (
-        ("result", "new"), ("attempts", "with_attempts"), ("is_slow", "with_slow"),
-        ("flaky_result", "with_flaky_result"),
-    ),
-}
-
 # The last arm of matches in other packages over types that may get more cases: file, function, and its value.
 OTHER_ARMS = {
     "deodarsieve/src/codes.rt": (
