@@ -65,27 +65,3 @@ def as_lines(run, no_tests):
         *(f"cause: {cause.line}" for cause in run.causes()),
         *(flaky_line(test) for test in run.flaky_tests()),
     ]
-
-
-def test_members(test):
-    """Returns a failed or flaky test, for JSON."""
-    return {
-        "suite": test.suite.name(),
-        "name": test.name(),
-        "written": test.written,
-        "state": test.state,
-        "attempts": test.attempts,
-        "time": test.time,
-    }
-
-
-def as_members(run, no_tests):
-    """Returns the results of a run, for JSON. Names are as they were read, and lines as reports show them."""
-    return {
-        "totals": run.totals(),
-        "outcome": run.outcome(),
-        "status": run.status(no_tests),
-        "failed_tests": [test_members(test) for test in run.failed_tests()],
-        "causes": [cause.line for cause in run.causes()],
-        "flaky_tests": [test_members(test) for test in run.flaky_tests()],
-    }
