@@ -10,7 +10,7 @@ from dataclasses import dataclass, field
 from rust_tokens import CLOSING, Token, code_of
 
 from upstream.functions import split_at_commas
-from upstream.scanner import end_of_item, group_end
+from upstream.scanner import attributes_at, end_of_item, group_end
 
 # The first line of an item at the top of a file. The item ends before the next one, even if its file was cut.
 ITEM = re.compile(r"(?:pub|struct|enum|trait|impl|fn|const|static|use|mod|type|extern|macro_rules|unsafe)\b")
@@ -173,12 +173,7 @@ def _items(tokens):
     """Yields the attributes, the visibility and the tokens of each item."""
     index = 0
     while index < len(tokens):
-        attributes = []
-        while index < len(tokens) and tokens[index].text == "#":
-            index += tokens[index + 1].text == "!"
-            end = group_end(tokens, index + 1)
-            attributes.append(tokens[index + 2:end])
-            index = end + 1
+        attributes, index = attributes_at(tokens, index)
         if index == len(tokens):
             return
         visibility, index = _visibility(tokens, index)
@@ -234,20 +229,21 @@ def _of_serde(attribute):
     return remote.removeprefix("remote =").strip(' "'), {f"#[serde({', '.join(texts)})]"} if texts else set()
 
 
+def _texts_of_serde(attributes):
+    """Returns the texts of the attributes of `serde` among some attributes."""
+    return set().union(*(_of_serde(attribute)[1] for attribute in attributes))
+
+
 def _attributes_inside(tokens):
     """Returns the attributes of `serde` of the structs inside an item, and of their fields."""
     found, struct, index = set(), "", 0
     while index < len(tokens):
-        texts = set()
-        while [token.text for token in tokens[index:index + 2]] == ["#", "["]:
-            end = group_end(tokens, index + 1)
-            texts |= _of_serde(tokens[index + 2:end])[1]
-            index = end + 1
+        attributes, index = attributes_at(tokens, index)
         index = _visibility(tokens, index)[1]
         name = f"{struct}.{tokens[index].text}"
         if tokens[index].text == "struct":
             name = struct = tokens[index + 1].text
-        found |= {f"{text} {name}" for text in texts}
+        found |= {f"{text} {name}" for text in _texts_of_serde(attributes)}
         index += 1
     return found
 
@@ -255,16 +251,10 @@ def _attributes_inside(tokens):
 def _read_variants(found, body):
     """Reads the variants in the body of an enum, with their conditions, except those for tests."""
     for part in split_at_commas(body):
-        condition, representation, index = "", set(), 0
-        while part[index].text == "#":
-            end = group_end(part, index + 1)
-            attribute = part[index + 2:end]
-            if attribute[0].text == "cfg":
-                condition = " ".join(token.text for token in attribute)
-            if attribute[0].text in OF_VARIANTS:
-                representation.add(f"#[{attribute[0].text}]")
-            representation |= _of_serde(attribute)[1]
-            index = end + 1
+        attributes, index = attributes_at(part, 0)
+        names = {attribute[0].text: attribute for attribute in attributes}
+        condition = " ".join(token.text for token in names.get("cfg", ()))
+        representation = _texts_of_serde(attributes) | {f"#[{name}]" for name in OF_VARIANTS if name in names}
         if condition == "cfg ( test )":
             continue
         found.variants[part[index].text] = condition
@@ -277,16 +267,12 @@ def _read_fields(found, prefix, group, visibility_of_all):
     """Reads the fields in a group of a struct, or of a variant, whose fields are as public as the type."""
     is_named = group[0].text == "{"
     for number, part in enumerate(split_at_commas(group[1:group_end(group, 0)])):
-        index, representation = 0, set()
-        while part[index].text == "#":
-            end = group_end(part, index + 1)
-            representation |= _of_serde(part[index + 2:end])[1]
-            index = end + 1
+        attributes, index = attributes_at(part, 0)
         visibility, index = _visibility(part, index)
         visibility = visibility_of_all or visibility
         name = part[index].text if is_named else str(number)
         found.order.append(f"{prefix}{name}")
-        found.attributes |= {f"{text} {prefix}{name}" for text in representation}
+        found.attributes |= {f"{text} {prefix}{name}" for text in _texts_of_serde(attributes)}
         if visibility:
             found.fields[f"{prefix}{name}"] = (visibility, type_text(part[index + 2 * is_named:]))
 

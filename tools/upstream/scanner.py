@@ -60,15 +60,22 @@ def name_in(tokens, first):
     raise NotUnderstood(f"the item at offset {tokens[first].start} begins with {keyword}")
 
 
+def attributes_at(tokens, index):
+    """Returns the attributes that begin at an index, and the index after them."""
+    found = []
+    while index < len(tokens) and tokens[index].text == "#":
+        index += tokens[index + 1].text == "!"
+        end = group_end(tokens, index + 1)
+        found.append(tokens[index + 2:end])
+        index = end + 1
+    return found, index
+
+
 def items_of(tokens):
     """Returns the items of a module's body."""
     items, index = [], 0
     while index < len(tokens):
-        attributes = []
-        while tokens[index].text == "#":
-            end = group_end(tokens, index + 1)
-            attributes.append(tokens[index + 2:end])
-            index = end + 1
+        attributes, index = attributes_at(tokens, index)
         end = end_of_item(tokens, index)
         items.append(Item(attributes, *name_in(tokens, index), tokens[index:end + 1]))
         index = end + 1
