@@ -151,7 +151,7 @@ fn error_start(stderr: &[u8], end: usize) -> Option<usize>
     requires { IsQuietFrom stderr.now (codes "\nError: ") end }
     ensures { IsFirst (IsErrorStart stderr.now) 0 (length stderr.now + 1) result }
 {
-    if stderr.starts_with_str(&ERROR_SIGN[1..]) {
+    if stderr.starts_with_str(&ERROR_SIGN.text[1..]) {
         return Some(0);
     }
     let feed = first_sign(stderr, ERROR_SIGN, end)?;

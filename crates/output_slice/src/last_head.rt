@@ -11,11 +11,14 @@ use crate::byte_source::CountedBytes;
 use crate::lines::{is_line_start, last_byte, line_end, line_start, next_byte};
 use crate::panic_head::quotes::{OPENING_SIZE, WORD_SIZE};
 use crate::panic_head::{HeadSpan, last_panic_head};
-use crate::signs::{heads_end, last_sign};
+use crate::signs::{Sign, heads_end, last_sign};
 use bstr::ByteSlice;
 
-/// A line feed and the prefix of a head.
-const OPENING: &[u8] = b"\nthread '";
+/// A line feed and the prefix of a head. The rare byte is the quote.
+const OPENING: Sign = Sign {
+    text: b"\nthread '",
+    rare: 8,
+};
 
 /// Returns the offset of the last line that begins with `thread '`.
 ///
@@ -30,7 +33,7 @@ fn last_opening(bytes: &[u8]) -> Option<usize>
     if let Some(feed) = last_sign(bytes, OPENING) {
         return Some(feed + 1);
     }
-    if bytes.starts_with_str(&OPENING[1..]) {
+    if bytes.starts_with_str(&OPENING.text[1..]) {
         return Some(0);
     }
     None
@@ -71,7 +74,7 @@ fn is_opening(bytes: &[u8], at: usize) -> bool
     requires { at ≤ length bytes.now }
     ensures { IsTrue result ↔ IsOpening bytes.now at }
 {
-    is_line_start(bytes, at) && (&bytes[at..]).starts_with_str(&OPENING[1..])
+    is_line_start(bytes, at) && (&bytes[at..]).starts_with_str(&OPENING.text[1..])
 }
 
 /// Returns the last line start at or before `at` that no head can contain.

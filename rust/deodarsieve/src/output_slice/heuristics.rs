@@ -101,7 +101,7 @@ fn error_str_before(stderr: &[u8], end: usize) -> Option<ByteSubslice<'_>> {
 /// Returns the offset of the first line that begins with `Error: `, given that no error marker
 /// begins at or after `end`.
 fn error_start(stderr: &[u8], end: usize) -> Option<usize> {
-    if stderr.starts_with_str(&ERROR_SIGN[1..]) {
+    if stderr.starts_with_str(&ERROR_SIGN.text[1..]) {
         return Some(0);
     }
     let feed = first_sign(stderr, ERROR_SIGN, end)?;

@@ -5,11 +5,14 @@ use crate::output_slice::byte_source::CountedBytes;
 use crate::output_slice::lines::{is_line_start, last_byte, line_end, line_start, next_byte};
 use crate::output_slice::panic_head::quotes::{OPENING_SIZE, WORD_SIZE};
 use crate::output_slice::panic_head::{HeadSpan, last_panic_head};
-use crate::output_slice::signs::{heads_end, last_sign};
+use crate::output_slice::signs::{Sign, heads_end, last_sign};
 use bstr::ByteSlice;
 
-/// A line feed and the prefix of a head.
-const OPENING: &[u8] = b"\nthread '";
+/// A line feed and the prefix of a head. The rare byte is the quote.
+const OPENING: Sign = Sign {
+    text: b"\nthread '",
+    rare: 8,
+};
 
 /// Returns the offset of the last line that begins with `thread '`.
 ///
@@ -22,7 +25,7 @@ fn last_opening(bytes: &[u8]) -> Option<usize> {
     if let Some(feed) = last_sign(bytes, OPENING) {
         return Some(feed + 1);
     }
-    if bytes.starts_with_str(&OPENING[1..]) {
+    if bytes.starts_with_str(&OPENING.text[1..]) {
         return Some(0);
     }
     None
@@ -50,7 +53,7 @@ fn crossing(bytes: &[u8], at: usize) -> Option<usize> {
 
 /// Returns true if `at` is a line start and `thread '` begins there.
 fn is_opening(bytes: &[u8], at: usize) -> bool {
-    is_line_start(bytes, at) && bytes[at..].starts_with_str(&OPENING[1..])
+    is_line_start(bytes, at) && bytes[at..].starts_with_str(&OPENING.text[1..])
 }
 
 /// Returns the last line start at or before `at` that no head can contain.

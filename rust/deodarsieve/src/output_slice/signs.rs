@@ -6,28 +6,49 @@
 //! precedence. The other two are searched for together, while the block is in the processor's
 //! cache.
 
+use crate::output_slice::lines::{last_byte, next_byte};
 use bstr::ByteSlice;
 
 /// The size of a block in bytes. It is small enough to stay in the processor's cache for the next
 /// search.
 const BLOCK_SIZE: usize = 131_072;
 
-/// The size in bytes of the first block of a search for the last marker. With a marker added it is
-/// less than 64 bytes, for which `bstr` builds no table.
-const LEAST_BLOCK_SIZE: usize = 48;
+/// The most bytes of a block that is searched by the rare byte of a marker. For so few bytes this is
+/// faster than `find` of `bstr`, which builds a searcher at each call.
+const SHORT_BLOCK_SIZE: usize = 2_048;
+
+/// A marker, or another text that is searched for, with the offset in it of a byte that is rare in
+/// output.
+#[derive(Clone, Copy)]
+pub(crate) struct Sign {
+    pub(crate) text: &'static [u8],
+    pub(crate) rare: usize,
+}
 
 /// The end of a panic's head.
-const PANIC_SIGN: &[u8] = b" panicked at ";
+const PANIC_SIGN: Sign = Sign {
+    text: b" panicked at ",
+    rare: 6,
+};
 
 /// A line feed and the start of an error.
-pub(crate) const ERROR_SIGN: &[u8] = b"\nError: ";
+pub(crate) const ERROR_SIGN: Sign = Sign {
+    text: b"\nError: ",
+    rare: 1,
+};
 
 /// The note that a test did not panic.
-pub(crate) const NOTE: &[u8] = b"note: test did not panic as expected";
+pub(crate) const NOTE: Sign = Sign {
+    text: b"note: test did not panic as expected",
+    rare: 29,
+};
 
-/// The offset in the note of its last words, which are its marker: a search for a few words is faster
-/// than for the whole note.
-const NOTE_SIGN_START: usize = 19;
+/// The last words of the note, which are its marker: a search for a few words is faster than for the
+/// whole note.
+const NOTE_SIGN: Sign = Sign {
+    text: b"panic as expected",
+    rare: 10,
+};
 
 /// For each stream, an offset at or after which no marker begins.
 #[derive(Clone, Copy)]
@@ -39,20 +60,21 @@ pub(crate) struct QuietEnds {
 /// Returns an offset that no head extends past.
 pub(crate) fn heads_end(bytes: &[u8]) -> usize {
     match last_sign(bytes, PANIC_SIGN) {
-        Some(at) => at + PANIC_SIGN.len(),
+        Some(at) => at + PANIC_SIGN.text.len(),
         None => 0,
     }
 }
 
 /// Returns the last offset of `sign`, or `None`.
 ///
-/// `sign` must not be empty. Blocks are searched from the end, each of them forwards, since a forward
-/// search is faster. A block is as long as all bytes after it, up to `BLOCK_SIZE`, so a marker near the
-/// end is found in few bytes.
-pub(crate) fn last_sign(bytes: &[u8], sign: &[u8]) -> Option<usize> {
+/// Blocks are searched from the end. A block is four times as long as all bytes after it, up to
+/// `BLOCK_SIZE`, so a marker near the end is found in few bytes.
+pub(crate) fn last_sign(bytes: &[u8], sign: Sign) -> Option<usize> {
     let mut end = bytes.len();
     while end > 0 {
-        let size = (bytes.len() - end).clamp(LEAST_BLOCK_SIZE, BLOCK_SIZE);
+        let size = (bytes.len() - end)
+            .saturating_mul(4)
+            .clamp(SHORT_BLOCK_SIZE, BLOCK_SIZE);
         let start = end.saturating_sub(size);
         if let Some(gap) = last_match(&bytes[start..reach(bytes, sign, end)], sign) {
             return Some(start + gap);
@@ -62,13 +84,61 @@ pub(crate) fn last_sign(bytes: &[u8], sign: &[u8]) -> Option<usize> {
     None
 }
 
-/// Returns the last offset of `sign` in a block. `sign` must not be empty.
-fn last_match(block: &[u8], sign: &[u8]) -> Option<usize> {
-    let mut last = block.find(sign)?;
-    while let Some(gap) = block[last + 1..].find(sign) {
+/// Returns the last offset of `sign` in a block.
+///
+/// A long block is searched forwards, since a forward search of `bstr` is faster.
+fn last_match(block: &[u8], sign: Sign) -> Option<usize> {
+    if block.len() <= SHORT_BLOCK_SIZE {
+        return last_by_rare_byte(block, sign);
+    }
+    let mut last = block.find(sign.text)?;
+    while let Some(gap) = block[last + 1..].find(sign.text) {
         last += gap + 1;
     }
     Some(last)
+}
+
+/// Returns the first offset of `sign` in a block.
+fn first_match(block: &[u8], sign: Sign) -> Option<usize> {
+    if block.len() <= SHORT_BLOCK_SIZE {
+        first_by_rare_byte(block, sign)
+    } else {
+        block.find(sign.text)
+    }
+}
+
+/// Returns the last offset of `sign`. The search goes from the end, from one rare byte to the next.
+fn last_by_rare_byte(bytes: &[u8], sign: Sign) -> Option<usize> {
+    let mut end = bytes.len();
+    while let Some(at) = last_byte(bytes, sign.text[sign.rare], end) {
+        if let Some(start) = sign_around(bytes, sign, at) {
+            return Some(start);
+        }
+        end = at;
+    }
+    None
+}
+
+/// Returns the first offset of `sign`. The search goes from one rare byte to the next.
+fn first_by_rare_byte(bytes: &[u8], sign: Sign) -> Option<usize> {
+    let mut from = 0;
+    while let Some(at) = next_byte(bytes, sign.text[sign.rare], from) {
+        if let Some(start) = sign_around(bytes, sign, at) {
+            return Some(start);
+        }
+        from = at + 1;
+    }
+    None
+}
+
+/// Returns the offset of the `sign` whose rare byte is at `at`, or `None` if there is none.
+fn sign_around(bytes: &[u8], sign: Sign, at: usize) -> Option<usize> {
+    let start = at.checked_sub(sign.rare)?;
+    if bytes[start..].starts_with_str(sign.text) {
+        Some(start)
+    } else {
+        None
+    }
 }
 
 /// Returns the offsets at or after which no error and no note begins.
@@ -96,21 +166,21 @@ pub(crate) fn quiet_ends(stdout: &[u8], stderr: &[u8]) -> QuietEnds {
 /// Returns true if no marker begins at or after `starts`, given that none does at or after `ends`.
 fn are_quiet_between(stdout: &[u8], stderr: &[u8], starts: QuietEnds, ends: QuietEnds) -> bool {
     is_quiet_between(stderr, ERROR_SIGN, starts.stderr, ends.stderr)
-        && is_quiet_between(stdout, &NOTE[NOTE_SIGN_START..], starts.stdout, ends.stdout)
+        && is_quiet_between(stdout, NOTE_SIGN, starts.stdout, ends.stdout)
 }
 
 /// Returns true if `sign` does not begin at or after `start`, given that it does not at or after `end`.
-fn is_quiet_between(bytes: &[u8], sign: &[u8], start: usize, end: usize) -> bool {
+fn is_quiet_between(bytes: &[u8], sign: Sign, start: usize, end: usize) -> bool {
     let block = &bytes[start..reach(bytes, sign, end)];
-    !block.contains_str(sign)
+    first_match(block, sign).is_none()
 }
 
 /// Returns the offset that `sign` does not extend past if it begins before `end`.
-fn reach(bytes: &[u8], sign: &[u8], end: usize) -> usize {
-    end.saturating_add(sign.len()).min(bytes.len())
+fn reach(bytes: &[u8], sign: Sign, end: usize) -> usize {
+    end.saturating_add(sign.text.len()).min(bytes.len())
 }
 
 /// Returns the first offset of `sign`, given that it does not begin at or after `end`.
-pub(crate) fn first_sign(bytes: &[u8], sign: &[u8], end: usize) -> Option<usize> {
-    bytes[..reach(bytes, sign, end)].find(sign)
+pub(crate) fn first_sign(bytes: &[u8], sign: Sign, end: usize) -> Option<usize> {
+    first_match(&bytes[..reach(bytes, sign, end)], sign)
 }

@@ -8,5 +8,5 @@ returns c =
     let block = c.args.block.now in
     let stands = c.loop-gap.invariant in
     is-last _ 0 _ last (omega arith) (omega (arith, stands.fits)) (λ i low up h.
-    let there = occurs-in-part block c.args.sign.now i (last + 1) (length block) low h.fits (omega arith) h in
+    let there = occurs-in-part block c.args.sign.text.now i (last + 1) (length block) low h.fits (omega arith) h in
     c.in_default.ensures (i - (last + 1)) (omega arith) (omega (arith, there.fits)) there) stands
