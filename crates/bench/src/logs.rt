@@ -12,6 +12,18 @@ test session::tests::closes_after_timeout ... ok\n\
 [00:00:01.231 ERROR wire::frame] error: stream 5 was reset by its peer\n\
 [00:00:01.232 DEBUG server::pool] 3 idle, 1 busy, 0 are waiting\n";
 
+/// Two lines of a log, of 129 bytes in all.
+pub(crate) const TWO_LINES: &[u8] = b"\
+[00:00:01.204 INFO  server::pool] accepted connection 17 from 10.0.0.4:55312 after\n\
+[00:00:01.207 DEBUG server::session] the peer\n";
+
+/// A line of 40 bytes.
+pub(crate) const LINE: &[u8] = b"read 40 entries of the table in 1.25 ms\n";
+
+/// A line of a log, of 80 bytes, that ends with `true`.
+pub(crate) const TRUE_LINE: &[u8] =
+    b"[00:00:01.209 TRACE wire::frame] read 4096 bytes: kind Data, stream 5, end true\n";
+
 /// A line of a log, of 64 bytes, without a quote.
 pub(crate) const QUOTELESS_LOG: &[u8] =
     b"[00:00:01.209 TRACE wire::frame] read 4096 bytes, stream 5, End\n";

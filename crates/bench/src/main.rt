@@ -2,9 +2,10 @@
 //!
 //! `bench MEGABYTES` measures a fixed list of calls, and prints a line `NAME RATIO GROWTH VERDICT`
 //! for each. RATIO is the time of the call divided by the time of a pass. A pass searches the input
-//! for a byte that does not occur. For finished tests and for summaries, a pass reads each of them
-//! once. For reports of test runs, a pass reads each line with `serde_json`. GROWTH is the time of
-//! the call divided by its time at half the size. It has a limit only if the call takes a
+//! for a byte that does not occur. For short outputs, the call extracts from many copies one by one,
+//! and a pass searches them one by one. For finished tests and for summaries, a pass reads each of
+//! them once. For reports of test runs, a pass reads each line with `serde_json`. GROWTH is the time
+//! of the call divided by its time at half the size. It has a limit only if the call takes a
 //! millisecond or more. VERDICT is `within`, or the limit that was exceeded. Each time is the
 //! shortest of 15 measurements. For the commands of `run-digest`, RATIO leaves out the time for
 //! reading the input. The last line says how many calls are within their limits.
@@ -16,7 +17,7 @@
 #![tactic(auto)]
 
 use crate::engines::Digest;
-use crate::extraction::Extraction;
+use crate::extraction::{Extraction, Streams};
 use crate::report::Measured;
 use crate::rows::{Kind, Row};
 use crate::size::Size;
@@ -44,13 +45,18 @@ fn times<R: AllocGlobal + Clock>(rt: &R, kind: &Kind, size: Size) -> Result<Time
     let alloc = rt.alloc();
     match kind {
         Kind::Stderr(output) => {
-            let mut whole = Extraction::new(alloc, output, size, false)?;
-            let mut half = Extraction::new(alloc, output, size.half(), false)?;
+            let mut whole = Extraction::new(alloc, output, size, Streams::Stderr)?;
+            let mut half = Extraction::new(alloc, output, size.half(), Streams::Stderr)?;
             least_times(rt, &mut whole, &mut half)
         }
         Kind::Stdout(output) => {
-            let mut whole = Extraction::new(alloc, output, size, true)?;
-            let mut half = Extraction::new(alloc, output, size.half(), true)?;
+            let mut whole = Extraction::new(alloc, output, size, Streams::Stdout)?;
+            let mut half = Extraction::new(alloc, output, size.half(), Streams::Stdout)?;
+            least_times(rt, &mut whole, &mut half)
+        }
+        Kind::Short(output, count) => {
+            let mut whole = Extraction::of_many(alloc, output, size.share(*count))?;
+            let mut half = Extraction::of_many(alloc, output, size.half().share(*count))?;
             least_times(rt, &mut whole, &mut half)
         }
         Kind::Extract(output) => {
@@ -125,6 +131,7 @@ fn measure<R: AllocGlobal + Clock + Print>(
 fn measure_all<R: AllocGlobal + Clock + Print>(rt: &R, size: Size) -> io::Result<bool> {
     let mut tally = Tally::default();
     measure(rt, &rows::ordinary(), size, &mut tally)?;
+    measure(rt, &rows::short(), size, &mut tally)?;
     measure(rt, &rows::adverse(), size, &mut tally)?;
     measure(rt, &rows::counting(), size, &mut tally)?;
     measure(rt, &rows::reports(), size, &mut tally)?;

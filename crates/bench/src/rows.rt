@@ -1,7 +1,7 @@
 //! The rows: the calls that are measured, with the limits of their ratios.
 
 use crate::inputs::{Output, Place};
-use crate::logs::{LOG, QUOTELESS_LOG};
+use crate::logs::{LINE, LOG, QUOTELESS_LOG, TRUE_LINE, TWO_LINES};
 use crate::test_runs::Ending;
 
 /// The call that is measured.
@@ -12,6 +12,10 @@ pub(crate) enum Kind {
 
     /// The extraction from an output that is standard output.
     Stdout(Output),
+
+    /// The extraction from copies of a short output, one by one, with their number if the size is 64
+    /// megabytes.
+    Short(Output, u32),
 
     /// The engine `extract` on an output.
     Extract(Output),
@@ -79,6 +83,28 @@ pub(crate) fn ordinary() -> [Row; 6] {
         ("false-opening", Some(5_000), Kind::Stderr(opening)),
         ("engine-panic", Some(3_000), Kind::Extract(end)),
         ("engine-nothing", Some(3_000), Kind::Extract(log)),
+    ]
+}
+
+/// The rows of short output, of 0, 40, 200 and 2,000 bytes.
+pub(crate) fn short() -> [Row; 4] {
+    let empty = pieces(b"", 0);
+    let line = Output { end: LINE, ..empty };
+    let panic = Output {
+        front: TWO_LINES,
+        end: PANIC,
+        panic_at: Place::End,
+        ..empty
+    };
+    let log = Output {
+        end: TRUE_LINE,
+        ..pieces(LOG, 3)
+    };
+    [
+        ("short-empty", Some(15_000), Kind::Short(empty, 10_000)),
+        ("short-line", Some(15_000), Kind::Short(line, 10_000)),
+        ("short-panic", Some(15_000), Kind::Short(panic, 3_000)),
+        ("short-log", Some(9_000), Kind::Short(log, 1_000)),
     ]
 }
 

@@ -16,6 +16,9 @@ impl Size {
     /// A size that is large enough to see whether the answers are right.
     pub(crate) const SMALL: Size = Size { bytes: 64_000 };
 
+    /// The size for which [`Size::share`] returns the number itself.
+    pub(crate) const FULL: Size = Size { bytes: 64_000_000 };
+
     /// Returns the size of this many megabytes of a million bytes each, from 1 to 1,024.
     pub(crate) fn from_megabytes(megabytes: u64) -> Option<Size>
         ensures few { IsSome result ↔ ((1 ≤ megabytes) × (megabytes ≤ 1_024)) }

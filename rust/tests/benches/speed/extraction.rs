@@ -7,10 +7,20 @@ use deodarsieve::TestOutputErrorSlice;
 use std::hint::black_box;
 use std::rc::Rc;
 
+/// The streams that an output is passed as.
+#[derive(Clone, Copy)]
+enum Streams {
+    Stdout,
+    Stderr,
+
+    /// Both, as if they were captured as one.
+    Both,
+}
+
 /// An output, and the start and the end of the panic in it.
 struct Extraction {
     bytes: Vec<u8>,
-    is_stdout: bool,
+    streams: Streams,
     panic: Option<(usize, usize)>,
 }
 
@@ -18,10 +28,10 @@ impl Extraction {
     /// Returns standard output and standard error.
     fn streams(&self) -> (Option<&[u8]>, Option<&[u8]>) {
         let bytes = Some(black_box(self.bytes.as_slice()));
-        if self.is_stdout {
-            (bytes, None)
-        } else {
-            (None, bytes)
+        match self.streams {
+            Streams::Stdout => (bytes, None),
+            Streams::Stderr => (None, bytes),
+            Streams::Both => (bytes, bytes),
         }
     }
 
@@ -50,12 +60,12 @@ impl Extraction {
 }
 
 /// Returns the extraction from an output of a size in bytes.
-fn work(output: &Output, is_stdout: bool, size: usize) -> Work {
+fn work(output: &Output, streams: Streams, size: usize) -> Work {
     let bytes = output.bytes(size);
     let panic = output.panic_in(&bytes);
     let extraction = Rc::new(Extraction {
         bytes,
-        is_stdout,
+        streams,
         panic,
     });
     let (called, passed) = (Rc::clone(&extraction), Rc::clone(&extraction));
@@ -66,23 +76,48 @@ fn work(output: &Output, is_stdout: bool, size: usize) -> Work {
     }
 }
 
-/// Returns the rows of ordinary output, and those of output that is chosen to take long.
+/// Returns the rows of short output, of 0, 40, 200 and 2,000 bytes.
+fn short_rows() -> impl Iterator<Item = Row> {
+    let outputs = [
+        ("short-empty", inputs::EMPTY),
+        ("short-line", inputs::SHORT_LINE),
+        ("short-panic", inputs::SHORT_PANIC),
+        ("short-log", inputs::SHORT_LOG),
+    ];
+    outputs.into_iter().map(|(name, output)| {
+        Row::new(name, move |_| {
+            work(&output, Streams::Both, inputs::FULL_SIZE)
+        })
+        .with_most_passes(30.0)
+    })
+}
+
+/// Returns the rows of ordinary output, of short output, and of output that is chosen to take long.
 pub fn rows() -> Vec<Row> {
-    let stderr = |name, output: Output| Row::new(name, move |size| work(&output, false, size));
+    let stderr =
+        |name, output: Output| Row::new(name, move |size| work(&output, Streams::Stderr, size));
     let front = stderr("panic-at-front", inputs::PANIC_AT_FRONT);
-    vec![
+    let ordinary = [
         stderr("panic-near-end", inputs::PANIC_NEAR_END),
         front.with_most_passes(1.2),
         stderr("nothing-found", inputs::NOTHING_FOUND),
         stderr("false-opening", inputs::FALSE_OPENING),
-        stderr("short-panic", inputs::SHORT_PANIC),
+    ];
+    let adverse = [
         stderr("heads", inputs::HEADS),
         stderr("openings", inputs::OPENINGS),
         stderr("openings-started", inputs::OPENINGS_STARTED),
         stderr("openings-spaced", inputs::OPENINGS_SPACED),
         stderr("quotes", inputs::QUOTES),
         stderr("newlines", inputs::NEWLINES),
-        Row::new("near-notes", |size| work(&inputs::NEAR_NOTES, true, size)),
+        Row::new("near-notes", |size| {
+            work(&inputs::NEAR_NOTES, Streams::Stdout, size)
+        }),
         stderr("white-space", inputs::WHITE_SPACE),
-    ]
+    ];
+    ordinary
+        .into_iter()
+        .chain(short_rows())
+        .chain(adverse)
+        .collect()
 }

@@ -34,6 +34,9 @@ pub enum Place {
     End,
 }
 
+/// The size in bytes for which an output has its number of pieces.
+pub const FULL_SIZE: usize = 64_000_000;
+
 /// An output: a front, a piece a number of times, and an end.
 #[derive(Clone, Copy)]
 pub struct Output {
@@ -111,12 +114,27 @@ pub const WHITE_SPACE: Output = Output {
     ..pieces(b"   \t    \n   \t   ", 4_000_000)
 };
 
-/// A panic of 71 bytes after 128 bytes of a log.
+/// No byte.
+pub const EMPTY: Output = pieces(b"", 0);
+
+/// A line of 40 bytes.
+pub const SHORT_LINE: Output = Output {
+    end: b"read 40 entries of the table in 1.25 ms\n",
+    ..EMPTY
+};
+
+/// A panic of 71 bytes after 129 bytes of a log.
 pub const SHORT_PANIC: Output = Output {
     front: b"[00:00:01.204 INFO  server::pool] accepted connection 17 from 10.0.0.4:55312 after\n\
         [00:00:01.207 DEBUG server::session] the peer\n",
     count: 0,
     ..PANIC_NEAR_END
+};
+
+/// A log of 2,000 bytes.
+pub const SHORT_LOG: Output = Output {
+    end: b"[00:00:01.209 TRACE wire::frame] read 4096 bytes: kind Data, stream 5, end true\n",
+    ..pieces(LOG, 3)
 };
 
 impl Output {
@@ -144,7 +162,7 @@ impl Output {
 
 /// Returns the number of things in an input of `size` bytes, if one of 64 megabytes has `count`.
 pub fn share(size: usize, count: usize) -> usize {
-    size * count / 64_000_000
+    size * count / FULL_SIZE
 }
 
 /// Reads an input once, by a search for a byte 0, which does not occur in it.
