@@ -10,6 +10,7 @@ use crate::byte_source::ByteSource;
 use unicode::properties::GeneralCategory;
 
 /// Returns the UTF-8 character at `at` and its size in bytes, or `None` if none ends by `stop`.
+#[inline]
 fn char_at<S: ByteSource>(source: &mut S, at: usize, stop: usize) -> Option<(char, usize)>
     requires low { at < stop }
     requires high { stop ≤ length (S.bytes source.old) }

@@ -5,6 +5,7 @@ use crate::decimal_digits::is_decimal_digit;
 use crate::output_slice::byte_source::ByteSource;
 
 /// Returns the UTF-8 character at `at` and its size in bytes, or `None` if none ends by `stop`.
+#[inline]
 fn char_at<S: ByteSource>(source: &mut S, at: usize, stop: usize) -> Option<(char, usize)> {
     let first = source.byte(at);
     let size = (stop - at).min(4);
