@@ -7,6 +7,7 @@ use Rattle.std.specs.List.{list_all}
 use Rattle.std.specs.Str.{bytes_eq}
 use Rattle.std.proofs.lemmas.Slice.Eq.{bytes_eq-Decides}
 use Rattle.run_events_results.specs.declared.results.CancelReason.{CancelReason}
+use Rattle.run_events_results.specs.declared.results.CancelReason.TheVariants as reason
 use Rattle.run_digest_engine.specs.Reader.{named, reasons, result_words}
 use Rattle.run_digest_engine.specs.Spelling.{ResultWord, reason_word, word_of}
 use Rattle.run_digest_engine.proofs.PlainWords.{is_letter, is_plain}
@@ -85,7 +86,10 @@ pub word_is_plain : (r : ResultWord) → list_all is_plain (word_of r) ≡ true
 word_is_plain r = grind arith
 
 pub reason_found : (why : Option CancelReason) → named reason_word reasons (reason_word why) ≡ Some why
-reason_found why = grind arith
+unfolding reason_word
+reason_found (Some reason.Signal) = refl
+reason_found _ = refl
 
 pub reason_passes : (why : Option CancelReason) → list_all is_plain (reason_word why) ≡ true
+unfolding reason_word
 reason_passes why = grind arith

@@ -1,7 +1,7 @@
 -- The parsers of `count`, as functions on the words of a line: the results of its private functions. The grammar of a line
 -- is defined apart from them, in Spelling and Number.
 use Rattle.std.specs.Prelude.{◌+◌, ◌-◌, ◌*◌, ℕ, Bool, true, false, ◌&&◌, ◌==◌, nat_lt, nat_le, List}
-use Rattle.std.specs.Prelude.{[], ◌∷◌, length, fold, Option, Some, None, option_and_then, option_map, if◌then◌else◌, codes}
+use Rattle.std.specs.Prelude.{[], ◌∷◌, length, fold, map, Option, Some, None, option_and_then, option_map, if◌then◌else◌, codes}
 use Rattle.std.specs.Char.{is_ascii_digit}
 use Rattle.std.specs.List.{list_all, slice_split}
 use Rattle.std.specs.Str.{bytes_eq}
@@ -10,11 +10,10 @@ use Rattle.run_events_stats.specs.Counters.{UnitView, ScriptUnit, TestUnit}
 use Rattle.run_events_settings.specs.declared.config.FlakyResult.{FlakyResult}
 use Rattle.run_events_settings.specs.declared.config.FlakyResult.TheVariants as setting
 use Rattle.run_events_results.specs.declared.results.CancelReason.{CancelReason}
-use Rattle.run_events_results.specs.declared.results.CancelReason.TheVariants as reason
 use Rattle.run_events_results.specs.declared.results.ExecutionResultDescription.{ExecutionResultDescription}
 use Rattle.run_events_results.specs.declared.results.ExecutionResultDescription.TheVariants as result
 use Rattle.run_events_stats.specs.declared.stats.RunStart.{RunStart}
-use Rattle.run_digest_engine.specs.Spelling.{ResultWord, Pass, Leak, LeakFail, Fail, ExecFail, Timeout, TimeoutPass, word_of, result_named, reason_word}
+use Rattle.run_digest_engine.specs.Spelling.{ResultWord, Pass, Leak, LeakFail, Fail, ExecFail, Timeout, TimeoutPass, word_of, result_named, reason_word, reason_words}
 
 infixl 10 ◌>>=◌
 -- the function of a value that is present
@@ -34,12 +33,9 @@ result_words = Pass ∷ Leak ∷ LeakFail ∷ Fail ∷ ExecFail ∷ Timeout ∷ 
 unfoldable pub result_of : List ℕ → Option ExecutionResultDescription
 result_of word = option_map result_named (named word_of result_words word)
 
--- the reasons to cancel, with `None`
+-- the reasons that have a word, with `None`
 abbrev pub reasons : List (Option CancelReason)
-reasons =
-    None ∷ Some reason.SetupScriptFailure ∷ Some reason.TestFailure ∷ Some reason.ReportError ∷ Some reason.OutputLimit
-    ∷ Some reason.TestFailureImmediate ∷ Some reason.GlobalTimeout ∷ Some reason.Signal ∷ Some reason.Interrupt
-    ∷ Some reason.SecondSignal ∷ []
+reasons = map (λ entry. entry.0) reason_words
 
 -- the reason that a word names, which is `Some None` for `-`
 unfoldable pub reason_of : List ℕ → Option (Option CancelReason)

@@ -1,6 +1,7 @@
 -- The grammar of the lines of the input.
-use Rattle.std.specs.Prelude.{◌≡◌, ◌<◌, ◌+◌, ℕ, Bool, true, false, if◌then◌else◌, List, [], ◌∷◌, ◌++◌, map, length, codes, pos, Option, None, Some}
+use Rattle.std.specs.Prelude.{◌≡◌, ◌<◌, ◌+◌, ◌==◌, ℕ, Bool, true, false, if◌then◌else◌, List, [], ◌∷◌, ◌++◌, map, length, codes, pos, Option, None, Some}
 use Rattle.std.specs.List.{join_with_byte}
+use Rattle.run_events_levels.specs.Visibility.{severity}
 use Rattle.run_events_stats.specs.Counters.{UnitView, ScriptUnit, TestUnit}
 use Rattle.run_events_settings.specs.declared.config.FlakyResult.TheVariants as setting
 use Rattle.run_events_settings.specs.declared.config.LeakTimeoutResult.TheVariants as leak
@@ -13,18 +14,29 @@ use Rattle.run_events_results.specs.declared.results.failure.FailureDescription.
 use Rattle.run_events_stats.specs.declared.stats.RunStart.{RunStart}
 use Rattle.run_digest_engine.specs.Number.{SpellsNumber}
 
+-- the reasons to cancel a run with their words, and `-` for no reason
+abbrev pub reason_words : List (Option CancelReason × List ℕ)
+reason_words =
+    (None, codes "-")
+    ∷ (Some reason.SetupScriptFailure, codes "setup-script-failure")
+    ∷ (Some reason.TestFailure, codes "test-failure")
+    ∷ (Some reason.ReportError, codes "report-error")
+    ∷ (Some reason.OutputLimit, codes "output-limit")
+    ∷ (Some reason.TestFailureImmediate, codes "test-failure-immediate")
+    ∷ (Some reason.GlobalTimeout, codes "global-timeout")
+    ∷ (Some reason.Signal, codes "signal")
+    ∷ (Some reason.Interrupt, codes "interrupt")
+    ∷ (Some reason.SecondSignal, codes "second-signal")
+    ∷ []
+
+-- the word of a reason in a table, or no text if the table lacks the reason
+abbrev pub word_in : List (Option CancelReason × List ℕ) → Option CancelReason → List ℕ
+word_in [] why = []
+word_in (entry ∷ table) why = if severity entry.0 == severity why then entry.1 else word_in table why
+
 -- the word for a reason, and `-` for no reason
-abbrev pub reason_word : Option CancelReason → List ℕ
-reason_word None = codes "-"
-reason_word (Some reason.SetupScriptFailure) = codes "setup-script-failure"
-reason_word (Some reason.TestFailure) = codes "test-failure"
-reason_word (Some reason.ReportError) = codes "report-error"
-reason_word (Some reason.OutputLimit) = codes "output-limit"
-reason_word (Some reason.TestFailureImmediate) = codes "test-failure-immediate"
-reason_word (Some reason.GlobalTimeout) = codes "global-timeout"
-reason_word (Some reason.Signal) = codes "signal"
-reason_word (Some reason.Interrupt) = codes "interrupt"
-reason_word (Some reason.SecondSignal) = codes "second-signal"
+unfoldable pub reason_word : Option CancelReason → List ℕ
+reason_word why = word_in reason_words why
 
 -- the line is `KEYWORD TESTS SCRIPTS REASON`, the start of a run without skipped tests
 pub record SpellsStart (keyword line : List ℕ) (start : RunStart) : Type 0 where

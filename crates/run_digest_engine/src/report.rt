@@ -6,31 +6,12 @@ ghost use Rattle.run_events_stats.specs.Outcome.{IsHighest, outcome_of};
 ghost use Rattle.run_events_stats.specs.Summary.{FailuresFit, summary_of};
 ghost use Rattle.run_digest_engine.specs.Counted.{stats_reports};
 ghost use Rattle.run_digest_engine.specs.Report.{outcome_words, report_of};
-ghost use Rattle.run_digest_engine.specs.Spelling.{reason_word};
 
-use run_events_results::results::CancelReason;
+use crate::words::reason_text;
 use run_events_stats::outcome::{FinalRunStats, RunFailureStep, RunOutcome, RunStatsFailureKind};
 use run_events_stats::stats::RunStats;
 use std::alloc::{AllocError, Global};
 use std::fmt::{self, Write};
-
-/// Returns the word for a reason, as in line 1.
-fn reason_text(reason: Option<CancelReason>) -> &'static str
-    ensures { result.now ≡ reason_word reason }
-{
-    match reason {
-        None => "-",
-        Some(CancelReason::SetupScriptFailure) => "setup-script-failure",
-        Some(CancelReason::TestFailure) => "test-failure",
-        Some(CancelReason::ReportError) => "report-error",
-        Some(CancelReason::OutputLimit) => "output-limit",
-        Some(CancelReason::TestFailureImmediate) => "test-failure-immediate",
-        Some(CancelReason::GlobalTimeout) => "global-timeout",
-        Some(CancelReason::Signal) => "signal",
-        Some(CancelReason::Interrupt) => "interrupt",
-        Some(CancelReason::SecondSignal) => "second-signal",
-    }
-}
 
 /// The step of a run, displayed in words.
 #[derive(Clone, Copy)]

@@ -5,6 +5,7 @@ ghost use Rattle.std.specs.Char.{is_ascii_digit};
 ghost use Rattle.std.specs.List.{list_all};
 ghost use Rattle.run_events_results.specs.Described.{described_result};
 ghost use Rattle.run_digest_engine.specs.Reader.{flags_of, number_of, reason_of, result_of, start_fields, value_of_digits};
+ghost use Rattle.run_digest_engine.specs.Spelling.{reason_word};
 
 use crate::parts::Parts;
 use run_events_results::results::{CancelReason, ExecutionResult, FailureStatus};
@@ -45,8 +46,27 @@ pub(crate) fn parse_result(word: &str) -> Option<ExecutionResult>
     }
 }
 
+/// Returns the word for a reason, as in line 1.
+#[tactic(auto, unfolding(crate::specs::Spelling::reason_word))]
+pub(crate) fn reason_text(reason: Option<CancelReason>) -> &'static str
+    ensures { result.now ≡ reason_word reason }
+{
+    match reason {
+        None => "-",
+        Some(CancelReason::SetupScriptFailure) => "setup-script-failure",
+        Some(CancelReason::TestFailure) => "test-failure",
+        Some(CancelReason::ReportError) => "report-error",
+        Some(CancelReason::OutputLimit) => "output-limit",
+        Some(CancelReason::TestFailureImmediate) => "test-failure-immediate",
+        Some(CancelReason::GlobalTimeout) => "global-timeout",
+        Some(CancelReason::Signal) => "signal",
+        Some(CancelReason::Interrupt) => "interrupt",
+        Some(CancelReason::SecondSignal) => "second-signal",
+    }
+}
+
 /// Parses the word for a reason. The result is `Some(None)` for `-`.
-#[tactic(auto, unfolding(crate::specs::Reader::reason_of))]
+#[tactic(auto, unfolding(crate::specs::Reader::reason_of, crate::specs::Spelling::reason_word))]
 fn parse_reason(word: &str) -> Option<Option<CancelReason>>
     ensures { result ≡ reason_of word.now }
 {

@@ -1,26 +1,9 @@
 // Made by tools/erase from crates/run_digest_engine/src/report.rt. Do not edit.
 //! The text of reports of runs.
 
-use deodarsieve::{
-    CancelReason, FinalRunStats, RunFailureStep, RunOutcome, RunStats, RunStatsFailureKind,
-};
+use crate::run_digest_engine::words::reason_text;
+use deodarsieve::{FinalRunStats, RunFailureStep, RunOutcome, RunStats, RunStatsFailureKind};
 use std::fmt;
-
-/// Returns the word for a reason, as in line 1.
-fn reason_text(reason: Option<CancelReason>) -> &'static str {
-    match reason {
-        None => "-",
-        Some(CancelReason::SetupScriptFailure) => "setup-script-failure",
-        Some(CancelReason::TestFailure) => "test-failure",
-        Some(CancelReason::ReportError) => "report-error",
-        Some(CancelReason::OutputLimit) => "output-limit",
-        Some(CancelReason::TestFailureImmediate) => "test-failure-immediate",
-        Some(CancelReason::GlobalTimeout) => "global-timeout",
-        Some(CancelReason::Signal) => "signal",
-        Some(CancelReason::Interrupt) => "interrupt",
-        Some(CancelReason::SecondSignal) => "second-signal",
-    }
-}
 
 /// The step of a run, displayed in words.
 #[derive(Clone, Copy)]

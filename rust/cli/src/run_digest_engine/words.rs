@@ -38,6 +38,22 @@ pub(crate) fn parse_result(word: &str) -> Option<ExecutionResult> {
     }
 }
 
+/// Returns the word for a reason, as in line 1.
+pub(crate) fn reason_text(reason: Option<CancelReason>) -> &'static str {
+    match reason {
+        None => "-",
+        Some(CancelReason::SetupScriptFailure) => "setup-script-failure",
+        Some(CancelReason::TestFailure) => "test-failure",
+        Some(CancelReason::ReportError) => "report-error",
+        Some(CancelReason::OutputLimit) => "output-limit",
+        Some(CancelReason::TestFailureImmediate) => "test-failure-immediate",
+        Some(CancelReason::GlobalTimeout) => "global-timeout",
+        Some(CancelReason::Signal) => "signal",
+        Some(CancelReason::Interrupt) => "interrupt",
+        Some(CancelReason::SecondSignal) => "second-signal",
+    }
+}
+
 /// Parses the word for a reason. The result is `Some(None)` for `-`.
 fn parse_reason(word: &str) -> Option<Option<CancelReason>> {
     match word {
