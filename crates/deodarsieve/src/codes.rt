@@ -15,7 +15,9 @@ use run_events_stats::outcome::{RunFailureStep, RunOutcome, StressFinalRunStats}
 
 const FLAKY_RESULTS: [FlakyResult; 2] = [FlakyResult::Pass, FlakyResult::Fail];
 
-const REASONS: [Option<CancelReason>; 10] = [
+/// No reason to cancel a run, and the reasons. A code is a position in this table, so a new reason
+/// comes last.
+pub(crate) const REASONS: [Option<CancelReason>; 10] = [
     None,
     Some(CancelReason::SetupScriptFailure),
     Some(CancelReason::TestFailure),

@@ -3,7 +3,7 @@
 
 /// A part of captured output.
 #[repr(C)]
-#[derive(Clone, Copy)]
+#[derive(Clone, Copy, Debug, Default, PartialEq, Eq)]
 pub struct FfiSlice {
     /// The code of the part's kind, or 0 if nothing was found.
     pub kind: u32,
@@ -17,7 +17,7 @@ pub struct FfiSlice {
 
 /// The head of a panic message, and the number of reads of the search for it.
 #[repr(C)]
-#[derive(Clone, Copy)]
+#[derive(Clone, Copy, Debug, Default, PartialEq, Eq)]
 pub struct FfiHead {
     /// Whether there is a head. If not, start and stop are 0.
     pub is_found: bool,
@@ -34,7 +34,7 @@ pub struct FfiHead {
 
 /// The result of an attempt or of a setup script.
 #[repr(C)]
-#[derive(Clone, Copy)]
+#[derive(Clone, Copy, Debug, Default, PartialEq, Eq)]
 pub struct FfiResult {
     /// The code of the result.
     pub kind: u32,
@@ -45,7 +45,7 @@ pub struct FfiResult {
 
 /// The part of a finished test that decides its counters and its levels.
 #[repr(C)]
-#[derive(Clone, Copy)]
+#[derive(Clone, Copy, Debug, Default, PartialEq, Eq)]
 pub struct FfiTestView {
     /// The result of the last attempt.
     pub result: FfiResult,
@@ -62,7 +62,7 @@ pub struct FfiTestView {
 
 /// The counters of a run.
 #[repr(C)]
-#[derive(Clone, Copy)]
+#[derive(Clone, Copy, Debug, Default, PartialEq, Eq)]
 pub struct FfiRunStats {
     /// The tests that were to run.
     pub initial_run_count: usize,
@@ -128,7 +128,7 @@ pub struct FfiRunStats {
 
 /// The numbers of tests and of setup scripts that did not pass.
 #[repr(C)]
-#[derive(Clone, Copy)]
+#[derive(Clone, Copy, Debug, Default, PartialEq, Eq)]
 pub struct FfiFailedCounts {
     /// The tests.
     pub tests: usize,
@@ -140,7 +140,7 @@ pub struct FfiFailedCounts {
 /// The summary of a finished run. If a function writes it, fields that its kind and its step do not
 /// have are 0. If a function reads it, they are ignored.
 #[repr(C)]
-#[derive(Clone, Copy)]
+#[derive(Clone, Copy, Debug, Default, PartialEq, Eq)]
 pub struct FfiFinalStats {
     /// The code of the summary's kind.
     pub kind: u32,
@@ -160,7 +160,7 @@ pub struct FfiFinalStats {
 
 /// A test that has just finished, and the reporter's settings that decide how it is displayed.
 #[repr(C)]
-#[derive(Clone, Copy)]
+#[derive(Clone, Copy, Debug, Default, PartialEq, Eq)]
 pub struct FfiFinishedTest {
     /// The code of the reporter's status level.
     pub status_level: u32,
@@ -186,7 +186,7 @@ pub struct FfiFinishedTest {
 
 /// What a reporter does with a test that has just finished.
 #[repr(C)]
-#[derive(Clone, Copy)]
+#[derive(Clone, Copy, Debug, Default, PartialEq, Eq)]
 pub struct FfiOutput {
     /// Whether a line with the test's status is written.
     pub write_status_line: bool,
@@ -200,7 +200,7 @@ pub struct FfiOutput {
 
 /// A duration.
 #[repr(C)]
-#[derive(Clone, Copy)]
+#[derive(Clone, Copy, Debug, Default, PartialEq, Eq)]
 pub struct FfiDuration {
     /// Its whole seconds.
     pub seconds: u64,
@@ -211,7 +211,7 @@ pub struct FfiDuration {
 
 /// The progress of a repeated run.
 #[repr(C)]
-#[derive(Clone, Copy)]
+#[derive(Clone, Copy, Debug, Default, PartialEq, Eq)]
 pub struct FfiStressProgress {
     /// The code of how long the run is repeated.
     pub kind: u32,
@@ -231,7 +231,7 @@ pub struct FfiStressProgress {
 
 /// What remains of a repeated run. A field that its kind does not have is 0.
 #[repr(C)]
-#[derive(Clone, Copy)]
+#[derive(Clone, Copy, Debug, Default, PartialEq, Eq)]
 pub struct FfiStressRemaining {
     /// The code of the kind of what remains.
     pub kind: u32,
