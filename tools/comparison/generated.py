@@ -1,12 +1,13 @@
 """Inputs for the programs, made from a random generator: the same for the same seed."""
 
 import json
+import re
+from pathlib import Path
 
 RESULTS = ["pass", "leak", "leak-fail", "fail", "exec-fail", "timeout", "timeout-pass"]
-REASONS = [
-    "-", "setup-script-failure", "test-failure", "report-error", "output-limit",
-    "test-failure-immediate", "global-timeout", "signal", "interrupt", "second-signal",
-]
+# The words for reasons are those of the definition.
+SPELLING = Path(__file__).parents[2] / "crates" / "run_digest_engine" / "specs" / "Spelling.antt"
+REASONS = re.findall(r"\((?:None|Some reason\.\w+), codes \"(\S+)\"\)", SPELLING.read_text(encoding="utf-8"))
 COUNTS = ["0", "1", "2", "3", "10", "999999", "1000000", "1000001", "0000001", "00000001", "", "+1", "x"]
 PIECES = [
     b"thread '", b"thread 'main' panicked at ", b"' panicked at ", b" panicked at ", b"' (",

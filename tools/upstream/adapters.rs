@@ -28,10 +28,25 @@ all!(FinalStatusLevel: None Fail Flaky Slow Skip Leak Pass All);
 all!(LeakTimeoutResult: Pass Fail);
 all!(SlowTimeoutResult: Pass Fail);
 all!(RunFailureStep: SetupScript Test);
-// Upstream's reasons: `OutputLimit` is this crate's own.
-all!(CancelReason: SetupScriptFailure TestFailure ReportError TestFailureImmediate GlobalTimeout
-    Signal Interrupt SecondSignal);
 all!(AbortDescription: WindowsJobObject);
+
+/// The page that lists the variants that upstream does not have.
+const PROMISES: &str = include_str!("SEMVER.md");
+
+impl All for CancelReason {
+    /// Returns upstream's reasons. An error of `serde` lists the words of all reasons.
+    fn all() -> Vec<Self> {
+        let error = serde_json::from_str::<Self>(r#""no-such-word""#)
+            .expect_err("no reason has this word")
+            .to_string();
+        let words = error.split('`').skip(3).step_by(2);
+        let reasons = words.map(|word| serde_json::from_str(&format!("{word:?}")));
+        reasons
+            .map(|reason: Result<Self, _>| reason.expect("a word names a reason"))
+            .filter(|reason| !PROMISES.contains(&format!("`CancelReason::{reason:?}`")))
+            .collect()
+    }
+}
 
 impl All for bool {
     fn all() -> Vec<Self> {

@@ -29,7 +29,8 @@ HEAD = """\
 #![cfg(test)]
 mod adapters;
 """
-HAND_WRITTEN = ("adapters.rs", "snapshots.txt")
+HERE = Path(__file__).parent
+HAND_WRITTEN = (HERE / "adapters.rs", HERE / "snapshots.txt", CRATE / "SEMVER.md")
 LINE = re.compile(r"^test (\S+) \.\.\. (ok|FAILED)$", re.MULTILINE)
 
 
@@ -38,8 +39,8 @@ def write_package(folder, text):
     (folder / "src").mkdir()
     (folder / "Cargo.toml").write_text(MANIFEST, encoding="utf-8")
     (folder / "src" / "lib.rs").write_text(HEAD + text, encoding="utf-8")
-    for name in HAND_WRITTEN:
-        shutil.copy(Path(__file__).parent / name, folder / "src" / name)
+    for path in HAND_WRITTEN:
+        shutil.copy(path, folder / "src" / path.name)
 
 
 def run_tests(text, configs):

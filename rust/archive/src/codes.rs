@@ -1,5 +1,6 @@
 //! The values of each enumeration, in the order of their codes.
 
+use crate::exports;
 use deodarsieve::{
     AbortDescription, CancelReason, ExecutionResultDescription, FailureDescription,
     FinalStatusLevel, FlakyResult, LeakTimeoutResult, OutputStoreFinal, RunFailureStep, RunOutcome,
@@ -8,18 +9,7 @@ use deodarsieve::{
 
 pub const FLAKY_RESULTS: [FlakyResult; 2] = [FlakyResult::Pass, FlakyResult::Fail];
 
-pub const REASONS: [Option<CancelReason>; 10] = [
-    None,
-    Some(CancelReason::SetupScriptFailure),
-    Some(CancelReason::TestFailure),
-    Some(CancelReason::ReportError),
-    Some(CancelReason::OutputLimit),
-    Some(CancelReason::TestFailureImmediate),
-    Some(CancelReason::GlobalTimeout),
-    Some(CancelReason::Signal),
-    Some(CancelReason::Interrupt),
-    Some(CancelReason::SecondSignal),
-];
+pub const REASONS: &[Option<CancelReason>] = &exports::codes::REASONS;
 
 pub const LEVELS: [StatusLevel; 8] = [
     StatusLevel::None,
@@ -59,8 +49,6 @@ pub const STORES: [OutputStoreFinal; 3] = [
         display_output: true,
     },
 ];
-
-pub const STEPS: [RunFailureStep; 2] = [RunFailureStep::Test, RunFailureStep::SetupScript];
 
 pub const OUTCOMES: [RunOutcome; 6] = [
     RunOutcome::NoTestsRun,

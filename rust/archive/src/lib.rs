@@ -1,9 +1,10 @@
 //! Calls of the proved static library, for comparison with the crate `deodarsieve`.
 //!
-//! [`sys`] declares the exports and the structs of `rust/c/include/deodarsieve.h`. [`codes`] and
+//! [`sys`] declares the exports of `rust/c/include/deodarsieve.h`, and has its structs. [`codes`] and
 //! [`values`] convert the types of the crate to codes and structs. Nothing is converted back: two
 //! results are compared as the structs of C.
 
 pub mod codes;
+mod exports;
 pub mod sys;
 pub mod values;

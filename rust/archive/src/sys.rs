@@ -1,146 +1,16 @@
 //! The structs and the functions of `rust/c/include/deodarsieve.h`.
 //!
-//! All unsafe code of the comparison is here. A struct has the members of its struct of C, in their
-//! order. A function that takes references only is safe to call. A function that takes a pointer and
+//! All unsafe code of the comparison is here. The structs are those of the C library, which its tests
+//! compare with the header. A function that takes references only is safe to call. A function that takes a pointer and
 //! a length has a safe one next to it that takes a slice.
 
-/// The call succeeded.
-pub const OK: u32 = 0;
-
-/// A counter or a sum does not fit `usize`.
-pub const COUNTER_FULL: u32 = 2;
-
-/// A part of captured output.
-#[repr(C)]
-#[derive(Clone, Copy, Debug, Default, PartialEq, Eq)]
-pub struct Slice {
-    pub kind: u32,
-    pub start: usize,
-    pub length: usize,
-}
-
-/// The front of a panic message, and the number of bytes that the search for it read.
-#[repr(C)]
-#[derive(Clone, Copy, Debug, Default, PartialEq, Eq)]
-pub struct Head {
-    pub is_found: bool,
-    pub start: usize,
-    pub stop: usize,
-    pub reads: u64,
-}
-
-/// The result of an attempt or of a setup script.
-#[repr(C)]
-#[derive(Clone, Copy, Debug, Default, PartialEq, Eq)]
-pub struct UnitResult {
-    pub kind: u32,
-    pub number: i32,
-}
-
-/// A finished test.
-#[repr(C)]
-#[derive(Clone, Copy, Debug, Default, PartialEq, Eq)]
-pub struct TestView {
-    pub result: UnitResult,
-    pub attempts: usize,
-    pub is_slow: bool,
-    pub flaky_result: u32,
-}
-
-/// The counters of a run.
-#[repr(C)]
-#[derive(Clone, Copy, Debug, Default, PartialEq, Eq)]
-pub struct RunStats {
-    pub initial_run_count: usize,
-    pub finished_count: usize,
-    pub setup_scripts_initial_count: usize,
-    pub setup_scripts_finished_count: usize,
-    pub setup_scripts_passed: usize,
-    pub setup_scripts_failed: usize,
-    pub setup_scripts_exec_failed: usize,
-    pub setup_scripts_timed_out: usize,
-    pub passed: usize,
-    pub passed_slow: usize,
-    pub passed_timed_out: usize,
-    pub flaky: usize,
-    pub failed: usize,
-    pub failed_slow: usize,
-    pub failed_timed_out: usize,
-    pub leaky: usize,
-    pub leaky_failed: usize,
-    pub exec_failed: usize,
-    pub skipped: usize,
-    pub cancel_reason: u32,
-}
-
-/// The numbers of tests and of setup scripts that failed.
-#[repr(C)]
-#[derive(Clone, Copy, Debug, Default, PartialEq, Eq)]
-pub struct FailedCounts {
-    pub tests: usize,
-    pub setup_scripts: usize,
-}
-
-/// The summary of a finished run.
-#[repr(C)]
-#[derive(Clone, Copy, Debug, Default, PartialEq, Eq)]
-pub struct FinalStats {
-    pub kind: u32,
-    pub reason: u32,
-    pub step: u32,
-    pub initial_run_count: usize,
-    pub not_run: usize,
-}
-
-/// A finished test with the settings of a reporter.
-#[repr(C)]
-#[derive(Clone, Copy, Debug, Default, PartialEq, Eq)]
-pub struct FinishedTest {
-    pub status_level: u32,
-    pub final_status_level: u32,
-    pub display: u32,
-    pub cancel_reason: u32,
-    pub test_status_level: u32,
-    pub test_final_status_level: u32,
-    pub result: UnitResult,
-}
-
-/// What a reporter does with a finished test.
-#[repr(C)]
-#[derive(Clone, Copy, Debug, Default, PartialEq, Eq)]
-pub struct Output {
-    pub write_status_line: bool,
-    pub show_immediate: bool,
-    pub store_final: u32,
-}
-
-/// A duration.
-#[repr(C)]
-#[derive(Clone, Copy, Debug, Default, PartialEq, Eq)]
-pub struct Duration {
-    pub seconds: u64,
-    pub nanoseconds: u32,
-}
-
-/// The progress of a repeated run.
-#[repr(C)]
-#[derive(Clone, Copy, Debug, Default, PartialEq, Eq)]
-pub struct StressProgress {
-    pub kind: u32,
-    pub total_count: u32,
-    pub completed: u32,
-    pub total: Duration,
-    pub elapsed: Duration,
-}
-
-/// What remains of a repeated run.
-#[repr(C)]
-#[derive(Clone, Copy, Debug, Default, PartialEq, Eq)]
-pub struct StressRemaining {
-    pub kind: u32,
-    pub count: u32,
-    pub time: Duration,
-}
+pub use crate::exports::layout::{
+    FfiDuration as Duration, FfiFailedCounts as FailedCounts, FfiFinalStats as FinalStats,
+    FfiFinishedTest as FinishedTest, FfiHead as Head, FfiOutput as Output, FfiResult as UnitResult,
+    FfiRunStats as RunStats, FfiSlice as Slice, FfiStressProgress as StressProgress,
+    FfiStressRemaining as StressRemaining, FfiTestView as TestView,
+};
+pub use crate::exports::status::{COUNTER_FULL, OK};
 
 // SAFETY: the header declares these functions with these parameters. It requires that a pointer to
 // a struct points to a whole struct, to which nobody else writes, and references do.

@@ -1,20 +1,17 @@
 //! The values of the crate as structs of C.
 
-use crate::codes::{FLAKY_RESULTS, REASONS, STEPS, STORES, code_of};
+use crate::codes::{FLAKY_RESULTS, STORES, code_of};
+use crate::exports::values::{written_final, written_stats};
 use crate::sys;
 use deodarsieve::counted::HeadSpan;
 use deodarsieve::{
     AbortDescription, ExecutionResultDescription, FailureDescription, FinalRunStats,
-    LeakTimeoutResult, OutputOnTestFinished, RunStats, RunStatsFailureKind, SlowTimeoutResult,
-    StressCount, StressProgress, StressRemaining, TestOutputErrorSlice, TestView,
+    LeakTimeoutResult, OutputOnTestFinished, RunStats, SlowTimeoutResult, StressCount,
+    StressProgress, StressRemaining, TestOutputErrorSlice, TestView,
 };
 use std::time::Duration;
 
-// The kinds of a summary and of a repeated run: members that a kind does not have are 0.
-const FINAL_NO_TESTS_RUN: u32 = 0;
-const FINAL_SUCCESS: u32 = 1;
-const FINAL_CANCELLED: u32 = 2;
-const FINAL_FAILED: u32 = 3;
+// The kinds of a repeated run: members that a kind does not have are 0.
 const STRESS_COUNT: u32 = 0;
 const STRESS_INFINITE: u32 = 1;
 const STRESS_TIME: u32 = 2;
@@ -95,72 +92,13 @@ impl From<&TestView<'_>> for sys::TestView {
 
 impl From<&RunStats> for sys::RunStats {
     fn from(stats: &RunStats) -> Self {
-        Self {
-            initial_run_count: stats.initial_run_count,
-            finished_count: stats.finished_count,
-            setup_scripts_initial_count: stats.setup_scripts_initial_count,
-            setup_scripts_finished_count: stats.setup_scripts_finished_count,
-            setup_scripts_passed: stats.setup_scripts_passed,
-            setup_scripts_failed: stats.setup_scripts_failed,
-            setup_scripts_exec_failed: stats.setup_scripts_exec_failed,
-            setup_scripts_timed_out: stats.setup_scripts_timed_out,
-            passed: stats.passed,
-            passed_slow: stats.passed_slow,
-            passed_timed_out: stats.passed_timed_out,
-            flaky: stats.flaky,
-            failed: stats.failed,
-            failed_slow: stats.failed_slow,
-            failed_timed_out: stats.failed_timed_out,
-            leaky: stats.leaky,
-            leaky_failed: stats.leaky_failed,
-            exec_failed: stats.exec_failed,
-            skipped: stats.skipped,
-            cancel_reason: code_of(&REASONS, stats.cancel_reason),
-        }
+        written_stats(*stats)
     }
 }
 
 impl From<FinalRunStats> for sys::FinalStats {
     fn from(stats: FinalRunStats) -> Self {
-        match stats {
-            FinalRunStats::NoTestsRun => Self {
-                kind: FINAL_NO_TESTS_RUN,
-                ..Self::default()
-            },
-            FinalRunStats::Success => Self {
-                kind: FINAL_SUCCESS,
-                ..Self::default()
-            },
-            FinalRunStats::Cancelled { reason, kind } => Self {
-                kind: FINAL_CANCELLED,
-                reason: code_of(&REASONS, reason),
-                ..of_failure_kind(kind)
-            },
-            FinalRunStats::Failed { kind } => Self {
-                kind: FINAL_FAILED,
-                ..of_failure_kind(kind)
-            },
-        }
-    }
-}
-
-/// Returns the step and the numbers of a failed or a cancelled run.
-fn of_failure_kind(kind: RunStatsFailureKind) -> sys::FinalStats {
-    let step = code_of(&STEPS, kind.step());
-    match kind {
-        RunStatsFailureKind::SetupScript => sys::FinalStats {
-            step,
-            ..Default::default()
-        },
-        RunStatsFailureKind::Test {
-            initial_run_count,
-            not_run,
-        } => sys::FinalStats {
-            step,
-            initial_run_count,
-            not_run,
-            ..Default::default()
-        },
+        written_final(stats)
     }
 }
 

@@ -1,6 +1,7 @@
 //! Each type, matched from outside the crate. The matches are not called: they compile only if
 //! every variant and field that they name is public, if the enums in `open!` are `non_exhaustive`,
-//! and if no other is.
+//! and if no other is. `CancelReason` and `RunStats` are not here: the package deodarsieve-c matches
+//! all variants of the one, and makes the other from all fields.
 #![deny(unreachable_patterns)]
 #![allow(dead_code, reason = "that it compiles is the test")]
 
@@ -47,17 +48,6 @@ closed!(AbortStatus {
     AbortStatus::UnixSignal(_),
     AbortStatus::WindowsNtStatus(_),
     AbortStatus::JobObject,
-});
-closed!(CancelReason {
-    CancelReason::SetupScriptFailure,
-    CancelReason::TestFailure,
-    CancelReason::ReportError,
-    CancelReason::OutputLimit,
-    CancelReason::TestFailureImmediate,
-    CancelReason::GlobalTimeout,
-    CancelReason::Signal,
-    CancelReason::Interrupt,
-    CancelReason::SecondSignal,
 });
 open!(ExecutionResultDescription {
     ExecutionResultDescription::Pass,
@@ -329,28 +319,6 @@ fields!(RunStart {
     setup_scripts_initial_count,
     skipped,
     cancel_reason
-});
-fields!(RunStats {
-    initial_run_count,
-    finished_count,
-    setup_scripts_initial_count,
-    setup_scripts_finished_count,
-    setup_scripts_passed,
-    setup_scripts_failed,
-    setup_scripts_exec_failed,
-    setup_scripts_timed_out,
-    passed,
-    passed_slow,
-    passed_timed_out,
-    flaky,
-    failed,
-    failed_slow,
-    failed_timed_out,
-    leaky,
-    leaky_failed,
-    exec_failed,
-    skipped,
-    cancel_reason,
 });
 fields!(SetupScriptEnvMap { env_map });
 fields!(SetupScriptExecuteStatus<LiveSpec> {

@@ -6,7 +6,9 @@
 
 #![forbid(unsafe_code)]
 
+mod exports;
 pub mod fixtures;
+pub mod named;
 pub mod output_slice_tests;
 
 #[cfg(test)]

@@ -7,31 +7,19 @@ use deodarsieve::{
     LeakTimeoutResult, LiveSpec, RunStats, StatusLevel, TestOutputErrorSlice, TestView,
 };
 use deodarsieve_tests::fixtures::{EXIT_ONE, LEAK_PASS, PASS, TIMEOUT_PASS, finished_test};
+use deodarsieve_tests::named::counters_by;
 use std::num::NonZero;
 
 /// Returns counters that all differ, by more than 1.
 fn counters() -> RunStats {
+    let mut value = 0;
+    let stats = counters_by(|_| {
+        value += 10;
+        value
+    });
     RunStats {
-        initial_run_count: 10,
-        finished_count: 20,
-        setup_scripts_initial_count: 30,
-        setup_scripts_finished_count: 40,
-        setup_scripts_passed: 50,
-        setup_scripts_failed: 60,
-        setup_scripts_exec_failed: 70,
-        setup_scripts_timed_out: 80,
-        passed: 90,
-        passed_slow: 100,
-        passed_timed_out: 110,
-        flaky: 120,
-        failed: 130,
-        failed_slow: 140,
-        failed_timed_out: 150,
-        leaky: 160,
-        leaky_failed: 170,
-        exec_failed: 180,
-        skipped: 190,
         cancel_reason: Some(CancelReason::OutputLimit),
+        ..stats
     }
 }
 
@@ -42,29 +30,34 @@ fn other_counters_do_not_change() {
         result: LeakTimeoutResult::Pass,
     };
     stats.on_test_view(&TestView::new(&leak).with_attempts(2).with_slow(true));
-    let after_test = RunStats {
-        finished_count: 21,
-        passed: 91,
-        passed_slow: 101,
-        flaky: 121,
-        leaky: 161,
-        ..counters()
-    };
+    let mut after_test = counters();
+    after_test.finished_count += 1;
+    after_test.passed += 1;
+    after_test.passed_slow += 1;
+    after_test.flaky += 1;
+    after_test.leaky += 1;
     assert_eq!(stats, after_test);
     stats.on_script_result(&leak);
-    let after_script = RunStats {
-        setup_scripts_finished_count: 41,
-        setup_scripts_passed: 51,
-        ..after_test
-    };
+    let mut after_script = after_test;
+    after_script.setup_scripts_finished_count += 1;
+    after_script.setup_scripts_passed += 1;
     assert_eq!(stats, after_script);
 }
 
 #[test]
 fn each_failure_counter_can_make_a_sum_too_large() {
-    assert!(counters().failed_counts_fit());
-    assert_eq!(counters().failed_count(), 460);
-    assert_eq!(counters().failed_setup_script_count(), 210);
+    let stats = counters();
+    assert!(stats.failed_counts_fit());
+    assert_eq!(
+        stats.failed_count(),
+        stats.failed + stats.exec_failed + stats.failed_timed_out
+    );
+    assert_eq!(
+        stats.failed_setup_script_count(),
+        stats.setup_scripts_failed
+            + stats.setup_scripts_exec_failed
+            + stats.setup_scripts_timed_out
+    );
     let fill: [fn(&mut RunStats); 6] = [
         |stats| stats.failed = usize::MAX,
         |stats| stats.exec_failed = usize::MAX,

@@ -1,6 +1,6 @@
 //! Checks that the exports allocate nothing, as the header says.
 
-use crate::counters::{no_counters, views};
+use crate::counters::views;
 use crate::displays::{NO_OUTPUT, finished_test};
 use crate::outcomes::NOTHING;
 use crate::stress::{NO_TIME, progress};
@@ -9,7 +9,7 @@ use deodarsieve_c::exports::counters::{
     deodarsieve_run_stats_failed_counts, deodarsieve_run_stats_has_failures,
 };
 use deodarsieve_c::exports::layout::{
-    FfiFailedCounts, FfiFinalStats, FfiHead, FfiResult, FfiSlice, FfiStressRemaining,
+    FfiFailedCounts, FfiFinalStats, FfiHead, FfiResult, FfiRunStats, FfiSlice, FfiStressRemaining,
 };
 use deodarsieve_c::exports::levels::{
     deodarsieve_finished_test_compute_output, deodarsieve_result_is_success,
@@ -107,7 +107,7 @@ fn searches_allocate_nothing() {
 #[test]
 fn counters_and_levels_allocate_nothing() {
     for test in views() {
-        let (mut stats, mut answer, mut is_true) = (no_counters(), 77, false);
+        let (mut stats, mut answer, mut is_true) = (FfiRunStats::default(), 77, false);
         let mut failed = FfiFailedCounts {
             tests: 77,
             setup_scripts: 77,

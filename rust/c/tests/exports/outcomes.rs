@@ -1,7 +1,6 @@
 //! Compares the exports with the layer for all codes of summaries and outcomes.
 
-use crate::counters::no_counters;
-use crate::tables::{OUTCOMES, REASONS, STEPS, SUMMARIES, code_of, expect_codes};
+use crate::tables::{OUTCOMES, REASONS, STEPS, SUMMARIES, code_of, expect_codes, variant_of};
 use deodarsieve::{
     FinalRunStats, RunFailureStep, RunOutcome, RunStats, RunStatsFailureKind, StressFinalRunStats,
     StressIndex, StressRunStats,
@@ -88,7 +87,10 @@ fn summaries() -> Vec<FinalRunStats> {
     };
     for kind in [tests, RunStatsFailureKind::SetupScript] {
         all.push(FinalRunStats::Failed { kind });
-        all.extend(REASONS.map(|(_, reason)| FinalRunStats::Cancelled { reason, kind }));
+        all.extend(REASONS.iter().map(|(_, reason)| FinalRunStats::Cancelled {
+            reason: *reason,
+            kind,
+        }));
     }
     all
 }
@@ -134,7 +136,8 @@ fn summaries_are_read() {
 fn counters() -> impl Iterator<Item = (RunStats, FfiRunStats)> {
     (0..64 * REASONS.len()).map(|case: usize| {
         let digit = |at: usize| case >> at & 1;
-        let (code, (_, reason)) = (0..).zip(REASONS).nth(case / 64).expect("a reason");
+        let code = u32::try_from(case / 64).expect("a table is short");
+        let reason = variant_of(&REASONS, code);
         let given = FfiRunStats {
             initial_run_count: digit(0),
             finished_count: digit(1),
@@ -143,7 +146,7 @@ fn counters() -> impl Iterator<Item = (RunStats, FfiRunStats)> {
             failed: digit(4),
             setup_scripts_failed: digit(5),
             cancel_reason: code,
-            ..no_counters()
+            ..FfiRunStats::default()
         };
         let stats = RunStats {
             initial_run_count: digit(0),

@@ -1,5 +1,6 @@
 //! The variants of each enumeration with their names in the header, in the order of their codes.
 
+use crate::codes;
 use crate::header_text::numbers;
 use deodarsieve::{
     AbortDescription, CancelReason, ExecutionResultDescription, FailureDescription,
@@ -7,28 +8,34 @@ use deodarsieve::{
     SlowTimeoutResult, StatusLevel, StressFinalRunStats, TestOutputDisplay,
 };
 use deodarsieve_c::exports::status::{BAD_CODE, OK};
+use std::sync::LazyLock;
 
 pub const FLAKY_RESULTS: [(&str, FlakyResult); 2] =
     [("PASS", FlakyResult::Pass), ("FAIL", FlakyResult::Fail)];
 
-pub const REASONS: [(&str, Option<CancelReason>); 10] = [
-    ("NONE", None),
-    (
-        "SETUP_SCRIPT_FAILURE",
-        Some(CancelReason::SetupScriptFailure),
-    ),
-    ("TEST_FAILURE", Some(CancelReason::TestFailure)),
-    ("REPORT_ERROR", Some(CancelReason::ReportError)),
-    ("OUTPUT_LIMIT", Some(CancelReason::OutputLimit)),
-    (
-        "TEST_FAILURE_IMMEDIATE",
-        Some(CancelReason::TestFailureImmediate),
-    ),
-    ("GLOBAL_TIMEOUT", Some(CancelReason::GlobalTimeout)),
-    ("SIGNAL", Some(CancelReason::Signal)),
-    ("INTERRUPT", Some(CancelReason::Interrupt)),
-    ("SECOND_SIGNAL", Some(CancelReason::SecondSignal)),
-];
+/// The reasons in the order of the table that `tools/erase` writes. Their names in the header follow
+/// from those of the variants.
+pub static REASONS: LazyLock<Vec<(String, Option<CancelReason>)>> = LazyLock::new(|| {
+    let name = |reason| match reason {
+        None => String::from("NONE"),
+        Some(reason) => constant_name(&format!("{reason:?}")),
+    };
+    codes::REASONS
+        .map(|reason: Option<CancelReason>| (name(reason), reason))
+        .to_vec()
+});
+
+/// Returns the name of a constant of C for a variant of Rust: `TEST_FAILURE` for `TestFailure`.
+fn constant_name(variant: &str) -> String {
+    let mut name = String::new();
+    for letter in variant.chars() {
+        if letter.is_uppercase() && !name.is_empty() {
+            name.push('_');
+        }
+        name.push(letter.to_ascii_uppercase());
+    }
+    name
+}
 
 pub const LEVELS: [(&str, StatusLevel); 8] = [
     ("NONE", StatusLevel::None),
@@ -181,11 +188,11 @@ pub fn results(number: i32) -> [(&'static str, ExecutionResultDescription); 10] 
 }
 
 /// Checks that the header has the names of a table, with the codes 0, 1, 2 and so on.
-fn expect_names<T>(prefix: &str, table: &[(&'static str, T)]) {
+fn expect_names<T>(prefix: &str, table: &[(impl AsRef<str>, T)]) {
     let mut codes = numbers(prefix);
     // The prefix of summaries is also one of final status levels.
     codes.retain(|(name, _)| !name.starts_with("STATUS_LEVEL_"));
-    let names = table.iter().map(|(name, _)| *name);
+    let names = table.iter().map(|(name, _)| name.as_ref());
     assert_eq!(codes, names.zip(0..).collect::<Vec<_>>(), "{prefix}");
 }
 
@@ -201,13 +208,13 @@ pub fn expect_codes<T>(table: &[T], call: impl Fn(u32) -> u32) {
 }
 
 /// Returns the code of a variant.
-pub fn code_of<T: PartialEq>(table: &[(&str, T)], variant: &T) -> u32 {
+pub fn code_of<N, T: PartialEq>(table: &[(N, T)], variant: &T) -> u32 {
     let found = table.iter().zip(0..).find(|((_, it), _)| it == variant);
     found.expect("each variant has a code").1
 }
 
 /// Returns the variant of a code.
-pub fn variant_of<T: Copy>(table: &[(&str, T)], code: u32) -> T {
+pub fn variant_of<N, T: Copy>(table: &[(N, T)], code: u32) -> T {
     table[code as usize].1
 }
 

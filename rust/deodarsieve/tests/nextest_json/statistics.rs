@@ -6,38 +6,32 @@ use std::time::Duration;
 use crate::{is_json, read, refusal};
 use deodarsieve::*;
 
-/// Counters with different values, and their JSON.
-fn counters() -> (RunStats, &'static str) {
-    let stats = RunStats {
-        initial_run_count: 1,
-        finished_count: 2,
-        setup_scripts_initial_count: 3,
-        setup_scripts_finished_count: 4,
-        setup_scripts_passed: 5,
-        setup_scripts_failed: 6,
-        setup_scripts_exec_failed: 7,
-        setup_scripts_timed_out: 8,
-        passed: 9,
-        passed_slow: 10,
-        passed_timed_out: 11,
-        flaky: 12,
-        failed: 13,
-        failed_slow: 14,
-        failed_timed_out: 15,
-        leaky: 16,
-        leaky_failed: 17,
-        exec_failed: 18,
-        skipped: 19,
-        cancel_reason: Some(CancelReason::Interrupt),
-    };
-    let members = concat!(
-        r#""initial-run-count":1,"finished-count":2,"setup-scripts-initial-count":3,"#,
-        r#""setup-scripts-finished-count":4,"setup-scripts-passed":5,"setup-scripts-failed":6,"#,
-        r#""setup-scripts-exec-failed":7,"setup-scripts-timed-out":8,"passed":9,"#,
-        r#""passed-slow":10,"passed-timed-out":11,"flaky":12,"failed":13,"failed-slow":14,"#,
-        r#""failed-timed-out":15,"leaky":16,"leaky-failed":17,"exec-failed":18,"skipped":19,"#,
-        r#""cancel-reason":"interrupt"}"#
+/// Counters with different values, and their JSON. It has the names of the fields in their order, with
+/// `-` for `_`.
+fn counters() -> (RunStats, String) {
+    let zeros = format!("{:?}", RunStats::default());
+    let (_, zeros) = zeros.split_once(" { ").expect("a struct has fields");
+    let names = zeros
+        .split(", ")
+        .filter_map(|field| field.strip_suffix(": 0"));
+    let numbered: Vec<_> = names.zip(1..).collect();
+    let fields = numbered
+        .iter()
+        .map(|(name, value)| format!("{name}: {value}, "));
+    let fields = format!(
+        "RunStats {{ {}cancel_reason: Some(Interrupt) }}",
+        fields.collect::<String>()
     );
+    let members = numbered
+        .iter()
+        .map(|(name, value)| format!(r#""{}":{value},"#, name.replace('_', "-")));
+    let members = format!(
+        r#"{}"cancel-reason":"interrupt"}}"#,
+        members.collect::<String>()
+    );
+    let stats = read(&format!("{{{members}"));
+    assert_eq!(format!("{stats:?}"), fields);
+    assert!(members.contains(r#","setup-scripts-timed-out":8,"passed":9,"#));
     (stats, members)
 }
 

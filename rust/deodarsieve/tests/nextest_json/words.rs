@@ -1,10 +1,13 @@
 //! Settings, reasons, levels and groups, which are words.
 
-use crate::{are_words, is_json, read};
+use std::fmt::Debug;
+
+use crate::{are_words, is_json, read, refusal};
 use deodarsieve::*;
+use serde::de::DeserializeOwned;
 
 #[test]
-fn settings_and_reasons_are_words() {
+fn settings_are_words() {
     are_words(&[
         (NextestRunMode::Test, "test"),
         (NextestRunMode::Benchmark, "benchmark"),
@@ -18,17 +21,28 @@ fn settings_and_reasons_are_words() {
         (SlowTimeoutResult::Pass, "pass"),
         (SlowTimeoutResult::Fail, "fail"),
     ]);
-    are_words(&[
-        (CancelReason::SetupScriptFailure, "setup-script-failure"),
-        (CancelReason::TestFailure, "test-failure"),
-        (CancelReason::ReportError, "report-error"),
-        (CancelReason::OutputLimit, "output-limit"),
-        (CancelReason::TestFailureImmediate, "test-failure-immediate"),
-        (CancelReason::GlobalTimeout, "global-timeout"),
-        (CancelReason::Signal, "signal"),
-        (CancelReason::Interrupt, "interrupt"),
-        (CancelReason::SecondSignal, "second-signal"),
-    ]);
+}
+
+/// Returns the words that a type is read from. An error lists them.
+fn words_of<T: DeserializeOwned + Debug>() -> Vec<String> {
+    let refused = refusal::<T>(r#""no-such-word""#);
+    refused
+        .split('`')
+        .skip(3)
+        .step_by(2)
+        .map(String::from)
+        .collect()
+}
+
+#[test]
+fn reasons_are_the_names_of_their_variants() {
+    let words = words_of::<CancelReason>();
+    assert!(words.iter().any(|word| word == "setup-script-failure"));
+    for word in words {
+        let reason: CancelReason = read(&format!("{word:?}"));
+        is_json(&reason, &format!("{word:?}"));
+        assert_eq!(format!("{reason:?}").to_lowercase(), word.replace('-', ""));
+    }
 }
 
 #[test]

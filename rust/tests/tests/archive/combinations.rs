@@ -85,7 +85,7 @@ fn compare_output(
             status_level: code_of(&LEVELS, own.status_level),
             final_status_level: code_of(&FINAL_LEVELS, own.final_status_level),
             display: code_of(&DISPLAYS, display),
-            cancel_reason: code_of(&REASONS, reason),
+            cancel_reason: code_of(REASONS, reason),
             test_status_level: code_of(&LEVELS, level),
             test_final_status_level: code_of(&FINAL_LEVELS, final_level),
             result: result.into(),
@@ -99,7 +99,7 @@ fn compare_output(
 #[test]
 fn settings_of_a_reporter() {
     let results = results(15);
-    let settings = pairs(&DISPLAYS, &REASONS);
+    let settings = pairs(&DISPLAYS, REASONS);
     let levels = pairs(&LEVELS, &FINAL_LEVELS);
     for ((own, setting), test) in pairs(&pairs(&levels, &settings), &levels) {
         let own = StatusLevels {

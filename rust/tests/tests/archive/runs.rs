@@ -9,6 +9,7 @@ use deodarsieve_archive::codes::{
     FLAKY_RESULTS, OUTCOMES, REASONS, STRESS_FINALS, code_of, results,
 };
 use deodarsieve_archive::sys::{self, COUNTER_FULL, OK, written};
+use deodarsieve_tests::named::counters_by;
 use std::num::NonZero;
 use std::time::Duration;
 
@@ -29,29 +30,10 @@ fn counter(generator: &mut Generator) -> usize {
 
 /// Returns counters with any values.
 fn counters(generator: &mut Generator) -> RunStats {
-    let cancel_reason = *generator.pick(&REASONS);
-    let mut next = || counter(generator);
+    let cancel_reason = *generator.pick(REASONS);
     RunStats {
-        initial_run_count: next(),
-        finished_count: next(),
-        setup_scripts_initial_count: next(),
-        setup_scripts_finished_count: next(),
-        setup_scripts_passed: next(),
-        setup_scripts_failed: next(),
-        setup_scripts_exec_failed: next(),
-        setup_scripts_timed_out: next(),
-        passed: next(),
-        passed_slow: next(),
-        passed_timed_out: next(),
-        flaky: next(),
-        failed: next(),
-        failed_slow: next(),
-        failed_timed_out: next(),
-        leaky: next(),
-        leaky_failed: next(),
-        exec_failed: next(),
-        skipped: next(),
         cancel_reason,
+        ..counters_by(|_| counter(generator))
     }
 }
 

@@ -5,20 +5,7 @@ use deodarsieve::{
     FinalStatusLevel, OutputOnTestFinished, OutputStoreFinal, StatusLevel, StatusLevels,
     TestOutputDisplay,
 };
-
-/// No reason, and all reasons, the least first.
-const REASONS: [Option<CancelReason>; 10] = [
-    None,
-    Some(CancelReason::SetupScriptFailure),
-    Some(CancelReason::TestFailure),
-    Some(CancelReason::ReportError),
-    Some(CancelReason::OutputLimit),
-    Some(CancelReason::TestFailureImmediate),
-    Some(CancelReason::GlobalTimeout),
-    Some(CancelReason::Signal),
-    Some(CancelReason::Interrupt),
-    Some(CancelReason::SecondSignal),
-];
+use deodarsieve_tests::named::reasons;
 
 const DISPLAYS: [TestOutputDisplay; 4] = [
     TestOutputDisplay::Immediate,
@@ -102,10 +89,11 @@ fn assert_that_less_is_shown(
     execution_result: &ExecutionResultDescription,
     is_terminated: bool,
 ) {
+    let reasons = reasons();
     for level in FINAL_LEVELS {
         let is_asked_for = display != TestOutputDisplay::Never || own >= level;
-        for (place, lesser) in REASONS.iter().enumerate() {
-            for greater in &REASONS[place..] {
+        for (place, lesser) in reasons.iter().enumerate() {
+            for greater in &reasons[place..] {
                 let is_exception = *lesser == Some(CancelReason::TestFailureImmediate)
                     && (*greater == Some(CancelReason::GlobalTimeout)
                         || *greater == Some(CancelReason::Signal))

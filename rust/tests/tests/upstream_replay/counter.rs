@@ -7,6 +7,8 @@ use crate::unit::{Unit, test_in};
 use crate::words::named_result;
 use deodarsieve::{RunStart, RunStats};
 use deodarsieve_tests::fixtures::finished_script;
+use deodarsieve_tests::named::counters_by;
+use std::collections::BTreeMap;
 
 /// Returns the counters after a unit was counted from zero.
 fn updated(unit: &Unit) -> RunStats {
@@ -39,40 +41,15 @@ pub fn unit_in(text: &str) -> Option<Unit> {
     }
 }
 
-/// Returns the counter of a name.
-fn counter_mut<'a>(stats: &'a mut RunStats, name: &str) -> Option<&'a mut usize> {
-    Some(match name {
-        "initial_run_count" => &mut stats.initial_run_count,
-        "setup_scripts_initial_count" => &mut stats.setup_scripts_initial_count,
-        "skipped" => &mut stats.skipped,
-        "setup_scripts_finished_count" => &mut stats.setup_scripts_finished_count,
-        "setup_scripts_passed" => &mut stats.setup_scripts_passed,
-        "setup_scripts_failed" => &mut stats.setup_scripts_failed,
-        "setup_scripts_exec_failed" => &mut stats.setup_scripts_exec_failed,
-        "setup_scripts_timed_out" => &mut stats.setup_scripts_timed_out,
-        "finished_count" => &mut stats.finished_count,
-        "passed" => &mut stats.passed,
-        "passed_slow" => &mut stats.passed_slow,
-        "passed_timed_out" => &mut stats.passed_timed_out,
-        "flaky" => &mut stats.flaky,
-        "failed" => &mut stats.failed,
-        "failed_slow" => &mut stats.failed_slow,
-        "failed_timed_out" => &mut stats.failed_timed_out,
-        "leaky" => &mut stats.leaky,
-        "leaky_failed" => &mut stats.leaky_failed,
-        "exec_failed" => &mut stats.exec_failed,
-        _ => return None,
-    })
-}
-
 /// Returns the counters that a text names.
 pub fn counters_in(text: &str) -> Option<RunStats> {
-    let mut stats = RunStats::default();
+    let mut named = BTreeMap::new();
     for part in text.split(", ") {
         let (name, value) = part.split_once(": ")?;
-        *counter_mut(&mut stats, name)? = value.parse().ok()?;
+        named.insert(name, value.parse().ok()?);
     }
-    Some(stats)
+    let stats = counters_by(|name| named.remove(name).unwrap_or(0));
+    named.is_empty().then_some(stats)
 }
 
 /// Returns true if the crates have the result of a case, or `None` if the text is not a case.

@@ -13,6 +13,7 @@ use deodarsieve::{
     FinalStatusLevel, OutputOnTestFinished, OutputStoreFinal, StatusLevel, StatusLevels,
     TestOutputDisplay,
 };
+use deodarsieve_tests::named::named_reason;
 
 const STATUS_LEVELS: [StatusLevel; 8] = [
     StatusLevel::None,
@@ -45,24 +46,6 @@ pub fn named_display(word: &str) -> Option<TestOutputDisplay> {
         "Never" => Some(TestOutputDisplay::Never),
         _ => None,
     }
-}
-
-/// Returns the reason to cancel that a word names, if any: `-` for no reason.
-pub fn named_reason(word: &str) -> Option<Option<CancelReason>> {
-    let reason = match word {
-        "-" => return Some(None),
-        "setup-script-failure" => CancelReason::SetupScriptFailure,
-        "test-failure" => CancelReason::TestFailure,
-        "report-error" => CancelReason::ReportError,
-        "output-limit" => CancelReason::OutputLimit,
-        "test-failure-immediate" => CancelReason::TestFailureImmediate,
-        "global-timeout" => CancelReason::GlobalTimeout,
-        "signal" => CancelReason::Signal,
-        "interrupt" => CancelReason::Interrupt,
-        "second-signal" => CancelReason::SecondSignal,
-        _ => return None,
-    };
-    Some(Some(reason))
 }
 
 /// Returns the result that a word names.

@@ -1,7 +1,7 @@
 //! Tests are started, slow, retried, finished and skipped.
 
 use super::{
-    SO_FAR, THIRD, are, event_of, instance, is_instance, is_result, is_silent, kind_of, owned,
+    THIRD, are, event_of, instance, is_instance, is_result, is_silent, kind_of, owned, so_far,
 };
 use deodarsieve::{
     ExecuteStatus, ExecutionStatuses, FlakyResult, JunitFlakyFailStatus, LiveSpec, MismatchReason,
@@ -60,7 +60,7 @@ fn started() -> ReporterEvent<'static> {
         stress_index: THIRD,
         test_instance: instance("adds"),
         slot_assignment,
-        current_stats: SO_FAR,
+        current_stats: so_far(),
         running: 3,
         command_line,
     };
@@ -84,7 +84,7 @@ fn is_started(event: &ReporterEvent<'_>) -> bool {
         && *stress_index == THIRD
         && is_instance(test_instance, "adds")
         && is_in_group(slot_assignment, "database")
-        && *current_stats == SO_FAR
+        && *current_stats == so_far()
         && are(command_line, &["app", "--exact", "adds"])
 }
 
@@ -140,7 +140,7 @@ fn finished() -> ReporterEvent<'static> {
         junit_store_failure_output: true,
         junit_flaky_fail_status: JunitFlakyFailStatus { name: "failure" },
         run_statuses: finished_test(&[EXIT_ONE], LEAK_PASS, false, FlakyResult::Fail),
-        current_stats: SO_FAR,
+        current_stats: so_far(),
         running: 0,
     };
     event_of(kind)
@@ -172,7 +172,7 @@ fn is_finished(event: &ReporterEvent<'_>) -> bool {
         && is_instance(test_instance, "adds")
         && junit_flaky_fail_status.name == "failure"
         && are_two(run_statuses)
-        && *current_stats == SO_FAR
+        && *current_stats == so_far()
 }
 
 /// Returns true if the attempts are two, of a test that fails if it is flaky, and the last one leaked.

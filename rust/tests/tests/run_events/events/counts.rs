@@ -1,6 +1,6 @@
 //! The finished units of events are counted.
 
-use super::{SO_FAR, event_of, instance, script_id};
+use super::{event_of, instance, script_id, so_far};
 use deodarsieve::{
     CancelReason, ExecutionResult, FinalRunStats, FinishedUnit, FlakyResult, JunitFlakyFailStatus,
     ReporterEvent, RunStart, RunStats, RunStatsFailureKind, TestEventKind, TestOutputDisplay,
@@ -25,7 +25,7 @@ fn test_finished(
         junit_store_failure_output: true,
         junit_flaky_fail_status: JunitFlakyFailStatus { name: "failure" },
         run_statuses: finished_test(earlier, last, is_slow, FlakyResult::Pass),
-        current_stats: SO_FAR,
+        current_stats: so_far(),
         running: 0,
     };
     event_of(kind)

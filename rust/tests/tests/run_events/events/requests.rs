@@ -2,7 +2,7 @@
 
 use super::states::{delayed, ending, is_as_made};
 use super::{
-    SO_FAR, THIRD, are, event_of, instance, is_instance, is_silent, kind_of, owned, script_id,
+    THIRD, are, event_of, instance, is_instance, is_silent, kind_of, owned, script_id, so_far,
 };
 use deodarsieve::{
     InfoResponse, ReporterEvent, RetryData, SetupScriptInfoResponse, TestEventKind,
@@ -112,7 +112,7 @@ fn answers_are_read_back() {
 fn asked() -> ReporterEvent<'static> {
     let kind = TestEventKind::InfoStarted {
         total: 4,
-        run_stats: SO_FAR,
+        run_stats: so_far(),
     };
     event_of(kind)
 }
@@ -121,7 +121,7 @@ fn asked() -> ReporterEvent<'static> {
 fn is_asked(event: &ReporterEvent<'_>) -> bool {
     match kind_of(event) {
         Some(TestEventKind::InfoStarted { total, run_stats }) => {
-            *total == 4 && *run_stats == SO_FAR
+            *total == 4 && *run_stats == so_far()
         }
         _ => false,
     }
@@ -141,7 +141,7 @@ fn is_all_answered(event: &ReporterEvent<'_>) -> bool {
 
 fn entered() -> ReporterEvent<'static> {
     let kind = TestEventKind::InputEnter {
-        current_stats: SO_FAR,
+        current_stats: so_far(),
         running: 8,
     };
     event_of(kind)
@@ -156,7 +156,7 @@ fn is_entered(event: &ReporterEvent<'_>) -> bool {
     else {
         return false;
     };
-    *running == 8 && *current_stats == SO_FAR
+    *running == 8 && *current_stats == so_far()
 }
 
 #[test]

@@ -1,6 +1,6 @@
 //! A run and its sub-runs begin and end.
 
-use super::{FIRST, LAST, SO_FAR, are, event_of, is_instance, kind_of, owned};
+use super::{FIRST, LAST, are, event_of, is_instance, kind_of, owned, so_far};
 use deodarsieve::{
     FinalRunStats, OwnedTestInstanceId, ReporterEvent, RunFinishedStats, StressCondition,
     StressIndex, StressProgress, StressRunStats, TestEventKind, TestInstanceId, TestList,
@@ -163,7 +163,7 @@ fn sub_run_over() -> ReporterEvent<'static> {
     let kind = TestEventKind::StressSubRunFinished {
         progress: an_hour(3),
         sub_elapsed: Duration::from_millis(1_500),
-        sub_stats: SO_FAR,
+        sub_stats: so_far(),
     };
     event_of(kind)
 }
@@ -178,7 +178,9 @@ fn is_sub_run_over(event: &ReporterEvent<'_>) -> bool {
     else {
         return false;
     };
-    *progress == an_hour(3) && *sub_elapsed == Duration::from_millis(1_500) && *sub_stats == SO_FAR
+    *progress == an_hour(3)
+        && *sub_elapsed == Duration::from_millis(1_500)
+        && *sub_stats == so_far()
 }
 
 fn over() -> ReporterEvent<'static> {
@@ -186,7 +188,7 @@ fn over() -> ReporterEvent<'static> {
         run_id: Uuid::from_u128(7),
         start_time: FIRST,
         elapsed: Duration::from_secs(59),
-        run_stats: RunFinishedStats::Single(SO_FAR),
+        run_stats: RunFinishedStats::Single(so_far()),
         outstanding_not_seen: None,
     };
     event_of(kind)
@@ -207,7 +209,7 @@ fn is_over(event: &ReporterEvent<'_>) -> bool {
     *run_id == Uuid::from_u128(7)
         && *start_time == FIRST
         && *elapsed == Duration::from_secs(59)
-        && *run_stats == RunFinishedStats::Single(SO_FAR)
+        && *run_stats == RunFinishedStats::Single(so_far())
 }
 
 #[test]

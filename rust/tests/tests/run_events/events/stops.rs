@@ -1,13 +1,13 @@
 //! A run is cancelled, paused and continued.
 
-use super::{SO_FAR, event_of, kind_of};
+use super::{event_of, kind_of, so_far};
 use deodarsieve::{CancelReason, ReporterEvent, RunStats, TestEventKind};
 
 /// The counters of a run that is cancelled for this reason.
 fn stats_at(reason: CancelReason) -> RunStats {
     RunStats {
         cancel_reason: Some(reason),
-        ..SO_FAR
+        ..so_far()
     }
 }
 

@@ -2,7 +2,7 @@
 
 use crate::level::{named_final_level, named_level};
 use crate::rows::words::result_in;
-use crate::visibility::{named_display, named_reason};
+use crate::visibility::named_display;
 use crate::words::{named_setting, named_truth};
 use deodarsieve::{
     AbortDescription, ExecuteStatus, ExecutionDescription, ExecutionResult,
@@ -10,6 +10,7 @@ use deodarsieve::{
     StatusLevels,
 };
 use deodarsieve_tests::fixtures::attempt;
+use deodarsieve_tests::named::named_reason;
 
 /// Returns the results of all attempts; `none` for no attempt.
 fn results_in(words: &str) -> Option<Vec<ExecutionResult>> {

@@ -1,0 +1,7 @@
+//! The codes and the structs of the C library, of which the tests use the table of reasons.
+#![allow(dead_code, reason = "the tests use the table of reasons alone")]
+
+#[path = "../../c/src/exports/codes.rs"]
+pub mod codes;
+#[path = "../../c/src/exports/layout.rs"]
+pub mod layout;

@@ -1,0 +1,54 @@
+//! The counters of a run and the reasons to cancel one, by their names in the source.
+
+use crate::exports::codes;
+use deodarsieve::{CancelReason, RunStats};
+use serde::Deserialize;
+use serde::de::value::{Error, MapDeserializer};
+use std::sync::LazyLock;
+
+/// The names of the counters, in the order of the fields of `RunStats`.
+static COUNTERS: LazyLock<Vec<String>> = LazyLock::new(|| {
+    let text = format!("{:?}", RunStats::default());
+    let (_, fields) = text.split_once(" { ").expect("a struct has fields");
+    let zeros = fields
+        .split(", ")
+        .filter_map(|field| field.strip_suffix(": 0"));
+    zeros.map(String::from).collect()
+});
+
+/// Returns counters with the values that a function has for their names, and no reason to cancel.
+pub fn counters_by(mut value_of: impl FnMut(&str) -> usize) -> RunStats {
+    let members = COUNTERS
+        .iter()
+        .map(|name| (name.replace('_', "-"), value_of(name)));
+    let members = MapDeserializer::<_, Error>::new(members);
+    RunStats::deserialize(members).expect("each counter has a value")
+}
+
+/// Returns no reason to cancel, and all reasons, the least severe first.
+pub fn reasons() -> Vec<Option<CancelReason>> {
+    let mut reasons = codes::REASONS.to_vec();
+    reasons.sort();
+    reasons
+}
+
+/// Returns the reason to cancel that a word names, if any: `-` for no reason. A word is the name of a
+/// variant in small letters, with `-` between its parts.
+pub fn named_reason(word: &str) -> Option<Option<CancelReason>> {
+    reasons().into_iter().find(|reason| match reason {
+        None => word == "-",
+        Some(reason) => small_words(&format!("{reason:?}")) == word,
+    })
+}
+
+/// Returns the name of a variant in small letters: `test-failure` for `TestFailure`.
+fn small_words(name: &str) -> String {
+    let mut words = String::new();
+    for letter in name.chars() {
+        if letter.is_uppercase() && !words.is_empty() {
+            words.push('-');
+        }
+        words.push(letter.to_ascii_lowercase());
+    }
+    words
+}
