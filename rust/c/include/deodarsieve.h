@@ -101,7 +101,7 @@ __attribute__((used)) static void (*const deodarsieve_layouts)(void) = deodarsie
 #define DEODARSIEVE_FLAKY_PASS 0u
 #define DEODARSIEVE_FLAKY_FAIL 1u
 
-/* Why a run is cancelled, from the least to the most severe reason. */
+/* Why a run is cancelled. */
 #define DEODARSIEVE_REASON_NONE 0u /* it is not cancelled */
 #define DEODARSIEVE_REASON_SETUP_SCRIPT_FAILURE 1u
 #define DEODARSIEVE_REASON_TEST_FAILURE 2u

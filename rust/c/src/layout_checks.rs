@@ -1,7 +1,9 @@
 //! The sizes of the structs and the offsets of their fields, on targets whose pointers have 64 bits.
 //!
 //! They are those that the end of `include/deodarsieve.h` asserts, in the same order. The library does
-//! not build if one of them differs.
+//! not build if one of them differs. `tools/header` writes the numbers here and there.
+//!
+//! deodarsieve_layouts_1, the version of these layouts, has the sum 4f9d78cb173c6168.
 
 use crate::exports::layout::{
     FfiDuration, FfiFailedCounts, FfiFinalStats, FfiFinishedTest, FfiHead, FfiOutput, FfiResult,
