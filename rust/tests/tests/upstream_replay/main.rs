@@ -4,7 +4,8 @@
 //! `data/upstream_replay.txt` has a case in each line: the name of its kind, a space, and the case.
 //! A line that begins with `#` describes the cases after it. A line that begins with `changed` has
 //! a case with another result than upstream's, and a line that begins with `malformed` has no case.
-//! These two kinds show that the replay notices a wrong line.
+//! These two kinds show that the replay notices a wrong line. `docs/PLAIN-RUST.md` has the number of lines,
+//! which `tools/documents` compares.
 
 mod counter;
 mod engine;
@@ -54,11 +55,11 @@ fn agrees(line: &str) -> Option<bool> {
     }
 }
 
-/// Replays the lines of a kind. There must be `count` of them.
-fn replay(kind: &str, count: usize) {
+#[test]
+fn all_lines_agree() {
     let mut replayed = 0;
     let mut failures = Vec::new();
-    for (number, line) in cases().filter(|(_, line)| line.split(' ').next() == Some(kind)) {
+    for (number, line) in cases() {
         replayed += 1;
         match agrees(line) {
             Some(true) => {}
@@ -67,60 +68,5 @@ fn replay(kind: &str, count: usize) {
         }
     }
     assert!(failures.is_empty(), "{}", failures.join("\n"));
-    assert_eq!(replayed, count, "lines of the kind {kind}");
-}
-
-#[test]
-fn there_is_no_other_case() {
-    assert_eq!(cases().count(), 5_487);
-}
-
-#[test]
-fn runs_that_are_counted() {
-    replay("count", 382);
-}
-
-#[test]
-fn outputs_that_are_extracted() {
-    replay("digest-extract", 143);
-}
-
-#[test]
-fn counters_of_units() {
-    replay("counter", 63);
-}
-
-#[test]
-fn slices_of_output() {
-    replay("extract", 2_090);
-}
-
-#[test]
-fn heads_of_output() {
-    replay("heads", 2_089);
-}
-
-#[test]
-fn levels_of_tests() {
-    replay("level", 56);
-}
-
-#[test]
-fn output_that_is_shown() {
-    replay("visibility", 108);
-}
-
-#[test]
-fn worked_rows() {
-    replay("row", 531);
-}
-
-#[test]
-fn changed_cases_disagree() {
-    replay("changed", 15);
-}
-
-#[test]
-fn malformed_lines_have_no_case() {
-    replay("malformed", 10);
+    assert!(replayed > 0);
 }
