@@ -7,7 +7,7 @@ use serde::de::value::{Error, MapDeserializer};
 use std::sync::LazyLock;
 
 /// The names of the counters, in the order of the fields of `RunStats`.
-static COUNTERS: LazyLock<Vec<String>> = LazyLock::new(|| {
+pub static COUNTERS: LazyLock<Vec<String>> = LazyLock::new(|| {
     let text = format!("{:?}", RunStats::default());
     let (_, fields) = text.split_once(" { ").expect("a struct has fields");
     let zeros = fields
@@ -32,23 +32,24 @@ pub fn reasons() -> Vec<Option<CancelReason>> {
     reasons
 }
 
-/// Returns the reason to cancel that a word names, if any: `-` for no reason. A word is the name of a
-/// variant in small letters, with `-` between its parts.
+/// Returns the reason to cancel that a word names, if any.
 pub fn named_reason(word: &str) -> Option<Option<CancelReason>> {
-    reasons().into_iter().find(|reason| match reason {
-        None => word == "-",
-        Some(reason) => small_words(&format!("{reason:?}")) == word,
-    })
+    reasons()
+        .into_iter()
+        .find(|reason| word_of(*reason) == word)
 }
 
-/// Returns the name of a variant in small letters: `test-failure` for `TestFailure`.
-fn small_words(name: &str) -> String {
-    let mut words = String::new();
-    for letter in name.chars() {
-        if letter.is_uppercase() && !words.is_empty() {
-            words.push('-');
+/// Returns the word for a reason: `test-failure` for `TestFailure`, and `-` for no reason.
+pub fn word_of(reason: Option<CancelReason>) -> String {
+    let Some(reason) = reason else {
+        return String::from("-");
+    };
+    let mut word = String::new();
+    for letter in format!("{reason:?}").chars() {
+        if letter.is_uppercase() && !word.is_empty() {
+            word.push('-');
         }
-        words.push(letter.to_ascii_lowercase());
+        word.push(letter.to_ascii_lowercase());
     }
-    words
+    word
 }
