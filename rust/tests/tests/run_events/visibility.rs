@@ -95,8 +95,8 @@ fn assert_that_less_is_shown(
         for (place, lesser) in reasons.iter().enumerate() {
             for greater in &reasons[place..] {
                 let is_exception = *lesser == Some(CancelReason::TestFailureImmediate)
-                    && (*greater == Some(CancelReason::GlobalTimeout)
-                        || *greater == Some(CancelReason::Signal))
+                    && greater > lesser
+                    && *greater <= Some(CancelReason::Signal)
                     && is_terminated
                     && is_asked_for;
                 let more = output(own, display, *greater, level, execution_result);
