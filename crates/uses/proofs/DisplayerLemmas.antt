@@ -15,18 +15,13 @@ hidden_when_stopped w ended = rw ended refl
 pub shown_up_to_signal : (w : Asked) (why : Option CancelReason) → (why ≡ Some reason.TestFailureImmediate → w.terminated ≡ false)
     → severity why ≤ severity (Some reason.Signal) → (visibility w why).show_immediate ≡ w.at_once
 shown_up_to_signal w (Some reason.TestFailureImmediate) spared up_to = rw (spared refl) refl
-shown_up_to_signal w (Some reason.Interrupt) spared up_to = absurd (omega (arith, up_to))
-shown_up_to_signal w (Some reason.SecondSignal) spared up_to = absurd (omega (arith, up_to))
-shown_up_to_signal w _ spared up_to = refl
+shown_up_to_signal w _ spared up_to = grind (arith, up_to)
 
 -- below a signal, any other test is stored if that is asked for
 pub stored_below_signal : (w : Asked) (why : Option CancelReason) → (why ≡ Some reason.TestFailureImmediate → w.terminated ≡ false)
     → severity why < severity (Some reason.Signal) → (visibility w why).store_final ≡ (if w.stored then Yes w.at_end else No)
 stored_below_signal w (Some reason.TestFailureImmediate) spared below = rw (spared refl) refl
-stored_below_signal w (Some reason.Signal) spared below = absurd (omega (arith, below))
-stored_below_signal w (Some reason.Interrupt) spared below = absurd (omega (arith, below))
-stored_below_signal w (Some reason.SecondSignal) spared below = absurd (omega (arith, below))
-stored_below_signal w _ spared below = refl
+stored_below_signal w _ spared below = grind (arith, below)
 
 once : (at_once at_end stored : Bool)
     → (if stored then Yes (if at_once then false else at_end) else No) ≡ without_output at_once (if stored then Yes at_end else No)
