@@ -256,21 +256,21 @@ typedef struct deodarsieve_run_stats {
     size_t finished_count;               /* tests that finished */
     size_t setup_scripts_initial_count;  /* setup scripts that were to run */
     size_t setup_scripts_finished_count; /* setup scripts that finished */
-    size_t setup_scripts_passed;         /* passed, or leaked and counts as passed */
-    size_t setup_scripts_failed;         /* failed, or leaked and counts as failed */
-    size_t setup_scripts_exec_failed;    /* could not be executed */
-    size_t setup_scripts_timed_out;      /* timed out, even if that counts as passed */
-    size_t passed;                       /* succeeded, except flaky tests that count as failed */
+    size_t setup_scripts_passed;         /* setup scripts that passed, or leaked and count as passed */
+    size_t setup_scripts_failed;         /* setup scripts that failed, or leaked and count as failed */
+    size_t setup_scripts_exec_failed;    /* setup scripts that could not be executed */
+    size_t setup_scripts_timed_out;      /* setup scripts that timed out, even if that counts as passed */
+    size_t passed;                       /* tests that succeeded, except flaky tests that count as failed */
     size_t passed_slow;                  /* slow tests among `passed`, except timeouts */
     size_t passed_timed_out;             /* timeouts among `passed` */
     size_t flaky;                        /* flaky tests among `passed` */
-    size_t failed;                       /* failed; or LEAK_FAIL; or flaky and counts as failed */
+    size_t failed;                       /* tests that failed or have LEAK_FAIL, and flaky tests that count as failed */
     size_t failed_slow;                  /* slow tests among `failed` */
-    size_t failed_timed_out;             /* TIMEOUT_FAIL; not in `failed` */
-    size_t leaky;                        /* LEAK_PASS */
-    size_t leaky_failed;                 /* LEAK_FAIL; in `failed` */
-    size_t exec_failed;                  /* could not be executed; not in `failed` */
-    size_t skipped;                      /* skipped */
+    size_t failed_timed_out;             /* tests with TIMEOUT_FAIL, which are not in `failed` */
+    size_t leaky;                        /* tests with LEAK_PASS */
+    size_t leaky_failed;                 /* tests with LEAK_FAIL, which are in `failed` */
+    size_t exec_failed;                  /* tests that could not be executed, which are not in `failed` */
+    size_t skipped;                      /* tests that were skipped */
     uint32_t cancel_reason;              /* DEODARSIEVE_REASON_... */
 } deodarsieve_run_stats;
 

@@ -60,69 +60,69 @@ pub struct FfiTestView {
     pub flaky_result: u32,
 }
 
-/// The counters of a run.
+/// The counters of a run: the tests or setup scripts that their docstrings describe. `tools/header`
+/// writes these docstrings into the header.
 #[repr(C)]
 #[derive(Clone, Copy, Debug, Default, PartialEq, Eq)]
 pub struct FfiRunStats {
-    /// The tests that were to run.
+    /// Tests that were to run.
     pub initial_run_count: usize,
 
-    /// The tests that finished.
+    /// Tests that finished.
     pub finished_count: usize,
 
-    /// The setup scripts that were to run.
+    /// Setup scripts that were to run.
     pub setup_scripts_initial_count: usize,
 
-    /// The setup scripts that finished.
+    /// Setup scripts that finished.
     pub setup_scripts_finished_count: usize,
 
-    /// The setup scripts that passed.
+    /// Setup scripts that passed, or leaked and count as passed.
     pub setup_scripts_passed: usize,
 
-    /// The setup scripts that failed.
+    /// Setup scripts that failed, or leaked and count as failed.
     pub setup_scripts_failed: usize,
 
-    /// The setup scripts that could not be executed.
+    /// Setup scripts that could not be executed.
     pub setup_scripts_exec_failed: usize,
 
-    /// The setup scripts that ran out of time.
+    /// Setup scripts that timed out, even if that counts as passed.
     pub setup_scripts_timed_out: usize,
 
-    /// The tests that passed.
+    /// Tests that succeeded, except flaky tests that count as failed.
     pub passed: usize,
 
-    /// The slow tests among `passed`, except those that ran out of time.
+    /// Slow tests among `passed`, except timeouts.
     pub passed_slow: usize,
 
-    /// The tests among `passed` that ran out of time.
+    /// Timeouts among `passed`.
     pub passed_timed_out: usize,
 
-    /// The tests among `passed` that succeeded after a retry.
+    /// Flaky tests among `passed`.
     pub flaky: usize,
 
-    /// The tests that failed, that leaked if that counts as failed, or that are flaky and count as
-    /// failed.
+    /// Tests that failed or have LEAK_FAIL, and flaky tests that count as failed.
     pub failed: usize,
 
-    /// The slow tests among `failed`.
+    /// Slow tests among `failed`.
     pub failed_slow: usize,
 
-    /// The tests that failed because they ran out of time. They are not among `failed`.
+    /// Tests with TIMEOUT_FAIL, which are not in `failed`.
     pub failed_timed_out: usize,
 
-    /// The tests that leaked if that counts as passed, even if they are flaky and count as failed.
+    /// Tests with LEAK_PASS.
     pub leaky: usize,
 
-    /// The tests among `failed` that leaked if that counts as failed.
+    /// Tests with LEAK_FAIL, which are in `failed`.
     pub leaky_failed: usize,
 
-    /// The tests that could not be executed. They are not among `failed`.
+    /// Tests that could not be executed, which are not in `failed`.
     pub exec_failed: usize,
 
-    /// The tests that were skipped.
+    /// Tests that were skipped.
     pub skipped: usize,
 
-    /// The code of why the run was cancelled, or 0 if it was not.
+    /// DEODARSIEVE_REASON_...
     pub cancel_reason: u32,
 }
 
