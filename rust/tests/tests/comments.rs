@@ -7,6 +7,7 @@ use deodarsieve::{
 use deodarsieve_tests::named::{COUNTERS, reasons, word_of};
 
 const HEADER: &str = include_str!("../../c/include/deodarsieve.h");
+const LAWS: &str = include_str!("../../../crates/run_events_results/src/laws.rt");
 const OUTPUT: &str = include_str!("../../../crates/run_events_levels/src/levels/output.rt");
 const RUN_DIGEST: &str = include_str!("../../../docs/RUN-DIGEST.md");
 const RUN_LAWS: &str = include_str!("../../../crates/run_events_stats/specs/RunLaws.antt");
@@ -115,6 +116,18 @@ fn reasons_of_the_exception() {
         let found = names_between(text, ", but not with ", ".\n");
         assert_named(&found, variant_of, is_later);
     }
+}
+
+#[test]
+fn the_least_and_the_most_severe_reason() {
+    let found = names_between(
+        LAWS,
+        "Cancel reasons are ordered as they are declared",
+        ".\n",
+    );
+    let reasons: Vec<_> = reasons().into_iter().flatten().collect();
+    let is_end = |reason| Some(&reason) == reasons.first() || Some(&reason) == reasons.last();
+    assert_named(&found, variant_of, is_end);
 }
 
 #[test]
