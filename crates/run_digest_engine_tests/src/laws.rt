@@ -14,7 +14,7 @@ use run_events::levels::{FinalStatusLevel, StatusLevel};
 use run_events::outcome::{RunFailureStep, RunOutcome};
 use run_events::results::CancelReason;
 use run_events::run_mode::NextestRunMode;
-use run_events::stats::RunStats;
+use run_events::stats::{RunStart, RunStats};
 use run_events::stress::StressIndex;
 use std::alloc::{AllocError, Global};
 use std::cmp::Ordering;
@@ -22,33 +22,17 @@ use std::hash::{DefaultHasher, Hasher};
 use std::num::NonZero;
 use std::test::Fail;
 
-/// Counters that are all 0.
-const ZERO: RunStats = RunStats {
+/// The start of a run of nothing.
+const NOTHING: RunStart = RunStart {
     initial_run_count: 0,
-    finished_count: 0,
     setup_scripts_initial_count: 0,
-    setup_scripts_finished_count: 0,
-    setup_scripts_passed: 0,
-    setup_scripts_failed: 0,
-    setup_scripts_exec_failed: 0,
-    setup_scripts_timed_out: 0,
-    passed: 0,
-    passed_slow: 0,
-    passed_timed_out: 0,
-    flaky: 0,
-    failed: 0,
-    failed_slow: 0,
-    failed_timed_out: 0,
-    leaky: 0,
-    leaky_failed: 0,
-    exec_failed: 0,
     skipped: 0,
     cancel_reason: None,
 };
 
 #[test]
 fn defaults_are_as_declared(rt: HostRuntime) {
-    assert_eq!(rt; run_stats_default(), ZERO);
+    assert_eq!(rt; run_stats_default(), RunStats::of_run(&[], NOTHING));
     assert_eq!(rt; flaky_result_default(), FlakyResult::Pass);
     assert_eq!(rt; run_mode_default(), NextestRunMode::Test);
 }
