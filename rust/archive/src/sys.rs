@@ -1,8 +1,8 @@
 //! The structs and the functions of `rust/c/include/deodarsieve.h`.
 //!
-//! All unsafe code of the comparison is here. The structs are those of the C library, which its tests
-//! compare with the header. A function that takes references only is safe to call. A function that takes a pointer and
-//! a length has a safe one next to it that takes a slice.
+//! All unsafe code of the comparison is here. The structs are those of the C library, whose tests
+//! compare them with the header. A function that takes references only is safe to call. A function
+//! that takes a pointer and a length has a safe one next to it that takes a slice.
 
 pub use crate::exports::layout::{
     FfiDuration as Duration, FfiFailedCounts as FailedCounts, FfiFinalStats as FinalStats,

@@ -4,8 +4,8 @@
 //! `data/upstream_replay.txt` has a case in each line: the name of its kind, a space, and the case.
 //! A line that begins with `#` describes the cases after it. A line that begins with `changed` has
 //! a case with another result than upstream's, and a line that begins with `malformed` has no case.
-//! These two kinds show that the replay notices a wrong line. `docs/PLAIN-RUST.md` has the number of lines,
-//! which `tools/documents` compares.
+//! These two kinds show that the replay notices a wrong line. `docs/PLAIN-RUST.md` has the number of
+//! lines, which `tools/documents` compares.
 
 mod counter;
 mod engine;
