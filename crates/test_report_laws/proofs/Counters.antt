@@ -15,7 +15,7 @@ use Rattle.test_report_laws.proofs.Books.{Kept, Rules, Within, holds-whole, kept
 use Rattle.test_report_laws.proofs.EndSums as ends
 use Rattle.test_report_laws.proofs.EndSums.{by-early, by-last, early_rest, last_by, suite_note}
 use Rattle.test_report_laws.proofs.Sums.{sum-none}
-use Rattle.test_report_run.specs.Counted.{view_of_finish}
+use Rattle.test_report_run.specs.Counted.{finish_for, view_of_finish}
 use Rattle.test_report_run.specs.Ended.{after_end, after_flaky, end_notes, starts_later, timed}
 use Rattle.test_report_run.specs.Note.{Fails, HasCrashed, HasFailed, HasNoEnd, HasTimedOut, IsFlaky, IsSkipped, KindView, NoteView, OutcomeView, Passes, SuiteIs, SuiteNoteView, TestIs}
 use Rattle.test_report_run.specs.Over.{bare_failure, crash_of, early_notes, early_state, flaky_outcome, last_state, lost, one_failed, one_flaky, rest_of, skipped_note, with_all_flaky, with_failed}
@@ -24,7 +24,7 @@ use Rattle.test_report_run.specs.Totals.{no_suites, with_suite}
 use Rattle.test_report_laws.specs.Whole.{all_notes}
 use Rattle.test_report_run.specs.declared.note.RunEnd.{RunEnd}
 use Rattle.test_report_run.specs.Suite.{FlakyView, OverView, SuiteState, with_finish}
-use Rattle.test_report_run.proofs.Finishes.{finish_for, finish_passed}
+use Rattle.test_report_run.proofs.Finishes.{finish_passed}
 use Rattle.test_report_laws.proofs.Types.{Explanation}
 
 -- the statistics with a test that counts so after so many attempts

@@ -7,8 +7,15 @@ use Rattle.run_events_results.specs.declared.results.FailureDescription.TheVaria
 use Rattle.run_events_settings.specs.declared.config.FlakyResult.{FlakyResult}
 use Rattle.run_events_settings.specs.declared.config.FlakyResult.TheVariants as flaky
 use Rattle.run_events_settings.specs.declared.config.SlowTimeoutResult.TheVariants as slow
+use Rattle.test_report_run.specs.Note.{KindView, HasTimedOut, IsFlaky}
 use Rattle.test_report_run.specs.declared.counted.Finish.{Finish}
 use Rattle.test_report_run.specs.declared.counted.Finish.TheVariants.{Passed, FlakyFailed, Failed, TimedOut}
+
+-- how a test finished that failed in this way
+abbrev pub finish_for : KindView → Finish
+finish_for HasTimedOut = TimedOut
+finish_for IsFlaky = FlakyFailed
+finish_for kind = Failed
 
 -- the result of a test that finished so: a failure with the exit code of the harness
 abbrev pub result_of : Finish → ExecutionResultDescription

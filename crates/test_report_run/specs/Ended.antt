@@ -5,10 +5,10 @@ use Rattle.std.specs.Option.{option_map_or}
 use Rattle.std.specs.Str.{bytes_eq}
 use Rattle.test_report_events.specs.Event.{TestEndView}
 use Rattle.test_report_events.specs.declared.event.TestResult.TheVariants.{Ok, Failed, Ignored}
+use Rattle.test_report_run.specs.Counted.{finish_for}
 use Rattle.test_report_run.specs.Note.{FailureView, Fails, HasFailed, HasTimedOut, IsSkipped, NoteView, Passes}
 use Rattle.test_report_run.specs.Said.{sum_of}
 use Rattle.test_report_run.specs.Suite.{FlakyView, OverView, SuiteState, named, test_note, with_finish}
-use Rattle.test_report_run.specs.declared.counted.Finish.{Finish}
 use Rattle.test_report_run.specs.declared.counted.Finish.TheVariants as finish
 
 -- the reason says that the test ran out of time
@@ -24,10 +24,6 @@ failure_of e = record {
   reason = e.reason;
 }
 
--- how the same test counts
-abbrev pub finish_of : TestEndView → Finish
-finish_of e = if is_time_limit e.reason then finish.TimedOut else finish.Failed
-
 -- the flaky test started after the test with this number
 abbrev pub starts_later : ℕ → FlakyView → Bool
 starts_later order f = nat_lt order f.order
@@ -38,7 +34,7 @@ with_flaky f flaky = insert flaky (position_or_len (starts_later f.order) flaky)
 
 -- the suite after the end of a test that failed
 abbrev pub after_failed : SuiteState → OverView → TestEndView → SuiteState
-after_failed s t e = with_finish s (finish_of e) t.attempts
+after_failed s t e = with_finish s (finish_for (failure_of e).kind) t.attempts
 
 -- the suite after a flaky test passed. How the test counts is known when the suite ends
 abbrev pub after_flaky : SuiteState → OverView → ℕ → TestEndView → SuiteState

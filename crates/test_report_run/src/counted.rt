@@ -2,8 +2,10 @@
 
 ghost use Rattle.std.specs.Prelude.{◌≡◌, ◌↔◌, IsOk, OnErr, OnOk};
 ghost use Rattle.run_events_stats.specs.Counters.{TestCountersFit, with_test};
-ghost use Rattle.test_report_run.specs.Counted.{result_of, view_of_finish};
+ghost use Rattle.test_report_run.specs.Counted.{finish_for, result_of, view_of_finish};
+ghost use Rattle.test_report_run.specs.Note.{kind_view};
 
+use crate::note::FailureKind;
 use run_events_levels::view::FinishedTest;
 use run_events_results::results::{ExecutionResultDescription, FailureDescription};
 use run_events_settings::config::{FlakyResult, SlowTimeoutResult};
@@ -26,6 +28,21 @@ pub(crate) enum Finish {
 
     /// It ran out of time.
     TimedOut,
+}
+
+impl Finish {
+    /// Returns how a test finished that failed in this way.
+    pub(crate) fn of_failure(kind: &FailureKind) -> Finish
+        ensures { result ≡ finish_for (kind_view kind.now) }
+    {
+        match kind {
+            FailureKind::TimedOut => Finish::TimedOut,
+            FailureKind::Flaky => Finish::FlakyFailed,
+            FailureKind::Failed | FailureKind::WithoutEnd | FailureKind::Crashed(_) => {
+                Finish::Failed
+            }
+        }
+    }
 }
 
 /// Returns the result of a test, as the statistics take it. Lines do not have the exit code of a failed

@@ -45,16 +45,6 @@ fn failure_of(alloc: Global, details: TestDetails<'_>) -> Result<Failure, AllocE
     })
 }
 
-/// Returns how a failed test finished: it failed, or it ran out of time.
-fn finish_of(details: TestDetails<'_>) -> Finish
-    ensures { result ≡ spec.finish_of (test_end_view [] ended.Failed details.entry) }
-{
-    match details.reason {
-        Some(TIME_LIMIT) => Finish::TimedOut,
-        _ => Finish::Failed,
-    }
-}
-
 impl Suite {
     /// Takes the end of a test, and adds its note. `order` is the number of tests that started before it. A
     /// test that passed after several attempts is kept, and has no note until its suite is over.
@@ -124,7 +114,11 @@ impl Suite {
             (test_end_view [] ended.Failed details.entry)) }
     {
         let failure = failure_of(alloc, details)?;
-        count(&mut self.stats, finish_of(details), test.attempts)?;
+        count(
+            &mut self.stats,
+            Finish::of_failure(&failure.kind),
+            test.attempts,
+        )?;
         notes.push(self.note(alloc, test, TestOutcome::Failed(failure))?)?;
         Ok(())
     }

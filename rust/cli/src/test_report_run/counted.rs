@@ -1,6 +1,7 @@
 // Made by tools/erase from crates/test_report_run/src/counted.rt. Do not edit.
 //! Counts a test that finished.
 
+use crate::test_report_run::note::FailureKind;
 use deodarsieve::{
     CounterFull, ExecutionResultDescription, FailureDescription, FinishedTest, FlakyResult,
     RunStats, SlowTimeoutResult,
@@ -23,6 +24,19 @@ pub(crate) enum Finish {
 
     /// It ran out of time.
     TimedOut,
+}
+
+impl Finish {
+    /// Returns how a test finished that failed in this way.
+    pub(crate) fn of_failure(kind: &FailureKind) -> Finish {
+        match kind {
+            FailureKind::TimedOut => Finish::TimedOut,
+            FailureKind::Flaky => Finish::FlakyFailed,
+            FailureKind::Failed | FailureKind::WithoutEnd | FailureKind::Crashed(_) => {
+                Finish::Failed
+            }
+        }
+    }
 }
 
 /// Returns the result of a test, as the statistics take it. Lines do not have the exit code of a failed

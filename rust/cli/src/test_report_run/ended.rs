@@ -29,14 +29,6 @@ fn failure_of(details: TestDetails<'_>) -> Failure {
     }
 }
 
-/// Returns how a failed test finished: it failed, or it ran out of time.
-fn finish_of(details: TestDetails<'_>) -> Finish {
-    match details.reason {
-        Some(TIME_LIMIT) => Finish::TimedOut,
-        _ => Finish::Failed,
-    }
-}
-
 impl Suite {
     /// Takes the end of a test, and adds its note. `order` is the number of tests that started before it. A
     /// test that passed after several attempts is kept, and has no note until its suite is over.
@@ -85,7 +77,11 @@ impl Suite {
         notes: &mut Vec<Note>,
     ) -> Result<(), RunError> {
         let failure = failure_of(details);
-        count(&mut self.stats, finish_of(details), test.attempts)?;
+        count(
+            &mut self.stats,
+            Finish::of_failure(&failure.kind),
+            test.attempts,
+        )?;
         notes.push(self.note(test, TestOutcome::Failed(failure)));
         Ok(())
     }
