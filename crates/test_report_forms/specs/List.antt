@@ -1,5 +1,5 @@
 -- The list at the end of a report.
-use Rattle.std.specs.Prelude.{ℕ, List, ◌++◌, ◌-◌, ◌∷◌, [], codes, if◌then◌else◌, length, nat_lt, replicate, string_bytes, take}
+use Rattle.std.specs.Prelude.{ℕ, List, ◌++◌, ◌-◌, ◌^◌, ◌∷◌, [], codes, if◌then◌else◌, length, nat_lt, replicate, string_bytes, take, unwrap_or}
 use Rattle.std.specs.Fmt.{decimal}
 use Rattle.std.specs.List.{flat_map, fold, insert, position_or_len}
 use Rattle.std.specs.Option.{option_map_or}
@@ -49,9 +49,9 @@ list_line o word t = replicate (12 - length word) 32 ++ (status_text o.color wor
 unfoldable pub flaky_word : ℕ → List ℕ
 flaky_word attempts = codes "FLAKY " ++ (decimal attempts ++ (codes "/" ++ decimal attempts))
 
--- the line of a flaky test that passed. Its key is the number of tests that had ended before it
+-- the line of a flaky test that passed. Its key is the number of tests that had ended before it, or the greatest one if no line says that it ended
 unfoldable pub flaky_line : Options → TestNoteView → KeyedLine
-flaky_line o t = record { key = t.ended; line = list_line o (flaky_word t.attempts) t ++ codes "\n" }
+flaky_line o t = record { key = unwrap_or t.ended (2 ^ 64 - 1); line = list_line o (flaky_word t.attempts) t ++ codes "\n" }
 
 -- the line of a test that passed, if it is flaky
 unfoldable pub flaky_passed : Options → TestNoteView → List KeyedLine

@@ -128,8 +128,8 @@ fn add_flaky(
     let status = flaky_status(alloc, test.attempts)?;
     push_list_line(&mut line, status.as_str(), test, options)?;
     line.push('\n')?;
-    let at = flaky_place(lines.as_slice(), test.ended);
-    let ended = test.ended;
+    let ended = test.ended.unwrap_or(usize::MAX);
+    let at = flaky_place(lines.as_slice(), ended);
     lines.insert(at, FlakyLine { ended, line })?;
     Ok(())
 }

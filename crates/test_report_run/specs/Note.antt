@@ -50,7 +50,7 @@ pub record TestNoteView : Type 0 where
   pub name : List ℕ
   pub attempts : ℕ
   pub time : Option ℕ
-  pub ended : ℕ
+  pub ended : Option ℕ
   pub outcome : OutcomeView
 
 -- a contradiction between lines

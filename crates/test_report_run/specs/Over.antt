@@ -1,5 +1,5 @@
 -- A suite that is over.
-use Rattle.std.specs.Prelude.{◌+◌, ◌-◌, ◌++◌, ◌==◌, ◌∷◌, ◌^◌, [], ℕ, List, Bool, true, false, drop, length, map, max, nat_lt, take, if◌then◌else◌, is_some, None, unwrap_or}
+use Rattle.std.specs.Prelude.{◌+◌, ◌-◌, ◌++◌, ◌==◌, ◌∷◌, [], ℕ, List, Bool, true, false, drop, length, map, max, nat_lt, take, if◌then◌else◌, is_some, None, unwrap_or}
 use Rattle.std.specs.List.{fold}
 use Rattle.std.specs.Option.{option_map_or, option_or}
 use Rattle.run_events_stats.specs.Counters.{with_test}
@@ -15,7 +15,7 @@ use Rattle.test_report_run.specs.declared.over.Rest.{Rest}
 
 -- a test without end is over
 abbrev pub over_of : List ℕ → OverView
-over_of name = record { name = name; attempts = 1; time = None; ended = 2 ^ 64 - 1 }
+over_of name = record { name = name; attempts = 1; time = None; ended = None }
 
 -- a failure that no line reports
 abbrev pub bare_failure : KindView → FailureView

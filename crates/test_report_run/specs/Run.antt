@@ -170,7 +170,7 @@ test_starts r name = record (start_counted r name) {
 
 -- what is known of a running test that ends after this number of attempts
 abbrev pub running_over : RunState → TestEndView → RunningView → ℕ → OverView
-running_over r e test attempts = record { name = test.name; attempts = attempts; time = e.time; ended = r.ended }
+running_over r e test attempts = record { name = test.name; attempts = attempts; time = e.time; ended = Some r.ended }
 
 -- the position of the open suite with this number
 abbrev pub place_of_number : RunState → ℕ → Option ℕ
@@ -189,7 +189,7 @@ running_ends r e at attempts = test_over (record r { running = remove r.running 
 
 -- what is known of a test that ends and was not running
 abbrev pub stray_over : RunState → TestEndView → OverView
-stray_over r e = record { name = e.name; attempts = 1; time = e.time; ended = r.ended }
+stray_over r e = record { name = e.name; attempts = 1; time = e.time; ended = Some r.ended }
 
 -- the end of a test that was not running is counted in its suite
 abbrev pub stray_counted : RunState → TestEndView → RunState

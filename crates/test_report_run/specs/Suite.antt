@@ -22,7 +22,7 @@ pub record OverView : Type 0 where
   pub name : List ℕ
   pub attempts : ℕ
   pub time : Option ℕ
-  pub ended : ℕ
+  pub ended : Option ℕ
 
 -- a flaky test that passed at last
 pub record FlakyView : Type 0 where

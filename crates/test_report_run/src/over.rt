@@ -37,7 +37,7 @@ fn over(test: RunningTest) -> OverTest
         name: test.name,
         attempts: 1,
         time: None,
-        ended: usize::MAX,
+        ended: None,
     }
 }
 

@@ -28,8 +28,8 @@ pub(crate) struct OverTest {
     /// The time that the test took, in microseconds.
     pub(crate) time: Option<u64>,
 
-    /// The number of tests that ended before this one, or `usize::MAX` if no line says that it ended.
-    pub(crate) ended: usize,
+    /// The number of tests that ended before this one, or `None` if no line says that it ended.
+    pub(crate) ended: Option<usize>,
 }
 
 /// A test that passed after several attempts. The last line of its suite may still count it as failed.

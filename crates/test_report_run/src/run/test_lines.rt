@@ -124,7 +124,7 @@ impl TestRun {
             name: test.name,
             attempts,
             time: details.time,
-            ended: self.ended,
+            ended: Some(self.ended),
         };
         match place {
             Some(at) => self.suites[at].on_end(alloc, over, order, end, details, notes),
@@ -184,7 +184,7 @@ impl TestRun {
             name: String::from_str(alloc, name)?,
             attempts: 1,
             time: details.time,
-            ended: self.ended,
+            ended: Some(self.ended),
         };
         match self.suite_of(name) {
             Some(at) => self.suites[at].on_stray_end(alloc, test, end, details, notes),

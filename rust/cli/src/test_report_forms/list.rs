@@ -82,8 +82,8 @@ fn add_flaky(lines: &mut Vec<FlakyLine>, test: &TestNote, options: Options) {
     let status = flaky_status(test.attempts);
     push_list_line(&mut line, status.as_str(), test, options);
     line.push('\n');
-    let at = flaky_place(lines.as_slice(), test.ended);
-    let ended = test.ended;
+    let ended = test.ended.unwrap_or(usize::MAX);
+    let at = flaky_place(lines.as_slice(), ended);
     lines.insert(at, FlakyLine { ended, line });
 }
 

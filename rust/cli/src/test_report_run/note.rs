@@ -35,8 +35,8 @@ pub struct TestNote {
     /// The time that the test took, in microseconds.
     pub time: Option<u64>,
 
-    /// The number of tests that ended before this one, or `usize::MAX` if no line says that it ended.
-    pub ended: usize,
+    /// The number of tests that ended before this one, or `None` if no line says that it ended.
+    pub ended: Option<usize>,
 
     /// Whether the test passed, failed or was skipped.
     pub outcome: TestOutcome,

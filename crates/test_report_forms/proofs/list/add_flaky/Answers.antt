@@ -22,4 +22,4 @@ returns c =
     ) in
     let at = c.flaky_place-at.ensures.place in
     let more = ap (map flaky_line_view) c.in_ok-insert.ensures.items ∙ map-insert flaky_line_view _ _ _ in
-    rw many cc
+    rw (many, ← c.unwrap_or-ended.ensures) cc

@@ -91,7 +91,7 @@ impl TestRun {
             name: test.name,
             attempts,
             time: details.time,
-            ended: self.ended,
+            ended: Some(self.ended),
         };
         match place {
             Some(at) => self.suites[at].on_end(over, order, end, details, notes),
@@ -137,7 +137,7 @@ impl TestRun {
             name: String::from(name),
             attempts: 1,
             time: details.time,
-            ended: self.ended,
+            ended: Some(self.ended),
         };
         match self.suite_of(name) {
             Some(at) => self.suites[at].on_stray_end(test, end, details, notes),
