@@ -24,7 +24,7 @@ use Rattle.test_report_laws.proofs.Types.{Explanation, Said}
 use Rattle.test_report_run.specs.declared.note.RunEnd.{RunEnd}
 
 -- how many tests an open suite announces
-abbrev announcing : ℕ → Said → Option ℕ → ℕ
+abbrev announcing : Option ℕ → Said → Option ℕ → ℕ
 announcing number said count = option_map_or (λ n. n) count 0
 
 -- how many tests of a suite that is over finished, were skipped or were not run
@@ -71,7 +71,7 @@ covered-first : (n : ℕ) (notes : List NoteView) (r : RunState) (key : Option (
     → let t = option_map_or (started_again r key count) at (step (opened r key count) []) in
     Covered (n + option_map_or (λ n. n) count 0) (notes ++ t.notes) (learned t.run t.notes)
 covered-first n notes r key count None in' i =
-    let start = suite_start (r.suites_started + 1) key r.heading count in
+    let start = suite_start (Some (r.suites_started + 1)) key r.heading count in
     omega (arith, i, sum_by_push (weigh announcing) r.suites start, sum_by-append reach notes [])
 covered-first n notes r (Some key) count (Some at) in' i =
     let s = suite_at r (Some at) in
@@ -85,7 +85,7 @@ covered-first n notes r (Some key) count (Some at) in' i =
 covered-first n notes r None count (Some at) in' i =
     let s = suite_at r (Some at) in
     let names = names_in r s in
-    let start = suite_start (r.suites_started + 1) None r.heading count in
+    let start = suite_start (Some (r.suites_started + 1)) None r.heading count in
     omega (
       arith,
       i,

@@ -20,7 +20,7 @@ use Rattle.test_report_run.specs.Note.{CargoSays, Disagrees, DisagreementView, N
 use Rattle.test_report_run.specs.Over.{early_notes, explained_of, last_notes}
 use Rattle.test_report_run.specs.Prints.{AFailure, AHeading, APrint, PrintedView}
 use Rattle.test_report_run.specs.Run.{RunState, Step, after, after_file, counts_tests, ended_at, ended_early, file_notes, is_cause, is_disagreement, is_explained, learned, marked, names_in, notes_at, open_suite, opened, printed_to, run_start, running_ends, running_over, started_again, step, stray_ends, stray_over, stray_suite_notes, stray_test, suite_at, suite_place, suite_prints, told, with_note, with_suite_at, without_tests}
-use Rattle.test_report_run.specs.Running.{place_of_end, running_at}
+use Rattle.test_report_run.specs.Running.{is_same, place_of_end, running_at}
 use Rattle.test_report_run.specs.Name.{before_dollar}
 use Rattle.test_report_run.specs.Suite.{FlakyView, OverView, SuiteState, has_key, joined, named, outside_start, suite_start, with_line, with_start}
 use Rattle.test_report_laws.proofs.Types.{Explanation}
@@ -186,14 +186,14 @@ module _ {loose : ℕ} {w v : NoteView → ℕ} {h : Kept → ℕ} {Fine : Kept 
   keeps-first : (r : RunState) (key : Option (List ℕ)) (count : Option ℕ) (at : Option ℕ) → AreFine r → IsIn r.suites at
       → Keeps r (option_map_or (started_again r key count) at (step (opened r key count) []))
   keeps-first r key count None f in' =
-      let start = suite_start (r.suites_started + 1) key r.heading count in
+      let start = suite_start (Some (r.suites_started + 1)) key r.heading count in
       let same = held-push h r.suites start empty in
       (record { low = omega arith; high = λ _. omega arith }, (f.0, All-push IsFine r.suites start f.1 fine_empty), refl)
   keeps-first r (Some key) count (Some at) f in' =
       let s = suite_at r (Some at) in keeps-set r (Some at) (joined s count) [] f in' (fine-at r (Some at) f in') (omega arith)
   keeps-first r None count (Some at) f in' =
       let s = suite_at r (Some at) in
-      let start = suite_start (r.suites_started + 1) None r.heading count in
+      let start = suite_start (Some (r.suites_started + 1)) None r.heading count in
       let same = held-push h (remove r.suites at) start empty in
       let less = held-remove h r at in' in
       let over = of_early s (names_in r s) (fine-at r (Some at) f in') in (
@@ -252,10 +252,10 @@ module _ {loose : ℕ} {w v : NoteView → ℕ} {h : Kept → ℕ} {Fine : Kept 
   keeps-test r e None f = keeps-stray r e e.result f
   keeps-test r e (Some p) f =
       let test = running_at r.running p.0 in
-      let place = position (λ s. s.number == test.suite) r.suites in
+      let place = position (λ s. is_same s.number test.suite) r.suites in
       let r' = record r { running = remove r.running p.0 } in
       keeps-end r' place (suite_at r place) (running_over r e test p.1) test.order e f
-      (position-in (λ s. s.number == test.suite) r.suites place refl) (same-at place)
+      (position-in (λ s. is_same s.number test.suite) r.suites place refl) (same-at place)
     where
       same-at : (at : Option ℕ) → kept (suite_at r at) ≡ kept (suite_at (record r { running = remove r.running p.0 }) at)
       same-at None = refl

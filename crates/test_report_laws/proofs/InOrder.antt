@@ -84,7 +84,7 @@ module _ (files : List (List EventView)) (clean : IsClean (all_notes files)) whe
       let names = names_in r s in
       let now : IsClean (last_notes s names) = subst IsClean (over-notes r e at is over) (clean-line r (SuiteEnds e) line) in
       let in' : at < length r.suites = position-in (has_key e.key) r.suites (Some at) is in
-      let some : s.number ≢ 0 = has-number r at (numbered r line.before line.lines line.run_is) in' in
+      let some : s.number ≢ None = has-number r at (numbered r line.before line.lines line.run_is) in' in
       let sound = All-get_or IsSound r.suites at r.outside in' (suites-sound line.before line.lines r line.run_is).1 in
       let agrees = (last-agrees s names some record { retried = sound.retried; passed = sound.passed }).0 now.none_disagree in
       let none : failed_of s.stats + failed_in (last_notes s names) ≡ 0 = omega (

@@ -2,9 +2,7 @@
 use Rattle.std.proofs.Common.{◌≡◌, ◌≢◌, ◌∙◌, ℕ, List, [], ◌∷◌, ◌++◌, ◌+◌, Bool, true, false, Option, Some, None, refl, ap, arith, length, map, sym, take, ◌<◌}
 use Rattle.std.specs.List.{fold, remove, sum_by}
 use Rattle.std.specs.Option.{option_map_or}
-use Rattle.std.specs.Prelude.{◌-◌, ◌==◌, ◌&&◌, codes, if◌then◌else◌, max, nat_lt, not, unwrap_or}
-use Rattle.std.specs.Fmt.{decimal}
-use Rattle.std.proofs.lemmas.Bool.{eqb-true}
+use Rattle.std.specs.Prelude.{◌-◌, ◌==◌, ◌&&◌, if◌then◌else◌, max, nat_lt, not}
 use Rattle.std.proofs.lemmas.Bool.Decides.{nat_tests}
 use Rattle.std.proofs.lemmas.List.Sums.{sum_by-append, sum_by-cons}
 use Rattle.test_report_events.specs.Event.{EventView, SuiteEndView, TestEndView, SuiteStarts, SuiteEnds, TestStarts, TestEnds, CargoFails}
@@ -22,7 +20,7 @@ use Rattle.test_report_run.specs.Over.{crash_of, early_disagreements, early_note
 use Rattle.test_report_run.specs.Run.{RunState, Step, after, counts_tests, ended_at, ended_early, file_notes, is_explained, names_in, notes_at, open_suite, opened, place_of_number, running_ends, running_over, started_again, step, stray_ends, stray_over, stray_suite_notes, stray_test, suite_at, suite_place, with_suite_at, without_tests}
 use Rattle.test_report_run.specs.Running.{place_of_end, running_at}
 use Rattle.test_report_laws.specs.Status.{NotRunIsNamed, named_not_run}
-use Rattle.test_report_run.specs.Name.{given_by}
+use Rattle.test_report_run.specs.Name.{given_by, name_of}
 use Rattle.test_report_run.specs.Suite.{OverView, SuiteState, has_key, named, outside_start, suite_name, with_line, with_start}
 use Rattle.test_report_laws.proofs.Types.{Explanation, Rest}
 
@@ -109,12 +107,12 @@ same-named : (name : Option (List ℕ)) (n initial : ℕ) (s : SuiteNoteView) �
 same-named None n initial s is none = omega (arith, none refl, is)
 same-named (Some name) n initial s is none = grind (arith, nat_tests, is)
 
-no-name : (s : SuiteState) → suite_name s ≡ None → s.number ≡ 0
-no-name s none = eqb-true s.number 0 (by-test (unwrap_or (given_by s.key s.heading s.first_test) (codes "suite " ++ decimal s.number)) (s.number == 0) none)
+no-name : (s : SuiteState) → suite_name s ≡ None → s.number ≡ None
+no-name s none = by-number s.number none
   where
-    by-test : (name : List ℕ) (b : Bool) → (if b then None else Some name) ≡ None → b ≡ true
-    by-test name true h = refl
-    by-test name false h = absurd (cc)
+    by-number : (number : Option ℕ) → name_of number (given_by s.key s.heading s.first_test) ≡ None → number ≡ None
+    by-number None h = refl
+    by-number (Some n) h = absurd (cc)
 
 none-announced : (count : Option ℕ) (skipped finished : ℕ) → count ≡ None
     → option_map_or (λ c. max (c - skipped) (finished + 0)) count (finished + 0) - finished ≡ 0
@@ -129,7 +127,7 @@ same-numbers s rest none =
     same-named (suite_name s) n (initial_of s rest) note refl none
 
 -- a suite that has a number, or tests outside of a suite, of which none is announced
-same-early : (s : SuiteState) (names : List (List ℕ)) → (s.number ≡ 0 → s.test_count ≡ None) → Same (early_notes s names)
+same-early : (s : SuiteState) (names : List (List ℕ)) → (s.number ≡ None → s.test_count ≡ None) → Same (early_notes s names)
 same-early s names fine =
     let last = early_state s names in
     let rest = early_rest s in
@@ -140,7 +138,7 @@ same-early s names fine =
       same-numbers last rest (λ h. none-announced s.test_count rest.skipped last.stats.finished_count (fine (no-name last h))),
     )
 
-same-last : (s : SuiteState) (e : Explanation) (names : List (List ℕ)) → s.number ≢ 0 → Same (last_by s e names)
+same-last : (s : SuiteState) (e : Explanation) (names : List (List ℕ)) → s.number ≢ None → Same (last_by s e names)
 same-last s e names some =
     let last = last_state s e names in
     let rest = rest_of s e names in

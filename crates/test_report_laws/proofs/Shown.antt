@@ -28,11 +28,11 @@ pub one-if : (b : Bool) (note : NoteView) → weight note ≡ 1 → sum_by weigh
 one-if b note h = grind (arith, h)
 
 -- the disagreement of a suite that has a number
-one-disagreement : (s : SuiteState) → s.number ≢ 0
+one-disagreement : (s : SuiteState) → s.number ≢ None
     → sum_by weight (last_disagreement s) ≡ cond (is_contradicted (numbers_of s.said) s.stats.passed (failed_of s.stats)) 1 0
 one-disagreement s some = grind (arith, nat_tests)
 
-of-last : (s : SuiteState) (e : Explanation) (names : List (List ℕ)) → s.number ≢ 0
+of-last : (s : SuiteState) (e : Explanation) (names : List (List ℕ)) → s.number ≢ None
     → disagreements_in (last_by s e names)
     ≡ cond (is_contradicted (numbers_of s.said) (last_state s e names).stats.passed (failed_of (last_state s e names).stats)) 1 0
 of-last s e names some = omega (
@@ -110,7 +110,7 @@ crashes s names = omega (
 )
 
 -- no test runs: the end of a suite with a number disagrees, and tests outside of a suite do
-shows : (s : SuiteState) → (s.number ≡ 0 → 0 < s.started) → sum_by weight (early_disagreements s 0) ≡ 1
+shows : (s : SuiteState) → (s.number ≡ None → 0 < s.started) → sum_by weight (early_disagreements s 0) ≡ 1
 shows s some = grind (arith, nat_tests)
 
 pub early-shows : EarlyEndShows

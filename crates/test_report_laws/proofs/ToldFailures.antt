@@ -16,7 +16,7 @@ use Rattle.test_report_laws.specs.Run.{FailureIsTold, NoFailureOfFileEnd, OneFai
 use Rattle.test_report_run.specs.Note.{CargoSays, Disagrees, Fails, NoteView, StrayEnds, StraySuiteEnds, TestIs, TestNoteView}
 use Rattle.test_report_run.specs.Over.{early_notes, explained_of}
 use Rattle.test_report_run.specs.Run.{RunState, Step, counts_tests, ended_at, ended_early, is_explained, names_in, notes_at, open_suite, opened, running_ends, running_over, started_again, step, stray_ends, stray_over, stray_suite_notes, stray_test, suite_at, suite_place}
-use Rattle.test_report_run.specs.Running.{RunningView, attempts_of, ends_in_number, has_name, no_test, place_by_attempts, place_of_end, running_at, split_at, without_number}
+use Rattle.test_report_run.specs.Running.{RunningView, attempts_of, ends_in_number, has_name, is_same, no_test, place_by_attempts, place_of_end, running_at, split_at, without_number}
 use Rattle.test_report_run.specs.Suite.{OverView, SuiteState, named, outside_start, suite_name, with_line}
 use Rattle.test_report_laws.proofs.Types.{Explanation}
 
@@ -75,7 +75,7 @@ one-ended : (r : RunState) (e : TestEndView) (place : Option (ℕ × ℕ))
 one-ended r e None = one-stray r e e.result
 one-ended r e (Some p) =
     let test = running_at r.running p.0 in
-    one-end (suite_at r (position (λ s. s.number == test.suite) r.suites)) (running_over r e test p.1) e e.result
+    one-end (suite_at r (position (λ s. is_same s.number test.suite) r.suites)) (running_over r e test p.1) e e.result
 
 pub one-failure : OneFailureOfLine
 one-failure r (SuiteStarts key count) = none-again r key count (open_suite r key)
@@ -151,7 +151,7 @@ told-by r e None h =
     (note_of s (stray_over r e) e, (inl (refl, refl), refl, refl), (0, omega arith, refl))
 told-by r e (Some p) h =
     let test = running_at r.running p.0 in
-    let s = suite_at r (position (λ s. s.number == test.suite) r.suites) in (
+    let s = suite_at r (position (λ s. is_same s.number test.suite) r.suites) in (
       note_of s (running_over r e test p.1) e,
       (place-of r.running e.name p (position (has_name e.name) r.running) (attempts_of e.name) refl refl h, refl, refl),
       (0, omega arith, refl),

@@ -23,7 +23,7 @@ use Rattle.test_report_run.specs.Suite.{SuiteState, failed_of, has_key, joined, 
 use Rattle.test_report_laws.specs.Whole.{all_notes}
 use Rattle.test_report_laws.proofs.Types.{Said}
 
-abbrev failing : ℕ → Said → Option ℕ → ℕ
+abbrev failing : Option ℕ → Said → Option ℕ → ℕ
 failing number said count = cond said.failed_verdict 1 0
 
 -- of a failed verdict something failed or disagreed, or a suite is open that has one
@@ -50,13 +50,13 @@ crashes-fail notes =
     each (TestIs t) = crash-fails t.outcome
     each note = omega arith
 
-pub early-cause : (s : SuiteState) (names : List (List ℕ)) → s.number ≢ 0 → 0 < count_by is_cause (early_notes s names)
+pub early-cause : (s : SuiteState) (names : List (List ℕ)) → s.number ≢ None → 0 < count_by is_cause (early_notes s names)
 early-cause s names some =
     let notes = early_notes s names in
     omega (arith, early-shows s names (λ zero. absurd (some zero)), causes-of notes, crashes-fail notes)
 
 -- and so does one with a failed verdict that ends by its last line, unless a test of it failed before
-last-cause : (s : SuiteState) (names : List (List ℕ)) (known : ℕ) → s.number ≢ 0 → IsSound s → failed_of s.stats ≤ known → s.said.failed_verdict ≡ true
+last-cause : (s : SuiteState) (names : List (List ℕ)) (known : ℕ) → s.number ≢ None → IsSound s → failed_of s.stats ≤ known → s.said.failed_verdict ≡ true
     → 0 < known + count_by is_cause (last_notes s names)
 last-cause s names known some sound low failed =
     let notes = last_notes s names in
@@ -70,7 +70,7 @@ seen-first : (n : ℕ) (notes : List NoteView) (r : RunState) (key : Option (Lis
     → Seen n notes r → IsIn r.suites at
     → let t = option_map_or (started_again r key count) at (step (opened r key count) []) in Seen (n + 0) (notes ++ t.notes) (learned t.run t.notes)
 seen-first n notes r key count None numbered i in' some =
-    let start = suite_start (r.suites_started + 1) key r.heading count in
+    let start = suite_start (Some (r.suites_started + 1)) key r.heading count in
     omega (arith, i (omega arith), sum_by_push (weigh failing) r.suites start, sum_by-append weight notes [])
 seen-first n notes r (Some key) count (Some at) numbered i in' some =
     let s = joined (suite_at r (Some at)) count in

@@ -2,8 +2,7 @@
 use Rattle.std.proofs.Common.{◌≡◌, ◌≢◌, ◌∙◌, ℕ, List, [], ◌+◌, ◌<◌, Bool, true, false, cond, Option, Some, None, refl, ap, arith, length}
 use Rattle.std.specs.List.{position, remove, sum_by}
 use Rattle.std.specs.Option.{option_map_or}
-use Rattle.std.specs.Prelude.{◌==◌, if◌then◌else◌}
-use Rattle.std.proofs.lemmas.Bool.{ne_eqb}
+use Rattle.std.specs.Prelude.{◌==◌, if◌then◌else◌, is_none}
 use Rattle.std.proofs.lemmas.List.Sums.{get_or-le-sum_by, sum_by-remove, sum_by-set, sum_by_push}
 use Rattle.test_report_events.specs.Event.{EventView, SuiteEndView, TestEndView, SuiteStarts, SuiteEnds, TestStarts, TestEnds, OtherLine, HeadingLine, CargoFails, Prints}
 use Rattle.test_report_events.specs.declared.event.TestResult.{TestResult}
@@ -15,28 +14,28 @@ use Rattle.test_report_run.specs.Ended.{after_end}
 use Rattle.test_report_run.specs.Over.{last_notes}
 use Rattle.test_report_run.specs.Prints.{AFailure, AHeading, APrint, PrintedView}
 use Rattle.test_report_run.specs.Run.{RunState, after, after_file, ended_at, names_in, open_suite, opened, printed_to, run_start, running_ends, running_over, started_again, step, stray_ends, stray_over, stray_suite_notes, suite_at, suite_place, suite_prints, with_suite_at, without_tests}
-use Rattle.test_report_run.specs.Running.{RunningView, place_of_end, running_at}
+use Rattle.test_report_run.specs.Running.{RunningView, is_same, place_of_end, running_at}
 use Rattle.test_report_run.specs.Said.{no_lines}
 use Rattle.test_report_run.specs.Suite.{OverView, SuiteState, has_key, joined, named, suite_start, with_line, with_start}
 use Rattle.test_report_laws.specs.Whole.{run_after, run_after_files}
 use Rattle.test_report_laws.proofs.Types.{Said}
 
 -- a weight of suites by their numbers, what their last lines say and how many tests they announce, summed over the open suites
-abbrev pub weigh : (ℕ → Said → Option ℕ → ℕ) → SuiteState → ℕ
+abbrev pub weigh : (Option ℕ → Said → Option ℕ → ℕ) → SuiteState → ℕ
 weigh g s = g s.number s.said s.test_count
 
-abbrev pub weight_of : (ℕ → Said → Option ℕ → ℕ) → RunState → ℕ
+abbrev pub weight_of : (Option ℕ → Said → Option ℕ → ℕ) → RunState → ℕ
 weight_of g r = sum_by (weigh g) r.suites
 
-abbrev pub unnumbered : ℕ → Said → Option ℕ → ℕ
-unnumbered number said count = cond (number == 0) 1 0
+abbrev pub unnumbered : Option ℕ → Said → Option ℕ → ℕ
+unnumbered number said count = cond (is_none number) 1 0
 
 -- lines that are not those of suites keep these weights
 abbrev pub Alike : SuiteState → SuiteState → Type 0
-Alike s t = (g : ℕ → Said → Option ℕ → ℕ) → weigh g s ≡ weigh g t
+Alike s t = (g : Option ℕ → Said → Option ℕ → ℕ) → weigh g s ≡ weigh g t
 
 abbrev pub Keeps : RunState → RunState → Type 0
-Keeps r now = (g : ℕ → Said → Option ℕ → ℕ) → weight_of g now ≡ weight_of g r
+Keeps r now = (g : Option ℕ → Said → Option ℕ → ℕ) → weight_of g now ≡ weight_of g r
 
 keeps-set : (r : RunState) (running : List RunningView) (at : Option ℕ) (s : SuiteState) → IsIn r.suites at → Alike s (suite_at r at)
     → Keeps r (with_suite_at (record r { running = running }) at s)
@@ -62,8 +61,8 @@ keeps-test : (r : RunState) (e : TestEndView) (place : Option (ℕ × ℕ))
 keeps-test r e None = keeps-stray r e e.result
 keeps-test r e (Some p) =
     let test = running_at r.running p.0 in
-    let at = position (λ s. s.number == test.suite) r.suites in
-    keeps-set r (remove r.running p.0) at _ (position-in (λ s. s.number == test.suite) r.suites at refl)
+    let at = position (λ s. is_same s.number test.suite) r.suites in
+    keeps-set r (remove r.running p.0) at _ (position-in (λ s. is_same s.number test.suite) r.suites at refl)
     (end-alike (suite_at r at) (running_over r e test p.1) test.order e e.result)
 
 keeps-print : (r : RunState) (line : PrintedView) → Keeps r (printed_to r line)
@@ -93,30 +92,26 @@ keeps-line r (CargoFails f line plain) other = λ g. grind (arith, keeps-print r
 keeps-line r (Prints line plain) other = keeps-print r (APrint line plain)
 
 -- an open suite has a number
-pub has-number : (r : RunState) (at : ℕ) → weight_of unnumbered r ≡ 0 → at < length r.suites → (suite_at r (Some at)).number ≢ 0
+pub has-number : (r : RunState) (at : ℕ) → weight_of unnumbered r ≡ 0 → at < length r.suites → (suite_at r (Some at)).number ≢ None
 has-number r at none in' zero = absurd (omega (
   arith,
   get_or-le-sum_by (weigh unnumbered) r.suites at r.outside in',
   ap (λ n. unnumbered n no_lines None) zero,
 ))
 
-pub start-numbered : (n : ℕ) → unnumbered (n + 1) no_lines None ≡ 0
-start-numbered n = ap (λ b. cond b 1 0) (ne_eqb (n + 1) 0 (λ h. omega arith))
-
 -- each open suite has a number after the first line of a suite
 numbered-first : (r : RunState) (key : Option (List ℕ)) (count : Option ℕ) (at : Option ℕ) → IsIn r.suites at → weight_of unnumbered r ≡ 0
     → weight_of unnumbered (option_map_or (started_again r key count) at (step (opened r key count) [])).run ≡ 0
 numbered-first r key count None in' none =
-    let start = suite_start (r.suites_started + 1) key r.heading count in
-    omega (arith, none, start-numbered r.suites_started, sum_by_push (weigh unnumbered) r.suites start)
+    let start = suite_start (Some (r.suites_started + 1)) key r.heading count in
+    omega (arith, none, sum_by_push (weigh unnumbered) r.suites start)
 numbered-first r (Some key) count (Some at) in' none =
     let s = joined (suite_at r (Some at)) count in omega (arith, none, sum_by-set (weigh unnumbered) r.suites at s r.outside in')
 numbered-first r None count (Some at) in' none =
-    let start = suite_start (r.suites_started + 1) None r.heading count in
+    let start = suite_start (Some (r.suites_started + 1)) None r.heading count in
     omega (
       arith,
       none,
-      start-numbered r.suites_started,
       sum_by_push (weigh unnumbered) (remove r.suites at) start,
       sum_by-remove (weigh unnumbered) r.suites at r.outside in',
     )

@@ -214,13 +214,13 @@ pub record IsSound (s : SuiteState) : Type 0 where
 -- A suite that ends by its last line makes no disagreement known if and only if the line agrees with the tests: those that became known before, and
 -- those that become known now.
 abbrev pub LastLineAgrees : Type 0
-LastLineAgrees = (s : SuiteState) → (names : List (List ℕ)) → s.number ≢ 0 → IsSound s
+LastLineAgrees = (s : SuiteState) → (names : List (List ℕ)) → s.number ≢ None → IsSound s
     → (disagreements_in (last_notes s names) ≡ 0)
     ↔ Agrees (numbers_of s.said) (s.stats.passed + passed_in (last_notes s names)) (failed_of s.stats + failed_in (last_notes s names))
 
 -- A suite that ends early makes a crashed test or a disagreement known, and so does a file with tests outside of a suite.
 abbrev pub EarlyEndShows : Type 0
-EarlyEndShows = (s : SuiteState) → (names : List (List ℕ)) → (s.number ≡ 0 → 0 < s.started)
+EarlyEndShows = (s : SuiteState) → (names : List (List ℕ)) → (s.number ≡ None → 0 < s.started)
     → 0 < crashed_in (early_notes s names) + disagreements_in (early_notes s names)
 
 -- A last line of a suite that is not open makes a disagreement known if and only if it has a failed verdict or counts tests that ran.

@@ -1,5 +1,5 @@
 -- The name of a suite, by its number and by the texts of its lines.
-use Rattle.std.specs.Prelude.{◌++◌, ◌==◌, ℕ, List, Option, None, Some, codes, if◌then◌else◌, option_and_then, option_map, take, unwrap_or}
+use Rattle.std.specs.Prelude.{◌++◌, ◌==◌, ℕ, List, Option, codes, option_and_then, option_map, take, unwrap_or}
 use Rattle.std.specs.Fmt.{decimal}
 use Rattle.std.specs.List.{position}
 use Rattle.std.specs.Option.{option_or}
@@ -12,10 +12,10 @@ before_dollar name = option_map (λ i. take i name) (position (λ c. c == 36) na
 abbrev pub given_by : Option (List ℕ) → Option (List ℕ) → Option (List ℕ) → Option (List ℕ)
 given_by key heading first_test = option_or key (option_or heading (option_and_then before_dollar first_test))
 
--- the name that is shown: the given one, or else `suite` and the number. The tests outside of a suite have number 0, and no name
-abbrev pub name_of : ℕ → Option (List ℕ) → Option (List ℕ)
-name_of number given = if number == 0 then None else Some (unwrap_or given (codes "suite " ++ decimal number))
+-- the name that is shown: the given one, or else `suite` and the number. The tests outside of a suite have no number, and no name
+abbrev pub name_of : Option ℕ → Option (List ℕ) → Option (List ℕ)
+name_of number given = option_map (λ n. unwrap_or given (codes "suite " ++ decimal n)) number
 
 -- the name that is shown, by the number, the key, the heading and the first test of a suite
-abbrev pub name_by : ℕ → Option (List ℕ) → Option (List ℕ) → Option (List ℕ) → Option (List ℕ)
+abbrev pub name_by : Option ℕ → Option (List ℕ) → Option (List ℕ) → Option (List ℕ) → Option (List ℕ)
 name_by number key heading first_test = name_of number (given_by key heading first_test)

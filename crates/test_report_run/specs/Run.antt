@@ -10,7 +10,7 @@ use Rattle.test_report_run.specs.Ended.{after_end, after_stray, end_notes, stray
 use Rattle.test_report_run.specs.Note.{CargoSays, Disagrees, Fails, IsNotRun, IsSkipped, NoteView, OutcomeView, Passes, StrayEnds, StraySuiteEnds, SuiteIs, TestIs, text_view}
 use Rattle.test_report_run.specs.Over.{early_notes, last_notes}
 use Rattle.test_report_run.specs.Prints.{AFailure, AHeading, APrint, PrintedView, after_line}
-use Rattle.test_report_run.specs.Running.{RunningView, is_of, place_of_end, running_at, tests_of}
+use Rattle.test_report_run.specs.Running.{RunningView, is_of, is_same, place_of_end, running_at, tests_of}
 use Rattle.test_report_run.specs.Name.{before_dollar}
 use Rattle.test_report_run.specs.Suite.{OverView, SuiteState, has_key, joined, outside_start, state_of, suite_start, with_line, with_start}
 use Rattle.test_report_run.specs.Totals.{ending, no_suites, with_suite}
@@ -119,7 +119,7 @@ ended_early t s = step (without_tests t.run s) (t.notes ++ early_notes s (names_
 -- the run with one more open suite
 abbrev pub opened : RunState → Option (List ℕ) → Option ℕ → RunState
 opened r key count = record r {
-  suites = r.suites ++ suite_start (r.suites_started + 1) key r.heading count ∷ [];
+  suites = r.suites ++ suite_start (Some (r.suites_started + 1)) key r.heading count ∷ [];
   suites_started = r.suites_started + 1;
 }
 
@@ -173,8 +173,8 @@ abbrev pub running_over : RunState → TestEndView → RunningView → ℕ → O
 running_over r e test attempts = record { name = test.name; attempts = attempts; time = e.time; ended = Some r.ended }
 
 -- the position of the open suite with this number
-abbrev pub place_of_number : RunState → ℕ → Option ℕ
-place_of_number r number = position (λ s. s.number == number) r.suites
+abbrev pub place_of_number : RunState → Option ℕ → Option ℕ
+place_of_number r number = position (λ s. is_same s.number number) r.suites
 
 -- the end of a test that ran, after this number of attempts, counts in its suite
 abbrev pub test_over : RunState → TestEndView → RunningView → ℕ → Step

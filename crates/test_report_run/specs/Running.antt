@@ -2,6 +2,7 @@
 use Rattle.std.specs.Prelude.{◌≡◌, ◌≤◌, ◌+◌, ◌-◌, ◌==◌, ◌++◌, [], ℕ, List, Bool, codes, map, slice_index_or, take, Option, Some, None, option_and_then, option_map, string_bytes, length}
 use Rattle.std.specs.List.{ends_with, find, position, range_with_len}
 use Rattle.std.specs.Fmt.{decimal}
+use Rattle.std.specs.Option.{option_eq}
 use Rattle.std.specs.Str.{bytes_eq}
 use Rattle.test_report_run.specs.declared.running.Running.{Running}
 use Rattle.test_report_run.specs.declared.running.RunningTest.{RunningTest}
@@ -9,7 +10,7 @@ use Rattle.test_report_run.specs.declared.running.RunningTest.{RunningTest}
 -- a test that runs: its name, the number of its suite, and how many tests started before it
 pub record RunningView : Type 0 where
   pub name : List ℕ
-  pub suite : ℕ
+  pub suite : Option ℕ
   pub order : ℕ
 
 -- what is kept of a test that runs
@@ -24,9 +25,13 @@ running_view tests = map running_test_view tests
 abbrev pub tests_of : Running → List RunningView
 tests_of r = running_view r.tests.items
 
+-- these are numbers of one suite, or both are of the tests outside of a suite
+abbrev pub is_same : Option ℕ → Option ℕ → Bool
+is_same a b = option_eq (λ m n. m == n) a b
+
 -- the test is one of this suite
-abbrev pub is_of : ℕ → RunningView → Bool
-is_of suite t = t.suite == suite
+abbrev pub is_of : Option ℕ → RunningView → Bool
+is_of suite t = is_same t.suite suite
 
 -- the test has this name
 abbrev pub has_name : List ℕ → RunningView → Bool
@@ -38,7 +43,7 @@ names_of tests = map (λ t. string_bytes t.name) tests
 
 -- the test at a position that has none
 abbrev pub no_test : RunningView
-no_test = record { name = []; suite = 0; order = 0 }
+no_test = record { name = []; suite = None; order = 0 }
 
 -- the test at this position
 abbrev pub running_at : List RunningView → ℕ → RunningView

@@ -33,7 +33,7 @@ pub record FlakyView : Type 0 where
 
 -- an open suite, or the tests of a file that start outside of a suite
 pub record SuiteState : Type 0 where
-  pub number : ℕ
+  pub number : Option ℕ
   pub key : Option (List ℕ)
   pub heading : Option (List ℕ)
   pub first_test : Option (List ℕ)
@@ -76,7 +76,7 @@ state_of s = record {
 }
 
 -- a suite of which one first line was read
-abbrev pub suite_start : ℕ → Option (List ℕ) → Option (List ℕ) → Option ℕ → SuiteState
+abbrev pub suite_start : Option ℕ → Option (List ℕ) → Option (List ℕ) → Option ℕ → SuiteState
 suite_start number key heading count = record {
   number = number;
   key = key;
@@ -96,7 +96,7 @@ suite_start number key heading count = record {
 
 -- the tests of a file that start outside of a suite, before the first of them
 abbrev pub outside_start : SuiteState
-outside_start = suite_start 0 None None None
+outside_start = suite_start None None None None
 
 -- the suite with one more first line
 abbrev pub joined : SuiteState → Option ℕ → SuiteState

@@ -17,8 +17,8 @@ pub(crate) struct RunningTest {
     /// The name in the line of its start.
     pub(crate) name: String,
 
-    /// The number of its suite.
-    pub(crate) suite: usize,
+    /// The number of its suite, or `None` if it started outside of a suite.
+    pub(crate) suite: Option<usize>,
 
     /// The number of tests that started before it.
     pub(crate) order: usize,
@@ -44,7 +44,12 @@ impl Running {
     }
 
     /// Adds a test that starts.
-    pub(crate) fn start(&mut self, alloc: Global, name: &str, suite: usize) -> Result<(), RunError>
+    pub(crate) fn start(
+        &mut self,
+        alloc: Global,
+        name: &str,
+        suite: Option<usize>,
+    ) -> Result<(), RunError>
         ensures tests { OnOk result (tests_of self.new ≡ tests_of self.old
             ++ record { name = name.now; suite = suite; order = self.old.started } ∷ []) }
         ensures started { OnOk result (self.new.started ≡ self.old.started + 1) }
@@ -97,7 +102,7 @@ impl Running {
     pub(crate) fn take_suite(
         &mut self,
         alloc: Global,
-        suite: usize,
+        suite: Option<usize>,
     ) -> Result<Vec<RunningTest>, AllocError>
         ensures taken { IfOk result (λ taken.
             running_view taken.items ≡ filter (is_of suite) (tests_of self.old)) }

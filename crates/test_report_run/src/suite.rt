@@ -91,7 +91,7 @@ impl Suite {
         test_count: Option<u128>,
     ) -> Result<Suite, AllocError>
         ensures { IfOk result (λ suite. state_of suite
-            ≡ suite_start number (text_view key) (text_view heading) test_count) }
+            ≡ suite_start (Some number) (text_view key) (text_view heading) test_count) }
     {
         let name = SuiteName::new(alloc, number, key, heading)?;
         Ok(Suite::named(alloc, name, test_count))

@@ -11,9 +11,9 @@ use std::alloc::{AllocError, Global};
 /// because each note of a test has a copy of it.
 #[derive(Drop)]
 pub(crate) struct SuiteName {
-    /// The number of the suite, from 1 on in the order of first lines. It is 0 for the tests outside of a
+    /// The number of the suite, from 1 on in the order of first lines, or `None` for the tests outside of a
     /// suite.
-    pub(crate) number: usize,
+    pub(crate) number: Option<usize>,
 
     /// The key of the suite.
     pub(crate) key: Option<String>,
@@ -33,13 +33,13 @@ pub(crate) struct SuiteName {
 impl SuiteName {
     /// Returns the name of the tests outside of a suite.
     pub(crate) fn outside() -> SuiteName
-        ensures number { result.number ≡ 0 }
+        ensures number { result.number ≡ None }
         ensures key { text_view result.key ≡ None }
         ensures heading { text_view result.heading ≡ None }
         ensures first_test { text_view result.first_test ≡ None }
     {
         SuiteName {
-            number: 0,
+            number: None,
             key: None,
             heading: None,
             first_test: None,
@@ -54,11 +54,12 @@ impl SuiteName {
         key: Option<String>,
         heading: Option<String>,
     ) -> Result<SuiteName, AllocError>
-        ensures number { IfOk result (λ name. name.number ≡ number) }
+        ensures number { IfOk result (λ name. name.number ≡ Some number) }
         ensures key { IfOk result (λ name. text_view name.key ≡ text_view key) }
         ensures heading { IfOk result (λ name. text_view name.heading ≡ text_view heading) }
         ensures first_test { IfOk result (λ name. text_view name.first_test ≡ None) }
     {
+        let number = Some(number);
         let shown = shown_name(alloc, number, given_name(&key, &heading, &None))?;
         Ok(SuiteName {
             number,
@@ -124,15 +125,15 @@ fn given_name<'a>(
 /// have none.
 fn shown_name(
     alloc: Global,
-    number: usize,
+    number: Option<usize>,
     given: Option<&str>,
 ) -> Result<Option<String>, AllocError>
     ensures { IfOk result (λ shown. text_view shown
         ≡ name_of number (option_map (λ name. name.now) given.entry)) }
 {
-    if number == 0 {
+    let Some(number) = number else {
         return Ok(None);
-    }
+    };
     if let Some(name) = given {
         return Ok(Some(String::from_str(alloc, name)?));
     }

@@ -7,6 +7,7 @@ ghost use Rattle.test_report_run.specs.Note.{note_view, text_view};
 ghost use Rattle.test_report_run.specs.Over.{last_notes};
 ghost use Rattle.test_report_run.specs.Run as spec;
 ghost use Rattle.test_report_run.specs.Run.{run_state};
+ghost use Rattle.test_report_run.specs.Running.{is_same};
 ghost use Rattle.test_report_run.specs.Suite.{has_key, joined, state_of, with_line};
 
 use crate::error::{RunError, one_more};
@@ -209,8 +210,8 @@ fn place_of_key(suites: &[Box<Suite>], key: Option<&str>) -> Option<usize>
 }
 
 /// Returns the position of the first of these suites with a number.
-pub(crate) fn place_of_number(suites: &[Box<Suite>], number: usize) -> Option<usize>
-    ensures { result ≡ position (λ suite. (state_of suite.value).number == number) suites.now }
+pub(crate) fn place_of_number(suites: &[Box<Suite>], number: Option<usize>) -> Option<usize>
+    ensures { result ≡ position (λ suite. is_same (state_of suite.value).number number) suites.now }
 {
     suites.iter().position(|suite| suite.name.number == number)
 }

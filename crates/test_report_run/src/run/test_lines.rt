@@ -25,8 +25,8 @@ impl TestRun {
         self.running.start(alloc, name, number)
     }
 
-    /// Counts the start of a test in its suite. Returns the number of the suite.
-    fn count_start(&mut self, alloc: Global, name: &str) -> Result<usize, RunError>
+    /// Counts the start of a test in its suite. Returns the number of the suite, if it has one.
+    fn count_start(&mut self, alloc: Global, name: &str) -> Result<Option<usize>, RunError>
         ensures counts { OnOk result (run_state self.new ≡ spec.start_counted (run_state self.old) name.now) }
         ensures number { IfOk result (λ number.
             number ≡ (spec.suite_at (run_state self.old) (spec.suite_place (run_state self.old) name.now)).number) }
@@ -133,7 +133,7 @@ impl TestRun {
     }
 
     /// Returns the position of the open suite with a number.
-    fn suite_of_number(&self, number: usize) -> Option<usize>
+    fn suite_of_number(&self, number: Option<usize>) -> Option<usize>
         ensures { result ≡ spec.place_of_number (run_state self.now) number }
     {
         place_of_number(&self.suites, number)

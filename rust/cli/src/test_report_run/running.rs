@@ -12,8 +12,8 @@ pub(crate) struct RunningTest {
     /// The name in the line of its start.
     pub(crate) name: String,
 
-    /// The number of its suite.
-    pub(crate) suite: usize,
+    /// The number of its suite, or `None` if it started outside of a suite.
+    pub(crate) suite: Option<usize>,
 
     /// The number of tests that started before it.
     pub(crate) order: usize,
@@ -36,7 +36,7 @@ impl Running {
     }
 
     /// Adds a test that starts.
-    pub(crate) fn start(&mut self, name: &str, suite: usize) -> Result<(), RunError> {
+    pub(crate) fn start(&mut self, name: &str, suite: Option<usize>) -> Result<(), RunError> {
         let name = String::from(name);
         let order = self.started;
         self.tests.push(RunningTest { name, suite, order });
@@ -70,7 +70,7 @@ impl Running {
     }
 
     /// Removes the tests of a suite, and returns them in the order in which they started.
-    pub(crate) fn take_suite(&mut self, suite: usize) -> Vec<RunningTest> {
+    pub(crate) fn take_suite(&mut self, suite: Option<usize>) -> Vec<RunningTest> {
         let mut taken = Vec::new();
         let mut kept = Vec::new();
         for test in std::mem::take(&mut self.tests) {

@@ -5,9 +5,9 @@
 /// because each note of a test has a copy of it.
 #[derive(Clone)]
 pub(crate) struct SuiteName {
-    /// The number of the suite, from 1 on in the order of first lines. It is 0 for the tests outside of a
+    /// The number of the suite, from 1 on in the order of first lines, or `None` for the tests outside of a
     /// suite.
-    pub(crate) number: usize,
+    pub(crate) number: Option<usize>,
 
     /// The key of the suite.
     pub(crate) key: Option<String>,
@@ -26,7 +26,7 @@ impl SuiteName {
     /// Returns the name of the tests outside of a suite.
     pub(crate) fn outside() -> SuiteName {
         SuiteName {
-            number: 0,
+            number: None,
             key: None,
             heading: None,
             first_test: None,
@@ -36,6 +36,7 @@ impl SuiteName {
 
     /// Returns the name of a suite before its first test.
     pub(crate) fn new(number: usize, key: Option<String>, heading: Option<String>) -> SuiteName {
+        let number = Some(number);
         let shown = shown_name(number, given_name(&key, &heading, &None));
         SuiteName {
             number,
@@ -83,10 +84,8 @@ fn given_name<'a>(
 
 /// Returns the name of a suite: the given one, or else `suite` and its number. The tests outside of a suite
 /// have none.
-fn shown_name(number: usize, given: Option<&str>) -> Option<String> {
-    if number == 0 {
-        return None;
-    }
+fn shown_name(number: Option<usize>, given: Option<&str>) -> Option<String> {
+    let number = number?;
     if let Some(name) = given {
         return Some(String::from(name));
     }

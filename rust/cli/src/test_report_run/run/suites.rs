@@ -130,7 +130,7 @@ fn place_of_key(suites: &[Box<Suite>], key: Option<&str>) -> Option<usize> {
 }
 
 /// Returns the position of the first of these suites with a number.
-pub(crate) fn place_of_number(suites: &[Box<Suite>], number: usize) -> Option<usize> {
+pub(crate) fn place_of_number(suites: &[Box<Suite>], number: Option<usize>) -> Option<usize> {
     suites.iter().position(|suite| suite.name.number == number)
 }
 

@@ -16,8 +16,8 @@ impl TestRun {
         self.running.start(name, number)
     }
 
-    /// Counts the start of a test in its suite. Returns the number of the suite.
-    fn count_start(&mut self, name: &str) -> Result<usize, RunError> {
+    /// Counts the start of a test in its suite. Returns the number of the suite, if it has one.
+    fn count_start(&mut self, name: &str) -> Result<Option<usize>, RunError> {
         match self.suite_of(name) {
             Some(at) => {
                 let suite = &mut self.suites[at];
@@ -100,7 +100,7 @@ impl TestRun {
     }
 
     /// Returns the position of the open suite with a number.
-    fn suite_of_number(&self, number: usize) -> Option<usize> {
+    fn suite_of_number(&self, number: Option<usize>) -> Option<usize> {
         place_of_number(&self.suites, number)
     }
 
