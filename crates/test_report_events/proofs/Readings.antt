@@ -1,5 +1,5 @@
 -- What is read of a line.
-use Rattle.std.proofs.Common.{◌≡◌, ◌∙◌, refl, sym, ap, ℕ, List, Option, Some, None, Result, Ok, Err, inl, inr, subst, MatchOption, IfOk, IfSome, unwrap_or}
+use Rattle.std.proofs.Common.{◌≡◌, ◌∙◌, refl, sym, ap, ℕ, List, Option, Some, None, Result, Ok, Err, inl, inr, subst, MatchOption, IfOk, IfSome}
 use Rattle.std.proofs.Math.Logic.{◌⊎◌, ⊎_elim}
 use Rattle.std.proofs.lemmas.List.{take_rest}
 use Rattle.std.specs.Prelude.{◌-◌, drop, length, take}
@@ -12,7 +12,7 @@ use Rattle.test_report_events.proofs.Times.{one-time}
 use Rattle.test_report_events.proofs.Headings.{one-heading}
 use Rattle.test_report_events.proofs.Objects.{one-last}
 use Rattle.test_report_events.specs.Cargo.{IsHeading, failure_of}
-use Rattle.test_report_events.specs.Event.{EventView, HeadingLine, OtherLine, Prints}
+use Rattle.test_report_events.specs.Event.{EventView, HeadingLine, Prints}
 use Rattle.test_report_events.specs.Line.{Holds, IsJson, IsPrint, LineSays, ValueSays, other_text}
 use Rattle.test_report_events.specs.Plain.{IsPlain, line_text}
 use Rattle.test_report_events.specs.Said.{IsTime, Says}
@@ -43,10 +43,6 @@ holds_later line at (Ok found) whole last ends = holds-end line at found whole l
 pub object_is : (line : List ℕ) (d : Data) (time : Option ℕ) (e : EventView) → Holds line d → IsTime line d time → object_said time d ≡ Some e
     → LineSays line e
 object_is line d time e holds timed is = inl (d, holds, inl (time, timed, subst (λ o. IfSome o (Says time d)) is (object-says d time)))
-
-pub object_some : (line : List ℕ) (d : Data) (time : Option ℕ) (e : EventView) → Holds line d → IsTime line d time → object_said time d ≡ Some e
-    → LineSays line (unwrap_or (object_said time d) OtherLine)
-object_some line d time e holds timed is = subst (λ o. LineSays line (unwrap_or o OtherLine)) (sym is) (object_is line d time e holds timed is)
 
 pub object_none : (line : List ℕ) (d : Data) (time : Option ℕ) (e : EventView) → Holds line d → IsTime line d time → object_said time d ≡ None
     → IsPrint line e → LineSays line e

@@ -1,14 +1,30 @@
 -- What is kept of a line that was read.
-use Rattle.std.specs.Prelude.{option_map, unwrap_or}
+use Rattle.std.specs.Prelude.{ℕ, List, option_map}
 use Rattle.std.specs.String.{string_bytes}
-use Rattle.serde_json.specs.View.{view}
-use Rattle.test_report_events.specs.Event.{EventView, HeadingLine, OtherLine, TestEndView, TestEnds, TestStarts}
+use Rattle.test_report_events.specs.Event.{EventView, HeadingLine, OtherLine, SuiteEndView, SuiteEnds, SuiteStarts, TestEndView, TestEnds, TestStarts, key_text}
 use Rattle.test_report_events.specs.Line.{other_text}
-use Rattle.test_report_events.specs.Table.{object_said}
-use Rattle.test_report_events.specs.declared.line.Content.{Content}
-use Rattle.test_report_events.specs.declared.line.Content.TheVariants as content
+use Rattle.test_report_events.specs.declared.content.Content.{Content}
+use Rattle.test_report_events.specs.declared.content.Content.TheVariants as content
+use Rattle.test_report_events.specs.declared.content.KeyTexts.{KeyTexts}
+use Rattle.test_report_events.specs.declared.content.LastLine.{LastLine}
+use Rattle.test_report_events.specs.declared.content.TestEnd.{TestEnd}
 use Rattle.test_report_events.specs.declared.line.Line.{Line}
-use Rattle.test_report_events.specs.declared.line.TestEnd.{TestEnd}
+
+-- the key of a suite that is kept, as text
+abbrev pub key_of : KeyTexts → List ℕ
+key_of k = key_text (string_bytes k.«package») (string_bytes k.binary) k.stress_index
+
+-- the last line of a suite that is kept
+abbrev pub suite_end_of : LastLine → SuiteEndView
+suite_end_of e = record {
+  key = option_map key_of e.key;
+  failed_verdict = e.failed_verdict;
+  passed = e.passed;
+  failed = e.failed;
+  ignored = e.ignored;
+  measured = e.measured;
+  time = e.time;
+}
 
 -- the end of a test that is kept
 abbrev pub end_of : TestEnd → TestEndView
@@ -23,9 +39,11 @@ end_of e = record {
 
 -- the event of what a line is
 abbrev pub content_event : Content → EventView
+content_event (content.SuiteStarted key count) = SuiteStarts (option_map key_of key) count
+content_event (content.SuiteEnded end) = SuiteEnds (suite_end_of end)
 content_event (content.TestStarted name) = TestStarts (string_bytes name)
 content_event (content.TestEnded end) = TestEnds (end_of end)
-content_event (content.Event value time) = unwrap_or (object_said time (view value)) OtherLine
+content_event content.Other = OtherLine
 content_event (content.Heading suite) = HeadingLine (string_bytes suite)
 content_event (content.Text failure text plain) = other_text (string_bytes text) (string_bytes plain) failure
 

@@ -18,6 +18,7 @@
 #![tactic(auto)]
 
 mod cargo;
+mod content;
 pub mod event;
 pub mod laws;
 pub mod line;

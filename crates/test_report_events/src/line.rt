@@ -1,16 +1,17 @@
 //! Parses a line of a test run.
 
-ghost use Rattle.std.specs.Prelude.{◌≡◌, IfOk, MatchOption, Some, None, option_map, string_bytes};
+ghost use Rattle.std.specs.Prelude.{◌≡◌, IfOk, MatchOption, Some, None};
 ghost use Rattle.serde_json.specs.Data.{Data};
 ghost use Rattle.serde_json.specs.Read.{read};
 ghost use Rattle.serde_json.specs.View.{view};
 ghost use Rattle.test_report_events.specs.Content as kept;
-ghost use Rattle.test_report_events.specs.Event.{TestEnds, event_view, test_end_view};
+ghost use Rattle.test_report_events.specs.Event.{event_view};
 ghost use Rattle.test_report_events.specs.Line.{Holds, IsPrint, LineSays};
 ghost use Rattle.test_report_events.specs.Table.{FindsLastObject, IsValueOf};
 
 use crate::cargo::{cargo_failure, heading};
-use crate::event::{CargoFailure, Event, TestDetails, TestResult};
+use crate::content::Content;
+use crate::event::Event;
 use crate::members::Members;
 use crate::plain::{line_text, plain_text};
 use crate::started::started_test;
@@ -22,92 +23,6 @@ use std::alloc::{AllocError, Global};
 #[derive(Debug, Drop)]
 pub struct Line {
     content: Content,
-}
-
-/// The content of a line.
-#[derive(Debug, Drop)]
-enum Content {
-    /// The start of a test.
-    TestStarted {
-        name: String,
-    },
-
-    /// The end of a test.
-    TestEnded(TestEnd),
-
-    /// Another event of a test harness, with the time that the line gives.
-    Event {
-        value: Value,
-        time: Option<u64>,
-    },
-
-    /// A heading of cargo.
-    Heading(String),
-
-    /// A line that is neither an event of a harness nor a heading. It is a print if `failure` is `None`.
-    Text {
-        failure: Option<CargoFailure>,
-        line: String,
-        plain: String,
-    },
-}
-
-/// The end of a test.
-#[derive(Debug, Drop)]
-struct TestEnd {
-    name: String,
-    result: TestResult,
-    stdout: Option<String>,
-    message: Option<String>,
-    reason: Option<String>,
-    time: Option<u64>,
-}
-
-impl TestEnd {
-    /// Returns the end of a test with a copy of its texts.
-    fn of(
-        alloc: Global,
-        name: &str,
-        outcome: TestResult,
-        details: TestDetails<'_>,
-    ) -> Result<TestEnd, AllocError>
-        ensures { IfOk result (λ end. kept.end_of end ≡ test_end_view name.now outcome details.entry) }
-    {
-        Ok(TestEnd {
-            name: String::from_str(alloc, name)?,
-            result: outcome,
-            stdout: owned(alloc, details.stdout)?,
-            message: owned(alloc, details.message)?,
-            reason: owned(alloc, details.reason)?,
-            time: details.time,
-        })
-    }
-
-    /// Returns the event, which borrows its texts.
-    fn event(&self) -> Event<'_>
-        ensures { event_view result ≡ TestEnds (kept.end_of self.now) }
-    {
-        Event::TestEnded {
-            name: self.name.as_str(),
-            result: self.result,
-            details: TestDetails {
-                stdout: self.stdout.as_ref().map(String::as_str),
-                message: self.message.as_ref().map(String::as_str),
-                reason: self.reason.as_ref().map(String::as_str),
-                time: self.time,
-            },
-        }
-    }
-}
-
-/// Copies a text that may be absent.
-fn owned(alloc: Global, text: Option<&str>) -> Result<Option<String>, AllocError>
-    ensures { IfOk result (λ copy. option_map string_bytes copy ≡ option_map (λ text. text.now) text.entry) }
-{
-    match text {
-        Some(text) => Ok(Some(String::from_str(alloc, text)?)),
-        None => Ok(None),
-    }
 }
 
 impl Line {
@@ -126,35 +41,7 @@ impl Line {
     pub fn event(&self) -> Event<'_>
         ensures { event_view result ≡ kept.event_of self.now }
     {
-        match &self.content {
-            Content::TestStarted { name } => Event::TestStarted {
-                name: name.as_str(),
-            },
-            Content::TestEnded(end) => end.event(),
-            Content::Event { value, time } => {
-                Members::of(value).event(*time).unwrap_or(Event::Other)
-            }
-            Content::Heading(suite) => Event::Heading {
-                suite: suite.as_str(),
-            },
-            Content::Text {
-                failure: Some(failure),
-                line,
-                plain,
-            } => Event::CargoFailed {
-                failure: *failure,
-                line: line.as_str(),
-                plain: plain.as_str(),
-            },
-            Content::Text {
-                failure: None,
-                line,
-                plain,
-            } => Event::Print {
-                line: line.as_str(),
-                plain: plain.as_str(),
-            },
-        }
+        self.content.event()
     }
 }
 
@@ -163,8 +50,7 @@ fn content_of(alloc: Global, bytes: &[u8]) -> Result<Content, AllocError>
     ensures { IfOk result (λ content. LineSays bytes.now (kept.content_event content)) }
 {
     if let Some(name) = started_test(bytes) {
-        let name = String::from_str(alloc, name)?;
-        return Ok(Content::TestStarted { name });
+        return Content::of(alloc, Event::TestStarted { name });
     }
     match value_in(alloc, bytes)? {
         Some(value) => value_content(alloc, bytes, value),
@@ -229,17 +115,7 @@ fn value_content(alloc: Global, bytes: &[u8], value: Value) -> Result<Content, A
     let members = Members::of(&value);
     let time = members.time_in(bytes);
     match members.event(time) {
-        Some(Event::TestStarted { name }) => Ok(Content::TestStarted {
-            name: String::from_str(alloc, name)?,
-        }),
-        Some(
-            Event::TestEnded {
-                name,
-                result: outcome,
-                details,
-            },
-        ) => Ok(Content::TestEnded(TestEnd::of(alloc, name, outcome, details)?)),
-        Some(_) => Ok(Content::Event { value, time }),
+        Some(event) => Content::of(alloc, event),
         None => print_content(alloc, bytes),
     }
 }

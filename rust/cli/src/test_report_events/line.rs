@@ -2,7 +2,8 @@
 //! Parses a line of a test run.
 
 use crate::test_report_events::cargo::{cargo_failure, heading};
-use crate::test_report_events::event::{CargoFailure, Event, TestDetails, TestResult};
+use crate::test_report_events::content::Content;
+use crate::test_report_events::event::Event;
 use crate::test_report_events::members::Members;
 use crate::test_report_events::plain::{line_text, plain_text};
 use crate::test_report_events::started::started_test;
@@ -13,73 +14,6 @@ use serde_json::Value;
 #[derive(Clone, Debug)]
 pub struct Line {
     content: Content,
-}
-
-/// The content of a line.
-#[derive(Clone, Debug)]
-enum Content {
-    /// The start of a test.
-    TestStarted { name: String },
-
-    /// The end of a test.
-    TestEnded(TestEnd),
-
-    /// Another event of a test harness, with the time that the line gives.
-    Event { value: Value, time: Option<u64> },
-
-    /// A heading of cargo.
-    Heading(String),
-
-    /// A line that is neither an event of a harness nor a heading. It is a print if `failure` is `None`.
-    Text {
-        failure: Option<CargoFailure>,
-        line: String,
-        plain: String,
-    },
-}
-
-/// The end of a test.
-#[derive(Clone, Debug)]
-struct TestEnd {
-    name: String,
-    result: TestResult,
-    stdout: Option<String>,
-    message: Option<String>,
-    reason: Option<String>,
-    time: Option<u64>,
-}
-
-impl TestEnd {
-    /// Returns the end of a test with a copy of its texts.
-    fn of(name: &str, outcome: TestResult, details: TestDetails<'_>) -> TestEnd {
-        TestEnd {
-            name: String::from(name),
-            result: outcome,
-            stdout: owned(details.stdout),
-            message: owned(details.message),
-            reason: owned(details.reason),
-            time: details.time,
-        }
-    }
-
-    /// Returns the event, which borrows its texts.
-    fn event(&self) -> Event<'_> {
-        Event::TestEnded {
-            name: self.name.as_str(),
-            result: self.result,
-            details: TestDetails {
-                stdout: self.stdout.as_deref(),
-                message: self.message.as_deref(),
-                reason: self.reason.as_deref(),
-                time: self.time,
-            },
-        }
-    }
-}
-
-/// Copies a text that may be absent.
-fn owned(text: Option<&str>) -> Option<String> {
-    text.map(String::from)
 }
 
 impl Line {
@@ -94,43 +28,14 @@ impl Line {
 
     /// Returns the event of the line. It borrows its texts from the line.
     pub fn event(&self) -> Event<'_> {
-        match &self.content {
-            Content::TestStarted { name } => Event::TestStarted {
-                name: name.as_str(),
-            },
-            Content::TestEnded(end) => end.event(),
-            Content::Event { value, time } => {
-                Members::of(value).event(*time).unwrap_or(Event::Other)
-            }
-            Content::Heading(suite) => Event::Heading {
-                suite: suite.as_str(),
-            },
-            Content::Text {
-                failure: Some(failure),
-                line,
-                plain,
-            } => Event::CargoFailed {
-                failure: *failure,
-                line: line.as_str(),
-                plain: plain.as_str(),
-            },
-            Content::Text {
-                failure: None,
-                line,
-                plain,
-            } => Event::Print {
-                line: line.as_str(),
-                plain: plain.as_str(),
-            },
-        }
+        self.content.event()
     }
 }
 
 /// Returns the content of a line.
 fn content_of(bytes: &[u8]) -> Content {
     if let Some(name) = started_test(bytes) {
-        let name = String::from(name);
-        return Content::TestStarted { name };
+        return Content::of(Event::TestStarted { name });
     }
     match value_in(bytes) {
         Some(value) => value_content(bytes, value),
@@ -178,15 +83,7 @@ fn value_content(bytes: &[u8], value: Value) -> Content {
     let members = Members::of(&value);
     let time = members.time_in(bytes);
     match members.event(time) {
-        Some(Event::TestStarted { name }) => Content::TestStarted {
-            name: String::from(name),
-        },
-        Some(Event::TestEnded {
-            name,
-            result: outcome,
-            details,
-        }) => Content::TestEnded(TestEnd::of(name, outcome, details)),
-        Some(_) => Content::Event { value, time },
+        Some(event) => Content::of(event),
         None => print_content(bytes),
     }
 }

@@ -26,6 +26,7 @@
 //! ```
 
 mod cargo;
+mod content;
 pub mod event;
 pub mod line;
 mod members;

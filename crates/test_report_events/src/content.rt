@@ -1,0 +1,272 @@
+//! The event of a line, with texts of its own.
+
+ghost use Rattle.std.specs.Prelude.{◌≡◌, IfOk, option_map, string_bytes};
+ghost use Rattle.test_report_events.specs.Content as kept;
+ghost use Rattle.test_report_events.specs.Event.{TestEnds, event_view, suite_end_view, test_end_view, text_of_key};
+ghost use Rattle.test_report_events.specs.Line.{other_text};
+
+use crate::event::{CargoFailure, Event, SuiteEnd, SuiteKey, TestDetails, TestResult};
+use std::alloc::{AllocError, Global};
+
+/// An event that has its texts. An [`Event`] borrows them.
+#[derive(Debug, Drop)]
+pub(crate) enum Content {
+    /// A suite starts.
+    SuiteStarted {
+        key: Option<KeyTexts>,
+        test_count: Option<u64>,
+    },
+
+    /// A suite ends.
+    SuiteEnded(LastLine),
+
+    /// A test starts.
+    TestStarted {
+        name: String,
+    },
+
+    /// A test ends.
+    TestEnded(TestEnd),
+
+    /// Another line of a test harness.
+    Other,
+
+    /// A heading of cargo.
+    Heading(String),
+
+    /// A line that is neither an event of a harness nor a heading. It is a print if `failure` is `None`.
+    Text {
+        failure: Option<CargoFailure>,
+        line: String,
+        plain: String,
+    },
+}
+
+/// The key of a suite.
+#[derive(Debug, Drop)]
+pub(crate) struct KeyTexts {
+    package: String,
+    binary: String,
+    stress_index: Option<u64>,
+}
+
+/// The last line of a suite.
+#[derive(Debug, Drop)]
+pub(crate) struct LastLine {
+    key: Option<KeyTexts>,
+    failed_verdict: bool,
+    passed: Option<u64>,
+    failed: Option<u64>,
+    ignored: Option<u64>,
+    measured: Option<u64>,
+    time: Option<u64>,
+}
+
+/// The end of a test.
+#[derive(Debug, Drop)]
+pub(crate) struct TestEnd {
+    name: String,
+    result: TestResult,
+    stdout: Option<String>,
+    message: Option<String>,
+    reason: Option<String>,
+    time: Option<u64>,
+}
+
+impl Content {
+    /// Returns an event with a copy of its texts.
+    pub(crate) fn of(alloc: Global, event: Event<'_>) -> Result<Content, AllocError>
+        ensures { IfOk result (λ content. kept.content_event content ≡ event_view event.entry) }
+    {
+        match event {
+            Event::SuiteStarted { key, test_count } => Ok(Content::SuiteStarted {
+                key: key_texts(alloc, key)?,
+                test_count,
+            }),
+            Event::SuiteEnded(end) => Ok(Content::SuiteEnded(LastLine::of(alloc, end)?)),
+            Event::TestStarted { name } => Ok(Content::TestStarted {
+                name: String::from_str(alloc, name)?,
+            }),
+            Event::TestEnded {
+                name,
+                result: outcome,
+                details,
+            } => Ok(Content::TestEnded(TestEnd::of(alloc, name, outcome, details)?)),
+            Event::Other => Ok(Content::Other),
+            Event::Heading { suite } => Ok(Content::Heading(String::from_str(alloc, suite)?)),
+            Event::CargoFailed {
+                failure,
+                line,
+                plain,
+            } => Content::text(alloc, Some(failure), line, plain),
+            Event::Print { line, plain } => Content::text(alloc, None, line, plain),
+        }
+    }
+
+    /// Returns the content of a line that is neither an event of a harness nor a heading.
+    fn text(
+        alloc: Global,
+        failure: Option<CargoFailure>,
+        line: &str,
+        plain: &str,
+    ) -> Result<Content, AllocError>
+        ensures { IfOk result (λ content. kept.content_event content ≡ other_text line.now plain.now failure) }
+    {
+        Ok(Content::Text {
+            failure,
+            line: String::from_str(alloc, line)?,
+            plain: String::from_str(alloc, plain)?,
+        })
+    }
+
+    /// Returns the event, which borrows its texts.
+    pub(crate) fn event(&self) -> Event<'_>
+        ensures { event_view result ≡ kept.content_event self.now }
+    {
+        match self {
+            Content::SuiteStarted { key, test_count } => Event::SuiteStarted {
+                key: key.as_ref().map(KeyTexts::key),
+                test_count: *test_count,
+            },
+            Content::SuiteEnded(end) => Event::SuiteEnded(end.end()),
+            Content::TestStarted { name } => Event::TestStarted {
+                name: name.as_str(),
+            },
+            Content::TestEnded(end) => end.event(),
+            Content::Other => Event::Other,
+            Content::Heading(suite) => Event::Heading {
+                suite: suite.as_str(),
+            },
+            Content::Text {
+                failure: Some(failure),
+                line,
+                plain,
+            } => Event::CargoFailed {
+                failure: *failure,
+                line: line.as_str(),
+                plain: plain.as_str(),
+            },
+            Content::Text {
+                failure: None,
+                line,
+                plain,
+            } => Event::Print {
+                line: line.as_str(),
+                plain: plain.as_str(),
+            },
+        }
+    }
+}
+
+impl KeyTexts {
+    /// Returns a key with a copy of its texts.
+    fn of(alloc: Global, key: SuiteKey<'_>) -> Result<KeyTexts, AllocError>
+        ensures { IfOk result (λ texts. kept.key_of texts ≡ text_of_key key.entry) }
+    {
+        Ok(KeyTexts {
+            package: String::from_str(alloc, key.package)?,
+            binary: String::from_str(alloc, key.binary)?,
+            stress_index: key.stress_index,
+        })
+    }
+
+    /// Returns the key, which borrows its texts.
+    fn key(&self) -> SuiteKey<'_>
+        ensures { text_of_key result ≡ kept.key_of self.now }
+    {
+        SuiteKey {
+            package: self.package.as_str(),
+            binary: self.binary.as_str(),
+            stress_index: self.stress_index,
+        }
+    }
+}
+
+/// Returns a key that may be absent with a copy of its texts.
+fn key_texts(alloc: Global, key: Option<SuiteKey<'_>>) -> Result<Option<KeyTexts>, AllocError>
+    ensures { IfOk result (λ texts. option_map kept.key_of texts ≡ option_map text_of_key key.entry) }
+{
+    match key {
+        Some(key) => Ok(Some(KeyTexts::of(alloc, key)?)),
+        None => Ok(None),
+    }
+}
+
+impl LastLine {
+    /// Returns the last line of a suite with a copy of its texts.
+    fn of(alloc: Global, end: SuiteEnd<'_>) -> Result<LastLine, AllocError>
+        ensures { IfOk result (λ line. kept.suite_end_of line ≡ suite_end_view end.entry) }
+    {
+        Ok(LastLine {
+            key: key_texts(alloc, end.key)?,
+            failed_verdict: end.failed_verdict,
+            passed: end.passed,
+            failed: end.failed,
+            ignored: end.ignored,
+            measured: end.measured,
+            time: end.time,
+        })
+    }
+
+    /// Returns the end of the suite, which borrows its texts.
+    fn end(&self) -> SuiteEnd<'_>
+        ensures { suite_end_view result ≡ kept.suite_end_of self.now }
+    {
+        SuiteEnd {
+            key: self.key.as_ref().map(KeyTexts::key),
+            failed_verdict: self.failed_verdict,
+            passed: self.passed,
+            failed: self.failed,
+            ignored: self.ignored,
+            measured: self.measured,
+            time: self.time,
+        }
+    }
+}
+
+impl TestEnd {
+    /// Returns the end of a test with a copy of its texts.
+    fn of(
+        alloc: Global,
+        name: &str,
+        outcome: TestResult,
+        details: TestDetails<'_>,
+    ) -> Result<TestEnd, AllocError>
+        ensures { IfOk result (λ end. kept.end_of end ≡ test_end_view name.now outcome details.entry) }
+    {
+        Ok(TestEnd {
+            name: String::from_str(alloc, name)?,
+            result: outcome,
+            stdout: owned(alloc, details.stdout)?,
+            message: owned(alloc, details.message)?,
+            reason: owned(alloc, details.reason)?,
+            time: details.time,
+        })
+    }
+
+    /// Returns the event, which borrows its texts.
+    fn event(&self) -> Event<'_>
+        ensures { event_view result ≡ TestEnds (kept.end_of self.now) }
+    {
+        Event::TestEnded {
+            name: self.name.as_str(),
+            result: self.result,
+            details: TestDetails {
+                stdout: self.stdout.as_ref().map(String::as_str),
+                message: self.message.as_ref().map(String::as_str),
+                reason: self.reason.as_ref().map(String::as_str),
+                time: self.time,
+            },
+        }
+    }
+}
+
+/// Copies a text that may be absent.
+fn owned(alloc: Global, text: Option<&str>) -> Result<Option<String>, AllocError>
+    ensures { IfOk result (λ copy. option_map string_bytes copy ≡ option_map (λ text. text.now) text.entry) }
+{
+    match text {
+        Some(text) => Ok(Some(String::from_str(alloc, text)?)),
+        None => Ok(None),
+    }
+}

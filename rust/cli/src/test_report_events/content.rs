@@ -1,0 +1,229 @@
+// Made by tools/erase from crates/test_report_events/src/content.rt. Do not edit.
+//! The event of a line, with texts of its own.
+
+use crate::test_report_events::event::{
+    CargoFailure, Event, SuiteEnd, SuiteKey, TestDetails, TestResult,
+};
+
+/// An event that has its texts. An [`Event`] borrows them.
+#[derive(Clone, Debug)]
+pub(crate) enum Content {
+    /// A suite starts.
+    SuiteStarted {
+        key: Option<KeyTexts>,
+        test_count: Option<u64>,
+    },
+
+    /// A suite ends.
+    SuiteEnded(LastLine),
+
+    /// A test starts.
+    TestStarted { name: String },
+
+    /// A test ends.
+    TestEnded(TestEnd),
+
+    /// Another line of a test harness.
+    Other,
+
+    /// A heading of cargo.
+    Heading(String),
+
+    /// A line that is neither an event of a harness nor a heading. It is a print if `failure` is `None`.
+    Text {
+        failure: Option<CargoFailure>,
+        line: String,
+        plain: String,
+    },
+}
+
+/// The key of a suite.
+#[derive(Clone, Debug)]
+pub(crate) struct KeyTexts {
+    package: String,
+    binary: String,
+    stress_index: Option<u64>,
+}
+
+/// The last line of a suite.
+#[derive(Clone, Debug)]
+pub(crate) struct LastLine {
+    key: Option<KeyTexts>,
+    failed_verdict: bool,
+    passed: Option<u64>,
+    failed: Option<u64>,
+    ignored: Option<u64>,
+    measured: Option<u64>,
+    time: Option<u64>,
+}
+
+/// The end of a test.
+#[derive(Clone, Debug)]
+pub(crate) struct TestEnd {
+    name: String,
+    result: TestResult,
+    stdout: Option<String>,
+    message: Option<String>,
+    reason: Option<String>,
+    time: Option<u64>,
+}
+
+impl Content {
+    /// Returns an event with a copy of its texts.
+    pub(crate) fn of(event: Event<'_>) -> Content {
+        match event {
+            Event::SuiteStarted { key, test_count } => Content::SuiteStarted {
+                key: key_texts(key),
+                test_count,
+            },
+            Event::SuiteEnded(end) => Content::SuiteEnded(LastLine::of(end)),
+            Event::TestStarted { name } => Content::TestStarted {
+                name: String::from(name),
+            },
+            Event::TestEnded {
+                name,
+                result: outcome,
+                details,
+            } => Content::TestEnded(TestEnd::of(name, outcome, details)),
+            Event::Other => Content::Other,
+            Event::Heading { suite } => Content::Heading(String::from(suite)),
+            Event::CargoFailed {
+                failure,
+                line,
+                plain,
+            } => Content::text(Some(failure), line, plain),
+            Event::Print { line, plain } => Content::text(None, line, plain),
+        }
+    }
+
+    /// Returns the content of a line that is neither an event of a harness nor a heading.
+    fn text(failure: Option<CargoFailure>, line: &str, plain: &str) -> Content {
+        Content::Text {
+            failure,
+            line: String::from(line),
+            plain: String::from(plain),
+        }
+    }
+
+    /// Returns the event, which borrows its texts.
+    pub(crate) fn event(&self) -> Event<'_> {
+        match self {
+            Content::SuiteStarted { key, test_count } => Event::SuiteStarted {
+                key: key.as_ref().map(KeyTexts::key),
+                test_count: *test_count,
+            },
+            Content::SuiteEnded(end) => Event::SuiteEnded(end.end()),
+            Content::TestStarted { name } => Event::TestStarted {
+                name: name.as_str(),
+            },
+            Content::TestEnded(end) => end.event(),
+            Content::Other => Event::Other,
+            Content::Heading(suite) => Event::Heading {
+                suite: suite.as_str(),
+            },
+            Content::Text {
+                failure: Some(failure),
+                line,
+                plain,
+            } => Event::CargoFailed {
+                failure: *failure,
+                line: line.as_str(),
+                plain: plain.as_str(),
+            },
+            Content::Text {
+                failure: None,
+                line,
+                plain,
+            } => Event::Print {
+                line: line.as_str(),
+                plain: plain.as_str(),
+            },
+        }
+    }
+}
+
+impl KeyTexts {
+    /// Returns a key with a copy of its texts.
+    fn of(key: SuiteKey<'_>) -> KeyTexts {
+        KeyTexts {
+            package: String::from(key.package),
+            binary: String::from(key.binary),
+            stress_index: key.stress_index,
+        }
+    }
+
+    /// Returns the key, which borrows its texts.
+    fn key(&self) -> SuiteKey<'_> {
+        SuiteKey {
+            package: self.package.as_str(),
+            binary: self.binary.as_str(),
+            stress_index: self.stress_index,
+        }
+    }
+}
+
+/// Returns a key that may be absent with a copy of its texts.
+fn key_texts(key: Option<SuiteKey<'_>>) -> Option<KeyTexts> {
+    key.map(KeyTexts::of)
+}
+
+impl LastLine {
+    /// Returns the last line of a suite with a copy of its texts.
+    fn of(end: SuiteEnd<'_>) -> LastLine {
+        LastLine {
+            key: key_texts(end.key),
+            failed_verdict: end.failed_verdict,
+            passed: end.passed,
+            failed: end.failed,
+            ignored: end.ignored,
+            measured: end.measured,
+            time: end.time,
+        }
+    }
+
+    /// Returns the end of the suite, which borrows its texts.
+    fn end(&self) -> SuiteEnd<'_> {
+        SuiteEnd {
+            key: self.key.as_ref().map(KeyTexts::key),
+            failed_verdict: self.failed_verdict,
+            passed: self.passed,
+            failed: self.failed,
+            ignored: self.ignored,
+            measured: self.measured,
+            time: self.time,
+        }
+    }
+}
+
+impl TestEnd {
+    /// Returns the end of a test with a copy of its texts.
+    fn of(name: &str, outcome: TestResult, details: TestDetails<'_>) -> TestEnd {
+        TestEnd {
+            name: String::from(name),
+            result: outcome,
+            stdout: owned(details.stdout),
+            message: owned(details.message),
+            reason: owned(details.reason),
+            time: details.time,
+        }
+    }
+
+    /// Returns the event, which borrows its texts.
+    fn event(&self) -> Event<'_> {
+        Event::TestEnded {
+            name: self.name.as_str(),
+            result: self.result,
+            details: TestDetails {
+                stdout: self.stdout.as_deref(),
+                message: self.message.as_deref(),
+                reason: self.reason.as_deref(),
+                time: self.time,
+            },
+        }
+    }
+}
+
+/// Copies a text that may be absent.
+fn owned(text: Option<&str>) -> Option<String> {
+    text.map(String::from)
+}
