@@ -9,6 +9,7 @@ use Rattle.test_report_events.specs.declared.event.TestResult.{TestResult}
 use Rattle.test_report_events.specs.declared.event.TestResult.TheVariants as ended
 use Rattle.test_report_forms.specs.Shown.{bracket, name_and_space, seconds, shown_name}
 use Rattle.test_report_run.specs.Note.{CargoSays, DisagreementView, EndsEarly, HasCrashed, HasFailed, HasNoEnd, HasTimedOut, IsFlaky, KindView, SaysOther, StartsOutside, StrayEnds, StraySuiteEnds}
+use Rattle.test_report_run.specs.Suite.{failed_of}
 use Rattle.test_report_run.specs.declared.note.RunEnd.{RunEnd}
 use Rattle.test_report_run.specs.declared.note.SaidNumbers.{SaidNumbers}
 
@@ -87,7 +88,7 @@ passed_numbers e =
 -- how many tests failed
 unfoldable pub failed_numbers : RunEnd → List ℕ
 failed_numbers e =
-    decimal (e.stats.finished_count - e.stats.passed) ++ (codes " failed (" ++ (decimal e.stats.failed_timed_out
+    decimal (failed_of e.stats) ++ (codes " failed (" ++ (decimal e.stats.failed_timed_out
     ++ (codes " timed out, " ++ (decimal e.crashed ++ codes " crashed), "))))
 
 -- how many tests were skipped, and how many were not run

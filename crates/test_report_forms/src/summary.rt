@@ -7,7 +7,7 @@ use crate::shown::{push_bracket, push_seconds};
 use run_events_stats::outcome::RunOutcome;
 use std::alloc::AllocError;
 use std::fmt::Write;
-use test_report_run::note::RunEnd;
+use test_report_run::note::{RunEnd, failed_count};
 
 /// Returns the word for an outcome.
 pub(crate) fn outcome_text(outcome: RunOutcome) -> &'static str
@@ -73,7 +73,7 @@ fn push_passed(text: &mut String, end: &RunEnd) -> Result<(), AllocError>
 fn push_failed(text: &mut String, end: &RunEnd) -> Result<(), AllocError>
     ensures { OnOk result (string_bytes text.new ≡ string_bytes text.old ++ failed_numbers end.now) }
 {
-    let failed = end.stats.finished_count.saturating_sub(end.stats.passed);
+    let failed = failed_count(&end.stats);
     let (timed_out, crashed) = (end.stats.failed_timed_out, end.crashed);
     write!(
         text,

@@ -1,5 +1,8 @@
 //! The notes that the lines of a run make known, and the end of a run.
 
+ghost use Rattle.std.specs.Prelude.{◌≡◌};
+ghost use Rattle.test_report_run.specs.Suite.{failed_of};
+
 use run_events_stats::outcome::RunOutcome;
 use run_events_stats::stats::RunStats;
 use test_report_events::event::TestResult;
@@ -227,4 +230,11 @@ pub struct RunEnd {
 
     /// The outcome of the run.
     pub outcome: RunOutcome,
+}
+
+/// Returns the number of tests that failed: those that finished and did not pass.
+pub fn failed_count(stats: &RunStats) -> usize
+    ensures { result ≡ failed_of stats.now }
+{
+    stats.finished_count.saturating_sub(stats.passed)
 }

@@ -10,7 +10,7 @@ use crate::counted::{Finish, count};
 use crate::error::{RunError, one_more};
 use crate::last_line::{Explanation, disagrees, explained};
 use crate::note::{
-    Crash, Disagreement, Failure, FailureKind, NotRun, Note, SuiteNote, TestOutcome,
+    Crash, Disagreement, Failure, FailureKind, NotRun, Note, SuiteNote, TestOutcome, failed_count,
 };
 use crate::running::RunningTest;
 use crate::suite::{FlakyTest, OverTest, Suite};
@@ -292,7 +292,7 @@ impl Suite {
             ++ spec.last_disagreement (state_of self.now)) }
     {
         let said = self.said.numbers()?;
-        let (passed, failed) = (self.stats.passed, self.failed());
+        let (passed, failed) = (self.stats.passed, failed_count(&self.stats));
         let name = self.shown_name(alloc)?;
         if let (Some(suite), true) = (name, disagrees(said, passed, failed)) {
             notes.push(Note::Disagreement(Disagreement::LastLine {

@@ -4,11 +4,11 @@ ghost use Rattle.std.specs.Prelude.{◌≡◌, ◌==◌, IfOk, OnOk, option_map}
 ghost use Rattle.test_report_events.specs.Event.{suite_end_view};
 ghost use Rattle.test_report_run.specs.Note.{note_view, outcome_view, text_view};
 ghost use Rattle.test_report_run.specs.Prints.{after_line, printed_view};
-ghost use Rattle.test_report_run.specs.Suite.{failed_of, has_key, joined, named, outside_start, over_view, state_of, suite_name, suite_start, tally_of, test_note, with_line, with_start};
+ghost use Rattle.test_report_run.specs.Suite.{has_key, joined, named, outside_start, over_view, state_of, suite_name, suite_start, tally_of, test_note, with_line, with_start};
 
 use crate::error::{RunError, one_more};
 use crate::last_line::Tally;
-use crate::note::{Note, TestNote, TestOutcome};
+use crate::note::{Note, TestNote, TestOutcome, failed_count};
 use crate::prints::{Printed, Prints};
 use crate::said::{Said, sum};
 use crate::suite_name::SuiteName;
@@ -207,13 +207,6 @@ impl Suite {
         }))
     }
 
-    /// Returns the number of tests that failed.
-    pub(crate) fn failed(&self) -> usize
-        ensures { result ≡ failed_of self.now.stats }
-    {
-        self.stats.finished_count.saturating_sub(self.stats.passed)
-    }
-
     /// Returns the numbers of tests of the suite. `left` is the number of running tests.
     pub(crate) fn tally(&self, left: usize) -> Result<Tally, RunError>
         ensures { IfOk result (λ tally. tally ≡ tally_of (state_of self.now) left) }
@@ -228,7 +221,7 @@ impl Suite {
             test_count: self.test_count,
             passed,
             flaky,
-            failed: self.failed(),
+            failed: failed_count(&self.stats),
             skipped: self.skipped,
             left,
         })

@@ -12,7 +12,7 @@ use crate::shown::push_name;
 use run_events_stats::stats::RunStats;
 use std::alloc::{AllocError, Global};
 use std::fmt::Write;
-use test_report_run::note::{RunEnd, SuiteNote};
+use test_report_run::note::{RunEnd, SuiteNote, failed_count};
 
 /// How many tests passed, and how many did not.
 #[derive(Clone, Copy)]
@@ -107,7 +107,7 @@ impl Numbers {
     {
         Numbers {
             passed: stats.passed as u128,
-            failed: stats.finished_count.saturating_sub(stats.passed) as u128,
+            failed: failed_count(stats) as u128,
             skipped,
             not_run,
         }

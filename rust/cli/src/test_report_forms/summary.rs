@@ -2,7 +2,7 @@
 //! The numbers of a run.
 
 use crate::test_report_forms::shown::{push_bracket, push_seconds};
-use crate::test_report_run::note::RunEnd;
+use crate::test_report_run::note::{RunEnd, failed_count};
 use deodarsieve::RunOutcome;
 
 /// Returns the word for an outcome.
@@ -49,7 +49,7 @@ fn push_passed(text: &mut String, end: &RunEnd) {
 
 /// Appends how many tests failed.
 fn push_failed(text: &mut String, end: &RunEnd) {
-    let failed = end.stats.finished_count.saturating_sub(end.stats.passed);
+    let failed = failed_count(&end.stats);
     let (timed_out, crashed) = (end.stats.failed_timed_out, end.crashed);
     text.push_str(&format!(
         "{failed} failed ({timed_out} timed out, {crashed} crashed), "

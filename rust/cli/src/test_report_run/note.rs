@@ -228,3 +228,8 @@ pub struct RunEnd {
     /// The outcome of the run.
     pub outcome: RunOutcome,
 }
+
+/// Returns the number of tests that failed: those that finished and did not pass.
+pub fn failed_count(stats: &RunStats) -> usize {
+    stats.finished_count.saturating_sub(stats.passed)
+}

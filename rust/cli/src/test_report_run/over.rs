@@ -5,7 +5,7 @@ use crate::test_report_run::counted::{Finish, count};
 use crate::test_report_run::error::{RunError, one_more};
 use crate::test_report_run::last_line::{Explanation, disagrees, explained};
 use crate::test_report_run::note::{
-    Crash, Disagreement, Failure, FailureKind, NotRun, Note, SuiteNote, TestOutcome,
+    Crash, Disagreement, Failure, FailureKind, NotRun, Note, SuiteNote, TestOutcome, failed_count,
 };
 use crate::test_report_run::running::RunningTest;
 use crate::test_report_run::suite::{FlakyTest, OverTest, Suite};
@@ -197,7 +197,7 @@ impl Suite {
     /// Adds a disagreement if the last line contradicts the tests.
     fn push_disagreement(&self, notes: &mut Vec<Note>) -> Result<(), RunError> {
         let said = self.said.numbers()?;
-        let (passed, failed) = (self.stats.passed, self.failed());
+        let (passed, failed) = (self.stats.passed, failed_count(&self.stats));
         let name = self.shown_name();
         if let (Some(suite), true) = (name, disagrees(said, passed, failed)) {
             notes.push(Note::Disagreement(Disagreement::LastLine {

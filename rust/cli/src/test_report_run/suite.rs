@@ -4,7 +4,7 @@
 use crate::test_report_events::event::SuiteEnd;
 use crate::test_report_run::error::{RunError, one_more};
 use crate::test_report_run::last_line::Tally;
-use crate::test_report_run::note::{Note, TestNote, TestOutcome};
+use crate::test_report_run::note::{Note, TestNote, TestOutcome, failed_count};
 use crate::test_report_run::prints::{Printed, Prints};
 use crate::test_report_run::said::{Said, sum};
 use crate::test_report_run::suite_name::SuiteName;
@@ -166,11 +166,6 @@ impl Suite {
         })
     }
 
-    /// Returns the number of tests that failed.
-    pub(crate) fn failed(&self) -> usize {
-        self.stats.finished_count.saturating_sub(self.stats.passed)
-    }
-
     /// Returns the numbers of tests of the suite. `left` is the number of running tests.
     pub(crate) fn tally(&self, left: usize) -> Result<Tally, RunError> {
         let flaky = self.flaky.len();
@@ -183,7 +178,7 @@ impl Suite {
             test_count: self.test_count,
             passed,
             flaky,
-            failed: self.failed(),
+            failed: failed_count(&self.stats),
             skipped: self.skipped,
             left,
         })

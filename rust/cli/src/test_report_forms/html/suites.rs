@@ -6,7 +6,7 @@ use crate::test_report_forms::html::tables::{
     classed, empty_bar, row_header, section, table, time_cell, with_part,
 };
 use crate::test_report_forms::shown::push_name;
-use crate::test_report_run::note::{RunEnd, SuiteNote};
+use crate::test_report_run::note::{RunEnd, SuiteNote, failed_count};
 use deodarsieve::RunStats;
 
 /// How many tests passed, and how many did not.
@@ -84,7 +84,7 @@ impl Numbers {
     fn of(stats: &RunStats, skipped: u128, not_run: u128) -> Numbers {
         Numbers {
             passed: stats.passed as u128,
-            failed: stats.finished_count.saturating_sub(stats.passed) as u128,
+            failed: failed_count(stats) as u128,
             skipped,
             not_run,
         }
