@@ -1,13 +1,14 @@
 //! The progress of a run.
 
-ghost use Rattle.std.specs.Prelude.{◌≡◌, ◌<◌, IfSome, OnOk, vec_len};
+ghost use Rattle.std.specs.Prelude.{◌≡◌, OnOk};
 ghost use Rattle.test_report_events.specs.Event.{event_view};
 ghost use Rattle.test_report_engine.specs.Progress.{announced_after, ended_after};
 
 use std::alloc::{AllocError, Global};
 use test_report_events::event::Event;
-use test_report_events::line::Line;
+use test_report_run::error::RunError;
 use test_report_run::note::{Note, TestOutcome};
+use test_report_run::running::Running;
 
 /// The progress of a run, by the lines that were read.
 #[derive(Debug, Drop)]
@@ -24,8 +25,8 @@ pub struct Progress {
     /// The name of the suites that the last heading announced.
     heading: Option<String>,
 
-    /// The names of the tests that are running, in the order in which they started.
-    running: Vec<String>,
+    /// The tests that are running.
+    running: Running,
 }
 
 impl Progress {
@@ -36,7 +37,7 @@ impl Progress {
             ended: 0,
             failed: 0,
             heading: None,
-            running: Vec::new(alloc),
+            running: Running::new(alloc),
         }
     }
 
@@ -45,8 +46,8 @@ impl Progress {
     /// Control characters in names are replaced by escapes.
     pub fn text(&self, alloc: Global) -> Result<String, AllocError> {
         let mut text = self.counts(alloc)?;
-        if let Some(name) = self.running.last() {
-            push_test(&mut text, self.heading.as_deref(), name.as_str())?;
+        if let Some(name) = self.running.last_name() {
+            push_test(&mut text, self.heading.as_deref(), name)?;
         }
         Ok(text)
     }
@@ -63,7 +64,7 @@ impl Progress {
     }
 
     /// Takes an event.
-    pub(crate) fn take_event(&mut self, alloc: Global, event: Event<'_>) -> Result<(), AllocError>
+    pub(crate) fn take_event(&mut self, alloc: Global, event: Event<'_>) -> Result<(), RunError>
         ensures ended { OnOk result (self.new.ended ≡ ended_after self.old.ended (event_view event.entry)) }
         ensures announced { OnOk result (self.new.announced
             ≡ announced_after self.old.announced (event_view event.entry)) }
@@ -72,13 +73,13 @@ impl Progress {
             Event::SuiteStarted { key, test_count } => {
                 self.announced = self.announced.saturating_add(test_count.unwrap_or(0));
                 if key.is_none() {
-                    self.running.clear();
+                    self.running = Running::new(alloc);
                 }
             }
-            Event::TestStarted { name } => self.running.push(String::from_str(alloc, name)?)?,
+            Event::TestStarted { name } => self.running.begin(alloc, name, None)?,
             Event::TestEnded { name, .. } => {
                 self.ended = self.ended.saturating_add(1);
-                self.end(name);
+                drop(self.running.end(name));
             }
             Event::Heading { suite } => self.heading = Some(String::from_str(alloc, suite)?),
             _ => {}
@@ -97,40 +98,17 @@ impl Progress {
             }
         }
     }
-
-    /// Removes the test that ends. `written` is the name in the line of its end.
-    fn end(&mut self, written: &str)
-        ensures ended { self.new.ended ≡ self.old.ended }
-        ensures announced { self.new.announced ≡ self.old.announced }
-    {
-        let base = match written.rsplit_once('#') {
-            Some((name, _)) => name,
-            None => written,
-        };
-        if let Some(at) = self.position(written).or(self.position(base)) {
-            drop(self.running.remove(at));
-        }
-    }
-
-    /// Returns the position of the first running test with a name.
-    fn position(&self, name: &str) -> Option<usize>
-        ensures { IfSome result (λ at. at < vec_len self.now.running) }
-    {
-        self.running
-            .iter()
-            .position(|running| running.as_str() == name)
-    }
 }
 
-/// Takes a line and its notes, if the progress of the run is followed.
+/// Takes the event of a line and its notes, if the progress of the run is followed.
 pub(crate) fn take_line(
     alloc: Global,
     progress: &mut Option<Progress>,
-    line: &Line,
+    event: Event<'_>,
     notes: &[Note],
-) -> Result<(), AllocError> {
+) -> Result<(), RunError> {
     if let Some(progress) = progress {
-        progress.take_event(alloc, line.event())?;
+        progress.take_event(alloc, event)?;
         progress.take_notes(notes);
     }
     Ok(())

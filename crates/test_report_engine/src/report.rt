@@ -247,8 +247,9 @@ impl<F: Form + Drop> Report<F> {
     {
         test_report_events::laws::one_event_of_line();
         let line = Line::read(alloc, bytes)?;
-        let notes = self.run.on_event(alloc, line.event())?;
-        take_line(alloc, progress, &line, notes.as_slice())?;
+        let event = line.event();
+        let notes = self.run.on_event(alloc, event)?;
+        take_line(alloc, progress, event, notes.as_slice())?;
         self.write(alloc, notes.as_slice(), sink)
     }
 

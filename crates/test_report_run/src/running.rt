@@ -1,6 +1,6 @@
 //! The tests that are running.
 
-ghost use Rattle.std.specs.Prelude.{◌≡◌, ◌++◌, ◌∷◌, [], ◌+◌, ℕ, ◌<◌, List, filter, not, IfOk, IfSome, MatchOption, OnOk, option_map, vec_len};
+ghost use Rattle.std.specs.Prelude.{◌≡◌, ◌++◌, ◌∷◌, [], ◌+◌, ◌-◌, ℕ, ◌<◌, List, filter, length, not, IfOk, IfSome, MatchOption, OnOk, option_map, slice_get, vec_len};
 ghost use Rattle.std.specs.List.{position, remove};
 ghost use Rattle.std.specs.Option.{option_map_or};
 ghost use Rattle.test_report_run.specs.Running.{CountsAttempts, RunningView, ended_at, has_name, is_of, place_of_end, running_test_view, running_view, split_of, tests_of};
@@ -12,8 +12,8 @@ use std::alloc::{AllocError, Global};
 const MOST_ATTEMPTS: usize = 1_000;
 
 /// A test that is running.
-#[derive(Drop)]
-pub(crate) struct RunningTest {
+#[derive(Debug, Drop)]
+pub struct RunningTest {
     /// The name in the line of its start.
     pub(crate) name: String,
 
@@ -25,15 +25,15 @@ pub(crate) struct RunningTest {
 }
 
 /// The tests that are running, in the order in which they started.
-#[derive(Drop)]
-pub(crate) struct Running {
+#[derive(Debug, Drop)]
+pub struct Running {
     tests: Vec<RunningTest>,
     started: usize,
 }
 
 impl Running {
     /// Returns no tests.
-    pub(crate) fn new(alloc: Global) -> Running
+    pub fn new(alloc: Global) -> Running
         ensures tests { tests_of result ≡ [] }
         ensures started { result.started ≡ 0 }
     {
@@ -43,13 +43,8 @@ impl Running {
         }
     }
 
-    /// Adds a test that starts.
-    pub(crate) fn start(
-        &mut self,
-        alloc: Global,
-        name: &str,
-        suite: Option<usize>,
-    ) -> Result<(), RunError>
+    /// Adds a test that starts. `suite` is the number of its suite, or `None` outside of a suite.
+    pub fn begin(&mut self, alloc: Global, name: &str, suite: Option<usize>) -> Result<(), RunError>
         ensures tests { OnOk result (tests_of self.new ≡ tests_of self.old
             ++ record { name = name.now; suite = suite; order = self.old.started } ∷ []) }
         ensures started { OnOk result (self.new.started ≡ self.old.started + 1) }
@@ -63,7 +58,7 @@ impl Running {
 
     /// Removes the test that ends, and returns it with the number of its attempts. `written` is the name in
     /// the line of its end. Returns `None` if no such test is running.
-    pub(crate) fn end(&mut self, written: &str) -> Option<(RunningTest, usize)>
+    pub fn end(&mut self, written: &str) -> Option<(RunningTest, usize)>
         ensures found { option_map {U = RunningView × ℕ} (λ found. (running_test_view found.0, found.1)) result
             ≡ option_map (ended_at (tests_of self.old)) (place_of_end (tests_of self.old) written.now) }
         ensures left { tests_of self.new ≡ option_map_or (λ place. remove (tests_of self.old) place.0)
@@ -72,6 +67,14 @@ impl Running {
     {
         let (at, attempts) = self.place_of_end(written)?;
         Some((self.tests.remove(at), attempts))
+    }
+
+    /// Returns the name of the test that started last.
+    pub fn last_name(&self) -> Option<&str>
+        ensures { option_map (λ name. name.now) result ≡ option_map (λ t. t.name)
+            (slice_get (tests_of self.now) (length (tests_of self.now) - 1)) }
+    {
+        self.tests.last().map(|test| test.name.as_str())
     }
 
     /// Returns the position of the test that ends, and the number of its attempts. `written` is the name in

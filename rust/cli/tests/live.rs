@@ -28,6 +28,10 @@ const RUNNING: &str = r#"{"type":"test","event":"started","name":"ledger::pays$t
 const RETRIED: &str = r#"{"type":"test","event":"ok","name":"ledger::pays$tests::at_once#2"}
 "#;
 
+/// The end of another test, whose name has text that is no number of attempts.
+const NOT_RETRIED: &str = r#"{"type":"test","event":"ok","name":"ledger::pays$tests::at_once#x"}
+"#;
+
 #[test]
 fn a_failure_is_written_while_the_input_is_open() {
     let cases = [
@@ -105,6 +109,10 @@ fn the_line_of_progress_is_gone_at_the_end() {
         (
             [FIRST, RUNNING, RETRIED].concat(),
             Some("1 of 3 tests, 0 failed"),
+        ),
+        (
+            [FIRST, RUNNING, NOT_RETRIED].concat(),
+            Some("1 of 3 tests, 0 failed: ledger::pays tests::at_once"),
         ),
         (
             [FIRST, RUNNING, FAILED].concat(),

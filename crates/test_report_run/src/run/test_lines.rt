@@ -22,7 +22,7 @@ impl TestRun {
         ensures { OnOk result (run_state self.new ≡ spec.test_starts (run_state self.old) name.now) }
     {
         let number = self.count_start(alloc, name)?;
-        self.running.start(alloc, name, number)
+        self.running.begin(alloc, name, number)
     }
 
     /// Counts the start of a test in its suite. Returns the number of the suite, if it has one.

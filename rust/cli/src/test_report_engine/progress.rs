@@ -2,8 +2,9 @@
 //! The progress of a run.
 
 use crate::test_report_events::event::Event;
-use crate::test_report_events::line::Line;
+use crate::test_report_run::error::RunError;
 use crate::test_report_run::note::{Note, TestOutcome};
+use crate::test_report_run::running::Running;
 
 /// The progress of a run, by the lines that were read.
 #[derive(Clone, Debug)]
@@ -20,8 +21,8 @@ pub struct Progress {
     /// The name of the suites that the last heading announced.
     heading: Option<String>,
 
-    /// The names of the tests that are running, in the order in which they started.
-    running: Vec<String>,
+    /// The tests that are running.
+    running: Running,
 }
 
 impl Progress {
@@ -32,7 +33,7 @@ impl Progress {
             ended: 0,
             failed: 0,
             heading: None,
-            running: Vec::new(),
+            running: Running::new(),
         }
     }
 
@@ -41,8 +42,8 @@ impl Progress {
     /// Control characters in names are replaced by escapes.
     pub fn text(&self) -> String {
         let mut text = self.counts();
-        if let Some(name) = self.running.last() {
-            push_test(&mut text, self.heading.as_deref(), name.as_str());
+        if let Some(name) = self.running.last_name() {
+            push_test(&mut text, self.heading.as_deref(), name);
         }
         text
     }
@@ -59,22 +60,23 @@ impl Progress {
     }
 
     /// Takes an event.
-    pub(crate) fn take_event(&mut self, event: Event<'_>) {
+    pub(crate) fn take_event(&mut self, event: Event<'_>) -> Result<(), RunError> {
         match event {
             Event::SuiteStarted { key, test_count } => {
                 self.announced = self.announced.saturating_add(test_count.unwrap_or(0));
                 if key.is_none() {
-                    self.running.clear();
+                    self.running = Running::new();
                 }
             }
-            Event::TestStarted { name } => self.running.push(String::from(name)),
+            Event::TestStarted { name } => self.running.begin(name, None)?,
             Event::TestEnded { name, .. } => {
                 self.ended = self.ended.saturating_add(1);
-                self.end(name);
+                drop(self.running.end(name));
             }
             Event::Heading { suite } => self.heading = Some(String::from(suite)),
             _ => {}
         }
+        Ok(())
     }
 
     /// Takes the notes of a line.
@@ -85,32 +87,19 @@ impl Progress {
             }
         }
     }
-
-    /// Removes the test that ends. `written` is the name in the line of its end.
-    fn end(&mut self, written: &str) {
-        let base = match written.rsplit_once('#') {
-            Some((name, _)) => name,
-            None => written,
-        };
-        if let Some(at) = self.position(written).or(self.position(base)) {
-            drop(self.running.remove(at));
-        }
-    }
-
-    /// Returns the position of the first running test with a name.
-    fn position(&self, name: &str) -> Option<usize> {
-        self.running
-            .iter()
-            .position(|running| running.as_str() == name)
-    }
 }
 
-/// Takes a line and its notes, if the progress of the run is followed.
-pub(crate) fn take_line(progress: &mut Option<Progress>, line: &Line, notes: &[Note]) {
+/// Takes the event of a line and its notes, if the progress of the run is followed.
+pub(crate) fn take_line(
+    progress: &mut Option<Progress>,
+    event: Event<'_>,
+    notes: &[Note],
+) -> Result<(), RunError> {
     if let Some(progress) = progress {
-        progress.take_event(line.event());
+        progress.take_event(event)?;
         progress.take_notes(notes);
     }
+    Ok(())
 }
 
 /// Returns true for the note of a failed test.

@@ -140,8 +140,9 @@ impl<F: Form> Report<F> {
         sink: &mut W,
     ) -> Result<(), Fault> {
         let line = Line::read(bytes);
-        let notes = self.run.on_event(line.event())?;
-        take_line(progress, &line, notes.as_slice());
+        let event = line.event();
+        let notes = self.run.on_event(event)?;
+        take_line(progress, event, notes.as_slice())?;
         self.write(notes.as_slice(), sink)
     }
 

@@ -42,7 +42,7 @@ pub mod note;
 mod over;
 mod prints;
 pub mod run;
-mod running;
+pub mod running;
 mod said;
 mod suite;
 mod suite_name;

@@ -7,8 +7,8 @@ use crate::test_report_run::error::{RunError, one_more};
 const MOST_ATTEMPTS: usize = 1_000;
 
 /// A test that is running.
-#[derive(Clone)]
-pub(crate) struct RunningTest {
+#[derive(Clone, Debug)]
+pub struct RunningTest {
     /// The name in the line of its start.
     pub(crate) name: String,
 
@@ -20,23 +20,23 @@ pub(crate) struct RunningTest {
 }
 
 /// The tests that are running, in the order in which they started.
-#[derive(Clone)]
-pub(crate) struct Running {
+#[derive(Clone, Debug)]
+pub struct Running {
     tests: Vec<RunningTest>,
     started: usize,
 }
 
 impl Running {
     /// Returns no tests.
-    pub(crate) fn new() -> Running {
+    pub fn new() -> Running {
         Running {
             tests: Vec::new(),
             started: 0,
         }
     }
 
-    /// Adds a test that starts.
-    pub(crate) fn start(&mut self, name: &str, suite: Option<usize>) -> Result<(), RunError> {
+    /// Adds a test that starts. `suite` is the number of its suite, or `None` outside of a suite.
+    pub fn begin(&mut self, name: &str, suite: Option<usize>) -> Result<(), RunError> {
         let name = String::from(name);
         let order = self.started;
         self.tests.push(RunningTest { name, suite, order });
@@ -46,9 +46,14 @@ impl Running {
 
     /// Removes the test that ends, and returns it with the number of its attempts. `written` is the name in
     /// the line of its end. Returns `None` if no such test is running.
-    pub(crate) fn end(&mut self, written: &str) -> Option<(RunningTest, usize)> {
+    pub fn end(&mut self, written: &str) -> Option<(RunningTest, usize)> {
         let (at, attempts) = self.place_of_end(written)?;
         Some((self.tests.remove(at), attempts))
+    }
+
+    /// Returns the name of the test that started last.
+    pub fn last_name(&self) -> Option<&str> {
+        self.tests.last().map(|test| test.name.as_str())
     }
 
     /// Returns the position of the test that ends, and the number of its attempts. `written` is the name in

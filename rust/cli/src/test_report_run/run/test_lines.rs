@@ -13,7 +13,7 @@ impl TestRun {
     /// Takes the start of a test.
     pub(crate) fn on_test_started(&mut self, name: &str) -> Result<(), RunError> {
         let number = self.count_start(name)?;
-        self.running.start(name, number)
+        self.running.begin(name, number)
     }
 
     /// Counts the start of a test in its suite. Returns the number of the suite, if it has one.

@@ -19,7 +19,7 @@ returns-in_err-take_line-clause-starts g c =
 pub returns-clause-starts : goal.returns-clause-starts
 returns-clause-starts g c =
     on_err_weaker c.write.result
-    (line-start c.one_event_of_line.ensures _ c.args.self.now.run c.args.bytes.now _ _ _ _ _ _ c.in_ok-line.ensures.says c.event.ensures
+    (line-start c.one_event_of_line.ensures _ c.args.self.now.run c.args.bytes.now _ _ _ _ _ _ c.in_ok-line.ensures.says c.event-event.ensures
     c.in_ok-notes.ensures.tells c.as_slice-2.ensures.value)
     c.write.ensures.starts
 
@@ -27,5 +27,5 @@ pub returns-clause-reads : goal.returns-clause-reads
 returns-clause-reads g c =
     on_ok_weaker c.write.result
     (line-read g.F.Form.line g.F.Form.last g.F.Form.Knows c.args.self.now c.write.new.self _ c.args.bytes.now _ _ _ _ _ _
-    c.in_ok-line.ensures.says c.event.ensures c.in_ok-notes.ensures.tells c.in_ok-notes.ensures.takes c.as_slice-2.ensures.value c.write.ensures.same_run)
+    c.in_ok-line.ensures.says c.event-event.ensures c.in_ok-notes.ensures.tells c.in_ok-notes.ensures.takes c.as_slice-2.ensures.value c.write.ensures.same_run)
     c.write.ensures.writes
