@@ -9,7 +9,7 @@ PACKAGES = {
         "run_events_attempts", "run_events_stats", "run_events_stress", "run_events",
     ),
     "deodarsieve-cli": (
-        "program_io", "run_digest_engine", "test_report_events", "test_report_run",
+        "program_io", "run_digest_engine", "template", "test_report_events", "test_report_run",
         "test_report_forms", "test_report_engine",
     ),
     "deodarsieve-c": ("deodarsieve",),

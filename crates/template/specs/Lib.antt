@@ -1,0 +1,16 @@
+pub mod Tree
+pub mod Reader
+pub mod Shown
+pub mod Hole
+pub mod Template
+pub mod Check
+pub mod Parse
+pub mod Filled
+pub mod Clean
+pub mod Shows
+pub mod Document
+pub mod Sections
+pub mod Marks
+pub mod Children
+pub mod Elements
+pub mod Laws

@@ -1,0 +1,99 @@
+-- What Markdown can read as its own: lines, cells and tags end at marks.
+use Rattle.std.specs.Prelude.{◌&&◌, ◌||◌, ◌==◌, ◌++◌, ◌∷◌, [], ℕ, Bool, true, false, not, List, codes, if◌then◌else◌}
+use Rattle.std.specs.Char.{is_ascii_punctuation}
+use Rattle.std.specs.List.{fold}
+use Rattle.std.specs.Str.{bytes_eq}
+use Rattle.template.specs.Template.{EachPart, HolePart, NoParts, NonePart, OnePart, PartView, Parts, TextPart, Values, parts_text}
+use Rattle.template.specs.declared.hole.Hole.{Hole}
+use Rattle.template.specs.declared.hole.Hole.TheVariants as hole
+
+-- the state of a reader of Markdown: outside of `<pre>`, in a reference there and in a tag there, of which this is read; in `<pre>` and in a tag there
+pub data Marking : Type 0 where
+  Outside : Marking
+  Reference : Marking
+  Tag : List ℕ → Marking
+  InPre : Marking
+  TagInPre : List ℕ → Marking
+
+-- the state after one more byte
+abbrev pub mark_step : Marking → ℕ → Marking
+mark_step Outside c = if c == 38 then Reference else if c == 60 then Tag [] else Outside
+mark_step Reference c = if c == 59 then Outside else Reference
+mark_step (Tag name) c = if c == 62 then (if bytes_eq name (codes "pre") then InPre else Outside) else Tag (name ++ (c ∷ []))
+mark_step InPre c = if c == 60 then TagInPre [] else InPre
+mark_step (TagInPre name) c = if c == 62 then (if bytes_eq name (codes "/pre") then Outside else InPre) else TagInPre (name ++ (c ∷ []))
+
+-- a byte is a mark: a line feed or punctuation of ASCII outside of `<pre>` and of references, and each byte of a tag
+abbrev pub is_mark : Marking → ℕ → Bool
+is_mark Outside c = c == 10 || (is_ascii_punctuation c && not (c == 38))
+is_mark Reference c = false
+is_mark (Tag name) c = true
+is_mark InPre c = c == 60
+is_mark (TagInPre name) c = true
+
+-- the marks of a text from a state on
+abbrev pub marks_from : Marking → List ℕ → List ℕ
+marks_from s [] = []
+marks_from s (c ∷ text) = (if is_mark s c then c ∷ [] else []) ++ marks_from (mark_step s c) text
+
+-- the marks of a text
+unfoldable pub marks : List ℕ → List ℕ
+marks text = marks_from Outside text
+
+abbrev mutual
+  -- a part without its holes
+  pub without_hole : PartView → PartView
+  without_hole (TextPart text) = TextPart text
+  without_hole (HolePart kind name) = TextPart []
+  without_hole (EachPart name ps) = EachPart name (without_holes ps)
+  without_hole (NonePart name ps) = NonePart name (without_holes ps)
+
+  -- parts without their holes
+  pub without_holes : Parts → Parts
+  without_holes NoParts = NoParts
+  without_holes (OnePart p ps) = OnePart (without_hole p) (without_holes ps)
+
+-- the marks of the template's own texts: those of each section once for each item, and none of values
+unfoldable pub own_marks : Parts → Values → List ℕ
+own_marks ps vs = marks (parts_text (without_holes ps) vs)
+
+-- a value of this kind is without marks here
+abbrev pub is_place : Hole → Marking → Bool
+is_place hole.Plain Outside = true
+is_place hole.Text InPre = true
+is_place _ _ = false
+
+-- both are outside of `<pre>`, or both are in it, and neither is in a tag or a reference
+abbrev pub same_marking : Marking → Marking → Bool
+same_marking Outside Outside = true
+same_marking InPre InPre = true
+same_marking _ _ = false
+
+-- the state after the template's own text of a part. A section ends in the state in which it begins
+abbrev pub marking_after : Marking → PartView → Marking
+marking_after s (TextPart text) = fold mark_step s text
+marking_after s (HolePart kind name) = s
+marking_after s (EachPart name ps) = s
+marking_after s (NonePart name ps) = s
+
+-- the state after the template's own texts
+abbrev pub marking_after_all : Marking → Parts → Marking
+marking_after_all s NoParts = s
+marking_after_all s (OnePart p ps) = marking_after_all (marking_after s p) ps
+
+abbrev mutual
+  -- each hole of a part is in its place, and each section ends in the state in which it begins
+  pub is_placed : Marking → PartView → Bool
+  is_placed s (TextPart text) = true
+  is_placed s (HolePart kind name) = is_place kind s
+  is_placed s (EachPart name ps) = are_placed s ps && same_marking (marking_after_all s ps) s
+  is_placed s (NonePart name ps) = are_placed s ps && same_marking (marking_after_all s ps) s
+
+  -- the same of parts
+  pub are_placed : Marking → Parts → Bool
+  are_placed s NoParts = true
+  are_placed s (OnePart p ps) = is_placed s p && are_placed (marking_after s p) ps
+
+-- each `Plain` hole is outside of `<pre>`, each `Text` hole is in it, there is no `Attribute` hole, and the end is outside
+unfoldable pub is_markdown : Parts → Bool
+is_markdown ps = are_placed Outside ps && same_marking (marking_after_all Outside ps) Outside

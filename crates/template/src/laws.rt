@@ -1,0 +1,49 @@
+//! Laws of templates: facts that hold for every template and all values.
+
+ghost use Rattle.template.specs.Laws.{NoValueIsMark, NoValueIsMarkup, RendersNoControls, RendersOneTree, ShowsElements, ShowsItems, ShowsSections, ShowsValues};
+
+/// What is rendered has no control characters except tabs and line feeds, and no characters that change the direction
+/// of writing, if the template has none.
+#[tactic(auto, using(crate::proofs::Controls::renders_no_controls))]
+pub fn renders_no_controls()
+    ensures { RendersNoControls }
+{}
+
+/// What a sound template renders is well-formed, and no value in it is read as markup: a reader of XML reads the trees
+/// that it reads if it takes only the template's own texts as markup, and the values as data.
+pub fn no_value_is_markup()
+    ensures { NoValueIsMarkup }
+{}
+
+/// Every value that a template has a hole for is in what it renders: the text with this name of each item in the
+/// sections with these names.
+pub fn shows_values()
+    ensures { ShowsValues }
+{}
+
+/// What is rendered has, for each item in the sections with these names, what the innermost of them renders of it.
+pub fn shows_items()
+    ensures { ShowsItems }
+{}
+
+/// What is rendered of a template that is one element is one tree: the tree of the template with the values as data.
+pub fn renders_one_tree()
+    ensures { RendersOneTree }
+{}
+
+/// What is rendered has this for every section with these names, if a template has several.
+pub fn shows_sections()
+    ensures { ShowsSections }
+{}
+
+/// What a template of Markdown renders has the marks of the template and no others: a line, a cell of a table and a
+/// `<pre>` end where the template ends them, whatever the values are.
+pub fn no_value_is_mark()
+    ensures { NoValueIsMark }
+{}
+
+/// If elements with a name end only in one section of a sound template, the elements with this name in what is rendered
+/// are those of each item of this section, in this order.
+pub fn shows_elements()
+    ensures { ShowsElements }
+{}

@@ -1,0 +1,43 @@
+// Made by tools/erase from crates/template/src/lib.rt. Do not edit.
+//! Templates like those of mustache: texts with holes for values. A value is escaped for the place where it is
+//! written, in HTML, in XML or in Markdown, so that no value is read as markup.
+//!
+//! | in a template | what is rendered |
+//! |---|---|
+//! | `{{name}}` | the text `name`: the value of an attribute in a tag, and otherwise a text between tags |
+//! | `{{*name}}` | the text `name` in Markdown, outside of HTML |
+//! | `{{#list}}..{{/list}}` | what is between them, for each item of `list` |
+//! | `{{^list}}..{{/list}}` | what is between them, if `list` has no item |
+//!
+//! A list is the values that have its name, in their order. This function greets someone in HTML:
+//!
+//! ```
+//! use deodarsieve_cli::template::parse::parse_template;
+//! use deodarsieve_cli::template::rendering::render;
+//! use deodarsieve_cli::template::value::push_text;
+//!
+//! fn greeting(name: &str) -> Option<String> {
+//!     let parts = parse_template("<p>Hello, {{name}}!\n</p>")?;
+//!     let mut values = Vec::new();
+//!     push_text(&mut values, "name", name.to_owned());
+//!     let mut page = String::new();
+//!     render(&mut page, parts.as_slice(), values.as_slice());
+//!     Some(page)
+//! }
+//!
+//! assert_eq!(greeting("Ann & Bo").as_deref(), Some("<p>Hello, Ann &amp; Bo!\n</p>"));
+//! ```
+
+pub mod hole;
+pub mod parse;
+pub mod part;
+mod plain;
+pub mod rendering;
+pub mod shown;
+pub mod value;
+
+pub use crate::template::hole::Hole;
+pub use crate::template::parse::parse_template;
+pub use crate::template::part::Part;
+pub use crate::template::rendering::render;
+pub use crate::template::value::{Value, push_item, push_section, push_text};
