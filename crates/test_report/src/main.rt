@@ -74,7 +74,7 @@ fn file_forms(
 ) -> Result<FileForms, AllocError> {
     let mut forms = FileForms::none();
     if matches.contains_id("junit") {
-        forms.junit = Some(JunitForm::new(alloc, options)?);
+        forms.junit = Some(JunitForm::new(alloc, options));
     }
     if matches.contains_id("html") {
         forms.html = Some(HtmlForm::new(alloc, options));
@@ -222,7 +222,7 @@ fn report_of<'a, R: Files + AllocGlobal + Input + Print>(
     match matches.get_str("format") {
         Some("github") => report_in(rt, matches, settings, line, GithubForm::new(options)),
         Some("names") => report_in(rt, matches, settings, line, NamesForm),
-        Some("junit") => report_in(rt, matches, settings, line, JunitForm::new(alloc, options)?),
+        Some("junit") => report_in(rt, matches, settings, line, JunitForm::new(alloc, options)),
         Some("html") => report_in(rt, matches, settings, line, HtmlForm::new(alloc, options)),
         Some("markdown") => report_in(
             rt,

@@ -1,12 +1,14 @@
-//! The callers that the pages CALLING.md of the report's libraries show, each on a small run. The caller
+//! The callers that the pages CALLING.md of the report's libraries show, each on a small input. The caller
 //! of a library is in the file `callers/of_LIBRARY.rt`.
 
+mod of_template;
 mod of_test_report_engine;
 mod of_test_report_events;
 mod of_test_report_forms;
 mod of_test_report_laws;
 mod of_test_report_run;
 
+use crate::callers::of_template::greeting;
 use crate::callers::of_test_report_engine::succeeds;
 use crate::callers::of_test_report_events::test_count_of;
 use crate::callers::of_test_report_forms::text_of_note;
@@ -58,6 +60,14 @@ const ABORTED_REPORT: &str = "FAIL suite 1 divides\n    \
     FAIL suite 1 divides: panicked at src/lib.rs:4:5: by zero\n       \
     CRASH suite 1 loops: its process ended before it did\n\
     outcome failed\n";
+
+#[test]
+fn a_greeting_has_a_name_that_is_no_markup(rt: HostRuntime) -> Result<(), Fail> {
+    let page = greeting(rt.alloc(), "Ann & \"Bo\" <b>\u{1b}[31m\u{ffff}é\t")?;
+    let wanted = "<p>Hello, Ann &amp; \"Bo\" &lt;b&gt;\\u{1b}[31m\u{fffd}é\t!\n</p>";
+    assert!(rt; page.is_some_and(|page| page.as_str() == wanted));
+    Ok(())
+}
 
 #[test]
 fn a_line_says_how_many_tests_a_suite_has(rt: HostRuntime) -> Result<(), Fail> {

@@ -92,7 +92,7 @@ fn each_form_has_its_report(rt: HostRuntime) -> Result<(), Fail> {
     );
     assert!(rt; gives(alloc, NamesForm, "a\n"));
     assert!(rt; gives(alloc, GithubForm::new(OPTIONS), GITHUB));
-    assert!(rt; gives(alloc, JunitForm::new(alloc, OPTIONS)?, JUNIT));
+    assert!(rt; gives(alloc, JunitForm::new(alloc, OPTIONS), JUNIT));
     assert!(rt; gives(alloc, MarkdownForm::new(alloc, OPTIONS), MARKDOWN));
     assert!(rt; is_within(alloc, HtmlForm::new(alloc, OPTIONS), PAGE));
     Ok(())
@@ -101,7 +101,7 @@ fn each_form_has_its_report(rt: HostRuntime) -> Result<(), Fail> {
 /// Returns the forms of all files.
 fn all_files(alloc: Global) -> Result<FileForms, AllocError> {
     Ok(FileForms {
-        junit: Some(JunitForm::new(alloc, OPTIONS)?),
+        junit: Some(JunitForm::new(alloc, OPTIONS)),
         html: Some(HtmlForm::new(alloc, OPTIONS)),
         markdown: Some(MarkdownForm::new(alloc, OPTIONS)),
     })

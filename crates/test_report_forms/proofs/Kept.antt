@@ -1,14 +1,13 @@
 -- Texts that are written as they are: no character of them is written in another way.
-use Rattle.std.proofs.Common.{◌≡◌, ◌∙◌, ◌<◌, ◌==◌, ◌&&◌, ◌||◌, refl, ap, arith, ℕ, zero, suc, Bool, true, false, not, List, [], ◌∷◌, ◌++◌}
+use Rattle.std.proofs.Common.{◌≡◌, ◌∙◌, ◌<◌, ◌==◌, ◌&&◌, ◌||◌, refl, ap, arith, ℕ, zero, Bool, true, false, not, List, [], ◌∷◌, ◌++◌}
 use Rattle.std.proofs.lemmas.Bool.Decides.{nat_tests}
-use Rattle.std.proofs.lemmas.Str.{chars-IsAscii, encode_ascii}
+use Rattle.std.proofs.lemmas.Str.{encode_ascii}
 use Rattle.std.specs.List.{flat_map, list_all}
-use Rattle.std.specs.Str.{IsAscii, chars}
-use Rattle.test_report_forms.proofs.Characters.{led, whole}
+use Rattle.std.specs.Str.{chars}
+use Rattle.template.proofs.Characters.{led, whole}
 use Rattle.test_report_forms.proofs.Tests.{and-left, and-right}
-use Rattle.test_report_forms.specs.JunitSuite.{xml_char, xml_text}
-use Rattle.test_report_forms.specs.Shown.{is_escaped, is_printable, is_printable_or_blank, name_char, shown_name, shown_text, text_char}
-use Rattle.test_report_forms.specs.Tree.{data_byte, data_text, is_kept, is_kept_in_value, value_byte, value_text}
+use Rattle.test_report_forms.specs.Shown.{is_printable, is_printable_or_blank, name_char, shown_name, shown_text, text_char}
+use Rattle.template.specs.Shown.{is_escaped}
 
 -- each byte is written as it is
 module _ (f : ℕ → List ℕ) (keeps : ℕ → Bool) (same : (b : ℕ) → keeps b ≡ true → f b ≡ b ∷ []) where
@@ -64,34 +63,3 @@ same-text raw b e = rw (seen-text b e, never raw) (encode_ascii b (low-text b e)
 
 pub kept_text : (raw : Bool) (text : List ℕ) → list_all is_printable_or_blank text ≡ true → shown_text raw text ≡ text
 kept_text raw text h = chars-kept (text_char raw) is_printable_or_blank (same-text raw) low-text text h
-
--- values and texts of trees
-same-value : (b : ℕ) → is_kept_in_value b ≡ true → value_byte b ≡ b ∷ []
-same-value b e = grind (arith, nat_tests, e)
-
-pub kept_value : (value : List ℕ) → list_all is_kept_in_value value ≡ true → value_text value ≡ value
-unfolding value_text
-kept_value value h = all-kept value_byte is_kept_in_value same-value value h
-
-same-data : (b : ℕ) → is_kept b ≡ true → data_byte b ≡ b ∷ []
-same-data b e = grind (arith, nat_tests, e)
-
-pub kept_data : (text : List ℕ) → list_all is_kept text ≡ true → data_text text ≡ text
-unfolding data_text
-kept_data text h = all-kept data_byte is_kept same-data text h
-
--- texts of XML
-IsAscii-tail : (b : ℕ) (bs : List ℕ) → IsAscii (b ∷ bs) → IsAscii bs
-IsAscii-tail b bs h = λ i. h (suc i)
-
-xml-bytes : (bs : List ℕ) → IsAscii bs → flat_map xml_char bs ≡ bs
-xml-bytes [] h = refl
-xml-bytes (b ∷ bs) h =
-    let low : b < 128 = h 0 in
-    let test : (b == 65534 || b == 65535) ≡ false = grind (arith, nat_tests) in
-    let one : xml_char b ≡ b ∷ [] = rw test (encode_ascii b low) in
-    ap (λ l. l ++ flat_map xml_char bs) one ∙ ap (λ l. b ∷ l) (xml-bytes bs (IsAscii-tail b bs h))
-
-pub kept_xml : (text : List ℕ) → IsAscii text → xml_text text ≡ text
-unfolding xml_text
-kept_xml text h = ap (flat_map xml_char) (chars-IsAscii text h) ∙ xml-bytes text h

@@ -1,5 +1,5 @@
 -- A text without the carriage returns right before line feeds, as `replace` makes it.
-use Rattle.std.proofs.Common.{◌≡◌, ◌∙◌, ◌==◌, ◌&&◌, refl, sym, ap, cond, subst, ℕ, zero, suc, ◌+◌, ◌-◌, ◌<◌, ◌≤◌, false, None, List, [], ◌∷◌, ◌++◌, length, take, drop, take-append-drop, length-take, arith, Bor, Result, Ok, Err, IfOk, string_bytes, eqb-true}
+use Rattle.std.proofs.Common.{◌≡◌, ◌∙◌, ◌==◌, ◌&&◌, refl, sym, ap, cond, subst, ℕ, zero, suc, ◌<◌, ◌≤◌, false, None, List, [], ◌∷◌, ◌++◌, length, take, drop, take-append-drop, length-take, arith, Bor, Result, Ok, Err, IfOk, string_bytes, eqb-true}
 use Rattle.std.proofs.Math.Logic.{⊎_elim}
 use Rattle.std.proofs.lemmas.Bool.{and_parts, cases_Bool}
 use Rattle.std.specs.Str.Pattern.{FindsText, LacksTextAt}

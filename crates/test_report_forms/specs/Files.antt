@@ -1,10 +1,10 @@
 -- The forms that are written to files.
 use Rattle.std.specs.Prelude.{◌≡◌, ℕ, List, IfSome, Option, option_map}
-use Rattle.test_report_forms.specs.Collected.{Collects}
 use Rattle.test_report_forms.specs.Entry.{EntryView}
-use Rattle.test_report_forms.specs.Html.{Shows, html_of}
-use Rattle.test_report_forms.specs.Junit.{junit_state, junit_text, junit_tree, junit_view}
+use Rattle.test_report_forms.specs.Html.{html_of}
+use Rattle.test_report_forms.specs.Junit.{junit_of, junit_state, junit_view}
 use Rattle.test_report_forms.specs.Markdown.{markdown_of}
+use Rattle.test_report_forms.specs.Model.{IsModelOf}
 use Rattle.test_report_forms.specs.declared.files.FileForms.{FileForms}
 use Rattle.test_report_forms.specs.declared.files.FileTexts.{FileTexts}
 use Rattle.test_report_forms.specs.declared.html.HtmlForm.{HtmlForm}
@@ -27,24 +27,28 @@ JunitKnows form entries = junit_view form ≡ junit_state form.options entries
 
 -- what JUnit's form writes at the end
 abbrev pub junit_last : JunitForm → List EntryView → RunEnd → List ℕ
-junit_last form entries end = junit_text (junit_tree form.options entries end)
+junit_last form entries end = junit_of form.options entries end
+
+-- the form for a browser has taken these entries
+abbrev pub HtmlKnows : HtmlForm → List EntryView → Type 0
+HtmlKnows form entries = IsModelOf form.model entries
 
 -- what the form for a browser writes at the end
 abbrev pub html_last : HtmlForm → List EntryView → RunEnd → List ℕ
-html_last form entries end = html_of form.collected.limit entries end
+html_last form entries end = html_of form.model.limit entries end
 
 -- the form for a summary has taken these entries
 abbrev pub MarkdownKnows : MarkdownForm → List EntryView → Type 0
-MarkdownKnows form entries = Collects form.collected entries
+MarkdownKnows form entries = IsModelOf form.model entries
 
 -- what the form for a summary writes at the end
 abbrev pub markdown_last : MarkdownForm → List EntryView → RunEnd → List ℕ
-markdown_last form entries end = markdown_of form.collected.limit entries end
+markdown_last form entries end = markdown_of form.model.limit entries end
 
 -- each of the forms has taken these entries
 pub record FilesKnow (forms : FileForms) (entries : List EntryView) : Type 0 where
   pub junit : HasTaken JunitKnows forms.junit entries
-  pub html : HasTaken Shows forms.html entries
+  pub html : HasTaken HtmlKnows forms.html entries
   pub markdown : HasTaken MarkdownKnows forms.markdown entries
 
 -- each text is what its form writes at the end of a run with these entries, and is absent if its form is

@@ -1,94 +1,73 @@
 -- The form for the summary of a workflow on GitHub.
-use Rattle.std.specs.Prelude.{ℕ, Bool, true, ◌&&◌, ◌||◌, ◌==◌, ◌++◌, ◌∷◌, [], List, codes, if◌then◌else◌, length}
-use Rattle.std.specs.Char.{encode_utf8, is_ascii_punctuation}
-use Rattle.std.specs.Fmt.{decimal}
-use Rattle.std.specs.List.{flat_map}
-use Rattle.std.specs.Option.{option_map_or}
-use Rattle.std.specs.Str.{chars}
-use Rattle.test_report_forms.specs.Collected.{FailedView, attempts_text, cause_lines, failures_of, has_causes, no_tests_ran, time_text}
+use Rattle.std.specs.Prelude.{◌≡◌, ◌++◌, ◌∷◌, [], ℕ, true, List, codes, slice_get, unwrap_or}
+use Rattle.std.specs.List.{list_all}
+use Rattle.template.specs.Clean.{is_clean}
+use Rattle.template.specs.Marks.{is_markdown}
+use Rattle.template.specs.Parse.{parse}
+use Rattle.template.specs.Sections.{sections}
+use Rattle.template.specs.Template.{NoParts, Parts, parts_text, values_of}
+use Rattle.template.specs.declared.hole.Hole.TheVariants as hole
 use Rattle.test_report_forms.specs.Entry.{EntryView}
-use Rattle.test_report_forms.specs.Tree.{data_text}
-use Rattle.test_report_forms.specs.Words.{outcome_word, summary_sentence}
+use Rattle.test_report_forms.specs.Holes.{HoleView, has_hole, holes, problem_holes, run_holes}
+use Rattle.test_report_forms.specs.Model.{FailedView}
+use Rattle.test_report_forms.specs.Values.{failed_values, values_of_run}
+use Rattle.test_report_forms.specs.declared.markdown_template.TheConstants.{MARKDOWN}
 use Rattle.test_report_run.specs.declared.note.RunEnd.{RunEnd}
 
--- a character as a numeric reference
-abbrev pub reference : ℕ → List ℕ
-reference c = codes "&#" ++ (decimal c ++ codes ";")
-
--- a character outside of `<pre>`: punctuation of ASCII is a reference, and so is a space at the front or after another one
-abbrev pub plain_char : Bool → ℕ → List ℕ
-plain_char after_space c = if is_ascii_punctuation c || (c == 32 && after_space) then reference c else encode_utf8 c
-
--- characters, the first of them after a space or not
-abbrev pub plain_chars : Bool → List ℕ → List ℕ
-plain_chars after_space [] = []
-plain_chars after_space (c ∷ cs) = plain_char after_space c ++ plain_chars (c == 32) cs
-
--- characters end with a space, if there are any
-abbrev pub ends_with_space : Bool → List ℕ → Bool
-ends_with_space after_space [] = after_space
-ends_with_space after_space (c ∷ cs) = ends_with_space (c == 32) cs
-
--- a text of the input outside of `<pre>`
-unfoldable pub plain : List ℕ → List ℕ
-plain text = plain_chars true (chars text)
-
--- the name of a suite, and a space
-abbrev pub plain_and_space : List ℕ → List ℕ
-plain_and_space suite = plain suite ++ codes " "
-
--- the name of the suite of a failed test, and its name
-unfoldable pub plain_title : FailedView → List ℕ
-plain_title t = option_map_or plain_and_space t.suite [] ++ plain t.name
-
--- an item of the list of causes
-abbrev pub cause_item : List ℕ → List ℕ
-cause_item line = codes "- " ++ (plain line ++ codes "\n")
-
--- the list of causes, and that no test ran
-unfoldable pub causes_list : Bool → List (List ℕ) → List ℕ
-causes_list no_tests causes =
-    if has_causes no_tests causes
-    then (if no_tests then codes "- no test ran\n" else []) ++ (flat_map cause_item causes ++ codes "\n")
-    else []
-
--- the first two cells of the row of a failed test
-unfoldable pub row_start : FailedView → List ℕ
-row_start t = codes "| " ++ (t.status ++ (codes " | " ++ plain_title t))
-
--- the row of a failed test
-unfoldable pub row : FailedView → List ℕ
-row t = row_start t ++ (codes " | " ++ (time_text t.time ++ (codes " | " ++ (plain t.short ++ codes " |\n"))))
-
--- the head of the table of failed tests
-unfoldable pub table_head : List ℕ
-table_head = codes "| Result | Test | Time | Why |\n| --- | --- | ---: | --- |\n"
-
--- the table of failed tests, unless there are none
-unfoldable pub table : List FailedView → List ℕ
-table failed =
-    if length failed == 0 then [] else table_head ++ (flat_map row failed ++ codes "\n")
-
--- the line under which a reader finds why a test failed
-unfoldable pub summary : FailedView → List ℕ
-summary t = codes "<details><summary>" ++ (t.status ++ (codes " " ++ (plain_title t ++ attempts_text t.attempts)))
-
--- why a test failed, in `<pre>`
-abbrev pub pre_text : List ℕ → List ℕ
-pre_text why = codes "</summary>\n\n<pre>\n" ++ (data_text why ++ codes "</pre>\n\n</details>\n\n")
-
--- a failed test, with why it failed
-unfoldable pub details : FailedView → List ℕ
-details t = summary t ++ pre_text t.why
-
--- the heading and the summary of the run
-unfoldable pub heading : RunEnd → List ℕ
-heading end = codes "## Test report: " ++ (outcome_word end.outcome ++ (codes "\n\n" ++ (summary_sentence end ++ codes "\n\n")))
-
--- what is written at the end of a run with these failed tests and causes
-unfoldable pub markdown : List FailedView → List (List ℕ) → RunEnd → List ℕ
-markdown failed causes end = heading end ++ (causes_list (no_tests_ran end.outcome) causes ++ (table failed ++ flat_map details failed))
+-- the template of the summary
+unfoldable pub markdown_parts : Parts
+markdown_parts = unwrap_or (parse MARKDOWN.now) NoParts
 
 -- what is written at the end of a run with these entries
 unfoldable pub markdown_of : ℕ → List EntryView → RunEnd → List ℕ
-markdown_of limit entries end = markdown (failures_of limit entries) (cause_lines entries) end
+markdown_of limit entries end = parts_text markdown_parts (values_of_run limit entries end)
+
+-- the parts for each failed test: those of its row in the table, and those of its details after the table
+abbrev pub failed_sections : List Parts
+failed_sections = sections markdown_parts (codes "failures") (codes "failed" ∷ [])
+
+-- the parts of the row of a failed test
+unfoldable pub row_parts : Parts
+row_parts = unwrap_or (slice_get failed_sections 0) NoParts
+
+-- the parts of the details of a failed test
+unfoldable pub details_parts : Parts
+details_parts = unwrap_or (slice_get failed_sections 1) NoParts
+
+-- the row of a failed test
+abbrev pub row_text : FailedView → List ℕ
+row_text t = parts_text row_parts (values_of (failed_values t))
+
+-- the details of a failed test
+abbrev pub details_text : FailedView → List ℕ
+details_text t = parts_text details_parts (values_of (failed_values t))
+
+-- the holes for the row of a failed test
+abbrev pub row_holes : List (List ℕ) → List HoleView
+row_holes path =
+    holes hole.Plain path (codes "status" ∷ codes "name" ∷ codes "short" ∷ [])
+    ++ (holes hole.Plain (path ++ (codes "suite" ∷ [])) (codes "name" ∷ [])
+    ++ holes hole.Plain (path ++ (codes "note" ∷ codes "time" ∷ [])) (codes "seconds" ∷ []))
+
+-- the holes for the details of a failed test
+abbrev pub details_holes : List (List ℕ) → List HoleView
+details_holes path =
+    holes hole.Plain path (codes "status" ∷ codes "name" ∷ [])
+    ++ (holes hole.Plain (path ++ (codes "suite" ∷ [])) (codes "name" ∷ [])
+    ++ (holes hole.Plain (path ++ (codes "note" ∷ codes "attempts" ∷ [])) (codes "count" ∷ []) ++ holes hole.Text path (codes "why" ∷ [])))
+
+-- the holes that the summary has
+abbrev pub markdown_holes : List HoleView
+markdown_holes =
+    run_holes hole.Plain ++ (problem_holes hole.Plain
+    ++ (row_holes (codes "failures" ∷ codes "failed" ∷ []) ++ details_holes (codes "failures" ∷ codes "failed" ∷ [])))
+
+-- In the template of the summary no value is a mark of Markdown. It has no control characters, and it has all holes: those of a failed test are in
+-- the section of its row and in that of its details.
+pub record MarkdownIsSound : Type 0 where
+  pub markdown : is_markdown markdown_parts ≡ true
+  pub clean : is_clean markdown_parts ≡ true
+  pub holes : list_all (has_hole markdown_parts) markdown_holes ≡ true
+  pub failed : failed_sections ≡ row_parts ∷ details_parts ∷ []
+  pub row : list_all (has_hole row_parts) (row_holes []) ≡ true
+  pub details : list_all (has_hole details_parts) (details_holes []) ≡ true

@@ -1,23 +1,12 @@
 -- How text of the input is shown.
-use Rattle.std.specs.Prelude.{◌-◌, ◌/◌, ◌%◌, ◌+◌, ℕ, Bool, false, not, ◌&&◌, ◌||◌, ◌==◌, List, [], ◌++◌, codes, length, nat_le, replicate, if◌then◌else◌, Option, Some, None}
-use Rattle.std.specs.Char.{encode_utf8, is_control}
-use Rattle.std.specs.Fmt.{decimal, digits}
+use Rattle.std.specs.Prelude.{◌-◌, ◌/◌, ◌%◌, ℕ, Bool, false, not, ◌&&◌, ◌||◌, ◌==◌, List, [], ◌++◌, codes, length, replicate, if◌then◌else◌, Option, Some, None}
+use Rattle.std.specs.Char.{encode_utf8}
+use Rattle.std.specs.Fmt.{decimal}
 use Rattle.std.specs.List.{flat_map, slice_range, slice_split}
 use Rattle.std.specs.Option.{option_map_or}
 use Rattle.std.specs.Str.{chars}
+use Rattle.template.specs.Shown.{escape, is_escaped, is_within}
 use Rattle.test_report_run.specs.Prints.{floor_of}
-
--- the character is in a range
-abbrev pub is_within : ℕ → ℕ → ℕ → Bool
-is_within low high c = nat_le low c && nat_le c high
-
--- the character changes the direction of writing
-abbrev pub turns_writing : ℕ → Bool
-turns_writing c = c == 1564 || (c == 8206 || (c == 8207 || (is_within 8234 8238 c || is_within 8294 8297 c)))
-
--- a character that every text shows as an escape: a control character except tab and line feed, or a character that changes the direction of writing
-abbrev pub is_escaped : ℕ → Bool
-is_escaped c = not (c == 9) && (not (c == 10) && (turns_writing c || is_control c))
 
 -- a printable ASCII character
 abbrev pub is_printable : ℕ → Bool
@@ -26,10 +15,6 @@ is_printable b = is_within 32 126 b
 -- a printable ASCII character, a tab or a line feed
 abbrev pub is_printable_or_blank : ℕ → Bool
 is_printable_or_blank b = is_printable b || (b == 9 || b == 10)
-
--- the escape of a character
-unfoldable pub escape : ℕ → List ℕ
-escape c = codes "\\u{" ++ (digits 16 false c ++ codes "}")
 
 -- a character of a name: tab and line feed are escapes, too
 unfoldable pub name_char : ℕ → List ℕ

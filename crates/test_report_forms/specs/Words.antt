@@ -7,7 +7,7 @@ use Rattle.run_events_stats.specs.declared.outcome.run_outcome.RunOutcome.{RunOu
 use Rattle.run_events_stats.specs.declared.outcome.run_outcome.RunOutcome.TheVariants as outcome
 use Rattle.test_report_events.specs.declared.event.TestResult.{TestResult}
 use Rattle.test_report_events.specs.declared.event.TestResult.TheVariants as ended
-use Rattle.test_report_forms.specs.Shown.{bracket, name_and_space, seconds, shown_name}
+use Rattle.test_report_forms.specs.Shown.{bracket, name_and_space, shown_name}
 use Rattle.test_report_run.specs.Note.{CargoSays, DisagreementView, EndsEarly, HasCrashed, HasFailed, HasNoEnd, HasTimedOut, IsFlaky, KindView, SaysOther, StartsOutside, StrayEnds, StraySuiteEnds}
 use Rattle.test_report_run.specs.Suite.{failed_of}
 use Rattle.test_report_run.specs.declared.note.RunEnd.{RunEnd}
@@ -102,7 +102,3 @@ run_numbers e = passed_numbers e ++ (failed_numbers e ++ other_numbers e)
 -- the numbers of a run after its time in brackets
 unfoldable pub summary_line : RunEnd → List ℕ
 summary_line e = bracket e.time ++ run_numbers e
-
--- the numbers of a run before its time in words
-unfoldable pub summary_sentence : RunEnd → List ℕ
-summary_sentence e = run_numbers e ++ option_map_or (λ micros. codes ", in " ++ (seconds micros ++ codes "s")) e.time []

@@ -1,14 +1,73 @@
-//! The lines of disagreements, and of tests that were not run.
+//! The causes of an outcome other than failed tests: disagreements, and suites whose tests were not all run.
 
-ghost use Rattle.std.specs.Prelude.{◌≡◌, ◌++◌, OnOk, string_bytes};
+ghost use Rattle.std.specs.Prelude.{◌≡◌, ◌++◌, IfOk, OnOk, option_map, string_bytes};
+ghost use Rattle.test_report_forms.specs.Entry.{entry_view};
+ghost use Rattle.test_report_forms.specs.Model.{cause_of_entry, cause_view, suite_of};
 ghost use Rattle.test_report_forms.specs.Words.{disagreement_line, its_tests, not_run_line, result_word, said_number, said_text, key_and_verdict, verdict_word};
 ghost use Rattle.test_report_run.specs.Note.{disagreement_view, text_view};
 
+use crate::entry::Entry;
 use crate::shown::{push_name, push_name_and_space};
-use std::alloc::AllocError;
+use std::alloc::{AllocError, Global};
 use std::fmt::Write;
 use test_report_events::event::TestResult;
 use test_report_run::note::{Disagreement, NotRun, SaidNumbers};
+
+/// A disagreement, or a suite whose tests were not all run.
+#[derive(Drop)]
+pub(crate) struct Cause<'a> {
+    /// The name of the suite, or `None` if the cause names no suite.
+    pub(crate) suite: Option<&'a str>,
+
+    /// The kind: `disagreement` or `not run`.
+    pub(crate) kind: &'static str,
+
+    /// The line of the report.
+    pub(crate) line: String,
+}
+
+/// Returns the cause of an entry, or `None` if it has none.
+pub(crate) fn cause_of<'a>(
+    alloc: Global,
+    entry: &Entry<'a>,
+) -> Result<Option<Cause<'a>>, AllocError>
+    ensures { IfOk result (λ cause. option_map cause_view cause ≡ cause_of_entry (entry_view entry.now)) }
+{
+    let mut line = String::new(alloc);
+    match entry {
+        Entry::Disagreement(disagreement) => {
+            push_disagreement(&mut line, disagreement)?;
+            Ok(Some(Cause {
+                suite: suite_of(disagreement),
+                kind: "disagreement",
+                line,
+            }))
+        }
+        Entry::NotRun(not_run) => {
+            push_not_run(&mut line, not_run)?;
+            Ok(Some(Cause {
+                suite: Some(not_run.suite.as_str()),
+                kind: "not run",
+                line,
+            }))
+        }
+        Entry::Passed(_) | Entry::Skipped(_) | Entry::Failed { .. } | Entry::Suite(_) => Ok(None),
+    }
+}
+
+/// Returns the suite that a disagreement names, or `None`.
+fn suite_of(disagreement: &Disagreement) -> Option<&str>
+    ensures { option_map (λ s. s.now) result ≡ suite_of (disagreement_view disagreement.now) }
+{
+    match disagreement {
+        Disagreement::EndedEarly { suite } => Some(suite.as_str()),
+        Disagreement::LastLine { suite, .. } => Some(suite.as_str()),
+        Disagreement::StrayEnd { .. }
+        | Disagreement::StraySuiteEnd { .. }
+        | Disagreement::OutsideSuite { .. }
+        | Disagreement::Cargo { .. } => None,
+    }
+}
 
 /// Returns the word for a verdict.
 fn verdict(failed: bool) -> &'static str

@@ -1,7 +1,10 @@
 //! Laws of entries, for the proofs of callers. Each is a function that does nothing, and its contract is
 //! the law.
 
+ghost use Rattle.test_report_forms.specs.Html.{PageIsSound};
+ghost use Rattle.test_report_forms.specs.JunitTree.{JunitIsSound};
 ghost use Rattle.test_report_forms.specs.Laws.{OneEntry, OneWhy};
+ghost use Rattle.test_report_forms.specs.Markdown.{MarkdownIsSound};
 
 /// Why a test failed is said in one way.
 pub fn one_why()
@@ -17,3 +20,26 @@ pub fn one_entry()
 {
     one_why();
 }
+
+/// The template of the page is one element, in which no value is read as markup. Its own texts have no control
+/// characters. It has a place for every value that `report_values` returns, except the short reasons, and shows a
+/// failed test's status, suite, name, note and reason together.
+pub fn page_is_sound()
+    ensures { PageIsSound }
+{}
+
+/// In the template of the summary no value is a mark of Markdown. Its own texts have no control characters. It has a
+/// place for the outcome, the numbers and the time of the run, and for the line of each problem. It shows a failed
+/// test's status, suite, name, time and short reason in a row of the table, and its status, suite, name, attempts and
+/// reason in the details after the table.
+pub fn markdown_is_sound()
+    ensures { MarkdownIsSound }
+{}
+
+/// The template of JUnit's XML is one element, in which no value is read as markup. Its own texts have no control
+/// characters. A reader of XML finds an element for each suite, in order, and in it an element for each of its test
+/// cases, in order. Each has the values of its suite or its test case. There are no other elements except those in a
+/// test case: its failure or error, its output, that it was skipped, or its attempts that failed.
+pub fn junit_is_sound()
+    ensures { JunitIsSound }
+{}

@@ -27,27 +27,32 @@
 #![tactic(auto)]
 
 mod cause;
-mod collected;
-mod element;
 pub mod entry;
+mod failed_test;
 pub mod files;
 pub mod form;
 pub mod github;
 pub mod html;
 pub mod junit;
+mod junit_case;
 mod junit_suite;
+mod junit_template;
+mod junit_values;
 pub mod laws;
 mod list;
 pub mod markdown;
+mod markdown_template;
+pub mod model;
 pub mod names;
+mod numbers;
 pub mod options;
+mod page_template;
 pub mod place;
 mod shown;
 mod slowest;
 mod status;
-mod style;
 mod summary;
 pub mod text;
 mod title;
+pub mod values;
 pub mod why;
-mod xml;

@@ -3,34 +3,21 @@
 ghost use Rattle.std.specs.Prelude.{◌≡◌, ◌≤◌, ◌++◌, IfOk, OnOk, length, string_bytes, if◌then◌else◌};
 ghost use Rattle.std.specs.Char.{encode_utf8};
 ghost use Rattle.std.specs.List.{list_all};
+ghost use Rattle.template.specs.Shown.{escape};
 ghost use Rattle.test_report_forms.specs.Shown as spec;
 ghost use Rattle.test_report_run.specs.Note.{text_view};
 
 use std::alloc::{AllocError, Global};
 use std::fmt::Write;
-
-/// Returns true for a character that is shown as an escape in every text: a control character other than
-/// a tab and a line feed, or one that changes the direction of writing.
-pub(crate) fn is_escaped(c: char) -> bool
-    ensures { result ≡ spec.is_escaped c }
-{
-    match c {
-        '\t' | '\n' => false,
-        '\u{61c}' | '\u{200e}' | '\u{200f}' => true,
-        '\u{202a}'..='\u{202e}' | '\u{2066}'..='\u{2069}' => true,
-        _ => c.is_control(),
-    }
-}
+use template::shown::{is_escaped, push_escape};
 
 /// Appends a character, as an escape such as `\u{1b}` if `escaped` is true.
-#[tactic(auto, unfolding(crate::specs::Shown::escape))]
 pub(crate) fn push_char(text: &mut String, c: char, escaped: bool) -> Result<(), AllocError>
     ensures { OnOk result (string_bytes text.new
-        ≡ string_bytes text.old ++ (if escaped then spec.escape c else encode_utf8 c)) }
+        ≡ string_bytes text.old ++ (if escaped then escape c else encode_utf8 c)) }
 {
     if escaped {
-        let code = u32::from(c);
-        write!(text, "\\u{{{code:x}}}")
+        push_escape(text, c)
     } else {
         text.push(c)
     }

@@ -41,6 +41,13 @@ impl Slowest {
         self.tests.as_slice()
     }
 
+    /// Returns the slowest tests in order, by value.
+    pub(crate) fn into_tests(self) -> Vec<SlowTest>
+        ensures { result ≡ self.tests }
+    {
+        self.tests
+    }
+
     /// Returns the position of the first test that took less time.
     fn faster(&self, time: u64) -> Option<usize>
         ensures { result ≡ position (λ s. nat_lt s.time time) self.now.tests.items }

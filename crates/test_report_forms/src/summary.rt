@@ -1,9 +1,9 @@
 //! The numbers of a run.
 
 ghost use Rattle.std.specs.Prelude.{◌≡◌, ◌++◌, OnOk, string_bytes};
-ghost use Rattle.test_report_forms.specs.Words.{failed_numbers, other_numbers, outcome_word, passed_numbers, run_numbers, summary_line, summary_sentence};
+ghost use Rattle.test_report_forms.specs.Words.{failed_numbers, other_numbers, outcome_word, passed_numbers, run_numbers, summary_line};
 
-use crate::shown::{push_bracket, push_seconds};
+use crate::shown::push_bracket;
 use run_events_stats::outcome::RunOutcome;
 use std::alloc::AllocError;
 use std::fmt::Write;
@@ -28,21 +28,6 @@ pub(crate) fn push_summary(text: &mut String, end: &RunEnd) -> Result<(), AllocE
 {
     push_bracket(text, end.time)?;
     push_numbers(text, end)
-}
-
-/// Appends the summary of a run, with its time in words last.
-#[tactic(auto, unfolding(crate::specs::Words::summary_sentence))]
-pub(crate) fn push_sentence(text: &mut String, end: &RunEnd) -> Result<(), AllocError>
-    ensures { OnOk result (string_bytes text.new
-        ≡ string_bytes text.old ++ summary_sentence end.now) }
-{
-    push_numbers(text, end)?;
-    if let Some(micros) = end.time {
-        text.push_str(", in ")?;
-        push_seconds(text, micros)?;
-        text.push('s')?;
-    }
-    Ok(())
 }
 
 /// Appends all numbers of a run.

@@ -4,14 +4,16 @@ use Rattle.std.proofs.lemmas.List.Elements.{All-append, All-cons, All-drop, All-
 use Rattle.std.specs.List.{All, flat_map, fold, insert}
 use Rattle.std.specs.Option.{option_map_or}
 use Rattle.test_report_laws.proofs.CleanWords.{clean-bracket, clean-disagreement, clean-failed_word, clean-limited, clean-not_run, clean-outcome, clean-summary, clean-title}
-use Rattle.test_report_laws.proofs.Controls.{Clean, also, clean-char, clean-chars, clean-decimal, clean-flat_map, clean-if, clean-name, clean-number, clean-replicate, clean-text, name-line, nothing, word}
+use Rattle.template.proofs.Controls.{Clean, also, clean-char, clean-chars, clean-decimal, clean-flat_map, clean-if, clean-replicate, nothing, word}
+use Rattle.test_report_laws.proofs.Controls.{clean-name, clean-number, clean-text, name-line}
 use Rattle.test_report_laws.proofs.Numerals.{HasNumbers, IsColumn, IsNumbered, entry-numbers}
 use Rattle.test_report_forms.specs.Entry.{EntryView, IsEntryOf, LinesDisagree, SuiteNotRun, SuiteOver, TestFailed, TestPassed, TestSkipped}
 use Rattle.test_report_forms.specs.Github.{column_property, data_char, error_command, failed_command, github_last, github_line, message, place_properties, properties, property, property_char, title_property, why_message}
 use Rattle.test_report_laws.specs.Forms.{GithubHasNoControls, NamesAreLines, TextHasNoControls}
 use Rattle.test_report_forms.specs.List.{KeyedLine, failed_line, failed_of, falling_place, flaky_line, flaky_lines, flaky_of, flaky_passed, flaky_word, list_line, put_falling, put_rising, rising_place, short_list, slow_line, slow_lines, slow_of, text_of_lines, timed}
 use Rattle.test_report_forms.specs.Place.{PlaceView}
-use Rattle.test_report_forms.specs.Shown.{front, indented_line, is_escaped, more_bytes}
+use Rattle.test_report_forms.specs.Shown.{front, indented_line, more_bytes}
+use Rattle.template.specs.Shown.{is_escaped}
 use Rattle.test_report_forms.specs.Text.{attempts_note, failed_head, failed_text, more_line, outcome_line, summary_lines, text_last, text_line, why_lines}
 use Rattle.test_report_forms.specs.Why.{WhyView}
 use Rattle.test_report_forms.specs.Words.{failed_word, status_text}

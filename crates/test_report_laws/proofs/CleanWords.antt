@@ -5,10 +5,11 @@ use Rattle.run_events_stats.specs.declared.outcome.run_outcome.RunOutcome.{RunOu
 use Rattle.run_events_stats.specs.declared.outcome.run_outcome.RunOutcome.TheVariants as outcome
 use Rattle.test_report_events.specs.declared.event.TestResult.{TestResult}
 use Rattle.test_report_events.specs.declared.event.TestResult.TheVariants as ended
-use Rattle.test_report_laws.proofs.Controls.{Clean, also, clean-decimal, clean-if, clean-name, clean-option, clean-replicate, clean-text, nothing, word}
+use Rattle.template.proofs.Controls.{Clean, also, clean-decimal, clean-if, clean-option, clean-replicate, nothing, word}
+use Rattle.test_report_laws.proofs.Controls.{clean-name, clean-text}
 use Rattle.test_report_forms.specs.Shown.{and_space, bracket, front, limited, more_bytes, more_note, name_and_space, seconds, three_digits}
 use Rattle.test_report_forms.specs.Title.{title, title_name}
-use Rattle.test_report_forms.specs.Words.{disagreement_line, failed_numbers, failed_word, its_tests, key_and_verdict, not_run_line, other_numbers, outcome_word, passed_numbers, result_word, run_numbers, said_number, said_text, summary_line, summary_sentence, verdict_word}
+use Rattle.test_report_forms.specs.Words.{disagreement_line, failed_numbers, failed_word, its_tests, key_and_verdict, not_run_line, other_numbers, outcome_word, passed_numbers, result_word, run_numbers, said_number, said_text, summary_line, verdict_word}
 use Rattle.test_report_run.specs.Note.{CargoSays, DisagreementView, EndsEarly, HasCrashed, HasFailed, HasNoEnd, HasTimedOut, IsFlaky, KindView, SaysOther, StartsOutside, StrayEnds, StraySuiteEnds, TestNoteView}
 use Rattle.test_report_run.specs.declared.note.RunEnd.{RunEnd}
 use Rattle.test_report_run.specs.declared.note.SaidNumbers.{SaidNumbers}
@@ -116,9 +117,3 @@ clean-numbers e =
 pub clean-summary : (e : RunEnd) → Clean (summary_line e)
 unfolding summary_line
 clean-summary e = also (clean-bracket e.time) (clean-numbers e)
-
-pub clean-sentence : (e : RunEnd) → Clean (summary_sentence e)
-unfolding summary_sentence
-clean-sentence e =
-    let time = λ (micros : ℕ). also (word (codes ", in ") refl) (also (clean-seconds micros) (word (codes "s") refl)) in
-    also (clean-numbers e) (clean-option (λ micros. codes ", in " ++ (seconds micros ++ codes "s")) time e.time)

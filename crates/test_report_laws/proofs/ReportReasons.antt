@@ -4,18 +4,22 @@ use Rattle.std.specs.List.{All, AllZip, flat_map, slice_index_or}
 use Rattle.std.specs.Prelude.{◌⊎◌, Contains, IsTrue}
 use Rattle.std.proofs.lemmas.Bool.{false_from_ne_true}
 use Rattle.std.proofs.lemmas.List.Elements.{Contains-append_right}
-use Rattle.test_report_forms.specs.Collected.{cause_line, no_tests_ran}
+use Rattle.test_report_forms.specs.Model.{cause_line, no_tests_ran}
 use Rattle.test_report_forms.specs.Entry.{EntryView, IsEntryOf, IsTestEntry, LinesDisagree, SuiteNotRun, SuiteOver, TestFailed, TestPassed, TestSkipped}
 use Rattle.test_report_forms.specs.Files.{html_last, junit_last, markdown_last}
 use Rattle.test_report_forms.specs.Github.{github_last, github_line, message, property}
 use Rattle.test_report_forms.specs.Html.{html_of}
-use Rattle.test_report_forms.specs.Junit.{junit_text, junit_tree}
-use Rattle.test_report_laws.specs.Forms.{GithubNamesCauses, HasJunitCase, HasJunitCases, HasPart, HtmlNamesCauses, JunitCause, JunitNamesCauses, MarkdownNamesCauses, NamesCauses, TextNamesCauses, failed_name, junit_cause, no_test_cause}
-use Rattle.test_report_forms.specs.Markdown.{markdown_of, plain}
+use Rattle.test_report_forms.specs.Junit.{junit_of}
+use Rattle.template.specs.Tree.{TreeView}
+use Rattle.test_report_laws.specs.Forms.{GithubNamesCauses, HtmlNamesCauses, MarkdownNamesCauses, NamesCauses, TextNamesCauses, failed_name}
+use Rattle.test_report_laws.specs.Junit.{HasJunitCase, HasJunitCases, IsXml, JunitCause, JunitNamesCauses, junit_cause, no_test_cause}
+use Rattle.template.specs.Hole.{hole_text}
+use Rattle.template.specs.Shows.{HasPart}
+use Rattle.template.specs.declared.hole.Hole.TheVariants as hole
+use Rattle.test_report_forms.specs.Markdown.{markdown_of}
 use Rattle.test_report_forms.specs.Shown.{shown_name}
 use Rattle.test_report_forms.specs.Text.{text_last, text_line}
 use Rattle.test_report_forms.specs.Title.{title_name}
-use Rattle.test_report_forms.specs.Tree.{data_text}
 use Rattle.test_report_forms.specs.Words.{disagreement_line, not_run_line, outcome_word}
 use Rattle.test_report_forms.specs.declared.html.HtmlForm.{HtmlForm}
 use Rattle.test_report_forms.specs.declared.junit.JunitForm.{JunitForm}
@@ -119,7 +123,7 @@ module _ (name line : List ℕ → List ℕ) (entries : List EntryView) (end : R
 
   names-reason : ((e : EntryView) × Contains entries e × IsTrue (is_reason e)) ⊎ RanNoTests end → NamesReason name line entries end text
   names-reason (inl found) = names-entry found.0 found.1 found.2
-  names-reason (inr none) = inr (inr record { is = none; said = subst (λ o. HasPart text (outcome_word o)) none causes.outcome })
+  names-reason (inr none) = inr (inr record { is = none; said = subst (λ o. HasPart text (line (outcome_word o))) none causes.outcome })
 
 -- the cause of an entry that is a reason
 cause-of : (limit : ℕ) (e : EntryView) → IsTrue (is_reason e) → (c : JunitCause) × (junit_cause limit e ≡ Some c)
@@ -131,23 +135,25 @@ cause-of limit (SuiteNotRun suite n of) reason = (_, refl)
 cause-of limit (SuiteOver s) reason = absurd (cc)
 
 -- JUnit's XML, which has the test case of each cause, has one of a reason
-module _ (o : Options) (entries : List EntryView) (end : RunEnd) (text : List ℕ) (is : text ≡ junit_text (junit_tree o entries end))
-    (cases : HasJunitCases o entries end) (fails : ¬ (RanNoTests end × IsTrue o.no_tests_pass)) where
+module _ (o : Options) (entries : List EntryView) (end : RunEnd) (text : List ℕ) (t : TreeView) (reads : IsXml text t) (cases : HasJunitCases o entries end t)
+    (fails : ¬ (RanNoTests end × IsTrue o.no_tests_pass)) where
   has-case : ((e : EntryView) × Contains entries e × IsTrue (is_reason e)) ⊎ RanNoTests end → HasReasonCase o entries end text
   has-case (inl found) =
       let cause = cause-of o.limit found.0 found.2 in
-      let case = at-entry entries (λ e. IfSome (junit_cause o.limit e) (HasJunitCase (junit_tree o entries end))) found.0 found.1 cases.causes in
+      let case = at-entry entries (λ e. IfSome (junit_cause o.limit e) (HasJunitCase t)) found.0 found.1 cases.causes in
       record {
         cause = cause.0;
         reason = inl (found.0, found.1, cause.1);
-        has_case = subst (λ c. IfSome c (HasJunitCase (junit_tree o entries end))) cause.1 case;
-        is = is;
+        tree = t;
+        reads = reads;
+        has_case = subst (λ c. IfSome c (HasJunitCase t)) cause.1 case;
       }
   has-case (inr none) = record {
     cause = no_test_cause;
     reason = inr (none, refl);
+    tree = t;
+    reads = reads;
     has_case = cases.no_tests (ap no_tests_ran none) (false_from_ne_true o.no_tests_pass (λ pass. fails (none, pass)));
-    is = is;
   }
 
 -- forms that write all at the end
@@ -201,30 +207,35 @@ module _ (has_reason : FailureHasReason) where
   pub html-names : HtmlNamesCauses → HtmlNamesReason
   html-names causes limit inputs text end report =
       let is = report.is ∙ ap (λ x. x ++ html_of limit report.entries end) (none-first report.entries) in
-      report-names data_text data_text (λ e. []) (html_of limit) inputs text end report
-      (subst (NamesCauses data_text data_text report.entries end) (sym is) (causes limit report.entries end))
+      report-names (hole_text hole.Text) (hole_text hole.Text) (λ e. []) (html_of limit) inputs text end report
+      (subst (NamesCauses (hole_text hole.Text) (hole_text hole.Text) report.entries end) (sym is) (causes limit report.entries end))
 
   pub junit-names : JunitNamesCauses → JunitNamesReason
   junit-names causes o inputs text end report fails to_pass =
-      let last : List EntryView → RunEnd → List ℕ = λ entries end. junit_text (junit_tree o entries end) in
-      let is = report.is ∙ ap (λ x. x ++ junit_text (junit_tree o report.entries end)) (none-first report.entries) in
-      has-case o report.entries end text is (causes o report.entries end) to_pass (reason-of nothing last inputs text end report fails)
+      let is = report.is ∙ ap (λ x. x ++ junit_of o report.entries end) (none-first report.entries) in
+      let own = causes o report.entries end in
+      has-case o report.entries end text own.0 (subst (λ x. IsXml x own.0) (sym is) own.1) own.2 to_pass
+      (reason-of nothing (junit_of o) inputs text end report fails)
 
   pub markdown-names : MarkdownNamesCauses → MarkdownNamesReason
   markdown-names causes limit inputs text end report =
       let is = report.is ∙ ap (λ x. x ++ markdown_of limit report.entries end) (none-first report.entries) in
-      report-names plain plain (λ e. []) (markdown_of limit) inputs text end report
-      (subst (NamesCauses plain plain report.entries end) (sym is) (causes limit report.entries end))
+      report-names (hole_text hole.Plain) (hole_text hole.Plain) (λ e. []) (markdown_of limit) inputs text end report
+      (subst (NamesCauses (hole_text hole.Plain) (hole_text hole.Plain) report.entries end) (sym is) (causes limit report.entries end))
 
   pub files-name : JunitNamesCauses → HtmlNamesCauses → MarkdownNamesCauses → FilesNameReason
   files-name junit html markdown files inputs texts are fails =
       let end = end_of are.run in
+      let between-tags = hole_text hole.Text in
+      let in-markdown = hole_text hole.Plain in
       let found = has_reason inputs are.entries are.run are.are fails in (
         if-junit (λ f. HasReasonCase f.options are.entries end) (λ f. junit_last f are.entries end)
             (λ f. ¬ (RanNoTests end × IsTrue f.options.no_tests_pass)) files.junit (text_view texts.junit) are.say.junit
-            (λ f to_pass. has-case f.options are.entries end _ refl (junit f.options are.entries end) to_pass found),
-        if-there (NamesReason data_text data_text are.entries end) (λ (f : HtmlForm). html_last f are.entries end) files.html (text_view texts.html)
-            are.say.html (λ f. names-reason data_text data_text are.entries end _ (html f.collected.limit are.entries end) found),
-        if-there (NamesReason plain plain are.entries end) (λ (f : MarkdownForm). markdown_last f are.entries end) files.markdown (text_view texts.markdown)
-            are.say.markdown (λ f. names-reason plain plain are.entries end _ (markdown f.collected.limit are.entries end) found),
+            (λ f to_pass. let own = junit f.options are.entries end in has-case f.options are.entries end _ own.0 own.1 own.2 to_pass found),
+        if-there (NamesReason between-tags between-tags are.entries end) (λ (f : HtmlForm). html_last f are.entries end) files.html
+            (text_view texts.html) are.say.html
+            (λ f. names-reason between-tags between-tags are.entries end _ (html f.model.limit are.entries end) found),
+        if-there (NamesReason in-markdown in-markdown are.entries end) (λ (f : MarkdownForm). markdown_last f are.entries end)
+            files.markdown (text_view texts.markdown) are.say.markdown
+            (λ f. names-reason in-markdown in-markdown are.entries end _ (markdown f.model.limit are.entries end) found),
       )

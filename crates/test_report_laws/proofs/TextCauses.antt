@@ -1,16 +1,20 @@
 -- What the forms write names each cause.
-use Rattle.std.proofs.Common.{◌≡◌, ◌∙◌, sym, subst, ap, ℕ, List, ◌++◌, codes}
+use Rattle.std.proofs.Common.{◌≡◌, ◌∙◌, refl, sym, subst, ap, ℕ, List, ◌++◌, codes}
 use Rattle.std.proofs.lemmas.List.Concat.{flat_map-append}
+use Rattle.std.specs.Char.{encode_utf8}
 use Rattle.std.specs.List.{flat_map}
 use Rattle.std.specs.Option.{IfSome}
 use Rattle.std.specs.Str.{chars}
+use Rattle.run_events_stats.specs.declared.outcome.run_outcome.RunOutcome.{RunOutcome}
+use Rattle.run_events_stats.specs.declared.outcome.run_outcome.RunOutcome.TheVariants as outcome
 use Rattle.test_report_laws.proofs.CleanWords.{clean-name_and_space}
-use Rattle.test_report_laws.proofs.Controls.{chars-both}
+use Rattle.template.proofs.Controls.{chars-both}
 use Rattle.test_report_laws.proofs.Parts.{all-weaker-named, all-written, in-left, in-right, whole-part}
-use Rattle.test_report_forms.specs.Collected.{cause_line}
+use Rattle.test_report_forms.specs.Model.{cause_line}
 use Rattle.test_report_forms.specs.Entry.{EntryView, LinesDisagree, SuiteNotRun, SuiteOver, TestFailed, TestPassed, TestSkipped}
 use Rattle.test_report_forms.specs.Github.{error_command, failed_command, github_last, github_line, message, properties, property, property_char, title_property, why_message}
-use Rattle.test_report_laws.specs.Forms.{GithubNamesCauses, HasPart, TextNamesCauses, failed_name}
+use Rattle.test_report_laws.specs.Forms.{GithubNamesCauses, TextNamesCauses, failed_name}
+use Rattle.template.specs.Shows.{HasPart}
 use Rattle.test_report_forms.specs.List.{short_list}
 use Rattle.test_report_forms.specs.Shown.{bracket, name_and_space, shown_name}
 use Rattle.test_report_forms.specs.Text.{attempts_note, failed_head, failed_text, outcome_line, summary_lines, text_last, text_line, why_lines}
@@ -100,10 +104,18 @@ github-has-line limit (TestPassed t) = tt
 github-has-line limit (TestSkipped t) = tt
 github-has-line limit (SuiteOver s) = tt
 
-github-has-outcome : (end : RunEnd) → HasPart (github_last end) (outcome_word end.outcome)
+own-word : (o : RunOutcome) → message (outcome_word o) ≡ outcome_word o
+unfolding chars encode_utf8
+own-word outcome.Success = refl
+own-word outcome.NoTestsRun = refl
+own-word (outcome.Cancelled step) = refl
+own-word (outcome.Failed step) = refl
+
+github-has-outcome : (end : RunEnd) → HasPart (github_last end) (message (outcome_word end.outcome))
 unfolding github_last
 github-has-outcome end =
-    in-right (codes "::notice::") (in-right (summary_line end) (in-right (codes ", outcome ") (in-left (codes "\n") (whole-part (outcome_word end.outcome)))))
+    subst (HasPart (github_last end)) (sym (own-word end.outcome))
+    (in-right (codes "::notice::") (in-right (summary_line end) (in-right (codes ", outcome ") (in-left (codes "\n") (whole-part (outcome_word end.outcome))))))
 
 pub github-names-causes : GithubNamesCauses
 github-names-causes limit entries end =

@@ -1,27 +1,32 @@
--- Laws of what the forms write, and of trees and their texts.
-use Rattle.std.specs.Prelude.{◌≡◌, ◌==◌, ◌&&◌, ◌||◌, ◌++◌, ◌⊎◌, ℕ, Bool, true, false, Contains, List, [], ◌∷◌, Some, None, Option, ⊤, codes, length, nat_eq, option_map, unwrap_or}
+-- Laws of what the forms write.
+use Rattle.std.specs.Prelude.{◌≡◌, ◌==◌, ◌&&◌, ◌||◌, ◌++◌, ◌⊎◌, ℕ, Bool, true, false, List, [], ◌∷◌, Some, None, Option, ⊤, codes, length, nat_eq}
 use Rattle.std.specs.Char.{is_control}
 use Rattle.std.specs.List.{All, AllPass, flat_map, slice_split, starts_with}
 use Rattle.std.specs.Option.{IfSome}
 use Rattle.std.specs.Str.{NoCharPasses}
-use Rattle.test_report_forms.specs.Collected.{CauseView, cause_line, cause_of_entry, no_tests_ran, shown_failure_of}
+use Rattle.template.specs.Document.{filled_tree}
+use Rattle.template.specs.Hole.{hole_text}
+use Rattle.template.specs.Marks.{marks, own_marks}
+use Rattle.template.specs.Reader.{read_tree}
+use Rattle.template.specs.Shows.{HasPart, items_at}
+use Rattle.template.specs.Template.{Values, parts_text, text_of}
+use Rattle.template.specs.Tree.{TreeView}
+use Rattle.template.specs.declared.hole.Hole.TheVariants as hole
 use Rattle.test_report_forms.specs.Entry.{EntryView, IsEntryOf, LinesDisagree, SuiteNotRun, SuiteOver, TestFailed, TestPassed, TestSkipped}
 use Rattle.test_report_forms.specs.Github.{github_last, github_line, message, property}
-use Rattle.test_report_forms.specs.Html.{html_of, html_tree}
-use Rattle.test_report_forms.specs.Junit as junit
-use Rattle.test_report_forms.specs.Junit.{junit_text, junit_tree, own_name, xml_header}
-use Rattle.test_report_forms.specs.JunitSuite.{suite_name, xml_name, xml_text}
-use Rattle.test_report_forms.specs.Markdown.{markdown_of, plain}
+use Rattle.test_report_forms.specs.Holes.{HoleView}
+use Rattle.test_report_forms.specs.Html.{failed_text, html_of, page_holes, page_parts, problem_text}
+use Rattle.test_report_forms.specs.Markdown.{details_text, markdown_holes, markdown_of, markdown_parts, row_text}
+use Rattle.test_report_forms.specs.Model.{ReportView, cause_line, report_of}
 use Rattle.test_report_forms.specs.Names.{names_line}
-use Rattle.test_report_laws.specs.Reader.{is_letter, is_name_byte, read_tree}
-use Rattle.test_report_forms.specs.Shown.{is_escaped, shown_name, turns_writing}
+use Rattle.test_report_forms.specs.Shown.{shown_name}
+use Rattle.template.specs.Shown.{is_escaped, turns_writing}
 use Rattle.test_report_forms.specs.Text.{text_last, text_line}
 use Rattle.test_report_forms.specs.Title.{title_name}
-use Rattle.test_report_forms.specs.Tree.{ElementTree, ElementView, NoTrees, OneTree, TextTree, TreeView, Trees, data_text, text_of_tree, tree_of}
-use Rattle.test_report_forms.specs.Why.{WhyView}
+use Rattle.test_report_forms.specs.Values.{values_of_run}
 use Rattle.test_report_forms.specs.Words.{outcome_word}
 use Rattle.test_report_forms.specs.declared.options.Options.{Options}
-use Rattle.test_report_run.specs.Note.{FailureView, NoteView, TestNoteView}
+use Rattle.test_report_run.specs.Note.{NoteView}
 use Rattle.test_report_run.specs.declared.note.RunEnd.{RunEnd}
 
 -- the end of a line in a log: a line feed or a carriage return
@@ -63,10 +68,6 @@ abbrev pub GithubHasNoControls : Type 0
 GithubHasNoControls = (limit : ℕ) (entries : List EntryView) (end : RunEnd) → All (λ e. (n : NoteView) × IsEntryOf n e) entries
     → HasNoControls (flat_map (github_line limit) entries ++ github_last end)
 
--- What JUnit's form writes has no control characters.
-abbrev pub JunitHasNoControls : Type 0
-JunitHasNoControls = (o : Options) (entries : List EntryView) (end : RunEnd) → HasNoControls (junit_text (junit_tree o entries end))
-
 -- What the form for a browser writes has no control characters.
 abbrev pub HtmlHasNoControls : Type 0
 HtmlHasNoControls = (limit : ℕ) (entries : List EntryView) (end : RunEnd) → HasNoControls (html_of limit entries end)
@@ -74,12 +75,6 @@ HtmlHasNoControls = (limit : ℕ) (entries : List EntryView) (end : RunEnd) → 
 -- What the form for a summary writes has no control characters.
 abbrev pub MarkdownHasNoControls : Type 0
 MarkdownHasNoControls = (limit : ℕ) (entries : List EntryView) (end : RunEnd) → HasNoControls (markdown_of limit entries end)
-
--- this is a part of a text
-pub record HasPart (text part : List ℕ) : Type 0 where
-  pub before : List ℕ
-  pub after : List ℕ
-  pub is : text ≡ before ++ (part ++ after)
 
 -- the name of the failed test of an entry, if it has one
 abbrev pub failed_name : EntryView → Option (List ℕ)
@@ -91,11 +86,11 @@ failed_name (SuiteNotRun suite n of) = None
 failed_name (SuiteOver s) = None
 
 -- a text has the name of each failed test, the line of each disagreement and of each suite whose tests were not all run, and the outcome. Names
--- and lines are written by these functions
+-- are written by the first function, and lines and the outcome by the second one
 pub record NamesCauses (name line : List ℕ → List ℕ) (entries : List EntryView) (end : RunEnd) (text : List ℕ) : Type 0 where
   pub tests : All (λ e. IfSome (failed_name e) (λ n. HasPart text (name n))) entries
   pub lines : All (λ e. IfSome (cause_line e) (λ l. HasPart text (line l))) entries
-  pub outcome : HasPart text (outcome_word end.outcome)
+  pub outcome : HasPart text (line (outcome_word end.outcome))
 
 -- What the form for people writes names each cause of a run that does not succeed.
 abbrev pub TextNamesCauses : Type 0
@@ -107,145 +102,56 @@ abbrev pub GithubNamesCauses : Type 0
 GithubNamesCauses = (limit : ℕ) (entries : List EntryView) (end : RunEnd)
     → NamesCauses property message entries end (flat_map (github_line limit) entries ++ github_last end)
 
--- what JUnit's XML says of a cause: the suite and the name of its test case, and the name, the message and the type of the element in that
-pub record JunitCause : Type 0 where
-  pub suite : List ℕ
-  pub name : List ℕ
-  pub element : List ℕ
-  pub message : List ℕ
-  pub type_of : List ℕ
-
--- what it says of a failed test, with at most `limit` bytes of the short reason
-abbrev pub failed_cause : ℕ → TestNoteView → FailureView → WhyView → JunitCause
-failed_cause limit t f w = record {
-  suite = suite_name t.suite;
-  name = xml_name (title_name t);
-  element = junit.failed_name f.kind;
-  message = xml_text (shown_failure_of t f.kind w limit).short;
-  type_of = junit.failed_type f.kind;
-}
-
--- what it says of another cause. If this names no suite, its test case is in the suite `test-report`
-abbrev pub other_cause : CauseView → JunitCause
-other_cause c = record {
-  suite = suite_name (Some (unwrap_or c.suite own_name));
-  name = xml_text c.line;
-  element = codes "error";
-  message = xml_text c.line;
-  type_of = c.kind;
-}
-
--- what it says if no test ran
-abbrev pub no_test_cause : JunitCause
-no_test_cause = other_cause (record { suite = None; kind = codes "no tests"; line = codes "no test ran" })
-
--- what it says of the cause of an entry, if the entry has one
-abbrev pub junit_cause : ℕ → EntryView → Option JunitCause
-junit_cause limit (TestFailed t f w) = Some (failed_cause limit t f w)
-junit_cause limit (TestPassed t) = None
-junit_cause limit (TestSkipped t) = None
-junit_cause limit (LinesDisagree d) = option_map other_cause (cause_of_entry (LinesDisagree d))
-junit_cause limit (SuiteNotRun suite n of) = option_map other_cause (cause_of_entry (SuiteNotRun suite n of))
-junit_cause limit (SuiteOver s) = None
-
--- an element has an attribute with this value
-pub record HasAttribute (e : ElementView) (name value : List ℕ) : Type 0 where
-  pub is : Contains e.attributes (record { name = name; value = value })
-
--- an element has another one as a child
-pub record HasChild (e child : ElementView) : Type 0 where
-  pub is : Contains e.children (tree_of child)
-
--- an element is the test case of a cause: it has its name, and a child with the name, the message and the type that the cause has
-pub record IsCaseOf (c : JunitCause) (case : ElementView) : Type 0 where
-  pub is : case.name ≡ codes "testcase"
-  pub name : HasAttribute case (codes "name") c.name
-  pub reason : ElementView
-  pub in_case : HasChild case reason
-  pub element : reason.name ≡ c.element
-  pub message : HasAttribute reason (codes "message") c.message
-  pub type_of : HasAttribute reason (codes "type") c.type_of
-
--- the element of a suite has the test case of a cause of this suite
-pub record HasCaseOf (c : JunitCause) (suite : ElementView) : Type 0 where
-  pub is : suite.name ≡ codes "testsuite"
-  pub name : HasAttribute suite (codes "name") c.suite
-  pub case : ElementView
-  pub in_suite : HasChild suite case
-  pub case_is : IsCaseOf c case
-
--- a tree has the test case of a cause: in an element of its suite
-pub record HasJunitCase (t : TreeView) (c : JunitCause) : Type 0 where
-  pub run : ElementView
-  pub is : t ≡ tree_of run
-  pub suite : ElementView
-  pub in_run : HasChild run suite
-  pub suite_is : HasCaseOf c suite
-
--- JUnit's tree has the test case of each cause, and one that says that no test ran, unless a run without tests is to pass
-pub record HasJunitCases (o : Options) (entries : List EntryView) (end : RunEnd) : Type 0 where
-  pub causes : All (λ e. IfSome (junit_cause o.limit e) (HasJunitCase (junit_tree o entries end))) entries
-  pub no_tests : no_tests_ran end.outcome ≡ true → o.no_tests_pass ≡ false → HasJunitCase (junit_tree o entries end) no_test_cause
-
--- JUnit's tree names each such cause.
-abbrev pub JunitNamesCauses : Type 0
-JunitNamesCauses = (o : Options) (entries : List EntryView) (end : RunEnd) → HasJunitCases o entries end
-
--- JUnit's XML says that no test ran, unless a run without tests is to pass.
-abbrev pub JunitSaysNoTests : Type 0
-JunitSaysNoTests = (o : Options) (entries : List EntryView) (end : RunEnd) → no_tests_ran end.outcome ≡ true → o.no_tests_pass ≡ false
-    → HasPart (junit_text (junit_tree o entries end)) (codes "no test ran")
-
 -- What the form for a browser writes names each such cause.
 abbrev pub HtmlNamesCauses : Type 0
-HtmlNamesCauses = (limit : ℕ) (entries : List EntryView) (end : RunEnd) → NamesCauses data_text data_text entries end (html_of limit entries end)
+HtmlNamesCauses = (limit : ℕ) (entries : List EntryView) (end : RunEnd)
+    → NamesCauses (hole_text hole.Text) (hole_text hole.Text) entries end (html_of limit entries end)
+
+-- a text has the values of a hole, written as the hole says: the text with its name of each item on its path
+abbrev pub HasValues : Values → List ℕ → HoleView → Type 0
+HasValues values text h = All (λ i. HasPart text (hole_text h.kind (text_of h.name i))) (items_at h.path values)
+
+-- What the form for a browser writes has every value that its template has a hole for.
+abbrev pub HtmlShowsValues : Type 0
+HtmlShowsValues = (limit : ℕ) (entries : List EntryView) (end : RunEnd)
+    → All (HasValues (values_of_run limit entries end) (html_of limit entries end)) page_holes
+
+-- a page has what its section of failed tests renders of each failed test, and what its list of problems renders of each problem
+pub record HasItems (report : ReportView) (page : List ℕ) : Type 0 where
+  pub failed : All (λ t. HasPart page (failed_text t)) report.failed
+  pub problems : All (λ l. HasPart page (problem_text l)) report.problems
+
+-- What the form for a browser writes has the status, suite, name and reason of each failed test together, and each problem in the list of problems.
+abbrev pub HtmlShowsItems : Type 0
+HtmlShowsItems = (limit : ℕ) (entries : List EntryView) (end : RunEnd) → HasItems (report_of limit entries end) (html_of limit entries end)
 
 -- What the form for a summary writes names each such cause.
 abbrev pub MarkdownNamesCauses : Type 0
-MarkdownNamesCauses = (limit : ℕ) (entries : List EntryView) (end : RunEnd) → NamesCauses plain plain entries end (markdown_of limit entries end)
+MarkdownNamesCauses = (limit : ℕ) (entries : List EntryView) (end : RunEnd)
+    → NamesCauses (hole_text hole.Plain) (hole_text hole.Plain) entries end (markdown_of limit entries end)
 
--- a name: a letter, and then letters, digits and `-`
-abbrev pub IsName : List ℕ → Type 0
-IsName [] = ⊥
-IsName (c ∷ name) = (is_letter c ≡ true) × AllPass is_name_byte name
+-- What the form for a summary writes has every value that its template has a hole for, written as the hole says.
+abbrev pub MarkdownShowsValues : Type 0
+MarkdownShowsValues = (limit : ℕ) (entries : List EntryView) (end : RunEnd)
+    → All (HasValues (values_of_run limit entries end) (markdown_of limit entries end)) markdown_holes
 
--- the tree is a text
-abbrev pub is_text : TreeView → Bool
-is_text (TextTree text) = true
-is_text (ElementTree name attributes children) = false
+-- a summary has what its two sections of failed tests render of each failed test: a row of the table, and details
+pub record HasRows (report : ReportView) (summary : List ℕ) : Type 0 where
+  pub rows : All (λ t. HasPart summary (row_text t)) report.failed
+  pub details : All (λ t. HasPart summary (details_text t)) report.failed
 
-abbrev mutual
-  -- a tree whose elements and attributes have names, and whose texts are not empty and not next to each other
-  pub IsWellFormed : TreeView → Type 0
-  IsWellFormed (TextTree []) = ⊥
-  IsWellFormed (TextTree (b ∷ text)) = ⊤
-  IsWellFormed (ElementTree name attributes children) = IsName name × All (λ a. IsName a.name) attributes × AreWellFormed false children
+-- What the form for a summary writes has a row and details for each failed test.
+abbrev pub MarkdownShowsTests : Type 0
+MarkdownShowsTests = (limit : ℕ) (entries : List EntryView) (end : RunEnd) → HasRows (report_of limit entries end) (markdown_of limit entries end)
 
-  -- trees of this kind. `after_text` is true if a text comes before them
-  pub AreWellFormed : Bool → Trees → Type 0
-  AreWellFormed after_text NoTrees = ⊤
-  AreWellFormed after_text (OneTree t trees) = IsWellFormed t × ((after_text && is_text t) ≡ false) × AreWellFormed (is_text t) trees
+-- What the form for a summary writes has the marks of its template and no others: lines, cells and each `<pre>` end where the template ends them.
+abbrev pub MarkdownKeepsMarks : Type 0
+MarkdownKeepsMarks = (limit : ℕ) (entries : List EntryView) (end : RunEnd)
+    → marks (markdown_of limit entries end) ≡ own_marks markdown_parts (values_of_run limit entries end)
 
--- What is written of a tree reads back as this tree.
-abbrev pub ReadsBack : Type 0
-ReadsBack = (t : TreeView) → IsWellFormed t → read_tree (text_of_tree t) ≡ Some t
-
--- Two trees with the same text are the same.
-abbrev pub OneTreeOfText : Type 0
-OneTreeOfText = (t : TreeView) → (u : TreeView) → IsWellFormed t → IsWellFormed u → text_of_tree t ≡ text_of_tree u → t ≡ u
-
--- this text is a header, a well-formed tree and a line feed, and what is written of the tree reads back as this tree
-pub record IsDocument (header : List ℕ) (t : TreeView) (text : List ℕ) : Type 0 where
-  pub is : text ≡ header ++ (text_of_tree t ++ codes "\n")
-  pub well_formed : IsWellFormed t
-  pub reads_back : read_tree (text_of_tree t) ≡ Some t
-
--- What JUnit's form writes is an XML header and the tree of the entries, which is well-formed and reads back as this tree.
-abbrev pub JunitReadsBack : Type 0
-JunitReadsBack = (o : Options) (entries : List EntryView) (end : RunEnd)
-    → IsDocument xml_header (junit_tree o entries end) (junit_text (junit_tree o entries end))
-
--- What the form for a browser writes is a header of HTML and the tree of the page, which is well-formed and reads back as this tree.
+-- What the form for a browser writes is a header of HTML, a body and a line feed. The body reads back as one tree: that of the template of the page,
+-- with the values of the entries as data.
 abbrev pub HtmlReadsBack : Type 0
-HtmlReadsBack = (limit : ℕ) (entries : List EntryView) (end : RunEnd)
-    → IsDocument (codes "<!DOCTYPE html>\n") (html_tree limit entries end) (html_of limit entries end)
+HtmlReadsBack = (limit : ℕ) (entries : List EntryView) (end : RunEnd) → let body = parts_text page_parts (values_of_run limit entries end) in
+    (t : TreeView) × (html_of limit entries end ≡ codes "<!DOCTYPE html>\n" ++ (body ++ codes "\n")) × (read_tree body ≡ Some t)
+    × (filled_tree page_parts (values_of_run limit entries end) ≡ Some t)

@@ -1,5 +1,5 @@
 pub mod Forms
-pub mod Reader
+pub mod Junit
 pub mod Report
 pub mod Run
 pub mod Status

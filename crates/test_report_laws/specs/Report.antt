@@ -1,20 +1,24 @@
 -- Laws of reports.
 use Rattle.std.specs.Prelude.{◌≡◌, ◌<◌, ◌⊎◌, [], ℕ, Bool, true, false, Contains, IfSome, IsTrue, List, Some, codes}
 use Rattle.std.specs.List.{AllZip}
+use Rattle.template.specs.Hole.{hole_text}
+use Rattle.template.specs.Shows.{HasPart}
+use Rattle.template.specs.declared.hole.Hole.TheVariants as hole
 use Rattle.test_report_events.specs.Event.{EventView}
-use Rattle.test_report_forms.specs.Collected.{cause_line}
 use Rattle.test_report_forms.specs.Entry.{EntryView, IsEntryOf, LinesDisagree, SuiteNotRun, SuiteOver, TestFailed, TestPassed, TestSkipped}
 use Rattle.test_report_forms.specs.Github.{github_last, github_line, message, property}
 use Rattle.test_report_forms.specs.Html.{html_of}
-use Rattle.test_report_forms.specs.Junit.{junit_text, junit_tree}
-use Rattle.test_report_laws.specs.Forms.{HasJunitCase, HasPart, JunitCause, failed_name, junit_cause, no_test_cause}
-use Rattle.test_report_forms.specs.Markdown.{markdown_of, plain}
+use Rattle.test_report_forms.specs.Junit.{junit_of}
+use Rattle.test_report_laws.specs.Forms.{failed_name}
+use Rattle.test_report_laws.specs.Junit.{HasJunitCase, IsXml, JunitCause, junit_cause, no_test_cause}
+use Rattle.test_report_forms.specs.Markdown.{markdown_of}
+use Rattle.test_report_forms.specs.Model.{cause_line}
 use Rattle.test_report_forms.specs.Text.{text_last, text_line}
-use Rattle.test_report_forms.specs.Tree.{data_text}
 use Rattle.test_report_forms.specs.declared.files.FileForms.{FileForms}
 use Rattle.test_report_forms.specs.declared.files.FileTexts.{FileTexts}
 use Rattle.test_report_forms.specs.declared.options.Options.{Options}
 use Rattle.test_report_laws.specs.Run.{passed_in}
+use Rattle.template.specs.Tree.{TreeView}
 use Rattle.test_report_run.specs.Note.{text_view}
 use Rattle.test_report_run.specs.Run.{RunState, end_of}
 use Rattle.test_report_laws.specs.Status.{IsInOrder, RanNoTests, Succeeds}
@@ -85,14 +89,14 @@ pub record HasLine (line : List ℕ → List ℕ) (entries : List EntryView) (te
   pub has_line : cause_line entry ≡ Some own
   pub is_there : HasPart text (line own)
 
--- a text says that no test ran
-pub record SaysNoTests (end : RunEnd) (text : List ℕ) : Type 0 where
+-- a text says that no test ran. The word for this is written by this function
+pub record SaysNoTests (line : List ℕ → List ℕ) (end : RunEnd) (text : List ℕ) : Type 0 where
   pub is : RanNoTests end
-  pub said : HasPart text (codes "no-tests-run")
+  pub said : HasPart text (line (codes "no-tests-run"))
 
 -- a text names a reason why a run does not succeed
 abbrev pub NamesReason : (name line : List ℕ → List ℕ) → List EntryView → RunEnd → List ℕ → Type 0
-NamesReason name line entries end text = NamesTest name entries text ⊎ (HasLine line entries text ⊎ SaysNoTests end text)
+NamesReason name line entries end text = NamesTest name entries text ⊎ (HasLine line entries text ⊎ SaysNoTests line end text)
 
 -- The report for people of a run that does not succeed names a reason.
 abbrev pub TextNamesReason : Type 0
@@ -106,30 +110,31 @@ GithubNamesReason = (limit : ℕ) → (inputs : List (List ℕ)) → (text : Lis
     → (report : IsReport (github_line limit) (λ entries end. github_last end) inputs text end) → ¬ (Succeeds end)
     → NamesReason property message report.entries end text
 
--- JUnit's XML has the test case of a reason why a run does not succeed: the cause of an entry, or that no test ran
+-- JUnit's XML reads back as a tree that has the test case of a reason why a run does not succeed: the cause of an entry, or that no test ran
 pub record HasReasonCase (o : Options) (entries : List EntryView) (end : RunEnd) (text : List ℕ) : Type 0 where
   pub cause : JunitCause
   pub reason : ((e : EntryView) × Contains entries e × (junit_cause o.limit e ≡ Some cause)) ⊎ (RanNoTests end × (cause ≡ no_test_cause))
-  pub has_case : HasJunitCase (junit_tree o entries end) cause
-  pub is : text ≡ junit_text (junit_tree o entries end)
+  pub tree : TreeView
+  pub reads : IsXml text tree
+  pub has_case : HasJunitCase tree cause
 
 -- JUnit's XML of such a run has the test case of a reason, unless no test ran and a run without tests is to pass.
 abbrev pub JunitNamesReason : Type 0
 JunitNamesReason = (o : Options) → (inputs : List (List ℕ)) → (text : List ℕ) → (end : RunEnd)
-    → (report : IsReport (λ entry. []) (λ entries end. junit_text (junit_tree o entries end)) inputs text end)
+    → (report : IsReport (λ entry. []) (junit_of o) inputs text end)
     → ¬ (Succeeds end) → ¬ (RanNoTests end × IsTrue o.no_tests_pass) → HasReasonCase o report.entries end text
 
 -- The page of such a run names a reason.
 abbrev pub HtmlNamesReason : Type 0
 HtmlNamesReason = (limit : ℕ) → (inputs : List (List ℕ)) → (text : List ℕ) → (end : RunEnd)
     → (report : IsReport (λ entry. []) (html_of limit) inputs text end) → ¬ (Succeeds end)
-    → NamesReason data_text data_text report.entries end text
+    → NamesReason (hole_text hole.Text) (hole_text hole.Text) report.entries end text
 
 -- The summary of such a run names a reason.
 abbrev pub MarkdownNamesReason : Type 0
 MarkdownNamesReason = (limit : ℕ) → (inputs : List (List ℕ)) → (text : List ℕ) → (end : RunEnd)
     → (report : IsReport (λ entry. []) (markdown_of limit) inputs text end) → ¬ (Succeeds end)
-    → NamesReason plain plain report.entries end text
+    → NamesReason (hole_text hole.Plain) (hole_text hole.Plain) report.entries end text
 
 -- The texts of the files name a reason, too.
 abbrev pub FilesNameReason : Type 0
@@ -137,5 +142,5 @@ FilesNameReason = (files : FileForms) → (inputs : List (List ℕ)) → (texts 
     → ¬ (Succeeds (end_of are.run))
     → IfSome files.junit (λ form. ¬ (RanNoTests (end_of are.run) × IsTrue form.options.no_tests_pass)
     → IfSome (text_view texts.junit) (HasReasonCase form.options are.entries (end_of are.run)))
-    × IfSome (text_view texts.html) (NamesReason data_text data_text are.entries (end_of are.run))
-    × IfSome (text_view texts.markdown) (NamesReason plain plain are.entries (end_of are.run))
+    × IfSome (text_view texts.html) (NamesReason (hole_text hole.Text) (hole_text hole.Text) are.entries (end_of are.run))
+    × IfSome (text_view texts.markdown) (NamesReason (hole_text hole.Plain) (hole_text hole.Plain) are.entries (end_of are.run))

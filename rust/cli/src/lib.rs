@@ -22,6 +22,8 @@ pub mod replaced_file;
 #[doc(hidden)]
 pub mod run_digest_engine;
 #[doc(hidden)]
+pub mod template;
+#[doc(hidden)]
 pub mod test_report_engine;
 #[doc(hidden)]
 pub mod test_report_events;

@@ -49,19 +49,19 @@ and *more*
 /// The run in Markdown.
 const MARKDOWN: &str = r#"## Test report: failed
 
-3 tests run: 1 passed (0 flaky), 2 failed (0 timed out, 1 crashed), 1 skipped, 1 not run, in 0.500s
+3 tests run: 1 passed (0 flaky), 2 failed (0 timed out, 1 crashed), 1 skipped, 1 not run, in 0&#46;500s
 
 - suite 1&#58; 1 of 3 tests were not run
 
 | Result | Test | Time | Why |
 | --- | --- | ---: | --- |
-| FAIL | suite 1 a&#124;b &#60;c&#62; |  | Error&#58; &#34;x&#34; &#38; &#60;&#47;pre&#62;&#92;u&#123;1b&#125;&#91;1m&#xFFFF; |
+| FAIL | suite 1 a&#124;b &#60;c&#62; |  | Error&#58; &#34;x&#34; &#38; &#60;&#47;pre&#62;&#92;u&#123;1b&#125;&#91;1m&#xFFFD; |
 | CRASH | suite 2 ends |  | its process ended before it did |
 
 <details><summary>FAIL suite 1 a&#124;b &#60;c&#62;</summary>
 
 <pre>
-Error: "x" &amp; &lt;/pre&gt;\u{1b}[1m&#xFFFF;
+Error: "x" &amp; &lt;/pre&gt;\u{1b}[1m&#xFFFD;
 and *more*</pre>
 
 </details>
@@ -75,10 +75,9 @@ its process ended before it did</pre>
 
 "#;
 
-/// Returns a text with the characters that are written as references in the expected texts above.
+/// Returns a text with the character that is written as a reference in the expected texts above.
 fn with_characters(text: &str) -> String {
     text.replace("&#xFFFD;", "\u{fffd}")
-        .replace("&#xFFFF;", "\u{ffff}")
 }
 
 /// Returns the standard output of the program with arguments on the run, and asserts its exit status.
@@ -137,7 +136,7 @@ fn html_loads_nothing() {
     assert!(page.contains("<li>suite 1: 1 of 3 tests were not run</li>"));
     assert!(page.contains("<span>a|b &lt;c&gt;</span>"));
     assert!(
-        page.contains("Error: \"x\" &amp; &lt;/pre&gt;\\u{1b}[1m\u{ffff}\nand *more*</code></pre>")
+        page.contains("Error: \"x\" &amp; &lt;/pre&gt;\\u{1b}[1m\u{fffd}\nand *more*</code></pre>")
     );
     for absent in [
         "<script", "<link", "<img", "src=", "href=", "url(", "@import", "http:", "https:",

@@ -1,9 +1,59 @@
 // Made by tools/erase from crates/test_report_forms/src/cause.rt. Do not edit.
-//! The lines of disagreements, and of tests that were not run.
+//! The causes of an outcome other than failed tests: disagreements, and suites whose tests were not all run.
 
 use crate::test_report_events::event::TestResult;
+use crate::test_report_forms::entry::Entry;
 use crate::test_report_forms::shown::{push_name, push_name_and_space};
 use crate::test_report_run::note::{Disagreement, NotRun, SaidNumbers};
+
+/// A disagreement, or a suite whose tests were not all run.
+#[derive(Clone)]
+pub(crate) struct Cause<'a> {
+    /// The name of the suite, or `None` if the cause names no suite.
+    pub(crate) suite: Option<&'a str>,
+
+    /// The kind: `disagreement` or `not run`.
+    pub(crate) kind: &'static str,
+
+    /// The line of the report.
+    pub(crate) line: String,
+}
+
+/// Returns the cause of an entry, or `None` if it has none.
+pub(crate) fn cause_of<'a>(entry: &Entry<'a>) -> Option<Cause<'a>> {
+    let mut line = String::new();
+    match entry {
+        Entry::Disagreement(disagreement) => {
+            push_disagreement(&mut line, disagreement);
+            Some(Cause {
+                suite: suite_of(disagreement),
+                kind: "disagreement",
+                line,
+            })
+        }
+        Entry::NotRun(not_run) => {
+            push_not_run(&mut line, not_run);
+            Some(Cause {
+                suite: Some(not_run.suite.as_str()),
+                kind: "not run",
+                line,
+            })
+        }
+        Entry::Passed(_) | Entry::Skipped(_) | Entry::Failed { .. } | Entry::Suite(_) => None,
+    }
+}
+
+/// Returns the suite that a disagreement names, or `None`.
+fn suite_of(disagreement: &Disagreement) -> Option<&str> {
+    match disagreement {
+        Disagreement::EndedEarly { suite } => Some(suite.as_str()),
+        Disagreement::LastLine { suite, .. } => Some(suite.as_str()),
+        Disagreement::StrayEnd { .. }
+        | Disagreement::StraySuiteEnd { .. }
+        | Disagreement::OutsideSuite { .. }
+        | Disagreement::Cargo { .. } => None,
+    }
+}
 
 /// Returns the word for a verdict.
 fn verdict(failed: bool) -> &'static str {

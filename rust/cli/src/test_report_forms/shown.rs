@@ -1,22 +1,12 @@
 // Made by tools/erase from crates/test_report_forms/src/shown.rt. Do not edit.
 //! How text of the input is shown.
 
-/// Returns true for a character that is shown as an escape in every text: a control character other than
-/// a tab and a line feed, or one that changes the direction of writing.
-pub(crate) fn is_escaped(c: char) -> bool {
-    match c {
-        '\t' | '\n' => false,
-        '\u{61c}' | '\u{200e}' | '\u{200f}' => true,
-        '\u{202a}'..='\u{202e}' | '\u{2066}'..='\u{2069}' => true,
-        _ => c.is_control(),
-    }
-}
+use crate::template::shown::{is_escaped, push_escape};
 
 /// Appends a character, as an escape such as `\u{1b}` if `escaped` is true.
 pub(crate) fn push_char(text: &mut String, c: char, escaped: bool) {
     if escaped {
-        let code = u32::from(c);
-        text.push_str(&format!("\\u{{{code:x}}}"));
+        push_escape(text, c);
     } else {
         text.push(c);
     }

@@ -28,6 +28,11 @@ impl Slowest {
         self.tests.as_slice()
     }
 
+    /// Returns the slowest tests in order, by value.
+    pub(crate) fn into_tests(self) -> Vec<SlowTest> {
+        self.tests
+    }
+
     /// Returns the position of the first test that took less time.
     fn faster(&self, time: u64) -> Option<usize> {
         self.tests.iter().position(|other| other.time < time)

@@ -1,7 +1,7 @@
 // Made by tools/erase from crates/test_report_forms/src/summary.rt. Do not edit.
 //! The numbers of a run.
 
-use crate::test_report_forms::shown::{push_bracket, push_seconds};
+use crate::test_report_forms::shown::push_bracket;
 use crate::test_report_run::note::{RunEnd, failed_count};
 use deodarsieve::RunOutcome;
 
@@ -19,16 +19,6 @@ pub(crate) fn outcome_text(outcome: RunOutcome) -> &'static str {
 pub(crate) fn push_summary(text: &mut String, end: &RunEnd) {
     push_bracket(text, end.time);
     push_numbers(text, end);
-}
-
-/// Appends the summary of a run, with its time in words last.
-pub(crate) fn push_sentence(text: &mut String, end: &RunEnd) {
-    push_numbers(text, end);
-    if let Some(micros) = end.time {
-        text.push_str(", in ");
-        push_seconds(text, micros);
-        text.push('s');
-    }
 }
 
 /// Appends all numbers of a run.

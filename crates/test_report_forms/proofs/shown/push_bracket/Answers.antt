@@ -1,5 +1,5 @@
 use Rattle.test_report_forms.specs.Shown.{bracket}
-use Rattle.test_report_forms.proofs.Numbers.{zeros-before, spaces-before}
+use Rattle.test_report_forms.proofs.Widths.{zeros-before, spaces-before}
 use Rattle.test_report_forms.proofs.shown.push_bracket.Goals as goal
 
 pub returns-in-Some : goal.returns-in-Some

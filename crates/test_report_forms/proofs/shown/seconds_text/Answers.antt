@@ -1,5 +1,5 @@
 use Rattle.test_report_forms.specs.Shown.{seconds}
-use Rattle.test_report_forms.proofs.Numbers.{zeros-before}
+use Rattle.test_report_forms.proofs.Widths.{zeros-before}
 use Rattle.test_report_forms.proofs.shown.seconds_text.Goals as goal
 
 pub returns : goal.returns

@@ -1,8 +1,7 @@
 use Rattle.test_report_laws.proofs.TextCauses.{github-names-causes, text-names-causes}
-use Rattle.test_report_laws.proofs.CausesHtml.{html-names-causes}
-use Rattle.test_report_laws.proofs.CausesJunit.{junit-says-no-tests}
-use Rattle.test_report_laws.proofs.CausesMarkdown.{markdown-names-causes}
-use Rattle.test_report_laws.proofs.JunitCases.{junit-names-causes}
+use Rattle.test_report_laws.proofs.HtmlLaws.{html-names-causes}
+use Rattle.test_report_laws.proofs.JunitCauses.{junit-names-causes, junit-says-no-tests}
+use Rattle.test_report_laws.proofs.MarkdownLaws.{markdown-names-causes}
 use Rattle.test_report_laws.proofs.forms.names_causes.Goals as goal
 
 pub returns-clause-text : goal.returns-clause-text
@@ -12,13 +11,13 @@ pub returns-clause-github : goal.returns-clause-github
 returns-clause-github c = github-names-causes
 
 pub returns-clause-junit : goal.returns-clause-junit
-returns-clause-junit c = junit-names-causes
+returns-clause-junit c = junit-names-causes c.documents_read_back.ensures.junit
 
 pub returns-clause-no_tests : goal.returns-clause-no_tests
-returns-clause-no_tests c = junit-says-no-tests
+returns-clause-no_tests c = junit-says-no-tests c.shows_values.ensures
 
 pub returns-clause-html : goal.returns-clause-html
-returns-clause-html c = html-names-causes
+returns-clause-html c = html-names-causes c.html_shows.ensures.values
 
 pub returns-clause-markdown : goal.returns-clause-markdown
-returns-clause-markdown c = markdown-names-causes
+returns-clause-markdown c = markdown-names-causes c.markdown_shows.ensures.values

@@ -1,7 +1,7 @@
 use Rattle.test_report_laws.proofs.CleanForms.{github-has-no-controls, names-are-lines, text-has-no-controls}
-use Rattle.test_report_laws.proofs.CleanHtml.{html-has-no-controls}
-use Rattle.test_report_laws.proofs.CleanJunit.{junit-has-no-controls}
-use Rattle.test_report_laws.proofs.CleanMarkdown.{markdown-has-no-controls}
+use Rattle.test_report_laws.proofs.HtmlLaws.{html-has-no-controls}
+use Rattle.test_report_laws.proofs.JunitLaws.{junit-has-no-controls}
+use Rattle.test_report_laws.proofs.MarkdownLaws.{markdown-has-no-controls}
 use Rattle.test_report_laws.proofs.forms.no_controls.Goals as goal
 
 pub returns-clause-text : goal.returns-clause-text
@@ -14,10 +14,10 @@ pub returns-clause-github : goal.returns-clause-github
 returns-clause-github c = github-has-no-controls
 
 pub returns-clause-junit : goal.returns-clause-junit
-returns-clause-junit c = junit-has-no-controls
+returns-clause-junit c = junit-has-no-controls c.junit_is_sound.ensures c.renders_no_controls.ensures
 
 pub returns-clause-html : goal.returns-clause-html
-returns-clause-html c = html-has-no-controls
+returns-clause-html c = html-has-no-controls c.page_is_sound.ensures c.renders_no_controls.ensures
 
 pub returns-clause-markdown : goal.returns-clause-markdown
-returns-clause-markdown c = markdown-has-no-controls
+returns-clause-markdown c = markdown-has-no-controls c.markdown_is_sound.ensures c.renders_no_controls.ensures

@@ -1,7 +1,8 @@
 use Rattle.std.proofs.Common.{◌∙◌, ap, map, option_map}
 use Rattle.std.proofs.lemmas.Result.{on_ok_weaker}
 use Rattle.test_report_forms.proofs.Suites.{add_found, add_none}
-use Rattle.test_report_forms.specs.JunitSuite.{case_view, cases_view, with_case}
+use Rattle.test_report_forms.specs.JunitCase.{case_view}
+use Rattle.test_report_forms.specs.JunitSuite.{suite_view, with_case}
 use Rattle.test_report_forms.proofs.junit.JunitForm.add.Goals as goal
 
 pub returns-in-Some-clause-state : goal.returns-in-Some-clause-state
@@ -14,4 +15,4 @@ pub returns-in_ok-push-in-None-clause-state : goal.returns-in_ok-push-in-None-cl
 returns-in_ok-push-in-None-clause-state c =
     let h = add_none (option_map (λ n. n.now) c.args.suite) c.args.self.now.suites.items c.add-in-None.new.self (case_view c.args.case) c.in-None.ensures
     (c.in_ok-add-in-None.ensures ∙ ap (λ s. with_case s (case_view c.args.case)) c.in_ok-open-in-None.ensures) in
-    let e = ap (map cases_view) c.in_ok-push-in-None.ensures.items ∙ h in cc
+    let e = ap (map suite_view) c.in_ok-push-in-None.ensures.items ∙ h in cc

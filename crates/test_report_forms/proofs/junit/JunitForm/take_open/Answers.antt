@@ -1,6 +1,6 @@
 use Rattle.std.proofs.Common.{◌∙◌, ap, map, option_map}
 use Rattle.test_report_forms.proofs.Suites.{take_found, take_none}
-use Rattle.test_report_forms.specs.JunitSuite.{cases_view}
+use Rattle.test_report_forms.specs.JunitSuite.{suite_view}
 use Rattle.test_report_forms.proofs.junit.JunitForm.take_open.Goals as goal
 
 pub returns-in-Some-clause-over : goal.returns-in-Some-clause-over
@@ -11,7 +11,7 @@ pub returns-in-Some-clause-rest : goal.returns-in-Some-clause-rest
 returns-in-Some-clause-rest c =
     let h = take_found (option_map (λ n. n.now) c.args.name) c.args.self.now.suites.items c.in-Some.at c.remove.result c.in-Some.ensures
     c.remove.ensures.value in
-    let e = ap (map cases_view) c.remove.ensures.items ∙ h.1 in cc
+    let e = ap (map suite_view) c.remove.ensures.items ∙ h.1 in cc
 
 pub returns-in-None-clause-over : goal.returns-in-None-clause-over
 returns-in-None-clause-over c = (take_none (option_map (λ n. n.now) c.args.name) c.args.self.now.suites.items c.in-None.ensures).0

@@ -1,0 +1,72 @@
+-- The template of the summary is sound: this is computed.
+use Rattle.std.proofs.Common.{◌≡◌, ◌&&◌, ◌∷◌, [], refl, Bool, true, false, List, Option, Some, None, codes, slice_get, unwrap_or}
+use Rattle.std.proofs.lemmas.Bool.{and_parts, false≢true}
+use Rattle.std.specs.Char.{encode_utf8}
+use Rattle.std.specs.List.{list_all}
+use Rattle.std.specs.Str.{chars}
+use Rattle.template.specs.Clean.{is_clean}
+use Rattle.template.specs.Marks.{is_markdown}
+use Rattle.template.specs.Parse.{parse}
+use Rattle.template.specs.Sections.{sections}
+use Rattle.template.specs.Template.{NoParts, Parts}
+use Rattle.test_report_forms.specs.Holes.{has_hole}
+use Rattle.test_report_forms.specs.Markdown.{details_holes, details_parts, markdown_holes, markdown_parts, row_holes, row_parts}
+use Rattle.test_report_forms.specs.declared.markdown_template.TheConstants.{MARKDOWN}
+use Rattle.test_report_forms.proofs.laws.markdown_is_sound.Goals as goal
+
+-- the first of two sections is for rows, and the second is for details
+abbrev are_failed : List Parts → Bool
+are_failed (row ∷ details ∷ []) = list_all (has_hole row) (row_holes []) && list_all (has_hole details) (details_holes [])
+are_failed _ = false
+
+-- all that the law says of the parts, as one value
+abbrev is_sound : Option Parts → Bool
+is_sound None = false
+is_sound (Some ps) =
+    is_markdown ps && (is_clean ps && (list_all (has_hole ps) markdown_holes && are_failed (sections ps (codes "failures") (codes "failed" ∷ []))))
+
+computed : is_sound (parse MARKDOWN.now) ≡ true
+unfolding is_markdown parse chars encode_utf8
+computed = refl
+
+record Failed (all : List Parts) (row details : Parts) : Type 0 where
+  pub found : all ≡ row ∷ details ∷ []
+  pub row_has : list_all (has_hole row) (row_holes []) ≡ true
+  pub details_have : list_all (has_hole details) (details_holes []) ≡ true
+
+failed-parts : (all : List Parts) → are_failed all ≡ true → Failed all (unwrap_or (slice_get all 0) NoParts) (unwrap_or (slice_get all 1) NoParts)
+failed-parts [] h = absurd (false≢true h)
+failed-parts (row ∷ []) h = absurd (false≢true h)
+failed-parts (row ∷ details ∷ []) h = let both = and_parts _ _ h in record { found = refl; row_has = both.0; details_have = both.1 }
+failed-parts (row ∷ details ∷ other ∷ all) h = absurd (false≢true h)
+
+record Sound (ps : Parts) : Type 0 where
+  pub markdown : is_markdown ps ≡ true
+  pub clean : is_clean ps ≡ true
+  pub holes : list_all (has_hole ps) markdown_holes ≡ true
+  pub failed : are_failed (sections ps (codes "failures") (codes "failed" ∷ [])) ≡ true
+
+sound-parts : (o : Option Parts) → is_sound o ≡ true → Sound (unwrap_or o NoParts)
+sound-parts None h = absurd (false≢true h)
+sound-parts (Some ps) h =
+    let markdown = and_parts _ _ h in
+    let clean = and_parts _ _ markdown.1 in
+    let holes = and_parts _ _ clean.1 in
+    record { markdown = markdown.0; clean = clean.0; holes = holes.0; failed = holes.1 }
+
+sound : Sound markdown_parts
+unfolding markdown_parts
+sound = sound-parts (parse MARKDOWN.now) computed
+
+pub returns : goal.returns
+unfolding row_parts details_parts
+returns c =
+    let failed = failed-parts _ sound.failed in
+    record {
+      markdown = sound.markdown;
+      clean = sound.clean;
+      holes = sound.holes;
+      failed = failed.found;
+      row = failed.row_has;
+      details = failed.details_have;
+    }

@@ -1,0 +1,30 @@
+-- Lists of the holes of a template.
+use Rattle.std.specs.Prelude.{◌++◌, ◌∷◌, [], ℕ, Bool, List, codes, map}
+use Rattle.template.specs.Shows.{parts_show}
+use Rattle.template.specs.Template.{Parts}
+use Rattle.template.specs.declared.hole.Hole.{Hole}
+
+-- a hole: its kind, the lists that it is in, one in another, and its name
+pub record HoleView : Type 0 where
+  pub kind : Hole
+  pub path : List (List ℕ)
+  pub name : List ℕ
+
+-- holes of one kind with these names, in the same lists
+abbrev pub holes : Hole → List (List ℕ) → List (List ℕ) → List HoleView
+holes kind path names = map (λ name. record { kind = kind; path = path; name = name }) names
+
+-- the holes for the outcome, the numbers and the time of a run
+abbrev pub run_holes : Hole → List HoleView
+run_holes kind =
+    holes kind [] (codes "outcome" ∷ codes "finished" ∷ codes "passed" ∷ codes "flaky" ∷ codes "failed" ∷ codes "timed_out" ∷ codes "crashed"
+    ∷ codes "skipped" ∷ codes "not_run" ∷ [])
+    ++ holes kind (codes "time" ∷ []) (codes "seconds" ∷ [])
+
+-- the holes for the line of each problem
+abbrev pub problem_holes : Hole → List HoleView
+problem_holes kind = holes kind (codes "problems" ∷ codes "problem" ∷ []) (codes "line" ∷ [])
+
+-- these parts have a hole
+abbrev pub has_hole : Parts → HoleView → Bool
+has_hole ps h = parts_show ps h.kind h.path h.name

@@ -1,0 +1,122 @@
+-- The test cases of JUnit's XML.
+use Rattle.std.specs.Prelude.{◌-◌, [], ℕ, Bool, true, false, not, List, codes, Option, None, option_map, string_bytes, unwrap_or}
+use Rattle.test_report_forms.specs.Model.{FailedView, shown_failure_of}
+use Rattle.test_report_forms.specs.Shown.{shown_name}
+use Rattle.test_report_forms.specs.Title.{title_name}
+use Rattle.test_report_forms.specs.Why.{WhyView, without_returns}
+use Rattle.test_report_forms.specs.declared.junit_case.Case.{Case}
+use Rattle.test_report_forms.specs.declared.junit_case.CaseKind.{CaseKind}
+use Rattle.test_report_forms.specs.declared.junit_case.CaseKind.TheVariants as kind
+use Rattle.test_report_forms.specs.declared.junit_case.Reason.{Reason}
+use Rattle.test_report_run.specs.Note.{FailureView, HasCrashed, HasFailed, HasNoEnd, HasTimedOut, IsFlaky, KindView, TestNoteView, text_view}
+
+-- why a test case failed: an error or a failure, with its short reason, its type and its long reason, and the output of the test
+pub record ReasonView : Type 0 where
+  pub is_error : Bool
+  pub message : List ℕ
+  pub type_of : List ℕ
+  pub why : List ℕ
+  pub output : Option (List ℕ)
+
+-- the kind of a test case: passed after this number of attempts that failed, skipped, or failed
+pub data CaseKindView : Type 0 where
+  PassedCase : ℕ → CaseKindView
+  SkippedCase : CaseKindView
+  FailedCase : ReasonView → CaseKindView
+
+-- a test case
+pub record CaseView : Type 0 where
+  pub name : List ℕ
+  pub suite : List ℕ
+  pub time : Option ℕ
+  pub kind : CaseKindView
+
+-- a reason that is kept
+abbrev pub reason_view : Reason → ReasonView
+reason_view r = record {
+  is_error = r.is_error;
+  message = string_bytes r.message;
+  type_of = r.type_of.now;
+  why = string_bytes r.why;
+  output = text_view r.output;
+}
+
+-- a kind that is kept
+abbrev pub case_kind_view : CaseKind → CaseKindView
+case_kind_view (kind.Passed failed) = PassedCase failed
+case_kind_view kind.Skipped = SkippedCase
+case_kind_view (kind.Failed reason) = FailedCase (reason_view reason)
+
+-- a test case that is kept
+abbrev pub case_view : Case → CaseView
+case_view c = record { name = string_bytes c.name; suite = string_bytes c.suite; time = c.time; kind = case_kind_view c.kind }
+
+-- the name of a suite as it is shown
+unfoldable pub suite_name : Option (List ℕ) → List ℕ
+suite_name name = shown_name (unwrap_or name (codes "(no suite)"))
+
+-- the test case of a test
+abbrev pub test_case : TestNoteView → CaseKindView → CaseView
+test_case t kind = record { name = shown_name (title_name t); suite = suite_name t.suite; time = t.time; kind = kind }
+
+-- the test case of a test that passed
+abbrev pub passed_case : TestNoteView → CaseView
+passed_case t = test_case t (PassedCase (t.attempts - 1))
+
+-- the test case of a test that was skipped
+abbrev pub skipped_case : TestNoteView → CaseView
+skipped_case t = test_case t SkippedCase
+
+-- a test that failed in this way has an error, and not a failure
+abbrev pub is_error : KindView → Bool
+is_error HasFailed = false
+is_error HasTimedOut = false
+is_error HasNoEnd = false
+is_error IsFlaky = false
+is_error (HasCrashed crash) = true
+
+-- the type of this failure or error
+abbrev pub failed_type : KindView → List ℕ
+failed_type HasFailed = codes "test failure"
+failed_type HasTimedOut = codes "test timeout"
+failed_type HasNoEnd = codes "test failure"
+failed_type IsFlaky = codes "test failure"
+failed_type (HasCrashed crash) = codes "crashed"
+
+-- why a test failed, as it is shown, with its output
+abbrev pub failed_reason : FailedView → FailureView → ReasonView
+failed_reason failed f = record {
+  is_error = is_error f.kind;
+  message = failed.short;
+  type_of = failed_type f.kind;
+  why = failed.why;
+  output = option_map without_returns f.stdout;
+}
+
+-- the test case of a test that failed, with at most `limit` bytes of each reason
+abbrev pub failed_case : TestNoteView → FailureView → WhyView → ℕ → CaseView
+failed_case t f w limit = test_case t (FailedCase (failed_reason (shown_failure_of t f.kind w limit) f))
+
+-- the name of the run, and of the suite of causes that name no suite
+abbrev pub own_name : List ℕ
+own_name = codes "test-report"
+
+-- why the run has a problem: this line
+abbrev pub problem_reason : List ℕ → List ℕ → ReasonView
+problem_reason line type_of = record { is_error = true; message = line; type_of = type_of; why = []; output = None }
+
+-- the test case of a problem of the run: its line is the name and the message
+abbrev pub problem_case : List ℕ → List ℕ → CaseView
+problem_case line type_of = record { name = line; suite = own_name; time = None; kind = FailedCase (problem_reason line type_of) }
+
+-- a test case has a failure
+abbrev pub has_failure : CaseView → Bool
+has_failure c = elim c.kind as (λ _. Bool) [ PassedCase n ↦ false | SkippedCase ↦ false | FailedCase r ↦ not r.is_error ]
+
+-- a test case has an error
+abbrev pub has_error : CaseView → Bool
+has_error c = elim c.kind as (λ _. Bool) [ PassedCase n ↦ false | SkippedCase ↦ false | FailedCase r ↦ r.is_error ]
+
+-- a test case is skipped
+abbrev pub is_skipped : CaseView → Bool
+is_skipped c = elim c.kind as (λ _. Bool) [ PassedCase n ↦ false | SkippedCase ↦ true | FailedCase r ↦ false ]

@@ -1,0 +1,219 @@
+-- The model of a finished report: what the forms show that write all at the end.
+use Rattle.std.specs.Prelude.{◌≡◌, ◌==◌, ◌&&◌, ◌-◌, not, ◌∷◌, [], ℕ, Bool, true, false, List, codes, filter_map, if◌then◌else◌, map, Option, Some, None, option_map, string_bytes, unwrap_or}
+use Rattle.std.specs.List.{fold}
+use Rattle.run_events_stats.specs.declared.outcome.run_outcome.RunOutcome.{RunOutcome}
+use Rattle.run_events_stats.specs.declared.outcome.run_outcome.RunOutcome.TheVariants as outcome
+use Rattle.test_report_forms.specs.Entry.{EntryView, LinesDisagree, SuiteNotRun, SuiteOver, TestFailed, TestPassed, TestSkipped}
+use Rattle.test_report_forms.specs.List.{KeyedLine, put_falling, slow_line_view}
+use Rattle.test_report_forms.specs.Shown.{front, limited, shown_name, shown_text}
+use Rattle.test_report_forms.specs.Title.{title, title_name}
+use Rattle.test_report_forms.specs.Why.{WhyView}
+use Rattle.test_report_forms.specs.Words.{disagreement_line, failed_word, not_run_line}
+use Rattle.test_report_forms.specs.declared.cause.Cause.{Cause}
+use Rattle.test_report_forms.specs.declared.failed_test.FailedTest.{FailedTest}
+use Rattle.test_report_forms.specs.declared.model.ReportModel.{ReportModel}
+use Rattle.test_report_forms.specs.declared.model.SuiteRow.{SuiteRow}
+use Rattle.test_report_forms.specs.declared.numbers.Numbers.{Numbers}
+use Rattle.test_report_run.specs.Note.{CargoSays, DisagreementView, EndsEarly, KindView, SaysOther, StartsOutside, StrayEnds, StraySuiteEnds, SuiteNoteView, TestNoteView, text_view}
+use Rattle.test_report_run.specs.declared.note.RunEnd.{RunEnd}
+
+-- a failed test as it is shown
+pub record FailedView : Type 0 where
+  pub suite : Option (List ℕ)
+  pub name : List ℕ
+  pub status : List ℕ
+  pub attempts : ℕ
+  pub time : Option ℕ
+  pub short : List ℕ
+  pub why : List ℕ
+
+-- a failed test that is kept
+abbrev pub failed_view : FailedTest → FailedView
+failed_view t = record {
+  suite = text_view t.suite;
+  name = string_bytes t.name;
+  status = t.status.now;
+  attempts = t.attempts;
+  time = t.time;
+  short = string_bytes t.short;
+  why = string_bytes t.why;
+}
+
+-- a test that failed in this way, as it is shown, with at most `limit` bytes of each reason
+abbrev pub shown_failure_of : TestNoteView → KindView → WhyView → ℕ → FailedView
+shown_failure_of t kind w limit = record {
+  suite = option_map shown_name t.suite;
+  name = shown_name (title_name t);
+  status = failed_word kind;
+  attempts = t.attempts;
+  time = t.time;
+  short = shown_text false (front w.short limit);
+  why = limited w.text limit;
+}
+
+-- a disagreement, or a suite whose tests were not all run: the suite that it names, its kind and its line
+pub record CauseView : Type 0 where
+  pub suite : Option (List ℕ)
+  pub kind : List ℕ
+  pub line : List ℕ
+
+-- a cause that is kept
+abbrev pub cause_view : Cause → CauseView
+cause_view c = record { suite = option_map (λ s. s.now) c.suite; kind = c.kind.now; line = string_bytes c.line }
+
+-- the suite that a disagreement names
+abbrev pub suite_of : DisagreementView → Option (List ℕ)
+suite_of (EndsEarly suite) = Some suite
+suite_of (SaysOther suite said passed failed) = Some suite
+suite_of (StrayEnds name how) = None
+suite_of (StraySuiteEnds key failed) = None
+suite_of (StartsOutside n) = None
+suite_of (CargoSays line) = None
+
+-- the cause of an entry, if it has one
+abbrev pub cause_of_entry : EntryView → Option CauseView
+cause_of_entry (TestPassed t) = None
+cause_of_entry (TestSkipped t) = None
+cause_of_entry (TestFailed t f w) = None
+cause_of_entry (LinesDisagree d) = Some (record { suite = suite_of d; kind = codes "disagreement"; line = disagreement_line d })
+cause_of_entry (SuiteNotRun suite n of) = Some (record { suite = Some suite; kind = codes "not run"; line = not_run_line suite n of })
+cause_of_entry (SuiteOver s) = None
+
+-- the failed test of an entry, if it has one, with at most `limit` bytes of each reason
+abbrev pub failure_of_entry : ℕ → EntryView → Option FailedView
+failure_of_entry limit (TestPassed t) = None
+failure_of_entry limit (TestSkipped t) = None
+failure_of_entry limit (TestFailed t f w) = Some (shown_failure_of t f.kind w limit)
+failure_of_entry limit (LinesDisagree d) = None
+failure_of_entry limit (SuiteNotRun suite n of) = None
+failure_of_entry limit (SuiteOver s) = None
+
+-- the failed tests of a list of entries
+abbrev pub failures_of : ℕ → List EntryView → List FailedView
+failures_of limit entries = filter_map (failure_of_entry limit) entries
+
+-- the line of the cause of an entry
+abbrev pub cause_line : EntryView → Option (List ℕ)
+cause_line entry = option_map (λ c. c.line) (cause_of_entry entry)
+
+-- the lines of the causes of a list of entries
+abbrev pub cause_lines : List EntryView → List (List ℕ)
+cause_lines entries = filter_map cause_line entries
+
+-- how many tests passed, failed, were skipped and were not run
+abbrev pub numbers_of : ℕ → ℕ → ℕ → ℕ → Numbers
+numbers_of finished passed skipped not_run = record { passed = passed; failed = finished - passed; skipped = skipped; not_run = not_run }
+
+-- the numbers of a suite
+abbrev pub numbers_of_suite : SuiteNoteView → Numbers
+numbers_of_suite s = numbers_of s.stats.finished_count s.stats.passed s.skipped s.not_run
+
+-- the numbers of the run
+abbrev pub numbers_of_run : RunEnd → Numbers
+numbers_of_run end = numbers_of end.stats.finished_count end.stats.passed end.skipped end.not_run
+
+-- all numbers are 0
+abbrev pub are_zero : Numbers → Bool
+are_zero n = n.passed == 0 && (n.failed == 0 && (n.skipped == 0 && n.not_run == 0))
+
+-- a suite in the table of suites
+pub record RowView : Type 0 where
+  pub name : List ℕ
+  pub numbers : Numbers
+  pub time : Option ℕ
+
+-- what is kept of a suite for its row
+abbrev pub row_view : SuiteRow → RowView
+row_view r = record { name = string_bytes r.name; numbers = r.numbers; time = r.time }
+
+-- a suite has a row, but the tests outside of a suite have none if there are no such tests
+abbrev pub has_row : Option (List ℕ) → Numbers → Bool
+has_row None n = not (are_zero n)
+has_row (Some name) n = true
+
+-- the name of a suite in its row
+abbrev pub suite_name : Option (List ℕ) → List ℕ
+suite_name name = shown_name (unwrap_or name (codes "(no suite)"))
+
+-- the row of a suite, if it has one
+abbrev pub row_of_suite : SuiteNoteView → Option RowView
+row_of_suite s =
+    if has_row s.name (numbers_of_suite s)
+    then Some (record { name = suite_name s.name; numbers = numbers_of_suite s; time = s.time })
+    else None
+
+-- the row that an entry adds to the table of suites
+abbrev pub row_of_entry : EntryView → Option RowView
+row_of_entry (SuiteOver s) = row_of_suite s
+row_of_entry (TestPassed t) = None
+row_of_entry (TestSkipped t) = None
+row_of_entry (TestFailed t f w) = None
+row_of_entry (LinesDisagree d) = None
+row_of_entry (SuiteNotRun suite n of) = None
+
+-- the rows that a list of entries adds to the table of suites
+abbrev pub suite_rows : List EntryView → List RowView
+suite_rows entries = filter_map row_of_entry entries
+
+-- the line of a test, if it has a time. The key of the line is the time
+abbrev pub timed_title : TestNoteView → Option KeyedLine
+timed_title t = option_map (λ time. record { key = time; line = title t }) t.time
+
+-- the line of the test of an entry, if the test ran and has a time
+abbrev pub timed_entry : EntryView → Option KeyedLine
+timed_entry (TestPassed t) = timed_title t
+timed_entry (TestFailed t f w) = timed_title t
+timed_entry (TestSkipped t) = None
+timed_entry (LinesDisagree d) = None
+timed_entry (SuiteNotRun suite n of) = None
+timed_entry (SuiteOver s) = None
+
+-- the five slowest tests of a list of entries
+abbrev pub slowest_tests : List EntryView → List KeyedLine
+slowest_tests entries = fold put_falling [] (filter_map timed_entry entries)
+
+-- the outcome says that no test ran
+abbrev pub no_tests_ran : RunOutcome → Bool
+no_tests_ran outcome.Success = false
+no_tests_ran outcome.NoTestsRun = true
+no_tests_ran (outcome.Cancelled step) = false
+no_tests_ran (outcome.Failed step) = false
+
+-- the lines of the problems, with `no test ran` first if no test ran
+abbrev pub problem_lines : RunOutcome → List (List ℕ) → List (List ℕ)
+problem_lines outcome lines = if no_tests_ran outcome then codes "no test ran" ∷ lines else lines
+
+-- a finished report
+pub record ReportView : Type 0 where
+  pub end : RunEnd
+  pub problems : List (List ℕ)
+  pub failed : List FailedView
+  pub suites : List RowView
+  pub slowest : List KeyedLine
+
+-- the report of a run with these entries, with at most `limit` bytes of each reason
+abbrev pub report_of : ℕ → List EntryView → RunEnd → ReportView
+report_of limit entries end = record {
+  end = end;
+  problems = problem_lines end.outcome (cause_lines entries);
+  failed = failures_of limit entries;
+  suites = suite_rows entries;
+  slowest = slowest_tests entries;
+}
+
+-- the report of what is kept
+abbrev pub report_view : ReportModel → RunEnd → ReportView
+report_view m end = record {
+  end = end;
+  problems = problem_lines end.outcome (map string_bytes m.problems.items);
+  failed = map failed_view m.failed.items;
+  suites = map row_view m.suites.items;
+  slowest = map slow_line_view m.slowest.tests.items;
+}
+
+-- what is kept is of these entries
+pub record IsModelOf (m : ReportModel) (entries : List EntryView) : Type 0 where
+  pub failed : map failed_view m.failed.items ≡ failures_of m.limit entries
+  pub problems : map string_bytes m.problems.items ≡ cause_lines entries
+  pub suites : map row_view m.suites.items ≡ suite_rows entries
+  pub slowest : map slow_line_view m.slowest.tests.items ≡ slowest_tests entries

@@ -1,0 +1,131 @@
+-- The values of a finished report, of which a template is rendered.
+use Rattle.std.specs.Prelude.{ℕ, ◌==◌, ◌*◌, ◌/◌, ◌-◌, ◌++◌, ◌∷◌, [], List, Option, codes, if◌then◌else◌, length, map, max, nat_lt, option_map, option_to_list}
+use Rattle.std.specs.Fmt.{decimal}
+use Rattle.template.specs.Template.{ItemValue, TextValue, ValueView, Values, section, values_of}
+use Rattle.test_report_forms.specs.Entry.{EntryView}
+use Rattle.test_report_forms.specs.List.{KeyedLine}
+use Rattle.test_report_forms.specs.Model.{FailedView, ReportView, RowView, numbers_of_run, report_of}
+use Rattle.test_report_forms.specs.Shown.{seconds}
+use Rattle.test_report_forms.specs.Words.{outcome_word}
+use Rattle.test_report_run.specs.declared.note.RunEnd.{RunEnd}
+use Rattle.test_report_forms.specs.declared.numbers.Numbers.{Numbers}
+
+-- one text
+abbrev pub one_text : List ℕ → List ℕ → List ValueView
+one_text name text = TextValue name text ∷ []
+
+-- the items of a list
+abbrev pub items : {X : Type 0} → List ℕ → (X → List ValueView) → List X → List ValueView
+items name f xs = map (λ x. ItemValue name (values_of (f x))) xs
+
+-- an item with one text, if there is a text
+abbrev pub option_item : List ℕ → List ℕ → Option (List ℕ) → List ValueView
+option_item list name text = items list (one_text name) (option_to_list text)
+
+-- a time, if it is known
+abbrev pub time_item : Option ℕ → List ValueView
+time_item time = option_item (codes "time") (codes "seconds") (option_map seconds time)
+
+-- a part of a bar, unless its number is 0
+abbrev pub part_item : List ℕ → ℕ → List ValueView
+part_item class number =
+    if number == 0
+    then []
+    else ItemValue (codes "part") (values_of (one_text (codes "class") class ++ one_text (codes "number") (decimal number))) ∷ []
+
+-- the parts of a bar of these numbers
+abbrev pub bar : Numbers → List ValueView
+bar n =
+    ((part_item (codes "passed") n.passed ++ part_item (codes "failed") n.failed) ++ part_item (codes "skipped") n.skipped)
+    ++ part_item (codes "rest") n.not_run
+
+-- the numbers in words, with a comma before all but the first
+abbrev pub comma : List ℕ → List ℕ
+comma words = if length words == 0 then [] else codes ", "
+
+-- one more number in words, unless it is 0
+unfoldable pub with_words : List ℕ → ℕ → List ℕ → List ℕ
+with_words words number word = if number == 0 then words else words ++ (comma words ++ (decimal number ++ (codes " " ++ word)))
+
+-- the words, or that there are no tests
+abbrev pub or_no_tests : List ℕ → List ℕ
+or_no_tests words = if length words == 0 then codes "no tests" else words
+
+-- numbers in words
+unfoldable pub words_text : Numbers → List ℕ
+words_text n =
+    or_no_tests (with_words (with_words (with_words (with_words [] n.passed (codes "passed")) n.failed (codes "failed")) n.skipped (codes "skipped"))
+    n.not_run (codes "not run"))
+
+-- a problem
+abbrev pub problem_item : List ℕ → List ValueView
+problem_item line = ItemValue (codes "problem") (values_of (one_text (codes "line") line)) ∷ []
+
+-- the problems
+abbrev pub problem_items : List (List ℕ) → List ValueView
+problem_items lines = items (codes "problem") (one_text (codes "line")) lines
+
+-- the number of attempts, if there were several, and the time, if it is known
+abbrev pub note : ℕ → Option ℕ → List ValueView
+note attempts time =
+    (if nat_lt 1 attempts then items (codes "attempts") (one_text (codes "count")) (decimal attempts ∷ []) else []) ++ time_item time
+
+-- the values of a failed test
+abbrev pub failed_values : FailedView → List ValueView
+failed_values t =
+    ((((one_text (codes "status") t.status ++ option_item (codes "suite") (codes "name") t.suite) ++ one_text (codes "name") t.name)
+    ++ section (codes "note") (note t.attempts t.time)) ++ one_text (codes "short") t.short) ++ one_text (codes "why") t.why
+
+-- the failed tests
+abbrev pub failed_items : List FailedView → List ValueView
+failed_items tests = items (codes "failed") failed_values tests
+
+-- the values of a suite
+abbrev pub suite_values : RowView → List ValueView
+suite_values r =
+    ((one_text (codes "name") r.name ++ one_text (codes "words") (words_text r.numbers)) ++ section (codes "bar") (bar r.numbers)) ++ time_item r.time
+
+-- the suites
+abbrev pub suite_items : List RowView → List ValueView
+suite_items rows = items (codes "suite") suite_values rows
+
+-- how many hundredths of the slowest time a time is
+abbrev pub share_of : ℕ → ℕ → ℕ
+share_of time longest = time * 100 / max longest 1
+
+-- the values of a slow test. The key of its line is its time
+abbrev pub slow_values : ℕ → KeyedLine → List ValueView
+slow_values longest t =
+    (one_text (codes "name") t.line ++ one_text (codes "share") (decimal (share_of t.key longest))) ++ one_text (codes "seconds") (seconds t.key)
+
+-- the time of the slowest test, or 0 if there is none
+abbrev pub longest_time : List KeyedLine → ℕ
+longest_time [] = 0
+longest_time (t ∷ ts) = t.key
+
+-- the slow tests
+abbrev pub slow_items : List KeyedLine → List ValueView
+slow_items tests = items (codes "slow") (slow_values (longest_time tests)) tests
+
+-- a number
+abbrev pub number : List ℕ → ℕ → ValueView
+number name n = TextValue name (decimal n)
+
+-- the values of the run that are not lists, and its time
+unfoldable pub run_values : RunEnd → List ValueView
+run_values e =
+    TextValue (codes "outcome") (outcome_word e.outcome)
+    ∷ number (codes "finished") e.stats.finished_count ∷ number (codes "passed") e.stats.passed ∷ number (codes "flaky") e.stats.flaky
+    ∷ number (codes "failed") (e.stats.finished_count - e.stats.passed) ∷ number (codes "timed_out") e.stats.failed_timed_out
+    ∷ number (codes "crashed") e.crashed ∷ number (codes "skipped") e.skipped ∷ number (codes "not_run") e.not_run ∷ time_item e.time
+
+-- the values of a finished report
+unfoldable pub report_values : ReportView → List ValueView
+report_values r =
+    ((((run_values r.end ++ section (codes "bar") (bar (numbers_of_run r.end))) ++ section (codes "problems") (problem_items r.problems))
+    ++ section (codes "failures") (failed_items r.failed)) ++ section (codes "suites") (suite_items r.suites))
+    ++ section (codes "slowest") (slow_items r.slowest)
+
+-- the values of a run with these entries, with at most `limit` bytes of each reason
+abbrev pub values_of_run : ℕ → List EntryView → RunEnd → Values
+values_of_run limit entries end = values_of (report_values (report_of limit entries end))

@@ -1,0 +1,161 @@
+//! The values of JUnit's XML, of which its template is rendered.
+//!
+//! | values | of |
+//! |---|---|
+//! | `tests`, `failures`, `errors`, `skipped` | the run, and each `suite`: numbers of test cases |
+//! | `time` (its `seconds`) | the run, each `suite` and each `case`, if it is known |
+//! | `name` | each `suite` and each `case` |
+//! | `suite` | each `case`: the name of its suite |
+//! | `flaky` (its `attempt`s) | each `case` that passed after attempts that failed |
+//! | `skipped` | each `case` that was skipped |
+//! | `failure` or `error` (`message`, `type`, `why`), `output` (its `text`) | each `case` that failed |
+
+ghost use Rattle.std.specs.Prelude.{◌≡◌, ◌++◌, IfOk, OnOk, map, string_bytes};
+ghost use Rattle.std.specs.Fmt.{decimal};
+ghost use Rattle.template.specs.Template.{value_view};
+ghost use Rattle.test_report_forms.specs.JunitCase.{case_kind_view, case_view, reason_view};
+ghost use Rattle.test_report_forms.specs.JunitSuite.{suite_view};
+ghost use Rattle.test_report_forms.specs.JunitValues as spec;
+ghost use Rattle.test_report_forms.specs.Values.{one_text};
+
+use crate::junit_case::{Case, CaseKind, Reason, suite_text, text_of};
+use crate::junit_suite::{JunitCounts, JunitSuite};
+use crate::values::{one_text, push_option, push_time};
+use std::alloc::{AllocError, Global};
+use template::{Value, push_item, push_section, push_text};
+
+/// Returns the values of a run with these suites.
+pub(crate) fn junit_values(
+    alloc: Global,
+    suites: Vec<JunitSuite>,
+    time: Option<u64>,
+) -> Result<Vec<Value>, AllocError>
+    ensures { IfOk result (λ v. map value_view v.items
+        ≡ spec.junit_values (map suite_view suites.items) time) }
+{
+    let mut values = counts_values(alloc, JunitCounts::of_suites(suites.as_slice()))?;
+    push_time(alloc, &mut values, time)?;
+    for suite in suites {
+        push_item(&mut values, "suite", suite_values(alloc, suite)?)?;
+    }
+    Ok(values)
+}
+
+/// Returns the values of a suite.
+fn suite_values(alloc: Global, suite: JunitSuite) -> Result<Vec<Value>, AllocError>
+    ensures { IfOk result (λ v. map value_view v.items ≡ spec.suite_values (suite_view suite)) }
+{
+    let JunitSuite { name, time, cases } = suite;
+    let mut values = counts_values(alloc, JunitCounts::of_cases(cases.as_slice()))?;
+    push_text(&mut values, "name", suite_text(alloc, text_of(&name))?)?;
+    push_time(alloc, &mut values, time)?;
+    for case in cases {
+        push_item(&mut values, "case", case_values(alloc, case)?)?;
+    }
+    Ok(values)
+}
+
+/// Returns numbers of test cases.
+fn counts_values(alloc: Global, counts: JunitCounts) -> Result<Vec<Value>, AllocError>
+    ensures { IfOk result (λ v. map value_view v.items ≡ spec.counts_values counts) }
+{
+    let mut values = Vec::new(alloc);
+    push_number(alloc, &mut values, "tests", counts.tests)?;
+    push_number(alloc, &mut values, "failures", counts.failures)?;
+    push_number(alloc, &mut values, "errors", counts.errors)?;
+    push_number(alloc, &mut values, "skipped", counts.skipped)?;
+    Ok(values)
+}
+
+/// Adds a number.
+fn push_number(
+    alloc: Global,
+    values: &mut Vec<Value>,
+    name: &'static str,
+    number: usize,
+) -> Result<(), AllocError>
+    ensures { OnOk result (map value_view values.new.items
+        ≡ map value_view values.old.items ++ one_text name.now (decimal number)) }
+{
+    push_text(values, name, format!(in alloc; "{number}")?)
+}
+
+/// Returns the values of a test case.
+fn case_values(alloc: Global, case: Case) -> Result<Vec<Value>, AllocError>
+    ensures { IfOk result (λ v. map value_view v.items ≡ spec.case_values (case_view case)) }
+{
+    let Case {
+        name,
+        suite,
+        time,
+        kind,
+    } = case;
+    let mut values = one_text(alloc, "name", name)?;
+    push_text(&mut values, "suite", suite)?;
+    push_time(alloc, &mut values, time)?;
+    push_kind(alloc, &mut values, kind)?;
+    Ok(values)
+}
+
+/// Adds the kind of a test case.
+fn push_kind(alloc: Global, values: &mut Vec<Value>, kind: CaseKind) -> Result<(), AllocError>
+    ensures { OnOk result (map value_view values.new.items
+        ≡ map value_view values.old.items ++ spec.kind_values (case_kind_view kind)) }
+{
+    match kind {
+        CaseKind::Passed(failed) => push_section(values, "flaky", attempts(alloc, failed)?),
+        CaseKind::Skipped => push_item(values, "skipped", Vec::new(alloc)),
+        CaseKind::Failed(reason) => push_reason(alloc, values, reason),
+    }
+}
+
+/// Returns this number of attempts.
+fn attempts(alloc: Global, number: usize) -> Result<Vec<Value>, AllocError>
+    ensures { IfOk result (λ v. map value_view v.items ≡ spec.attempts number) }
+{
+    let mut items = Vec::new(alloc);
+    for _attempt in 0..number {
+        push_item(&mut items, "attempt", Vec::new(alloc))?;
+    }
+    Ok(items)
+}
+
+/// Returns the name of the list of errors, or of failures.
+fn reason_name(is_error: bool) -> &'static str
+    ensures { result.now ≡ spec.reason_name is_error }
+{
+    if is_error { "error" } else { "failure" }
+}
+
+/// Returns the values of a reason.
+fn reason_values(
+    alloc: Global,
+    message: String,
+    type_of: &'static str,
+    why: String,
+) -> Result<Vec<Value>, AllocError>
+    ensures { IfOk result (λ v. map value_view v.items
+        ≡ spec.reason_values (string_bytes message) type_of.now (string_bytes why)) }
+{
+    let mut values = one_text(alloc, "message", message)?;
+    push_text(&mut values, "type", String::from_str(alloc, type_of)?)?;
+    push_text(&mut values, "why", why)?;
+    Ok(values)
+}
+
+/// Adds why a test case failed, and its output.
+fn push_reason(alloc: Global, values: &mut Vec<Value>, reason: Reason) -> Result<(), AllocError>
+    ensures { OnOk result (map value_view values.new.items
+        ≡ map value_view values.old.items ++ spec.reason_items (reason_view reason)) }
+{
+    let Reason {
+        is_error,
+        message,
+        type_of,
+        why,
+        output,
+    } = reason;
+    let item = reason_values(alloc, message, type_of, why)?;
+    push_item(values, reason_name(is_error), item)?;
+    push_option(alloc, values, "output", "text", output)
+}

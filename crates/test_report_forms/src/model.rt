@@ -1,0 +1,208 @@
+//! The model of a finished report: what the forms that write at the end of a run show.
+
+ghost use Rattle.std.specs.Prelude.{◌≡◌, ◌++◌, ◌∷◌, [], ℕ, IfOk, List, OnOk, map, option_map, option_to_list, string_bytes};
+ghost use Rattle.std.specs.List.{fold};
+ghost use Rattle.test_report_forms.specs.Entry.{EntryView, entry_view};
+ghost use Rattle.test_report_forms.specs.List.{put_falling, slow_line_view};
+ghost use Rattle.test_report_forms.specs.Model as spec;
+ghost use Rattle.test_report_forms.specs.Model.{IsModelOf, failed_view, row_view};
+ghost use Rattle.test_report_run.specs.Note.{suite_view, test_view, text_view};
+
+use crate::cause::cause_of;
+use crate::entry::Entry;
+use crate::failed_test::{FailedTest, shown_failure};
+use crate::numbers::Numbers;
+use crate::shown::push_name;
+use crate::slowest::Slowest;
+use crate::title::push_title;
+use run_events_stats::outcome::RunOutcome;
+use std::alloc::{AllocError, Global};
+use test_report_run::note::{SuiteNote, TestNote};
+
+/// A suite in the table of suites.
+#[derive(Drop)]
+pub(crate) struct SuiteRow {
+    /// Its name.
+    pub(crate) name: String,
+
+    /// How many of its tests passed, and how many did not.
+    pub(crate) numbers: Numbers,
+
+    /// The time that it took, in microseconds.
+    pub(crate) time: Option<u64>,
+}
+
+/// What a finished report shows of the entries of a run. It takes the entries one by one, and `report_values`
+/// returns its values for a template.
+#[derive(Drop)]
+pub struct ReportModel {
+    /// The most bytes that are shown of why a test failed, and of the short reason.
+    pub(crate) limit: usize,
+
+    /// The failed tests.
+    pub(crate) failed: Vec<FailedTest>,
+
+    /// The lines of disagreements, and of suites whose tests were not all run.
+    pub(crate) problems: Vec<String>,
+
+    /// The suites that are over.
+    pub(crate) suites: Vec<SuiteRow>,
+
+    /// The slowest tests.
+    pub(crate) slowest: Slowest,
+}
+
+impl ReportModel {
+    /// Returns the model of a run without entries. Of why a test failed, it keeps `limit` bytes at most.
+    pub fn new(alloc: Global, limit: usize) -> ReportModel
+        ensures limit { result.limit ≡ limit }
+        ensures nothing { IsModelOf result [] }
+    {
+        ReportModel {
+            limit,
+            failed: Vec::new(alloc),
+            problems: Vec::new(alloc),
+            suites: Vec::new(alloc),
+            slowest: Slowest::new(alloc),
+        }
+    }
+
+    /// Keeps what is shown of an entry. The only error is that memory runs out.
+    pub fn on_entry(&mut self, alloc: Global, entry: &Entry<'_>) -> Result<(), AllocError>
+        ensures knows { OnOk result ((entries : List EntryView)
+            → IsModelOf self.old entries → IsModelOf self.new (entries ++ entry_view entry.now ∷ [])) }
+        ensures same { self.new.limit ≡ self.old.limit }
+    {
+        keep_failure(alloc, &mut self.failed, entry, self.limit)?;
+        keep_problem(alloc, &mut self.problems, entry)?;
+        keep_suite(alloc, &mut self.suites, entry)?;
+        keep_time(alloc, &mut self.slowest, entry)
+    }
+
+    /// Returns this model, and keeps that of a run without entries.
+    pub(crate) fn take_out(&mut self, alloc: Global) -> ReportModel
+        ensures { result ≡ self.old }
+    {
+        let limit = self.limit;
+        std::mem::replace(self, ReportModel::new(alloc, limit))
+    }
+}
+
+/// Keeps the failed test of an entry, if it has one.
+fn keep_failure(
+    alloc: Global,
+    failed: &mut Vec<FailedTest>,
+    entry: &Entry<'_>,
+    limit: usize,
+) -> Result<(), AllocError>
+    ensures { OnOk result (map failed_view failed.new.items ≡ map failed_view failed.old.items
+        ++ option_to_list (spec.failure_of_entry limit (entry_view entry.now))) }
+{
+    if let Entry::Failed { test, failure, why } = entry {
+        let shown = shown_failure(alloc, test, &failure.kind, why, limit)?;
+        failed.push(shown)?;
+    }
+    Ok(())
+}
+
+/// Keeps the line of a disagreement, or of a suite whose tests were not all run.
+fn keep_problem(
+    alloc: Global,
+    problems: &mut Vec<String>,
+    entry: &Entry<'_>,
+) -> Result<(), AllocError>
+    ensures { OnOk result (map string_bytes problems.new.items ≡ map string_bytes problems.old.items
+        ++ option_to_list (spec.cause_line (entry_view entry.now))) }
+{
+    if let Some(cause) = cause_of(alloc, entry)? {
+        problems.push(cause.line)?;
+    }
+    Ok(())
+}
+
+/// Keeps the row of a suite that is over.
+fn keep_suite(
+    alloc: Global,
+    suites: &mut Vec<SuiteRow>,
+    entry: &Entry<'_>,
+) -> Result<(), AllocError>
+    ensures { OnOk result (map row_view suites.new.items ≡ map row_view suites.old.items
+        ++ option_to_list (spec.row_of_entry (entry_view entry.now))) }
+{
+    if let Entry::Suite(suite) = entry {
+        if let Some(row) = SuiteRow::of(alloc, suite)? {
+            suites.push(row)?;
+        }
+    }
+    Ok(())
+}
+
+/// Keeps the test of an entry, if it ran and is one of the slowest.
+fn keep_time(alloc: Global, slowest: &mut Slowest, entry: &Entry<'_>) -> Result<(), AllocError>
+    ensures { OnOk result (map slow_line_view slowest.new.tests.items ≡ fold put_falling
+        (map slow_line_view slowest.old.tests.items) (option_to_list (spec.timed_entry (entry_view entry.now)))) }
+{
+    match entry {
+        Entry::Passed(test) | Entry::Failed { test, .. } => keep_test(alloc, slowest, test),
+        Entry::Skipped(_) | Entry::Disagreement(_) | Entry::NotRun(_) | Entry::Suite(_) => Ok(()),
+    }
+}
+
+/// Keeps a test that ran, if it has a time and is one of the slowest.
+fn keep_test(alloc: Global, slowest: &mut Slowest, test: &TestNote) -> Result<(), AllocError>
+    ensures { OnOk result (map slow_line_view slowest.new.tests.items ≡ fold put_falling
+        (map slow_line_view slowest.old.tests.items) (option_to_list (spec.timed_title (test_view test.now)))) }
+{
+    let Some(time) = test.time else {
+        return Ok(());
+    };
+    if !slowest.takes(time) {
+        return Ok(());
+    }
+    let mut title = String::new(alloc);
+    push_title(&mut title, test)?;
+    slowest.add(time, title)
+}
+
+impl SuiteRow {
+    /// Returns the row of a suite, or `None` for the tests outside of suites if there are none.
+    fn of(alloc: Global, suite: &SuiteNote) -> Result<Option<SuiteRow>, AllocError>
+        ensures { IfOk result (λ row. option_map row_view row ≡ spec.row_of_suite (suite_view suite.now)) }
+    {
+        let numbers = Numbers::of_suite(suite);
+        if !has_row(&suite.name, numbers) {
+            return Ok(None);
+        }
+        Ok(Some(SuiteRow {
+            name: suite_name(alloc, &suite.name)?,
+            numbers,
+            time: suite.time,
+        }))
+    }
+}
+
+/// Returns true if a suite of this name with these numbers has a row. Every suite with a name has one.
+fn has_row(name: &Option<String>, numbers: Numbers) -> bool
+    ensures { result ≡ spec.has_row (text_view name.now) numbers }
+{
+    name.is_some() || !numbers.are_zero()
+}
+
+/// Returns the name of a suite as it is shown.
+fn suite_name(alloc: Global, name: &Option<String>) -> Result<String, AllocError>
+    ensures { IfOk result (λ shown. string_bytes shown ≡ spec.suite_name (text_view name.now)) }
+{
+    let mut shown = String::new(alloc);
+    match name {
+        Some(name) => push_name(&mut shown, name.as_str())?,
+        None => push_name(&mut shown, "(no suite)")?,
+    }
+    Ok(shown)
+}
+
+/// Returns true if the outcome of a run is that no test ran.
+pub(crate) fn no_tests_ran(outcome: RunOutcome) -> bool
+    ensures { result ≡ spec.no_tests_ran outcome }
+{
+    matches!(outcome, RunOutcome::NoTestsRun)
+}

@@ -1,0 +1,326 @@
+//! The values of a finished report, of which a template is rendered.
+//!
+//! An item of a list has its own values, and a list without items is absent. Names are in lower case:
+//!
+//! | values | of |
+//! |---|---|
+//! | `outcome` | the run: a word |
+//! | `finished`, `passed`, `flaky`, `failed`, `timed_out`, `crashed`, `skipped`, `not_run` | its tests, as numbers |
+//! | `time` | the run, if its time is known |
+//! | `bar` | the run, unless no test is known: a `part` with a `class` and a `number` for each number that is not 0 |
+//! | `problems` | a `problem` with a `line` |
+//! | `failures` | a `failed` test with `status`, `suite` (its `name`), `name`, `note`, `short` and `why` |
+//! | `suites` | a `suite` with `name`, `words`, `bar` (as above) and `time` |
+//! | `slowest` | a `slow` test with `name`, `share` (of the longest time, in hundredths) and `seconds` |
+//!
+//! A `note` has `attempts` with a `count`, if there were several, and a `time`. A `time` has `seconds`.
+
+ghost use Rattle.std.specs.Prelude.{◌≡◌, ◌++◌, ◌∷◌, [], IfOk, OnOk, map, string_bytes};
+ghost use Rattle.template.specs.Template.{value_view};
+ghost use Rattle.test_report_forms.specs.List.{slow_line_view};
+ghost use Rattle.test_report_forms.specs.Model.{failed_view, problem_lines, report_view, row_view};
+ghost use Rattle.test_report_forms.specs.Values as spec;
+ghost use Rattle.test_report_run.specs.Note.{text_view};
+
+use crate::failed_test::FailedTest;
+use crate::model::{ReportModel, SuiteRow, no_tests_ran};
+use crate::numbers::Numbers;
+use crate::shown::seconds_text;
+use crate::slowest::SlowTest;
+use crate::summary::outcome_text;
+use run_events_stats::outcome::RunOutcome;
+use std::alloc::{AllocError, Global};
+use template::{Value, push_item, push_section, push_text};
+use test_report_run::note::{RunEnd, failed_count};
+
+/// Returns the values of a finished report. The only error is that memory runs out.
+#[tactic(auto, unfolding(crate::specs::Values::report_values))]
+pub fn report_values(
+    alloc: Global,
+    model: ReportModel,
+    end: &RunEnd,
+) -> Result<Vec<Value>, AllocError>
+    ensures { IfOk result (λ v. map value_view v.items ≡ spec.report_values (report_view model end.now)) }
+{
+    let ReportModel {
+        limit: _,
+        failed,
+        problems,
+        suites,
+        slowest,
+    } = model;
+    let mut values = run_values(alloc, end)?;
+    push_section(&mut values, "bar", bar(alloc, Numbers::of_run(end))?)?;
+    push_section(
+        &mut values,
+        "problems",
+        problem_items(alloc, problems, end.outcome)?,
+    )?;
+    push_section(&mut values, "failures", failed_items(alloc, failed)?)?;
+    push_section(&mut values, "suites", suite_items(alloc, suites)?)?;
+    push_section(
+        &mut values,
+        "slowest",
+        slow_items(alloc, slowest.into_tests())?,
+    )?;
+    Ok(values)
+}
+
+/// Returns values with one text.
+pub(crate) fn one_text(
+    alloc: Global,
+    name: &'static str,
+    text: String,
+) -> Result<Vec<Value>, AllocError>
+    ensures { IfOk result (λ v. map value_view v.items ≡ spec.one_text name.now (string_bytes text)) }
+{
+    let mut values = Vec::new(alloc);
+    push_text(&mut values, name, text)?;
+    Ok(values)
+}
+
+/// Returns values with one text, which is a word of the report.
+fn one_word(alloc: Global, name: &'static str, word: &'static str) -> Result<Vec<Value>, AllocError>
+    ensures { IfOk result (λ v. map value_view v.items ≡ spec.one_text name.now word.now) }
+{
+    one_text(alloc, name, String::from_str(alloc, word)?)
+}
+
+/// Adds an item with one text, if there is a text.
+pub(crate) fn push_option(
+    alloc: Global,
+    values: &mut Vec<Value>,
+    list: &'static str,
+    name: &'static str,
+    text: Option<String>,
+) -> Result<(), AllocError>
+    ensures { OnOk result (map value_view values.new.items
+        ≡ map value_view values.old.items ++ spec.option_item list.now name.now (text_view text)) }
+{
+    match text {
+        Some(text) => push_item(values, list, one_text(alloc, name, text)?),
+        None => Ok(()),
+    }
+}
+
+/// Adds a time in seconds, if it is known.
+pub(crate) fn push_time(
+    alloc: Global,
+    values: &mut Vec<Value>,
+    time: Option<u64>,
+) -> Result<(), AllocError>
+    ensures { OnOk result (map value_view values.new.items
+        ≡ map value_view values.old.items ++ spec.time_item time) }
+{
+    let Some(micros) = time else {
+        return Ok(());
+    };
+    let seconds = one_text(alloc, "seconds", seconds_text(alloc, micros)?)?;
+    push_item(values, "time", seconds)
+}
+
+/// Returns the values of the run that are not lists, and its time.
+#[tactic(auto, unfolding(crate::specs::Values::run_values))]
+fn run_values(alloc: Global, end: &RunEnd) -> Result<Vec<Value>, AllocError>
+    ensures { IfOk result (λ v. map value_view v.items ≡ spec.run_values end.now) }
+{
+    let stats = &end.stats;
+    let failed = failed_count(stats);
+    let mut values = one_word(alloc, "outcome", outcome_text(end.outcome))?;
+    push_number(alloc, &mut values, "finished", stats.finished_count as u128)?;
+    push_number(alloc, &mut values, "passed", stats.passed as u128)?;
+    push_number(alloc, &mut values, "flaky", stats.flaky as u128)?;
+    push_number(alloc, &mut values, "failed", failed as u128)?;
+    push_number(
+        alloc,
+        &mut values,
+        "timed_out",
+        stats.failed_timed_out as u128,
+    )?;
+    push_number(alloc, &mut values, "crashed", end.crashed as u128)?;
+    push_number(alloc, &mut values, "skipped", end.skipped)?;
+    push_number(alloc, &mut values, "not_run", end.not_run)?;
+    push_time(alloc, &mut values, end.time)?;
+    Ok(values)
+}
+
+/// Adds a number.
+fn push_number(
+    alloc: Global,
+    values: &mut Vec<Value>,
+    name: &'static str,
+    number: u128,
+) -> Result<(), AllocError>
+    ensures { OnOk result (map value_view values.new.items
+        ≡ map value_view values.old.items ++ spec.number name.now number ∷ []) }
+{
+    push_text(values, name, format!(in alloc; "{number}")?)
+}
+
+/// Adds a part of a bar, unless its number is 0.
+fn push_part(
+    alloc: Global,
+    parts: &mut Vec<Value>,
+    class: &'static str,
+    number: u128,
+) -> Result<(), AllocError>
+    ensures { OnOk result (map value_view parts.new.items
+        ≡ map value_view parts.old.items ++ spec.part_item class.now number) }
+{
+    if number == 0 {
+        return Ok(());
+    }
+    let mut part = one_word(alloc, "class", class)?;
+    push_text(&mut part, "number", format!(in alloc; "{number}")?)?;
+    push_item(parts, "part", part)
+}
+
+/// Returns the parts of a bar.
+fn bar(alloc: Global, numbers: Numbers) -> Result<Vec<Value>, AllocError>
+    ensures { IfOk result (λ v. map value_view v.items ≡ spec.bar numbers) }
+{
+    let mut parts = Vec::new(alloc);
+    push_part(alloc, &mut parts, "passed", numbers.passed)?;
+    push_part(alloc, &mut parts, "failed", numbers.failed)?;
+    push_part(alloc, &mut parts, "skipped", numbers.skipped)?;
+    push_part(alloc, &mut parts, "rest", numbers.not_run)?;
+    Ok(parts)
+}
+
+/// Adds a problem.
+fn push_problem(alloc: Global, problems: &mut Vec<Value>, line: String) -> Result<(), AllocError>
+    ensures { OnOk result (map value_view problems.new.items
+        ≡ map value_view problems.old.items ++ spec.problem_item (string_bytes line)) }
+{
+    push_item(problems, "problem", one_text(alloc, "line", line)?)
+}
+
+/// Returns the problems, with `no test ran` first if no test ran.
+fn problem_items(
+    alloc: Global,
+    lines: Vec<String>,
+    outcome: RunOutcome,
+) -> Result<Vec<Value>, AllocError>
+    ensures { IfOk result (λ v. map value_view v.items
+        ≡ spec.problem_items (problem_lines outcome (map string_bytes lines.items))) }
+{
+    let mut problems = Vec::new(alloc);
+    if no_tests_ran(outcome) {
+        push_problem(
+            alloc,
+            &mut problems,
+            String::from_str(alloc, "no test ran")?,
+        )?;
+    }
+    for line in lines {
+        push_problem(alloc, &mut problems, line)?;
+    }
+    Ok(problems)
+}
+
+/// Returns the number of attempts of a test, if there were several, and its time, if it is known.
+fn note(alloc: Global, attempts: usize, time: Option<u64>) -> Result<Vec<Value>, AllocError>
+    ensures { IfOk result (λ v. map value_view v.items ≡ spec.note attempts time) }
+{
+    let mut values = Vec::new(alloc);
+    if attempts > 1 {
+        let count = one_text(alloc, "count", format!(in alloc; "{attempts}")?)?;
+        push_item(&mut values, "attempts", count)?;
+    }
+    push_time(alloc, &mut values, time)?;
+    Ok(values)
+}
+
+/// Returns the values of a failed test.
+fn failed_values(alloc: Global, test: FailedTest) -> Result<Vec<Value>, AllocError>
+    ensures { IfOk result (λ v. map value_view v.items ≡ spec.failed_values (failed_view test)) }
+{
+    let FailedTest {
+        suite,
+        name,
+        status,
+        attempts,
+        time,
+        short,
+        why,
+    } = test;
+    let mut values = one_word(alloc, "status", status)?;
+    push_option(alloc, &mut values, "suite", "name", suite)?;
+    push_text(&mut values, "name", name)?;
+    push_section(&mut values, "note", note(alloc, attempts, time)?)?;
+    push_text(&mut values, "short", short)?;
+    push_text(&mut values, "why", why)?;
+    Ok(values)
+}
+
+/// Returns the failed tests.
+fn failed_items(alloc: Global, tests: Vec<FailedTest>) -> Result<Vec<Value>, AllocError>
+    ensures { IfOk result (λ v. map value_view v.items ≡ spec.failed_items (map failed_view tests.items)) }
+{
+    let mut items = Vec::new(alloc);
+    for test in tests {
+        push_item(&mut items, "failed", failed_values(alloc, test)?)?;
+    }
+    Ok(items)
+}
+
+/// Returns the values of a suite.
+fn suite_values(alloc: Global, suite: SuiteRow) -> Result<Vec<Value>, AllocError>
+    ensures { IfOk result (λ v. map value_view v.items ≡ spec.suite_values (row_view suite)) }
+{
+    let SuiteRow {
+        name,
+        numbers,
+        time,
+    } = suite;
+    let mut values = one_text(alloc, "name", name)?;
+    push_text(&mut values, "words", numbers.words(alloc)?)?;
+    push_section(&mut values, "bar", bar(alloc, numbers)?)?;
+    push_time(alloc, &mut values, time)?;
+    Ok(values)
+}
+
+/// Returns the suites.
+fn suite_items(alloc: Global, suites: Vec<SuiteRow>) -> Result<Vec<Value>, AllocError>
+    ensures { IfOk result (λ v. map value_view v.items ≡ spec.suite_items (map row_view suites.items)) }
+{
+    let mut items = Vec::new(alloc);
+    for suite in suites {
+        push_item(&mut items, "suite", suite_values(alloc, suite)?)?;
+    }
+    Ok(items)
+}
+
+/// Returns the values of a slow test. `longest` is the time of the slowest one, in microseconds.
+fn slow_values(alloc: Global, test: SlowTest, longest: u64) -> Result<Vec<Value>, AllocError>
+    ensures { IfOk result (λ v. map value_view v.items ≡ spec.slow_values longest (slow_line_view test)) }
+{
+    let SlowTest { time, line } = test;
+    let share = u128::from(time) * 100 / u128::from(longest.max(1));
+    let mut values = one_text(alloc, "name", line)?;
+    push_text(&mut values, "share", format!(in alloc; "{share}")?)?;
+    push_text(&mut values, "seconds", seconds_text(alloc, time)?)?;
+    Ok(values)
+}
+
+/// Returns the time of the slowest test, or 0 if there is none.
+fn longest_time(tests: &[SlowTest]) -> u64
+    ensures { result ≡ spec.longest_time (map slow_line_view tests.now) }
+{
+    match tests.first() {
+        Some(test) => test.time,
+        None => 0,
+    }
+}
+
+/// Returns the slowest tests.
+fn slow_items(alloc: Global, tests: Vec<SlowTest>) -> Result<Vec<Value>, AllocError>
+    ensures { IfOk result (λ v. map value_view v.items ≡ spec.slow_items (map slow_line_view tests.items)) }
+{
+    let longest = longest_time(tests.as_slice());
+    let mut items = Vec::new(alloc);
+    for test in tests {
+        push_item(&mut items, "slow", slow_values(alloc, test, longest)?)?;
+    }
+    Ok(items)
+}

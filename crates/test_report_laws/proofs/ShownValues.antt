@@ -1,0 +1,88 @@
+-- What a form that renders a template shows of the values of a run.
+use Rattle.std.proofs.Common.{◌≡◌, ℕ, true, false, List, [], ◌∷◌, codes, if◌then◌else◌, map, Option, Some, None, subst}
+use Rattle.std.proofs.lemmas.Bool.{and_parts}
+use Rattle.std.proofs.lemmas.List.Elements.{All-cons, All-head, All-nil, All-tail, All-weaker}
+use Rattle.std.specs.List.{All, cons_option, filter_map, list_all}
+use Rattle.std.specs.Option.{IfSome}
+use Rattle.run_events_stats.specs.declared.outcome.run_outcome.RunOutcome.{RunOutcome}
+use Rattle.template.specs.Hole.{hole_text}
+use Rattle.template.specs.Laws.{ShowsValues}
+use Rattle.template.specs.Shows.{HasPart, items_at}
+use Rattle.template.specs.Template.{Parts, Values, parts_text, text_of, values_of}
+use Rattle.template.specs.declared.hole.Hole.{Hole}
+use Rattle.test_report_laws.proofs.ReportValues.{failed-at, name-of, problems-at}
+use Rattle.test_report_forms.specs.Entry.{EntryView, LinesDisagree, SuiteNotRun, SuiteOver, TestFailed, TestPassed, TestSkipped}
+use Rattle.test_report_forms.specs.Holes.{HoleView, has_hole}
+use Rattle.test_report_forms.specs.Model.{cause_line, cause_lines, failure_of_entry, failures_of, no_tests_ran, problem_lines, report_of}
+use Rattle.test_report_forms.specs.Values.{failed_values, one_text, report_values, run_values, values_of_run}
+use Rattle.test_report_forms.specs.Words.{outcome_word}
+use Rattle.test_report_laws.specs.Forms.{HasValues, NamesCauses, failed_name}
+use Rattle.test_report_run.specs.declared.note.RunEnd.{RunEnd}
+
+-- what is rendered has the values of the template's holes
+pub shown-holes : ShowsValues → (ps : Parts) (vs : Values) (hs : List HoleView) → list_all (has_hole ps) hs ≡ true
+    → All (HasValues vs (parts_text ps vs)) hs
+shown-holes shows ps vs [] e = All-nil (HasValues vs (parts_text ps vs))
+shown-holes shows ps vs (h ∷ hs) e =
+    let both = and_parts _ _ e in
+    All-cons (HasValues vs (parts_text ps vs)) h hs (shows ps vs h.kind h.path h.name both.0) (shown-holes shows ps vs hs both.1)
+
+-- what holds of each element of a list that is made of another one
+pub unmapped : {X Y : Type 0} (P : Y → Type 0) (f : X → Y) (xs : List X) → All P (map f xs) → All (λ x. P (f x)) xs
+unmapped P f [] h = All-nil (λ x. P (f x))
+unmapped P f (x ∷ xs) h = All-cons (λ y. P (f y)) x xs (All-head P _ _ h) (unmapped P f xs (All-tail P _ _ h))
+
+kept-head : {Y : Type 0} (P : Y → Type 0) (o : Option Y) (ys : List Y) → All P (cons_option o ys) → IfSome o P × All P ys
+kept-head P None ys h = (tt, h)
+kept-head P (Some y) ys h = (All-head P y ys h, All-tail P y ys h)
+
+unfiltered : {X Y : Type 0} (P : Y → Type 0) (f : X → Option Y) (xs : List X) → All P (filter_map f xs) → All (λ x. IfSome (f x) P) xs
+unfiltered P f [] h = All-nil (λ x. IfSome (f x) P)
+unfiltered P f (x ∷ xs) h =
+    let both = kept-head P (f x) (filter_map f xs) h in All-cons (λ y. IfSome (f y) P) x xs both.0 (unfiltered P f xs both.1)
+
+other-lines : (P : List ℕ → Type 0) (o : RunOutcome) (lines : List (List ℕ)) → All P (problem_lines o lines) → All P lines
+other-lines P o lines h =
+    elim (no_tests_ran o) as (λ b. All P (if b then codes "no test ran" ∷ lines else lines) → All P lines)
+    [ true ↦ λ all. All-tail P _ _ all | false ↦ λ all. all ] h
+
+-- a text that has the values of three holes names each cause
+module _ (text : List ℕ) (kind : Hole) (limit : ℕ) (entries : List EntryView) (end : RunEnd) where
+  abbrev Written : List ℕ → Type 0
+  Written t = HasPart text (hole_text kind t)
+
+  abbrev pub AreWritten : List (List ℕ) → List ℕ → Type 0
+  AreWritten path name = All (λ i. Written (text_of name i)) (items_at path (values_of_run limit entries end))
+
+  failed-names : AreWritten (codes "failures" ∷ codes "failed" ∷ []) (codes "name") → All (λ t. Written t.name) (failures_of limit entries)
+  failed-names items =
+      let tests = unmapped (λ i. Written (text_of (codes "name") i)) (λ t. values_of (failed_values t)) _
+      (subst (All (λ i. Written (text_of (codes "name") i))) (failed-at (report_of limit entries end)) items) in
+      All-weaker (λ t. Written (text_of (codes "name") (values_of (failed_values t)))) (λ t. Written t.name) (λ t. subst Written (name-of t)) _ tests
+
+  own-name : (e : EntryView) → IfSome (failure_of_entry limit e) (λ t. Written t.name) → IfSome (failed_name e) Written
+  own-name (TestFailed t f w) h = h
+  own-name (LinesDisagree d) h = tt
+  own-name (SuiteNotRun suite n of) h = tt
+  own-name (TestPassed t) h = tt
+  own-name (TestSkipped t) h = tt
+  own-name (SuiteOver s) h = tt
+
+  own-lines : AreWritten (codes "problems" ∷ codes "problem" ∷ []) (codes "line") → All Written (problem_lines end.outcome (cause_lines entries))
+  own-lines items =
+      unmapped (λ i. Written (text_of (codes "line") i)) (λ l. values_of (one_text (codes "line") l)) _
+      (subst (All (λ i. Written (text_of (codes "line") i))) (problems-at (report_of limit entries end)) items)
+
+  own-outcome : AreWritten [] (codes "outcome") → Written (outcome_word end.outcome)
+  unfolding report_values run_values
+  own-outcome items = All-head (λ i. Written (text_of (codes "outcome") i)) (values_of_run limit entries end) [] items
+
+  pub names-causes : AreWritten (codes "failures" ∷ codes "failed" ∷ []) (codes "name") → AreWritten (codes "problems" ∷ codes "problem" ∷ []) (codes "line")
+      → AreWritten [] (codes "outcome") → NamesCauses (hole_text kind) (hole_text kind) entries end text
+  names-causes names lines word = record {
+    tests =
+        All-weaker (λ e. IfSome (failure_of_entry limit e) (λ t. Written t.name)) (λ e. IfSome (failed_name e) Written) own-name entries
+        (unfiltered (λ t. Written t.name) (failure_of_entry limit) entries (failed-names names));
+    lines = unfiltered Written cause_line entries (other-lines Written end.outcome _ (own-lines lines));
+    outcome = own-outcome word;
+  }

@@ -1,0 +1,84 @@
+// Made by tools/erase from crates/test_report_forms/src/failed_test.rt. Do not edit.
+//! Failed tests as they are shown.
+
+use crate::test_report_forms::shown::{front, push_limited, push_name, push_text};
+use crate::test_report_forms::status::failed_status;
+use crate::test_report_forms::title::shown_name;
+use crate::test_report_forms::why::Why;
+use crate::test_report_run::note::{FailureKind, TestNote};
+
+/// A failed test. In its texts control characters are already escapes.
+#[derive(Clone)]
+pub(crate) struct FailedTest {
+    /// The name of its suite, or `None` if it started outside of a suite.
+    pub(crate) suite: Option<String>,
+
+    /// The name of the test, without the name of its suite.
+    pub(crate) name: String,
+
+    /// The word for its result.
+    pub(crate) status: &'static str,
+
+    /// The number of attempts.
+    pub(crate) attempts: usize,
+
+    /// The time that the test took, in microseconds.
+    pub(crate) time: Option<u64>,
+
+    /// The short reason.
+    pub(crate) short: String,
+
+    /// Why it failed.
+    pub(crate) why: String,
+}
+
+/// Returns a failed test as it is shown, with at most `limit` bytes of why it failed and of the short reason.
+pub(crate) fn shown_failure(
+    test: &TestNote,
+    kind: &FailureKind,
+    why: &Why<'_>,
+    limit: usize,
+) -> FailedTest {
+    FailedTest {
+        suite: shown_suite(&test.suite),
+        name: shown_test(test),
+        status: failed_status(kind),
+        attempts: test.attempts,
+        time: test.time,
+        short: short_text(why.short.as_str(), limit),
+        why: limited_text(why.text.as_str(), limit),
+    }
+}
+
+/// Returns the name of a test as it is shown.
+fn shown_test(test: &TestNote) -> String {
+    let mut name = String::new();
+    push_name(&mut name, shown_name(test));
+    name
+}
+
+/// Returns at most the first `limit` bytes of a short reason, as it is shown.
+fn short_text(short: &str, limit: usize) -> String {
+    let mut text = String::new();
+    push_text(&mut text, front(short, limit), false);
+    text
+}
+
+/// Returns at most the first `limit` bytes of why a test failed, and the number of bytes that are not shown.
+fn limited_text(why: &str, limit: usize) -> String {
+    let mut text = String::new();
+    push_limited(&mut text, why, limit);
+    text
+}
+
+/// Returns the name of a suite as it is shown.
+fn shown_suite(suite: &Option<String>) -> Option<String> {
+    match suite {
+        Some(suite) => {
+            let mut name = String::new();
+            push_name(&mut name, suite.as_str());
+            Some(name)
+        }
+        None => None,
+    }
+}

@@ -1,0 +1,114 @@
+// Made by tools/erase from crates/test_report_forms/src/junit_values.rt. Do not edit.
+//! The values of JUnit's XML, of which its template is rendered.
+//!
+//! | values | of |
+//! |---|---|
+//! | `tests`, `failures`, `errors`, `skipped` | the run, and each `suite`: numbers of test cases |
+//! | `time` (its `seconds`) | the run, each `suite` and each `case`, if it is known |
+//! | `name` | each `suite` and each `case` |
+//! | `suite` | each `case`: the name of its suite |
+//! | `flaky` (its `attempt`s) | each `case` that passed after attempts that failed |
+//! | `skipped` | each `case` that was skipped |
+//! | `failure` or `error` (`message`, `type`, `why`), `output` (its `text`) | each `case` that failed |
+
+use crate::template::{Value, push_item, push_section, push_text};
+use crate::test_report_forms::junit_case::{Case, CaseKind, Reason, suite_text, text_of};
+use crate::test_report_forms::junit_suite::{JunitCounts, JunitSuite};
+use crate::test_report_forms::values::{one_text, push_option, push_time};
+
+/// Returns the values of a run with these suites.
+pub(crate) fn junit_values(suites: Vec<JunitSuite>, time: Option<u64>) -> Vec<Value> {
+    let mut values = counts_values(JunitCounts::of_suites(suites.as_slice()));
+    push_time(&mut values, time);
+    for suite in suites {
+        push_item(&mut values, "suite", suite_values(suite));
+    }
+    values
+}
+
+/// Returns the values of a suite.
+fn suite_values(suite: JunitSuite) -> Vec<Value> {
+    let JunitSuite { name, time, cases } = suite;
+    let mut values = counts_values(JunitCounts::of_cases(cases.as_slice()));
+    push_text(&mut values, "name", suite_text(text_of(&name)));
+    push_time(&mut values, time);
+    for case in cases {
+        push_item(&mut values, "case", case_values(case));
+    }
+    values
+}
+
+/// Returns numbers of test cases.
+fn counts_values(counts: JunitCounts) -> Vec<Value> {
+    let mut values = Vec::new();
+    push_number(&mut values, "tests", counts.tests);
+    push_number(&mut values, "failures", counts.failures);
+    push_number(&mut values, "errors", counts.errors);
+    push_number(&mut values, "skipped", counts.skipped);
+    values
+}
+
+/// Adds a number.
+fn push_number(values: &mut Vec<Value>, name: &'static str, number: usize) {
+    push_text(values, name, format!("{number}"));
+}
+
+/// Returns the values of a test case.
+fn case_values(case: Case) -> Vec<Value> {
+    let Case {
+        name,
+        suite,
+        time,
+        kind,
+    } = case;
+    let mut values = one_text("name", name);
+    push_text(&mut values, "suite", suite);
+    push_time(&mut values, time);
+    push_kind(&mut values, kind);
+    values
+}
+
+/// Adds the kind of a test case.
+fn push_kind(values: &mut Vec<Value>, kind: CaseKind) {
+    match kind {
+        CaseKind::Passed(failed) => push_section(values, "flaky", attempts(failed)),
+        CaseKind::Skipped => push_item(values, "skipped", Vec::new()),
+        CaseKind::Failed(reason) => push_reason(values, reason),
+    }
+}
+
+/// Returns this number of attempts.
+fn attempts(number: usize) -> Vec<Value> {
+    let mut items = Vec::new();
+    for _attempt in 0..number {
+        push_item(&mut items, "attempt", Vec::new());
+    }
+    items
+}
+
+/// Returns the name of the list of errors, or of failures.
+fn reason_name(is_error: bool) -> &'static str {
+    if is_error { "error" } else { "failure" }
+}
+
+/// Returns the values of a reason.
+fn reason_values(message: String, type_of: &'static str, why: String) -> Vec<Value> {
+    let mut values = one_text("message", message);
+    push_text(&mut values, "type", String::from(type_of));
+    push_text(&mut values, "why", why);
+    values
+}
+
+/// Adds why a test case failed, and its output.
+fn push_reason(values: &mut Vec<Value>, reason: Reason) {
+    let Reason {
+        is_error,
+        message,
+        type_of,
+        why,
+        output,
+    } = reason;
+    let item = reason_values(message, type_of, why);
+    push_item(values, reason_name(is_error), item);
+    push_option(values, "output", "text", output);
+}

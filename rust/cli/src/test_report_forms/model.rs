@@ -1,0 +1,152 @@
+// Made by tools/erase from crates/test_report_forms/src/model.rt. Do not edit.
+//! The model of a finished report: what the forms that write at the end of a run show.
+
+use crate::test_report_forms::cause::cause_of;
+use crate::test_report_forms::entry::Entry;
+use crate::test_report_forms::failed_test::{FailedTest, shown_failure};
+use crate::test_report_forms::numbers::Numbers;
+use crate::test_report_forms::shown::push_name;
+use crate::test_report_forms::slowest::Slowest;
+use crate::test_report_forms::title::push_title;
+use crate::test_report_run::note::{SuiteNote, TestNote};
+use deodarsieve::RunOutcome;
+
+/// A suite in the table of suites.
+#[derive(Clone)]
+pub(crate) struct SuiteRow {
+    /// Its name.
+    pub(crate) name: String,
+
+    /// How many of its tests passed, and how many did not.
+    pub(crate) numbers: Numbers,
+
+    /// The time that it took, in microseconds.
+    pub(crate) time: Option<u64>,
+}
+
+/// What a finished report shows of the entries of a run. It takes the entries one by one, and `report_values`
+/// returns its values for a template.
+#[derive(Clone)]
+pub struct ReportModel {
+    /// The most bytes that are shown of why a test failed, and of the short reason.
+    pub(crate) limit: usize,
+
+    /// The failed tests.
+    pub(crate) failed: Vec<FailedTest>,
+
+    /// The lines of disagreements, and of suites whose tests were not all run.
+    pub(crate) problems: Vec<String>,
+
+    /// The suites that are over.
+    pub(crate) suites: Vec<SuiteRow>,
+
+    /// The slowest tests.
+    pub(crate) slowest: Slowest,
+}
+
+impl ReportModel {
+    /// Returns the model of a run without entries. Of why a test failed, it keeps `limit` bytes at most.
+    pub fn new(limit: usize) -> ReportModel {
+        ReportModel {
+            limit,
+            failed: Vec::new(),
+            problems: Vec::new(),
+            suites: Vec::new(),
+            slowest: Slowest::new(),
+        }
+    }
+
+    /// Keeps what is shown of an entry. The only error is that memory runs out.
+    pub fn on_entry(&mut self, entry: &Entry<'_>) {
+        keep_failure(&mut self.failed, entry, self.limit);
+        keep_problem(&mut self.problems, entry);
+        keep_suite(&mut self.suites, entry);
+        keep_time(&mut self.slowest, entry);
+    }
+
+    /// Returns this model, and keeps that of a run without entries.
+    pub(crate) fn take_out(&mut self) -> ReportModel {
+        let limit = self.limit;
+        std::mem::replace(self, ReportModel::new(limit))
+    }
+}
+
+/// Keeps the failed test of an entry, if it has one.
+fn keep_failure(failed: &mut Vec<FailedTest>, entry: &Entry<'_>, limit: usize) {
+    if let Entry::Failed { test, failure, why } = entry {
+        let shown = shown_failure(test, &failure.kind, why, limit);
+        failed.push(shown);
+    }
+}
+
+/// Keeps the line of a disagreement, or of a suite whose tests were not all run.
+fn keep_problem(problems: &mut Vec<String>, entry: &Entry<'_>) {
+    if let Some(cause) = cause_of(entry) {
+        problems.push(cause.line);
+    }
+}
+
+/// Keeps the row of a suite that is over.
+fn keep_suite(suites: &mut Vec<SuiteRow>, entry: &Entry<'_>) {
+    if let Entry::Suite(suite) = entry
+        && let Some(row) = SuiteRow::of(suite)
+    {
+        suites.push(row);
+    }
+}
+
+/// Keeps the test of an entry, if it ran and is one of the slowest.
+fn keep_time(slowest: &mut Slowest, entry: &Entry<'_>) {
+    match entry {
+        Entry::Passed(test) | Entry::Failed { test, .. } => keep_test(slowest, test),
+        Entry::Skipped(_) | Entry::Disagreement(_) | Entry::NotRun(_) | Entry::Suite(_) => {}
+    }
+}
+
+/// Keeps a test that ran, if it has a time and is one of the slowest.
+fn keep_test(slowest: &mut Slowest, test: &TestNote) {
+    let Some(time) = test.time else {
+        return;
+    };
+    if !slowest.takes(time) {
+        return;
+    }
+    let mut title = String::new();
+    push_title(&mut title, test);
+    slowest.add(time, title);
+}
+
+impl SuiteRow {
+    /// Returns the row of a suite, or `None` for the tests outside of suites if there are none.
+    fn of(suite: &SuiteNote) -> Option<SuiteRow> {
+        let numbers = Numbers::of_suite(suite);
+        if !has_row(&suite.name, numbers) {
+            return None;
+        }
+        Some(SuiteRow {
+            name: suite_name(&suite.name),
+            numbers,
+            time: suite.time,
+        })
+    }
+}
+
+/// Returns true if a suite of this name with these numbers has a row. Every suite with a name has one.
+fn has_row(name: &Option<String>, numbers: Numbers) -> bool {
+    name.is_some() || !numbers.are_zero()
+}
+
+/// Returns the name of a suite as it is shown.
+fn suite_name(name: &Option<String>) -> String {
+    let mut shown = String::new();
+    match name {
+        Some(name) => push_name(&mut shown, name.as_str()),
+        None => push_name(&mut shown, "(no suite)"),
+    }
+    shown
+}
+
+/// Returns true if the outcome of a run is that no test ran.
+pub(crate) fn no_tests_ran(outcome: RunOutcome) -> bool {
+    matches!(outcome, RunOutcome::NoTestsRun)
+}

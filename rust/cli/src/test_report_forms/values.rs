@@ -1,0 +1,232 @@
+// Made by tools/erase from crates/test_report_forms/src/values.rt. Do not edit.
+//! The values of a finished report, of which a template is rendered.
+//!
+//! An item of a list has its own values, and a list without items is absent. Names are in lower case:
+//!
+//! | values | of |
+//! |---|---|
+//! | `outcome` | the run: a word |
+//! | `finished`, `passed`, `flaky`, `failed`, `timed_out`, `crashed`, `skipped`, `not_run` | its tests, as numbers |
+//! | `time` | the run, if its time is known |
+//! | `bar` | the run, unless no test is known: a `part` with a `class` and a `number` for each number that is not 0 |
+//! | `problems` | a `problem` with a `line` |
+//! | `failures` | a `failed` test with `status`, `suite` (its `name`), `name`, `note`, `short` and `why` |
+//! | `suites` | a `suite` with `name`, `words`, `bar` (as above) and `time` |
+//! | `slowest` | a `slow` test with `name`, `share` (of the longest time, in hundredths) and `seconds` |
+//!
+//! A `note` has `attempts` with a `count`, if there were several, and a `time`. A `time` has `seconds`.
+
+use crate::template::{Value, push_item, push_section, push_text};
+use crate::test_report_forms::failed_test::FailedTest;
+use crate::test_report_forms::model::{ReportModel, SuiteRow, no_tests_ran};
+use crate::test_report_forms::numbers::Numbers;
+use crate::test_report_forms::shown::seconds_text;
+use crate::test_report_forms::slowest::SlowTest;
+use crate::test_report_forms::summary::outcome_text;
+use crate::test_report_run::note::{RunEnd, failed_count};
+use deodarsieve::RunOutcome;
+
+/// Returns the values of a finished report. The only error is that memory runs out.
+pub fn report_values(model: ReportModel, end: &RunEnd) -> Vec<Value> {
+    let ReportModel {
+        limit: _,
+        failed,
+        problems,
+        suites,
+        slowest,
+    } = model;
+    let mut values = run_values(end);
+    push_section(&mut values, "bar", bar(Numbers::of_run(end)));
+    push_section(
+        &mut values,
+        "problems",
+        problem_items(problems, end.outcome),
+    );
+    push_section(&mut values, "failures", failed_items(failed));
+    push_section(&mut values, "suites", suite_items(suites));
+    push_section(&mut values, "slowest", slow_items(slowest.into_tests()));
+    values
+}
+
+/// Returns values with one text.
+pub(crate) fn one_text(name: &'static str, text: String) -> Vec<Value> {
+    let mut values = Vec::new();
+    push_text(&mut values, name, text);
+    values
+}
+
+/// Returns values with one text, which is a word of the report.
+fn one_word(name: &'static str, word: &'static str) -> Vec<Value> {
+    one_text(name, String::from(word))
+}
+
+/// Adds an item with one text, if there is a text.
+pub(crate) fn push_option(
+    values: &mut Vec<Value>,
+    list: &'static str,
+    name: &'static str,
+    text: Option<String>,
+) {
+    if let Some(text) = text {
+        push_item(values, list, one_text(name, text))
+    }
+}
+
+/// Adds a time in seconds, if it is known.
+pub(crate) fn push_time(values: &mut Vec<Value>, time: Option<u64>) {
+    let Some(micros) = time else {
+        return;
+    };
+    let seconds = one_text("seconds", seconds_text(micros));
+    push_item(values, "time", seconds);
+}
+
+/// Returns the values of the run that are not lists, and its time.
+fn run_values(end: &RunEnd) -> Vec<Value> {
+    let stats = &end.stats;
+    let failed = failed_count(stats);
+    let mut values = one_word("outcome", outcome_text(end.outcome));
+    push_number(&mut values, "finished", stats.finished_count as u128);
+    push_number(&mut values, "passed", stats.passed as u128);
+    push_number(&mut values, "flaky", stats.flaky as u128);
+    push_number(&mut values, "failed", failed as u128);
+    push_number(&mut values, "timed_out", stats.failed_timed_out as u128);
+    push_number(&mut values, "crashed", end.crashed as u128);
+    push_number(&mut values, "skipped", end.skipped);
+    push_number(&mut values, "not_run", end.not_run);
+    push_time(&mut values, end.time);
+    values
+}
+
+/// Adds a number.
+fn push_number(values: &mut Vec<Value>, name: &'static str, number: u128) {
+    push_text(values, name, format!("{number}"));
+}
+
+/// Adds a part of a bar, unless its number is 0.
+fn push_part(parts: &mut Vec<Value>, class: &'static str, number: u128) {
+    if number == 0 {
+        return;
+    }
+    let mut part = one_word("class", class);
+    push_text(&mut part, "number", format!("{number}"));
+    push_item(parts, "part", part);
+}
+
+/// Returns the parts of a bar.
+fn bar(numbers: Numbers) -> Vec<Value> {
+    let mut parts = Vec::new();
+    push_part(&mut parts, "passed", numbers.passed);
+    push_part(&mut parts, "failed", numbers.failed);
+    push_part(&mut parts, "skipped", numbers.skipped);
+    push_part(&mut parts, "rest", numbers.not_run);
+    parts
+}
+
+/// Adds a problem.
+fn push_problem(problems: &mut Vec<Value>, line: String) {
+    push_item(problems, "problem", one_text("line", line));
+}
+
+/// Returns the problems, with `no test ran` first if no test ran.
+fn problem_items(lines: Vec<String>, outcome: RunOutcome) -> Vec<Value> {
+    let mut problems = Vec::new();
+    if no_tests_ran(outcome) {
+        push_problem(&mut problems, String::from("no test ran"));
+    }
+    for line in lines {
+        push_problem(&mut problems, line);
+    }
+    problems
+}
+
+/// Returns the number of attempts of a test, if there were several, and its time, if it is known.
+fn note(attempts: usize, time: Option<u64>) -> Vec<Value> {
+    let mut values = Vec::new();
+    if attempts > 1 {
+        let count = one_text("count", format!("{attempts}"));
+        push_item(&mut values, "attempts", count);
+    }
+    push_time(&mut values, time);
+    values
+}
+
+/// Returns the values of a failed test.
+fn failed_values(test: FailedTest) -> Vec<Value> {
+    let FailedTest {
+        suite,
+        name,
+        status,
+        attempts,
+        time,
+        short,
+        why,
+    } = test;
+    let mut values = one_word("status", status);
+    push_option(&mut values, "suite", "name", suite);
+    push_text(&mut values, "name", name);
+    push_section(&mut values, "note", note(attempts, time));
+    push_text(&mut values, "short", short);
+    push_text(&mut values, "why", why);
+    values
+}
+
+/// Returns the failed tests.
+fn failed_items(tests: Vec<FailedTest>) -> Vec<Value> {
+    let mut items = Vec::new();
+    for test in tests {
+        push_item(&mut items, "failed", failed_values(test));
+    }
+    items
+}
+
+/// Returns the values of a suite.
+fn suite_values(suite: SuiteRow) -> Vec<Value> {
+    let SuiteRow {
+        name,
+        numbers,
+        time,
+    } = suite;
+    let mut values = one_text("name", name);
+    push_text(&mut values, "words", numbers.words());
+    push_section(&mut values, "bar", bar(numbers));
+    push_time(&mut values, time);
+    values
+}
+
+/// Returns the suites.
+fn suite_items(suites: Vec<SuiteRow>) -> Vec<Value> {
+    let mut items = Vec::new();
+    for suite in suites {
+        push_item(&mut items, "suite", suite_values(suite));
+    }
+    items
+}
+
+/// Returns the values of a slow test. `longest` is the time of the slowest one, in microseconds.
+fn slow_values(test: SlowTest, longest: u64) -> Vec<Value> {
+    let SlowTest { time, line } = test;
+    let share = u128::from(time) * 100 / u128::from(longest.max(1));
+    let mut values = one_text("name", line);
+    push_text(&mut values, "share", format!("{share}"));
+    push_text(&mut values, "seconds", seconds_text(time));
+    values
+}
+
+/// Returns the time of the slowest test, or 0 if there is none.
+fn longest_time(tests: &[SlowTest]) -> u64 {
+    match tests.first() {
+        Some(test) => test.time,
+        None => 0,
+    }
+}
+
+/// Returns the slowest tests.
+fn slow_items(tests: Vec<SlowTest>) -> Vec<Value> {
+    let longest = longest_time(tests.as_slice());
+    let mut items = Vec::new();
+    for test in tests {
+        push_item(&mut items, "slow", slow_values(test, longest));
+    }
+    items
+}
