@@ -1,5 +1,5 @@
 -- The values of codes. A code is a position in the list of its enumeration, counted from 0.
-use Rattle.std.specs.Prelude.{ℤ, List, [], ◌∷◌, Option, None, false, true}
+use Rattle.std.specs.Prelude.{ℤ, List, [], ◌∷◌, Option, None, Some, false, true}
 use Rattle.run_events_levels.specs.declared.levels.FinalStatusLevel.{FinalStatusLevel}
 use Rattle.run_events_levels.specs.declared.levels.FinalStatusLevel.TheVariants as final
 use Rattle.run_events_levels.specs.declared.levels.OutputStoreFinal.{OutputStoreFinal}
@@ -7,6 +7,7 @@ use Rattle.run_events_levels.specs.declared.levels.OutputStoreFinal.TheVariants 
 use Rattle.run_events_levels.specs.declared.levels.StatusLevel.{StatusLevel}
 use Rattle.run_events_levels.specs.declared.levels.StatusLevel.TheVariants as level
 use Rattle.run_events_results.specs.declared.results.CancelReason.{CancelReason}
+use Rattle.run_events_results.specs.declared.results.CancelReason.TheVariants as reason
 use Rattle.run_events_results.specs.declared.results.ExecutionResultDescription.{ExecutionResultDescription}
 use Rattle.run_events_results.specs.declared.results.ExecutionResultDescription.TheVariants as result
 use Rattle.run_events_results.specs.declared.results.failure.AbortDescription.TheVariants as abort
@@ -22,7 +23,6 @@ use Rattle.run_events_stats.specs.declared.outcome.finished.StressFinalRunStats.
 use Rattle.run_events_stats.specs.declared.outcome.finished.StressFinalRunStats.TheVariants as stress
 use Rattle.run_events_stats.specs.declared.outcome.run_outcome.RunOutcome.{RunOutcome}
 use Rattle.run_events_stats.specs.declared.outcome.run_outcome.RunOutcome.TheVariants as outcome
-use Rattle.deodarsieve.specs.declared.codes.TheConstants.{REASONS}
 
 -- the results of an attempt, with this number if they have one; names of signals, messages of status codes and leaks of
 -- failures have no code
@@ -44,9 +44,20 @@ results number =
 abbrev pub flaky_results : List FlakyResult
 flaky_results = flaky.Pass ∷ flaky.Fail ∷ []
 
--- the codes of reasons to cancel a run, as the table of the code has them
+-- the codes of reasons to cancel a run
 abbrev pub reasons : List (Option CancelReason)
-reasons = REASONS
+reasons =
+    None
+    ∷ Some reason.SetupScriptFailure
+    ∷ Some reason.TestFailure
+    ∷ Some reason.ReportError
+    ∷ Some reason.OutputLimit
+    ∷ Some reason.TestFailureImmediate
+    ∷ Some reason.GlobalTimeout
+    ∷ Some reason.Signal
+    ∷ Some reason.Interrupt
+    ∷ Some reason.SecondSignal
+    ∷ []
 
 -- the codes of status levels
 abbrev pub levels : List StatusLevel

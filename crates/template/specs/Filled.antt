@@ -41,7 +41,7 @@ abbrev pub trees_at : Reading → Option Trees
 trees_at (Content p) = closed_trees p.trees p.around
 trees_at _ = None
 
--- the trees of a text, if it is well-formed
+-- the trees of a text, if the reader reads it
 unfoldable pub read_trees : List ℕ → Option Trees
 read_trees text = trees_at (fold step at_start text)
 

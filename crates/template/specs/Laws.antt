@@ -19,7 +19,7 @@ use Rattle.template.specs.declared.hole.Hole.{Hole}
 abbrev pub RendersNoControls : Type 0
 RendersNoControls = (ps : Parts) (vs : Values) → is_clean ps ≡ true → HasNoControls (parts_text ps vs)
 
--- What a sound template renders is well-formed, and its trees are those of the template with the values as data.
+-- The reader reads what a sound template renders, and its trees are those of the template with the values as data.
 abbrev pub NoValueIsMarkup : Type 0
 NoValueIsMarkup = (ps : Parts) (vs : Values) → is_sound ps ≡ true
     → (trees : Trees) × (read_trees (parts_text ps vs) ≡ Some trees) × (filled_trees ps vs ≡ Some trees)

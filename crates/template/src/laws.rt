@@ -9,8 +9,8 @@ pub fn renders_no_controls()
     ensures { RendersNoControls }
 {}
 
-/// What a sound template renders is well-formed, and no value in it is read as markup: a reader of XML reads the trees
-/// that it reads if it takes only the template's own texts as markup, and the values as data.
+/// No value in what a sound template renders is read as markup: a reader of a small part of XML reads the trees that it
+/// reads if it takes only the template's own texts as markup, and the values as data.
 pub fn no_value_is_markup()
     ensures { NoValueIsMarkup }
 {}

@@ -10,7 +10,7 @@ use crate::shown::{allowed, is_escaped};
 use std::alloc::AllocError;
 use std::fmt::Write;
 
-/// Appends a value outside of HTML. Every character that can mean something to Markdown is a reference.
+/// Appends a value outside of `<pre>`. Every character that can mean something to Markdown is a reference.
 pub(crate) fn push_plain(text: &mut String, value: &str) -> Result<(), AllocError>
     ensures { OnOk result (string_bytes text.new ≡ string_bytes text.old ++ plain (shown value.now)) }
 {

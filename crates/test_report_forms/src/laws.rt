@@ -22,8 +22,8 @@ pub fn one_entry()
 }
 
 /// The template of the page is one element, in which no value is read as markup. Its own texts have no control
-/// characters. It has a place for every value that `report_values` returns, except the short reasons, and shows a
-/// failed test's status, suite, name, note and reason together.
+/// characters. It has a place for each value in `page_holes`, and shows a failed test's status, suite, name, note and
+/// reason together.
 pub fn page_is_sound()
     ensures { PageIsSound }
 {}

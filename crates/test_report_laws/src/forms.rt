@@ -50,8 +50,9 @@ pub fn names_causes()
     template::laws::shows_values();
 }
 
-/// The page of `html` has every value of the report that its template has a place for (`page_holes`), between tags or
-/// in a quoted attribute. It has the status, the suite, the name and the reason of each failed test together, as its
+/// The page of `html` has, somewhere in its text, every value of the report that its template has a place for
+/// (`page_holes`), escaped as for this place. Of a number or the word for the outcome this says little, because the
+/// style sheet has the same characters. The page has the status, the suite, the name and the reason of each failed test together, as its
 /// section of failed tests renders them, and each problem as its list of problems does.
 pub fn html_shows()
     ensures values { HtmlShowsValues }

@@ -13,7 +13,7 @@ pub enum Hole {
     /// The value of an attribute of HTML or XML.
     Attribute,
 
-    /// A text of Markdown outside of HTML.
+    /// A text of Markdown outside of `<pre>`.
     Plain,
 }
 

@@ -1,11 +1,11 @@
 // Made by tools/erase from crates/template/src/lib.rt. Do not edit.
 //! Templates like those of mustache: texts with holes for values. A value is escaped for the place where it is
-//! written, in HTML, in XML or in Markdown, so that no value is read as markup.
+//! written, in HTML, in XML or in Markdown. If the template is sound, no value is read as markup.
 //!
 //! | in a template | what is rendered |
 //! |---|---|
 //! | `{{name}}` | the text `name`: the value of an attribute in a tag, and otherwise a text between tags |
-//! | `{{*name}}` | the text `name` in Markdown, outside of HTML |
+//! | `{{*name}}` | the text `name` in Markdown, outside of `<pre>` |
 //! | `{{#list}}..{{/list}}` | what is between them, for each item of `list` |
 //! | `{{^list}}..{{/list}}` | what is between them, if `list` has no item |
 //!

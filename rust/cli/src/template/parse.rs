@@ -10,7 +10,7 @@ enum Kind {
     /// `{{name}}`: a hole in a tag, or between tags.
     Value,
 
-    /// `{{*name}}`: a hole outside of HTML.
+    /// `{{*name}}`: a hole of Markdown, outside of `<pre>`.
     Plain,
 
     /// `{{#name}}`: a section for each item.

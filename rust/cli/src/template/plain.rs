@@ -3,7 +3,7 @@
 
 use crate::template::shown::{allowed, is_escaped};
 
-/// Appends a value outside of HTML. Every character that can mean something to Markdown is a reference.
+/// Appends a value outside of `<pre>`. Every character that can mean something to Markdown is a reference.
 pub(crate) fn push_plain(text: &mut String, value: &str) {
     let mut after_space = true;
     for c in value.chars() {
