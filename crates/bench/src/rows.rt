@@ -101,9 +101,9 @@ pub(crate) fn short() -> [Row; 4] {
         ..pieces(LOG, 3)
     };
     [
-        ("short-empty", Some(15_000), Kind::Short(empty, 10_000)),
-        ("short-line", Some(15_000), Kind::Short(line, 10_000)),
-        ("short-panic", Some(15_000), Kind::Short(panic, 3_000)),
+        ("short-empty", Some(30_000), Kind::Short(empty, 10_000)),
+        ("short-line", Some(20_000), Kind::Short(line, 10_000)),
+        ("short-panic", Some(20_000), Kind::Short(panic, 3_000)),
         ("short-log", Some(9_000), Kind::Short(log, 1_000)),
     ]
 }
