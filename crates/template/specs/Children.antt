@@ -10,7 +10,7 @@ elements NoTrees = []
 elements (OneTree (TextTree text) trees) = elements trees
 elements (OneTree (ElementTree name attributes children) trees) = ElementTree name attributes children ∷ elements trees
 
--- the attribute with this name of which the value is this text
+-- the attribute with this name and this value
 abbrev pub attribute : List ℕ → List ℕ → AttributeView
 attribute name text = record { name = name; value = shown text }
 

@@ -1,4 +1,4 @@
--- The values of a finished report, of which a template is rendered.
+-- The values of a finished report, which its templates show.
 use Rattle.std.specs.Prelude.{ℕ, ◌==◌, ◌*◌, ◌/◌, ◌-◌, ◌++◌, ◌∷◌, [], List, Option, codes, if◌then◌else◌, length, map, max, nat_lt, option_map, option_to_list}
 use Rattle.std.specs.Fmt.{decimal}
 use Rattle.template.specs.Template.{ItemValue, TextValue, ValueView, Values, section, values_of}

@@ -1,4 +1,4 @@
-//! The values of JUnit's XML, of which its template is rendered.
+//! The values that the template of JUnit's XML shows.
 //!
 //! | values | of |
 //! |---|---|

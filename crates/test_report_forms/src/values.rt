@@ -1,4 +1,4 @@
-//! The values of a finished report, of which a template is rendered.
+//! The values of a finished report, which its templates show.
 //!
 //! An item of a list has its own values, and a list without items is absent. Names are in lower case:
 //!

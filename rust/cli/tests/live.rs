@@ -144,7 +144,7 @@ fn there_is_no_line_of_progress_in_a_pipe() {
     }
 }
 
-/// Returns the lines of a suite of 41 tests, of which 40 end at once. The last one keeps running.
+/// Returns the lines of a suite of 41 tests. All but the last one end at once.
 fn forty_tests() -> String {
     let mut lines =
         "{ \"type\": \"suite\", \"event\": \"started\", \"test_count\": 41 }\n".to_string();

@@ -1,6 +1,6 @@
 //! A man page while it is written, in the language roff.
 //!
-//! All texts may have code in backquotes, which becomes bold, and links, of which the texts are kept.
+//! Each text may have code in backquotes, which becomes bold, and links. The page keeps only the text of a link.
 
 /// Characters that troff does not print as they are, and how it prints them. The first is in the others.
 const ESCAPES: [(char, &str); 7] = [

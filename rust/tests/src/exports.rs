@@ -1,4 +1,4 @@
-//! The codes and the structs of the C library, of which the tests use the table of reasons.
+//! The codes and the structs of the C library. The tests use its table of reasons.
 #![allow(dead_code, reason = "the tests use the table of reasons alone")]
 
 #[path = "../../c/src/exports/codes.rs"]

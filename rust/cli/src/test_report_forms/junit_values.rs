@@ -1,5 +1,5 @@
 // Made by tools/erase from crates/test_report_forms/src/junit_values.rt. Do not edit.
-//! The values of JUnit's XML, of which its template is rendered.
+//! The values that the template of JUnit's XML shows.
 //!
 //! | values | of |
 //! |---|---|

@@ -15,7 +15,7 @@ mod scripts;
 mod states;
 mod stops;
 
-/// Returns the counters of a run of which four of nine tests finished.
+/// Returns the counters of a run of nine tests, after four have finished.
 fn so_far() -> RunStats {
     RunStats {
         initial_run_count: 9,
