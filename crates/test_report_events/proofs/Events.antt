@@ -6,7 +6,7 @@ use Rattle.std.proofs.lemmas.Slice.Eq.{bytes_eq-Decides}
 use Rattle.std.specs.Str.{bytes_eq}
 use Rattle.serde_json.specs.Data.{Data}
 use Rattle.test_report_events.proofs.Times.{one-time}
-use Rattle.test_report_events.specs.Event.{EventView, SuiteEndView, TestEndView, SuiteStarts, SuiteEnds, TestStarts, TestEnds, OtherLine, HeadingLine, CargoFails, Prints}
+use Rattle.test_report_events.specs.Event.{EventView, SuiteEndView, TestEndView, SuiteStarts, SuiteEnds, TestStarts, TestEnds, OtherLine, HeadingLine, CargoFails, Prints, DamagedLine}
 use Rattle.test_report_events.specs.Said.{EndsAs, HasEvent, HasName, HasType, HasVerdict, IsOther, ObjectSays, Says, text_of}
 use Rattle.test_report_events.specs.Table.{bench_result, is_text, object_said, suite_end_said, suite_said, test_end_said, test_said, typed_said}
 use Rattle.test_report_events.specs.declared.event.TestResult.{TestResult}
@@ -151,9 +151,10 @@ module _ (d : Data) (time : Option ℕ) where
   object-only (TestStarts name) h = of-test h.0 name h.2 _ h.1
   object-only (TestEnds e) h = end-row e.name h.1 e.result h.0 ∙ ap (λ x. Some (TestEnds x)) (end-only e h)
   object-only OtherLine h = other-row h
-  object-only (HeadingLine suite) h = absurd h
+  object-only (HeadingLine suite path) h = absurd h
   object-only (CargoFails failure text plain) h = absurd h
   object-only (Prints text plain) h = absurd h
+  object-only (DamagedLine text) h = absurd h
 
 -- an object of a line says one event
 pub one-object : (line : List ℕ) (d : Data) (a b : EventView) → ObjectSays line d a → ObjectSays line d b → a ≡ b

@@ -1,5 +1,5 @@
 -- What is read of a line.
-use Rattle.std.proofs.Common.{◌≡◌, ◌∙◌, refl, sym, ap, ℕ, List, Option, Some, None, Result, Ok, Err, inl, inr, subst, MatchOption, IfOk, IfSome}
+use Rattle.std.proofs.Common.{◌≡◌, ◌∙◌, ◌∷◌, [], refl, sym, ap, ℕ, List, Option, Some, None, Result, Ok, Err, inl, inr, subst, MatchOption, IfOk, IfSome}
 use Rattle.std.proofs.Math.Logic.{◌⊎◌, ⊎_elim}
 use Rattle.std.proofs.lemmas.List.{take_rest}
 use Rattle.std.specs.Prelude.{◌-◌, drop, length, take}
@@ -13,7 +13,7 @@ use Rattle.test_report_events.proofs.Headings.{one-heading}
 use Rattle.test_report_events.proofs.Objects.{one-last}
 use Rattle.test_report_events.specs.Cargo.{IsHeading, failure_of}
 use Rattle.test_report_events.specs.Event.{EventView, HeadingLine, Prints}
-use Rattle.test_report_events.specs.Line.{Holds, IsJson, IsPrint, LineSays, ValueSays, other_text}
+use Rattle.test_report_events.specs.Line.{EventSays, Holds, IsJson, IsPrint, LineSays, ValueSays, other_text}
 use Rattle.test_report_events.specs.Plain.{IsPlain, line_text}
 use Rattle.test_report_events.specs.Said.{IsTime, Says}
 use Rattle.test_report_events.specs.Table.{FindsLastObject, IsValueOf, object_said}
@@ -41,11 +41,11 @@ holds_later line at (Ok found) whole last ends = holds-end line at found whole l
 
 -- the event of an object, or a print
 pub object_is : (line : List ℕ) (d : Data) (time : Option ℕ) (e : EventView) → Holds line d → IsTime line d time → object_said time d ≡ Some e
-    → LineSays line e
+    → EventSays line e
 object_is line d time e holds timed is = inl (d, holds, inl (time, timed, subst (λ o. IfSome o (Says time d)) is (object-says d time)))
 
 pub object_none : (line : List ℕ) (d : Data) (time : Option ℕ) (e : EventView) → Holds line d → IsTime line d time → object_said time d ≡ None
-    → IsPrint line e → LineSays line e
+    → IsPrint line e → EventSays line e
 object_none line d time e holds timed none prints = inl (
   d,
   holds,
@@ -58,11 +58,11 @@ object_none line d time e holds timed none prints = inl (
 )
 
 -- a heading, or another text
-pub heading_is : (line plain suite : List ℕ) → ((d : Data) → ¬ Holds line d) → IsPlain line plain → IsHeading plain suite → LineSays line (HeadingLine suite)
+pub heading_is : (line plain suite : List ℕ) → ((d : Data) → ¬ Holds line d) → IsPlain line plain → IsHeading plain suite → EventSays line (HeadingLine suite None)
 heading_is line plain suite none plainly h = inr (none, (plain, plainly, inl (suite, h, refl)))
 
 pub text_is : (line plain text : List ℕ) (failure : Option CargoFailure) → ((d : Data) → ¬ Holds line d) → IsPlain line plain
-    → ((suite : List ℕ) → ¬ IsHeading plain suite) → failure ≡ failure_of plain → text ≡ line_text line → LineSays line (other_text text plain failure)
+    → ((suite : List ℕ) → ¬ IsHeading plain suite) → failure ≡ failure_of plain → text ≡ line_text line → EventSays line (other_text text plain failure)
 text_is line plain text failure none plainly h is same =
     inr (none, (plain, plainly, inr (h, ap (λ f. other_text text plain f) is ∙ ap (λ t. other_text t plain (failure_of plain)) same)))
 
@@ -88,19 +88,22 @@ one-of-value line d a b (inr h) (inr k) = one-print line a b h.1 k.1
 
 -- what a plain text is
 abbrev PlainSays : List ℕ → List ℕ → EventView → Type 0
-PlainSays line plain e = ((suite : List ℕ) × IsHeading plain suite × (e ≡ HeadingLine suite))
+PlainSays line plain e = ((suite : List ℕ) × IsHeading plain suite × (e ≡ HeadingLine suite None))
     ⊎ (((suite : List ℕ) → ¬ IsHeading plain suite) × (e ≡ other_text (line_text line) plain (failure_of plain)))
 
 one-of-plain : (line plain : List ℕ) (a b : EventView) → PlainSays line plain a → PlainSays line plain b → a ≡ b
-one-of-plain line plain a b (inl h) (inl k) = h.2 ∙ (ap HeadingLine (one-heading plain h.0 k.0 h.1 k.1) ∙ sym k.2)
+one-of-plain line plain a b (inl h) (inl k) = h.2 ∙ (ap (λ s. HeadingLine s None) (one-heading plain h.0 k.0 h.1 k.1) ∙ sym k.2)
 one-of-plain line plain a b (inl h) (inr k) = absurd (k.0 h.0 h.1)
 one-of-plain line plain a b (inr h) (inl k) = absurd (h.0 k.0 k.1)
 one-of-plain line plain a b (inr h) (inr k) = h.1 ∙ sym k.1
 
-pub one-event-of-line : (line : List ℕ) (a b : EventView) → LineSays line a → LineSays line b → a ≡ b
+one-event-of-line : (line : List ℕ) (a b : EventView) → EventSays line a → EventSays line b → a ≡ b
 one-event-of-line line a b (inl h) (inl k) =
     one-of-value line k.0 a b (subst (λ d. ValueSays line d a) (holds-one line h.0 k.0 h.1 k.1) h.2) k.2
 one-event-of-line line a b (inl h) (inr k) = absurd (k.0 h.0 h.1)
 one-event-of-line line a b (inr h) (inl k) = absurd (h.0 k.0 k.1)
 one-event-of-line line a b (inr h) (inr k) =
     one-of-plain line k.1.0 a b (subst (λ p. PlainSays line p a) (one-plain line h.1.0 k.1.0 h.1.1 k.1.1) h.1.2) k.1.2
+
+pub one-reading-of-line : (line : List ℕ) (a b : List EventView) → LineSays line a → LineSays line b → a ≡ b
+one-reading-of-line line a b h k = h.2 ∙ (ap (λ e. e ∷ []) (one-event-of-line line h.0 k.0 h.1 k.1) ∙ sym k.2)

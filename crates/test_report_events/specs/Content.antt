@@ -1,7 +1,7 @@
 -- What is kept of a line that was read.
-use Rattle.std.specs.Prelude.{ℕ, List, option_map}
+use Rattle.std.specs.Prelude.{◌++◌, ◌∷◌, ℕ, List, Option, option_map, option_to_list}
 use Rattle.std.specs.String.{string_bytes}
-use Rattle.test_report_events.specs.Event.{EventView, HeadingLine, OtherLine, SuiteEndView, SuiteEnds, SuiteStarts, TestEndView, TestEnds, TestStarts, key_text}
+use Rattle.test_report_events.specs.Event.{DamagedLine, EventView, HeadingLine, OtherLine, SuiteEndView, SuiteEnds, SuiteStarts, TestEndView, TestEnds, TestStarts, key_text}
 use Rattle.test_report_events.specs.Line.{other_text}
 use Rattle.test_report_events.specs.declared.content.Content.{Content}
 use Rattle.test_report_events.specs.declared.content.Content.TheVariants as content
@@ -44,9 +44,22 @@ content_event (content.SuiteEnded end) = SuiteEnds (suite_end_of end)
 content_event (content.TestStarted name) = TestStarts (string_bytes name)
 content_event (content.TestEnded end) = TestEnds (end_of end)
 content_event content.Other = OtherLine
-content_event (content.Heading suite) = HeadingLine (string_bytes suite)
+content_event (content.Heading suite path) = HeadingLine (string_bytes suite) (option_map string_bytes path)
 content_event (content.Text failure text plain) = other_text (string_bytes text) (string_bytes plain) failure
+content_event (content.Damaged text) = DamagedLine (string_bytes text)
+
+-- the print that comes before the event of a line, if there is one
+abbrev pub before_of : Line → Option EventView
+before_of line = option_map content_event line.before
 
 -- the event of a line that was read
 abbrev pub event_of : Line → EventView
 event_of line = content_event line.content
+
+-- the event that the line, or a part of it, is damaged and says a failure
+abbrev pub damage_of : Line → Option EventView
+damage_of line = option_map content_event line.damage
+
+-- the events of a line that was read, in their order
+abbrev pub events_of : Line → List EventView
+events_of line = option_to_list (before_of line) ++ event_of line ∷ option_to_list (damage_of line)

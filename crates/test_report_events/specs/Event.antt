@@ -48,12 +48,14 @@ pub data EventView : Type 0 where
   TestEnds : TestEndView → EventView
   -- another line of a test harness
   OtherLine : EventView
-  -- a heading, with the name of the suites that follow it
-  HeadingLine : List ℕ → EventView
+  -- a heading, with the name of the suites that follow it, and the path of their binary
+  HeadingLine : List ℕ → Option (List ℕ) → EventView
   -- something failed: what, the line, and the plain text of the line
   CargoFails : CargoFailure → List ℕ → List ℕ → EventView
   -- a print: the line, and the plain text of the line
   Prints : List ℕ → List ℕ → EventView
+  -- a damaged line says that a test or a suite failed: its text
+  DamagedLine : List ℕ → EventView
 
 -- the text of a key: `CRATE::BINARY`, and `@stress-N` if there is an index
 abbrev pub key_text : List ℕ → List ℕ → Option ℕ → List ℕ
@@ -94,6 +96,7 @@ event_view (event.SuiteEnded e) = SuiteEnds (suite_end_view e)
 event_view (event.TestStarted name) = TestStarts name.now
 event_view (event.TestEnded name outcome details) = TestEnds (test_end_view name.now outcome details)
 event_view event.Other = OtherLine
-event_view (event.Heading suite) = HeadingLine suite.now
+event_view (event.Heading suite path) = HeadingLine suite.now (option_map (λ path. path.now) path)
 event_view (event.CargoFailed failure line plain) = CargoFails failure line.now plain.now
 event_view (event.Print line plain) = Prints line.now plain.now
+event_view (event.Damaged text) = DamagedLine text.now

@@ -3,6 +3,6 @@ use Rattle.std.specs.Prelude.{◌≡◌, ℕ, List}
 use Rattle.test_report_events.specs.Event.{EventView}
 use Rattle.test_report_events.specs.Line.{LineSays}
 
--- A line says at most one event.
-abbrev pub OneEventOfLine : Type 0
-OneEventOfLine = (line : List ℕ) → (a : EventView) → (b : EventView) → LineSays line a → LineSays line b → a ≡ b
+-- The events of a line are determined by the line.
+abbrev pub OneReadingOfLine : Type 0
+OneReadingOfLine = (line : List ℕ) (a b : List EventView) → LineSays line a → LineSays line b → a ≡ b

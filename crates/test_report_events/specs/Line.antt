@@ -1,5 +1,5 @@
 -- What a line of a test run says.
-use Rattle.std.specs.Prelude.{◌≡◌, ◌<◌, ◌⊎◌, ℕ, List, codes, drop, Option, Some, None}
+use Rattle.std.specs.Prelude.{◌≡◌, ◌<◌, ◌⊎◌, ◌∷◌, [], ℕ, List, codes, drop, Option, Some, None}
 use Rattle.std.specs.Str.{IsUtf8}
 use Rattle.bstr.specs.Find.{OccursAt}
 use Rattle.serde_json.specs.Data.{Data}
@@ -37,7 +37,7 @@ other_text text plain (Some failure) = CargoFails failure text plain
 -- a line that holds no value is a heading, a failure of cargo or a print, by its plain text
 abbrev pub TextSays : List ℕ → EventView → Type 0
 TextSays line e = (plain : List ℕ) × IsPlain line plain
-    × (((suite : List ℕ) × IsHeading plain suite × (e ≡ HeadingLine suite))
+    × (((suite : List ℕ) × IsHeading plain suite × (e ≡ HeadingLine suite None))
     ⊎ (((suite : List ℕ) → ¬ IsHeading plain suite) × (e ≡ other_text (line_text line) plain (failure_of plain))))
 
 -- the line is a print
@@ -49,5 +49,9 @@ abbrev pub ValueSays : List ℕ → Data → EventView → Type 0
 ValueSays line d e = ObjectSays line d e ⊎ (((other : EventView) → ¬ ObjectSays line d other) × IsPrint line e)
 
 -- the line says this event
-abbrev pub LineSays : List ℕ → EventView → Type 0
-LineSays line e = ((d : Data) × Holds line d × ValueSays line d e) ⊎ (((d : Data) → ¬ Holds line d) × TextSays line e)
+abbrev pub EventSays : List ℕ → EventView → Type 0
+EventSays line e = ((d : Data) × Holds line d × ValueSays line d e) ⊎ (((d : Data) → ¬ Holds line d) × TextSays line e)
+
+-- the line says these events, in this order
+abbrev pub LineSays : List ℕ → List EventView → Type 0
+LineSays line events = (e : EventView) × EventSays line e × (events ≡ e ∷ [])

@@ -2,7 +2,7 @@
 use Rattle.std.specs.Prelude.{◌≡◌, ◌≢◌, ◌⊎◌, ℕ, List, [], ◌∷◌, codes, Bool, true, false, Option, Some, None, IsSome, MatchOption, option_and_then}
 use Rattle.serde_json.specs.Data.{Data}
 use Rattle.serde_json.specs.Find.{as_number, as_str, as_u64, get}
-use Rattle.test_report_events.specs.Event.{EventView, SuiteStarts, SuiteEnds, TestStarts, TestEnds, OtherLine, HeadingLine, CargoFails, Prints, key_text}
+use Rattle.test_report_events.specs.Event.{EventView, SuiteStarts, SuiteEnds, TestStarts, TestEnds, OtherLine, HeadingLine, CargoFails, Prints, DamagedLine, key_text}
 use Rattle.test_report_events.specs.Time.{GivesTime}
 use Rattle.test_report_events.specs.declared.event.TestResult.{TestResult}
 use Rattle.test_report_events.specs.declared.event.TestResult.TheVariants.{Ok, Failed, Ignored}
@@ -102,9 +102,10 @@ Says time d (TestEnds e) =
     × (e.reason ≡ words_of (codes "reason") d)
     × (e.time ≡ time)
 Says time d OtherLine = IsOther d
-Says time d (HeadingLine suite) = ⊥
+Says time d (HeadingLine suite path) = ⊥
 Says time d (CargoFails failure text plain) = ⊥
 Says time d (Prints text plain) = ⊥
+Says time d (DamagedLine text) = ⊥
 
 -- what an object says that was read from this line
 abbrev pub ObjectSays : List ℕ → Data → EventView → Type 0

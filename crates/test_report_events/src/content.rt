@@ -32,7 +32,10 @@ pub(crate) enum Content {
     Other,
 
     /// A heading of cargo.
-    Heading(String),
+    Heading {
+        suite: String,
+        path: Option<String>,
+    },
 
     /// A line that is neither an event of a harness nor a heading. It is a print if `failure` is `None`.
     Text {
@@ -40,6 +43,9 @@ pub(crate) enum Content {
         line: String,
         plain: String,
     },
+
+    /// A damaged line says that a test or a suite failed.
+    Damaged(String),
 }
 
 /// The key of a suite.
@@ -93,13 +99,17 @@ impl Content {
                 details,
             } => Ok(Content::TestEnded(TestEnd::of(alloc, name, outcome, details)?)),
             Event::Other => Ok(Content::Other),
-            Event::Heading { suite } => Ok(Content::Heading(String::from_str(alloc, suite)?)),
+            Event::Heading { suite, path } => Ok(Content::Heading {
+                suite: String::from_str(alloc, suite)?,
+                path: owned(alloc, path)?,
+            }),
             Event::CargoFailed {
                 failure,
                 line,
                 plain,
             } => Content::text(alloc, Some(failure), line, plain),
             Event::Print { line, plain } => Content::text(alloc, None, line, plain),
+            Event::Damaged { text } => Ok(Content::Damaged(String::from_str(alloc, text)?)),
         }
     }
 
@@ -134,8 +144,9 @@ impl Content {
             },
             Content::TestEnded(end) => end.event(),
             Content::Other => Event::Other,
-            Content::Heading(suite) => Event::Heading {
+            Content::Heading { suite, path } => Event::Heading {
                 suite: suite.as_str(),
+                path: path.as_ref().map(String::as_str),
             },
             Content::Text {
                 failure: Some(failure),
@@ -153,6 +164,9 @@ impl Content {
             } => Event::Print {
                 line: line.as_str(),
                 plain: plain.as_str(),
+            },
+            Content::Damaged(text) => Event::Damaged {
+                text: text.as_str(),
             },
         }
     }

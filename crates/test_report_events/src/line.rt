@@ -1,12 +1,12 @@
 //! Parses a line of a test run.
 
-ghost use Rattle.std.specs.Prelude.{◌≡◌, IfOk, MatchOption, Some, None};
+ghost use Rattle.std.specs.Prelude.{◌≡◌, IfOk, MatchOption, Some, None, option_map};
 ghost use Rattle.serde_json.specs.Data.{Data};
 ghost use Rattle.serde_json.specs.Read.{read};
 ghost use Rattle.serde_json.specs.View.{view};
 ghost use Rattle.test_report_events.specs.Content as kept;
 ghost use Rattle.test_report_events.specs.Event.{event_view};
-ghost use Rattle.test_report_events.specs.Line.{Holds, IsPrint, LineSays};
+ghost use Rattle.test_report_events.specs.Line.{EventSays, Holds, IsPrint, LineSays};
 ghost use Rattle.test_report_events.specs.Table.{FindsLastObject, IsValueOf};
 
 use crate::cargo::{cargo_failure, heading};
@@ -22,7 +22,14 @@ use std::alloc::{AllocError, Global};
 /// A parsed line of a test run.
 #[derive(Debug, Drop)]
 pub struct Line {
+    /// The print in front of the event, if there is one.
+    before: Option<Content>,
+
+    /// The event of the line.
     content: Content,
+
+    /// A text of the line is damaged and says a failure.
+    damage: Option<Content>,
 }
 
 impl Line {
@@ -31,10 +38,30 @@ impl Line {
     /// If the whole line is not JSON, the parser starts again at the last `{ "type"` or `{"type"` in it. So
     /// it finds an event even if a test printed text at the start of the same line.
     pub fn read(alloc: Global, bytes: &[u8]) -> Result<Line, AllocError>
-        ensures says { IfOk result (λ line. LineSays bytes.now (kept.event_of line)) }
+        ensures says { IfOk result (λ line. LineSays bytes.now (kept.events_of line)) }
     {
         let content = content_of(alloc, bytes)?;
-        Ok(Line { content })
+        Ok(Line {
+            before: None,
+            content,
+            damage: None,
+        })
+    }
+
+    /// Returns the print that comes before the event of the line, if there is one. Text that a test or a program
+    /// printed without a line feed can be in front of a line of cargo.
+    pub fn before(&self) -> Option<Event<'_>>
+        ensures { option_map event_view result ≡ kept.before_of self.now }
+    {
+        self.before.as_ref().map(Content::event)
+    }
+
+    /// Returns the event that the line is damaged and says that a test or a suite failed, if it does. It comes
+    /// after the other events of the line.
+    pub fn damage(&self) -> Option<Event<'_>>
+        ensures { option_map event_view result ≡ kept.damage_of self.now }
+    {
+        self.damage.as_ref().map(Content::event)
     }
 
     /// Returns the event of the line. It borrows its texts from the line.
@@ -47,7 +74,7 @@ impl Line {
 
 /// Returns the content of a line.
 fn content_of(alloc: Global, bytes: &[u8]) -> Result<Content, AllocError>
-    ensures { IfOk result (λ content. LineSays bytes.now (kept.content_event content)) }
+    ensures { IfOk result (λ content. EventSays bytes.now (kept.content_event content)) }
 {
     if let Some(name) = started_test(bytes) {
         return Content::of(alloc, Event::TestStarted { name });
@@ -110,7 +137,7 @@ fn last_object(line: &[u8]) -> Option<usize>
 /// Returns the content of a line that has a JSON value: an event, or a print if the value is no event.
 fn value_content(alloc: Global, bytes: &[u8], value: Value) -> Result<Content, AllocError>
     requires { Holds bytes.now (view value) }
-    ensures { IfOk result (λ content. LineSays bytes.now (kept.content_event content)) }
+    ensures { IfOk result (λ content. EventSays bytes.now (kept.content_event content)) }
 {
     let members = Members::of(&value);
     let time = members.time_in(bytes);
@@ -136,11 +163,11 @@ fn print_content(alloc: Global, bytes: &[u8]) -> Result<Content, AllocError>
 /// Returns the content of a line without a JSON value.
 fn text_content(alloc: Global, bytes: &[u8]) -> Result<Content, AllocError>
     requires { (d : Data) → ¬ Holds bytes.now d }
-    ensures { IfOk result (λ content. LineSays bytes.now (kept.content_event content)) }
+    ensures { IfOk result (λ content. EventSays bytes.now (kept.content_event content)) }
 {
     let plain = plain_text(alloc, bytes)?;
     match heading(alloc, plain.as_str())? {
-        Some(suite) => Ok(Content::Heading(suite)),
+        Some(suite) => Ok(Content::Heading { suite, path: None }),
         None => {
             let failure = cargo_failure(plain.as_str());
             let line = line_text(alloc, bytes)?;
