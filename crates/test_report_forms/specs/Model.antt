@@ -14,7 +14,7 @@ use Rattle.test_report_forms.specs.declared.failed_test.FailedTest.{FailedTest}
 use Rattle.test_report_forms.specs.declared.model.ReportModel.{ReportModel}
 use Rattle.test_report_forms.specs.declared.model.SuiteRow.{SuiteRow}
 use Rattle.test_report_forms.specs.declared.numbers.Numbers.{Numbers}
-use Rattle.test_report_run.specs.Note.{CargoSays, DisagreementView, EndsEarly, KindView, SaysOther, StartsOutside, StrayEnds, StraySuiteEnds, SuiteNoteView, TestNoteView, text_view}
+use Rattle.test_report_run.specs.Note.{CargoSays, DisagreementView, EndsEarly, HasNoEvent, IsDamaged, KindView, SaysOther, StartsOutside, StrayEnds, StraySuiteEnds, SuiteNoteView, TestNoteView, text_view}
 use Rattle.test_report_run.specs.declared.note.RunEnd.{RunEnd}
 
 -- a failed test as it is shown
@@ -69,6 +69,8 @@ suite_of (StrayEnds name how) = None
 suite_of (StraySuiteEnds key failed) = None
 suite_of (StartsOutside n) = None
 suite_of (CargoSays line) = None
+suite_of (IsDamaged text) = None
+suite_of HasNoEvent = None
 
 -- the cause of an entry, if it has one
 abbrev pub cause_of_entry : EntryView → Option CauseView

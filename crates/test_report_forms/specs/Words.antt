@@ -8,7 +8,7 @@ use Rattle.run_events_stats.specs.declared.outcome.run_outcome.RunOutcome.TheVar
 use Rattle.test_report_events.specs.declared.event.TestResult.{TestResult}
 use Rattle.test_report_events.specs.declared.event.TestResult.TheVariants as ended
 use Rattle.test_report_forms.specs.Shown.{bracket, name_and_space, shown_name}
-use Rattle.test_report_run.specs.Note.{CargoSays, DisagreementView, EndsEarly, HasCrashed, HasFailed, HasNoEnd, HasTimedOut, IsFlaky, KindView, SaysOther, StartsOutside, StrayEnds, StraySuiteEnds}
+use Rattle.test_report_run.specs.Note.{CargoSays, DisagreementView, EndsEarly, HasCrashed, HasFailed, HasNoEnd, HasNoEvent, HasTimedOut, IsDamaged, IsFlaky, KindView, SaysOther, StartsOutside, StrayEnds, StraySuiteEnds}
 use Rattle.test_report_run.specs.Suite.{failed_of}
 use Rattle.test_report_run.specs.declared.note.RunEnd.{RunEnd}
 use Rattle.test_report_run.specs.declared.note.SaidNumbers.{SaidNumbers}
@@ -74,6 +74,8 @@ disagreement_line (StrayEnds name how) = shown_name name ++ (codes " ended " ++ 
 disagreement_line (StraySuiteEnds key failed) = codes "a suite ended that had not started: " ++ key_and_verdict key failed
 disagreement_line (StartsOutside n) = decimal n ++ codes " tests started outside of a suite"
 disagreement_line (CargoSays line) = codes "cargo: " ++ shown_name line
+disagreement_line (IsDamaged text) = codes "a damaged line says that a test or a suite failed: " ++ shown_name text
+disagreement_line HasNoEvent = codes "no line of the input is of a test run"
 
 -- the line of the tests of a suite that were not run
 unfoldable pub not_run_line : List ℕ → ℕ → ℕ → List ℕ

@@ -65,7 +65,9 @@ fn suite_of(disagreement: &Disagreement) -> Option<&str>
         Disagreement::StrayEnd { .. }
         | Disagreement::StraySuiteEnd { .. }
         | Disagreement::OutsideSuite { .. }
-        | Disagreement::Cargo { .. } => None,
+        | Disagreement::Cargo { .. }
+        | Disagreement::Damaged { .. }
+        | Disagreement::NoEvent => None,
     }
 }
 
@@ -131,6 +133,11 @@ pub(crate) fn push_disagreement(
             text.push_str("cargo: ")?;
             push_name(text, line.as_str())
         }
+        Disagreement::Damaged { text: line } => {
+            text.push_str("a damaged line says that a test or a suite failed: ")?;
+            push_name(text, line.as_str())
+        }
+        Disagreement::NoEvent => text.push_str("no line of the input is of a test run"),
     }
 }
 

@@ -61,6 +61,8 @@ pub data DisagreementView : Type 0 where
   StraySuiteEnds : Option (List ℕ) → Bool → DisagreementView
   StartsOutside : ℕ → DisagreementView
   CargoSays : List ℕ → DisagreementView
+  IsDamaged : List ℕ → DisagreementView
+  HasNoEvent : DisagreementView
 
 -- a suite that is over
 pub record SuiteNoteView : Type 0 where
@@ -129,6 +131,8 @@ disagreement_view (disagreement.StrayEnd name outcome) = StrayEnds (string_bytes
 disagreement_view (disagreement.StraySuiteEnd key failed) = StraySuiteEnds (text_view key) failed
 disagreement_view (disagreement.OutsideSuite started) = StartsOutside started
 disagreement_view (disagreement.Cargo line) = CargoSays (string_bytes line)
+disagreement_view (disagreement.Damaged text) = IsDamaged (string_bytes text)
+disagreement_view disagreement.NoEvent = HasNoEvent
 
 -- what the note of a suite says
 abbrev pub suite_view : SuiteNote → SuiteNoteView

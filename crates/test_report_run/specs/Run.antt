@@ -2,14 +2,14 @@
 use Rattle.std.specs.Prelude.{◌+◌, ◌-◌, ◌++◌, ◌==◌, ◌∷◌, ◌||◌, ◌&&◌, [], ℕ, List, Bool, true, false, filter, is_some, length, map, nat_lt, not, if◌then◌else◌, slice_index_or, slice_set, Option, Some, None, option_and_then}
 use Rattle.std.specs.List.{count_by, fold, position, remove}
 use Rattle.std.specs.Option.{option_map_or, option_or}
-use Rattle.test_report_events.specs.Event.{EventView, SuiteEndView, TestEndView, SuiteStarts, SuiteEnds, TestStarts, TestEnds, OtherLine, HeadingLine, CargoFails, Prints}
+use Rattle.test_report_events.specs.Event.{EventView, SuiteEndView, TestEndView, SuiteStarts, SuiteEnds, TestStarts, TestEnds, OtherLine, HeadingLine, CargoFails, Prints, DamagedLine}
 use Rattle.test_report_events.specs.declared.event.CargoFailure.{CargoFailure}
 use Rattle.test_report_events.specs.declared.event.CargoFailure.TheVariants.{Build, Tests, Run}
 use Rattle.test_report_events.specs.declared.event.TestResult.TheVariants.{Ok, Failed, Ignored}
 use Rattle.test_report_run.specs.Ended.{after_end, after_stray, end_notes, stray_notes}
-use Rattle.test_report_run.specs.Note.{CargoSays, Disagrees, Fails, IsNotRun, IsSkipped, NoteView, OutcomeView, Passes, StrayEnds, StraySuiteEnds, SuiteIs, TestIs, text_view}
+use Rattle.test_report_run.specs.Note.{CargoSays, Disagrees, Fails, IsDamaged, IsNotRun, IsSkipped, NoteView, OutcomeView, Passes, StrayEnds, StraySuiteEnds, SuiteIs, TestIs, text_view}
 use Rattle.test_report_run.specs.Over.{early_notes, last_notes}
-use Rattle.test_report_run.specs.Prints.{AFailure, AHeading, APrint, PrintedView, after_line}
+use Rattle.test_report_run.specs.Prints.{AFailure, AHeading, APrint, PrintedView, after_line, cut}
 use Rattle.test_report_run.specs.Running.{RunningView, is_of, is_same, place_of_end, running_at, tests_of}
 use Rattle.test_report_run.specs.Name.{before_dollar}
 use Rattle.test_report_run.specs.Suite.{OverView, SuiteState, has_key, joined, outside_start, state_of, suite_start, with_line, with_start}
@@ -242,9 +242,10 @@ told r (SuiteEnds e) = suite_ends r e
 told r (TestStarts name) = step (test_starts r name) []
 told r (TestEnds e) = let t = test_ends r e in step (record (t.run) { ended = t.run.ended + 1 }) t.notes
 told r OtherLine = step r []
-told r (HeadingLine suite) = step (headed r suite) []
+told r (HeadingLine suite path) = step (headed r suite) []
 told r (CargoFails f line plain) = step (printed_to r (AFailure line)) (cargo_notes r f plain)
 told r (Prints line plain) = step (printed_to r (APrint line plain)) []
+told r (DamagedLine text) = step r (Disagrees (IsDamaged (cut text)) ∷ [])
 
 -- the test failed
 abbrev pub has_failed : OutcomeView → Bool
@@ -293,8 +294,9 @@ marked r (SuiteEnds e) = r
 marked r (TestStarts name) = r
 marked r (TestEnds e) = r
 marked r OtherLine = r
-marked r (HeadingLine suite) = r
+marked r (HeadingLine suite path) = r
 marked r (Prints line plain) = r
+marked r (DamagedLine text) = r
 
 -- what a line makes known
 abbrev pub notes_at : RunState → EventView → List NoteView

@@ -162,7 +162,7 @@ fn stage_after_failure(printed: Printed<'_>) -> Stage
 }
 
 /// Returns the longest start of a line that has at most [`KEPT_BYTES`] bytes and ends between characters.
-fn shortened(line: &str) -> &str
+pub(crate) fn shortened(line: &str) -> &str
     ensures { result.now ≡ cut line.now }
 {
     &line[..line.floor_char_boundary(KEPT_BYTES)]

@@ -12,6 +12,7 @@ mod test_lines;
 
 use crate::error::{RunError, one_more};
 use crate::note::{Note, RunEnd, TestOutcome};
+use crate::run::lines::push_damaged;
 use crate::running::Running;
 use crate::suite::Suite;
 use crate::totals::Totals;
@@ -131,13 +132,14 @@ impl TestRun {
                 details,
             } => self.on_test_ended(alloc, name, end, details, notes),
             Event::Other => Ok(()),
-            Event::Heading { suite } => self.on_heading(alloc, suite),
+            Event::Heading { suite, .. } => self.on_heading(alloc, suite),
             Event::CargoFailed {
                 failure,
                 line,
                 plain,
             } => self.on_cargo_failed(alloc, failure, line, plain, notes),
             Event::Print { line, plain } => self.on_print_line(alloc, line, plain),
+            Event::Damaged { text } => push_damaged(alloc, text, notes),
         }
     }
 

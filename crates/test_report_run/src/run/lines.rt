@@ -1,14 +1,14 @@
 //! Lines that are of no suite and of no test: headings, failures of cargo, and what is printed.
 
-ghost use Rattle.std.specs.Prelude.{◌≡◌, ◌++◌, OnOk, map};
-ghost use Rattle.test_report_run.specs.Note.{note_view};
-ghost use Rattle.test_report_run.specs.Prints.{AFailure, APrint, printed_view};
+ghost use Rattle.std.specs.Prelude.{◌≡◌, ◌++◌, ◌∷◌, [], OnOk, map};
+ghost use Rattle.test_report_run.specs.Note.{Disagrees, IsDamaged, note_view};
+ghost use Rattle.test_report_run.specs.Prints.{AFailure, APrint, cut, printed_view};
 ghost use Rattle.test_report_run.specs.Run as spec;
 ghost use Rattle.test_report_run.specs.Run.{run_state};
 
 use crate::error::RunError;
 use crate::note::{Disagreement, Note};
-use crate::prints::Printed;
+use crate::prints::{Printed, shortened};
 use crate::run::TestRun;
 use std::alloc::{AllocError, Global};
 use test_report_events::event::CargoFailure;
@@ -89,4 +89,15 @@ impl TestRun {
         }
         self.outside.on_print(alloc, printed)
     }
+}
+
+/// Adds the disagreement of a damaged line that says a failure.
+pub(crate) fn push_damaged(alloc: Global, text: &str, notes: &mut Vec<Note>) -> Result<(), RunError>
+    ensures { OnOk result (map note_view notes.new.items ≡ map note_view notes.old.items
+        ++ Disagrees (IsDamaged (cut text.now)) ∷ []) }
+{
+    notes.push(Note::Disagreement(Disagreement::Damaged {
+        text: String::from_str(alloc, shortened(text))?,
+    }))?;
+    Ok(())
 }
