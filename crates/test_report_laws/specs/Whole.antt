@@ -3,17 +3,9 @@ use Rattle.std.specs.Prelude.{◌++◌, ◌∷◌, [], List}
 use Rattle.std.specs.List.{fold}
 use Rattle.test_report_events.specs.Event.{EventView}
 use Rattle.test_report_run.specs.Note.{NoteView}
-use Rattle.test_report_run.specs.Run.{RunState, after, after_file, end_of, file_notes, notes_at, run_start}
+use Rattle.test_report_run.specs.Run.{RunState, after_file, end_of, file_notes, run_start}
+pub use Rattle.test_report_run.specs.Run.{notes_of, run_after}
 use Rattle.test_report_run.specs.declared.note.RunEnd.{RunEnd}
-
--- what lines make known
-abbrev pub notes_of : RunState → List EventView → List NoteView
-notes_of r [] = []
-notes_of r (e ∷ events) = notes_at r e ++ notes_of (after r e) events
-
--- the run after lines
-abbrev pub run_after : RunState → List EventView → RunState
-run_after r events = fold after r events
 
 -- what a file makes known, up to its end
 abbrev pub notes_of_file : RunState → List EventView → List NoteView

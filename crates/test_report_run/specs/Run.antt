@@ -306,6 +306,15 @@ notes_at r e = (told r e).notes
 abbrev pub after : RunState → EventView → RunState
 after r e = marked (learned (told r e).run (told r e).notes) e
 
+-- what events make known, one after the other
+abbrev pub notes_of : RunState → List EventView → List NoteView
+notes_of r [] = []
+notes_of r (e ∷ events) = notes_at r e ++ notes_of (after r e) events
+
+-- the run after events
+abbrev pub run_after : RunState → List EventView → RunState
+run_after r events = fold after r events
+
 -- the end of a file: the open suites end early, and then the tests outside of a suite
 abbrev pub file_end : RunState → Step
 file_end r =

@@ -1,6 +1,7 @@
 //! A test run that is followed line by line.
 
-ghost use Rattle.std.specs.Prelude.{◌≡◌, ◌++◌, IfOk, OnOk, map};
+ghost use Rattle.std.specs.Prelude.{◌≡◌, ◌++◌, IfOk, OnOk, map, option_map, option_to_list};
+ghost use Rattle.test_report_events.specs.Content.{events_of};
 ghost use Rattle.test_report_events.specs.Event.{event_view};
 ghost use Rattle.test_report_run.specs.Note.{note_view};
 ghost use Rattle.test_report_run.specs.Run as spec;
@@ -18,6 +19,7 @@ use crate::suite::Suite;
 use crate::totals::Totals;
 use std::alloc::Global;
 use test_report_events::event::Event;
+use test_report_events::line::Line;
 
 /// A test run, up to the line that was passed last.
 #[derive(Drop)]
@@ -63,11 +65,28 @@ impl TestRun {
         }
     }
 
-    /// Takes the event of the next line, and returns the notes that it makes known. The notes of a suite are
-    /// in this order: its tests without an end, its flaky tests, disagreements, tests that did not run, and
-    /// the numbers of the suite.
+    /// Takes the next line: its events, in their order. Returns the notes that each makes known, one after the
+    /// other.
     ///
     /// After an error the run must not be used: a part of the line may be counted.
+    pub fn on_line(&mut self, alloc: Global, line: &Line) -> Result<Vec<Note>, RunError>
+        ensures tells { IfOk result (λ notes. map note_view notes.items
+            ≡ spec.notes_of (run_state self.old) (events_of line.now)) }
+        ensures takes { OnOk result (run_state self.new
+            ≡ spec.run_after (run_state self.old) (events_of line.now)) }
+    {
+        let mut notes = Vec::new(alloc);
+        self.take(alloc, line.before(), &mut notes)?;
+        self.take(alloc, Some(line.event()), &mut notes)?;
+        self.take(alloc, line.damage(), &mut notes)?;
+        Ok(notes)
+    }
+
+    /// Takes the next event, and returns the notes that it makes known. `on_line` calls it for each event of a
+    /// line. The notes of a suite are in this order: its tests without an end, its flaky tests, disagreements,
+    /// tests that did not run, and the numbers of the suite.
+    ///
+    /// After an error the run must not be used: a part of the event may be counted.
     pub fn on_event(&mut self, alloc: Global, event: Event<'_>) -> Result<Vec<Note>, RunError>
         ensures tells { IfOk result (λ notes. map note_view notes.items
             ≡ spec.notes_at (run_state self.old) (event_view event.entry)) }
@@ -108,7 +127,25 @@ impl TestRun {
         self.totals.end(self.disagreements)
     }
 
-    /// Takes the event of the next line, except that its notes are not added to the sums.
+    /// Takes an event if there is one, and appends its notes.
+    fn take(
+        &mut self,
+        alloc: Global,
+        event: Option<Event<'_>>,
+        notes: &mut Vec<Note>,
+    ) -> Result<(), RunError>
+        ensures tells { OnOk result (map note_view notes.new.items ≡ map note_view notes.old.items
+            ++ spec.notes_of (run_state self.old) (option_to_list (option_map event_view event.entry))) }
+        ensures takes { OnOk result (run_state self.new
+            ≡ spec.run_after (run_state self.old) (option_to_list (option_map event_view event.entry))) }
+    {
+        if let Some(event) = event {
+            notes.append(&mut self.on_event(alloc, event)?)?;
+        }
+        Ok(())
+    }
+
+    /// Takes an event, except that its notes are not added to the sums.
     fn tell(
         &mut self,
         alloc: Global,
