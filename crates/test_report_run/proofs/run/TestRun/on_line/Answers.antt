@@ -5,5 +5,5 @@ use Rattle.test_report_run.proofs.run.TestRun.on_line.Goals as goal
 
 pub returns-clause-tells : goal.returns-clause-tells
 returns-clause-tells c =
-    line-tells _ _ _ _ _ _ _ _ _ _ c.before-2.ensures c.event.ensures c.damage.ensures c.in_ok-take.ensures.takes c.in_ok-take-2.ensures.takes
-    _ _ _ _ (ap (map note_view) c.new-notes.ensures.items) c.in_ok-take.ensures.tells c.in_ok-take-2.ensures.tells c.in_ok-take-3.ensures.tells
+    line-tells _ _ _ _ _ _ _ _ _ _ _ _ _ c.before-2.ensures c.event.ensures c.damage.ensures c.in_ok-take.ensures.takes c.in_ok-take-2.ensures.takes
+    (ap (map note_view) c.new-notes.ensures.items) c.in_ok-take.ensures.tells c.in_ok-take-2.ensures.tells c.in_ok-take-3.ensures.tells
