@@ -9,7 +9,7 @@ use Rattle.test_report_events.specs.Event.{SuiteEndView, TestEndView}
 use Rattle.test_report_run.specs.Note.{NoteView}
 use Rattle.test_report_run.specs.Over.{early_notes, last_notes}
 use Rattle.test_report_run.proofs.Places.{remove-set}
-use Rattle.test_report_run.specs.Run.{RunState, Step, ended_at, ended_early, file_end, last_place, names_in, running_ends, step, stray_ends, suite_at, suite_place, test_over, with_suite_at, without_tests}
+use Rattle.test_report_run.specs.Run.{RunState, Step, all_ended_early, ended_at, ended_early, last_place, names_in, running_ends, step, stray_ends, suite_at, suite_place, test_over, with_suite_at, without_tests}
 use Rattle.test_report_run.specs.Running.{RunningView, ended_at as test_at}
 use Rattle.test_report_run.specs.Name.{before_dollar}
 use Rattle.test_report_run.specs.Suite.{SuiteState, has_key, outside_start, state_of, with_line}
@@ -56,9 +56,9 @@ pub outside-stays : (t : Step) (suites : List SuiteState) → (fold ended_early 
 outside-stays t [] = refl
 outside-stays t (s ∷ suites) = outside-stays (ended_early t s) suites
 
--- a file ends
+-- all suites of a file end early
 pub file-end : (r r1 r2 : RunState) (n1 n2 : List NoteView) (s : SuiteState) → step r1 n1 ≡ fold ended_early (step (record r { suites = [] }) []) r.suites
-    → s ≡ r1.outside → step r2 n2 ≡ ended_early (step (record r1 { outside = outside_start }) n1) s → step r2 n2 ≡ file_end r
+    → s ≡ r1.outside → step r2 n2 ≡ ended_early (step (record r1 { outside = outside_start }) n1) s → step r2 n2 ≡ all_ended_early r
 file-end r r1 r2 n1 n2 s suites is end =
     end ∙ ap (λ x. ended_early (step (record r1 { outside = outside_start }) n1) x)
     (is ∙ ap (λ (t : Step). t.run.outside) suites ∙ outside-stays (step (record r { suites = [] }) []) r.suites)

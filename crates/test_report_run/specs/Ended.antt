@@ -7,7 +7,7 @@ use Rattle.test_report_events.specs.Event.{TestEndView}
 use Rattle.test_report_events.specs.declared.event.TestResult.TheVariants.{Ok, Failed, Ignored}
 use Rattle.test_report_run.specs.Counted.{finish_for}
 use Rattle.test_report_run.specs.Note.{FailureView, Fails, HasFailed, HasTimedOut, IsSkipped, NoteView, Passes}
-use Rattle.test_report_run.specs.Said.{sum_of}
+use Rattle.test_report_run.specs.Said.{time_sum_of}
 use Rattle.test_report_run.specs.Suite.{FlakyView, OverView, SuiteState, named, test_note, with_finish}
 use Rattle.test_report_run.specs.declared.counted.Finish.TheVariants as finish
 
@@ -48,7 +48,7 @@ failed_note s t e = test_note s t (Fails (failure_of e)) ∷ []
 
 -- the suite with the time of one more test
 abbrev pub timed : SuiteState → TestEndView → SuiteState
-timed s e = record s { time = sum_of s.time e.time }
+timed s e = record s { time = time_sum_of s.time e.time }
 
 -- the suite after the end of a test
 abbrev pub after_end : SuiteState → OverView → ℕ → TestEndView → SuiteState

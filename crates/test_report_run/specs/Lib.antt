@@ -1,5 +1,6 @@
 pub mod Counted
 pub mod Ended
+pub mod Headings
 pub mod LastLine
 pub mod Name
 pub mod Note

@@ -2,6 +2,7 @@
 use Rattle.std.specs.Prelude.{◌==◌, ◌&&◌, ◌||◌, ◌++◌, ◌∷◌, [], ℕ, zero, suc, List, Bool, codes, if◌then◌else◌, length, map, nat_le, nat_lt, slice_index, string_bytes}
 use Rattle.std.specs.List.{remove, slice_range}
 use Rattle.std.specs.Str.{bytes_eq, trim}
+use Rattle.test_report_events.specs.Time.{without_spaces}
 use Rattle.test_report_run.specs.declared.prints.Printed.{Printed}
 use Rattle.test_report_run.specs.declared.prints.Printed.TheVariants as printed
 use Rattle.test_report_run.specs.declared.prints.Prints.{Prints}
@@ -55,9 +56,13 @@ cut line = slice_range line 0 (floor_of line 200)
 abbrev pub last_two : List (List ℕ) → List (List ℕ)
 last_two lines = if nat_lt 2 (length lines) then remove lines 0 else lines
 
+-- the line is `Caused by:`, perhaps after spaces
+abbrev pub says_caused_by : List ℕ → Bool
+says_caused_by plain = bytes_eq (without_spaces plain) (codes "Caused by:")
+
 -- the stage after a line that comes after the first failure
 abbrev pub after_failure : PrintedView → Stage
-after_failure (APrint line plain) = if bytes_eq plain (codes "Caused by:") then stage.CausedBy else stage.Failed
+after_failure (APrint line plain) = if says_caused_by plain then stage.CausedBy else stage.Failed
 after_failure AHeading = stage.Over
 after_failure (AFailure line) = stage.Over
 

@@ -7,7 +7,8 @@ use Rattle.test_report_events.specs.declared.event.CargoFailure.{CargoFailure}
 use Rattle.test_report_events.specs.declared.event.CargoFailure.TheVariants.{Build, Tests, Run}
 use Rattle.test_report_events.specs.declared.event.TestResult.TheVariants.{Ok, Failed, Ignored}
 use Rattle.test_report_run.specs.Ended.{after_end, after_stray, end_notes, stray_notes}
-use Rattle.test_report_run.specs.Note.{CargoSays, Disagrees, Fails, IsDamaged, IsNotRun, IsSkipped, NoteView, OutcomeView, Passes, StrayEnds, StraySuiteEnds, SuiteIs, TestIs, text_view}
+use Rattle.test_report_run.specs.Headings.{HeadingView, heading_by, headings_of, shown_by, with_heading}
+use Rattle.test_report_run.specs.Note.{CargoSays, Disagrees, Fails, HasNoEvent, IsDamaged, IsNotRun, IsSkipped, NoteView, OutcomeView, Passes, StrayEnds, StraySuiteEnds, SuiteIs, TestIs, text_view}
 use Rattle.test_report_run.specs.Over.{early_notes, last_notes}
 use Rattle.test_report_run.specs.Prints.{AFailure, AHeading, APrint, PrintedView, after_line, cut}
 use Rattle.test_report_run.specs.Running.{RunningView, is_of, is_same, place_of_end, running_at, tests_of}
@@ -22,9 +23,12 @@ pub record RunState : Type 0 where
   -- the tests of the file that started outside of a suite, and the open suites in the order of their first lines
   pub outside : SuiteState
   pub suites : List SuiteState
-  -- how many suites started, and the heading in force
+  -- how many suites started
   pub suites_started : ℕ
+  -- the headings of the file, the name that the last one shows, and whether a line of the file was an event of a harness
+  pub headings : List HeadingView
   pub heading : Option (List ℕ)
+  pub has_event : Bool
   -- the tests that run, how many tests started, and how many ended
   pub running : List RunningView
   pub tests_started : ℕ
@@ -43,7 +47,9 @@ run_state r = record {
   outside = state_of r.outside;
   suites = map (λ suite. state_of suite.value) r.suites.items;
   suites_started = r.suites_started;
+  headings = headings_of r.headings;
   heading = text_view r.heading;
+  has_event = r.has_event;
   running = tests_of r.running;
   tests_started = r.running.started;
   ended = r.ended;
@@ -60,7 +66,9 @@ run_start = record {
   outside = outside_start;
   suites = [];
   suites_started = 0;
+  headings = [];
   heading = None;
+  has_event = false;
   running = [];
   tests_started = 0;
   ended = 0;
@@ -222,8 +230,11 @@ abbrev pub printed_to : RunState → PrintedView → RunState
 printed_to r line = record r { outside = suite_prints line r.outside; suites = map (suite_prints line) r.suites }
 
 -- a heading
-abbrev pub headed : RunState → List ℕ → RunState
-headed r suite = record (printed_to r AHeading) { heading = Some suite }
+abbrev pub headed : RunState → List ℕ → Option (List ℕ) → RunState
+headed r name path = record (printed_to r AHeading) {
+  headings = with_heading r.headings (heading_by name path);
+  heading = Some (shown_by r.headings (heading_by name path));
+}
 
 -- a failed test or a disagreement before it explains a failure of cargo
 abbrev pub is_explained : RunState → CargoFailure → Bool
@@ -242,7 +253,7 @@ told r (SuiteEnds e) = suite_ends r e
 told r (TestStarts name) = step (test_starts r name) []
 told r (TestEnds e) = let t = test_ends r e in step (record (t.run) { ended = t.run.ended + 1 }) t.notes
 told r OtherLine = step r []
-told r (HeadingLine suite path) = step (headed r suite) []
+told r (HeadingLine name path) = step (headed r name path) []
 told r (CargoFails f line plain) = step (printed_to r (AFailure line)) (cargo_notes r f plain)
 told r (Prints line plain) = step (printed_to r (APrint line plain)) []
 told r (DamagedLine text) = step r (Disagrees (IsDamaged (cut text)) ∷ [])
@@ -286,15 +297,15 @@ learned r notes = record r {
   causes = r.causes + count_by is_cause notes;
 }
 
--- the run remembers how many causes there were at a failure of cargo that counted
+-- the run remembers that a line was an event of a harness, and how many causes there were at a failure of cargo that counted
 abbrev pub marked : RunState → EventView → RunState
 marked r (CargoFails f line plain) = if length r.suites == 0 then record r { causes_at_cargo = r.causes } else r
-marked r (SuiteStarts key count) = r
-marked r (SuiteEnds e) = r
-marked r (TestStarts name) = r
-marked r (TestEnds e) = r
-marked r OtherLine = r
-marked r (HeadingLine suite path) = r
+marked r (SuiteStarts key count) = record r { has_event = true }
+marked r (SuiteEnds e) = record r { has_event = true }
+marked r (TestStarts name) = record r { has_event = true }
+marked r (TestEnds e) = record r { has_event = true }
+marked r OtherLine = record r { has_event = true }
+marked r (HeadingLine name path) = r
 marked r (Prints line plain) = r
 marked r (DamagedLine text) = r
 
@@ -315,11 +326,19 @@ notes_of r (e ∷ events) = notes_at r e ++ notes_of (after r e) events
 abbrev pub run_after : RunState → List EventView → RunState
 run_after r events = fold after r events
 
--- the end of a file: the open suites end early, and then the tests outside of a suite
-abbrev pub file_end : RunState → Step
-file_end r =
+-- a file disagrees if it has no event of a harness, and nothing failed or disagreed in it
+abbrev pub no_event_notes : RunState → List NoteView
+no_event_notes r = if not r.has_event && not (nat_lt r.causes_at_file r.causes) then Disagrees HasNoEvent ∷ [] else []
+
+-- the open suites end early, and then the tests outside of a suite
+abbrev pub all_ended_early : RunState → Step
+all_ended_early r =
     let suites = fold ended_early (step (record r { suites = [] }) []) r.suites in
     ended_early (step (record (suites.run) { outside = outside_start }) suites.notes) r.outside
+
+-- the end of a file
+abbrev pub file_end : RunState → Step
+file_end r = let t = all_ended_early r in step t.run (t.notes ++ no_event_notes t.run)
 
 -- what the end of a file makes known
 abbrev pub file_notes : RunState → List NoteView
@@ -329,7 +348,7 @@ file_notes r = (file_end r).notes
 abbrev pub after_file : RunState → RunState
 after_file r =
     let over = learned (file_end r).run (file_end r).notes in
-    record over { heading = None; causes_at_file = over.causes; causes_at_cargo = over.causes }
+    record over { headings = []; heading = None; has_event = false; causes_at_file = over.causes; causes_at_cargo = over.causes }
 
 -- the sums and the outcome
 abbrev pub end_of : RunState → RunEnd

@@ -1,5 +1,5 @@
 -- What the last lines of a suite say together.
-use Rattle.std.specs.Prelude.{◌+◌, ◌||◌, ℕ, false, Option, Some, None, option_map, unwrap_or}
+use Rattle.std.specs.Prelude.{◌+◌, ◌-◌, ◌^◌, ◌||◌, ℕ, false, min, Option, Some, None, option_map, unwrap_or}
 use Rattle.test_report_events.specs.Event.{SuiteEndView}
 use Rattle.test_report_run.specs.declared.note.SaidNumbers.{SaidNumbers}
 use Rattle.test_report_run.specs.declared.said.Said.{Said}
@@ -10,6 +10,12 @@ sum_of None b = b
 sum_of (Some a) None = Some a
 sum_of (Some a) (Some b) = Some (a + b)
 
+-- the sum of two times that may be absent. A sum that does not fit 64 bits is the greatest number that does
+abbrev pub time_sum_of : Option ℕ → Option ℕ → Option ℕ
+time_sum_of None b = b
+time_sum_of (Some a) None = Some a
+time_sum_of (Some a) (Some b) = Some (min (a + b) (2 ^ 64 - 1))
+
 -- what the lines say together with one more
 abbrev pub with_said : Said → SuiteEndView → Said
 with_said s e = record {
@@ -18,7 +24,7 @@ with_said s e = record {
   failed = sum_of s.failed e.failed;
   ignored = sum_of s.ignored e.ignored;
   measured = sum_of s.measured e.measured;
-  time = sum_of s.time e.time;
+  time = time_sum_of s.time e.time;
 }
 
 -- what no lines say

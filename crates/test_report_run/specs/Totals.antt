@@ -8,7 +8,7 @@ use Rattle.run_events_stats.specs.declared.outcome.RunFailureStep.TheVariants as
 use Rattle.run_events_stats.specs.declared.outcome.run_outcome.RunOutcome.{RunOutcome}
 use Rattle.run_events_stats.specs.declared.outcome.run_outcome.RunOutcome.TheVariants as outcome
 use Rattle.test_report_run.specs.Note.{SuiteNoteView}
-use Rattle.test_report_run.specs.Said.{sum_of}
+use Rattle.test_report_run.specs.Said.{time_sum_of}
 use Rattle.test_report_run.specs.declared.note.RunEnd.{RunEnd}
 
 -- the outcome of a suite: that of its statistics, with one more test to run if some were not run
@@ -35,7 +35,7 @@ with_suite e s = record {
   skipped = e.skipped + s.skipped;
   not_run = e.not_run + s.not_run;
   crashed = e.crashed + s.crashed;
-  time = sum_of e.time s.time;
+  time = time_sum_of e.time s.time;
   outcome = combined e.outcome (suite_outcome s);
 }
 

@@ -68,7 +68,7 @@ impl Suite {
             notes.push(self.note(alloc, test, TestOutcome::Skipped)?)?;
             return Ok(());
         }
-        self.time = time_sum(self.time, details.time)?;
+        self.time = time_sum(self.time, details.time);
         if end == TestResult::Failed {
             return self.on_failed(alloc, test, details, notes);
         }

@@ -1,6 +1,6 @@
 //! The errors of a run that cannot be counted.
 
-ghost use Rattle.std.specs.Prelude.{◌≡◌, ◌+◌, IfOk};
+ghost use Rattle.std.specs.Prelude.{◌≡◌, ◌+◌, ◌<◌, ◌^◌, ◌↔◌, IfOk, IsOk};
 
 use run_events_stats::stats::CounterFull;
 use std::alloc::{AllocError, AllocFailed};
@@ -50,7 +50,8 @@ impl<T: Drop> From<AllocFailed<T>> for RunError {
 
 /// Increments a counter. Fails only if it is `usize::MAX`.
 pub(crate) fn one_more(count: usize) -> Result<usize, RunError>
-    ensures { IfOk result (λ more. more ≡ count + 1) }
+    ensures more { IfOk result (λ more. more ≡ count + 1) }
+    ensures fits { IsOk result ↔ (count + 1 < 2 ^ 64) }
 {
     count.checked_add(1).ok_or(RunError::CounterFull)
 }

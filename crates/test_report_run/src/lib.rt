@@ -27,6 +27,7 @@
 mod counted;
 mod ended;
 pub mod error;
+mod headings;
 mod last_line;
 pub mod note;
 mod over;

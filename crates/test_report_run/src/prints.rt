@@ -1,6 +1,8 @@
 //! The lines that may explain why a suite ended early.
 
-ghost use Rattle.std.specs.Prelude.{◌≡◌, IfOk, OnOk, map, string_bytes, ◌++◌, ◌∷◌, []};
+ghost use Rattle.std.specs.Prelude.{◌≡◌, ◌==◌, IfOk, OnOk, map, not, string_bytes, ◌++◌, ◌∷◌, []};
+ghost use Rattle.std.specs.List.{position};
+ghost use Rattle.test_report_run.specs.Prints as spec;
 ghost use Rattle.test_report_run.specs.Prints.{after_failure, after_line, caused_by, cut, last_two, no_prints, printed_view, prints_view, with_print};
 
 use std::alloc::{AllocError, Global};
@@ -11,10 +13,13 @@ const KEPT_PRINTS: usize = 3;
 /// The most bytes of a print that are kept.
 const KEPT_BYTES: usize = 200;
 
+/// The line before the one in which cargo names the cause of its failure.
+const CAUSED_BY: &[u8] = b"Caused by:";
+
 /// A line that is no event of a harness.
 #[derive(Clone, Copy)]
 pub(crate) enum Printed<'a> {
-    /// Any line, and the same line without colours and without spaces at the front.
+    /// Any line, and the same line without colours.
     Print { line: &'a str, plain: &'a str },
 
     /// A heading of cargo.
@@ -152,13 +157,27 @@ fn stage_after_failure(printed: Printed<'_>) -> Stage
     ensures { result ≡ after_failure (printed_view printed.entry) }
 {
     match printed {
-        Printed::Print {
-            plain: "Caused by:",
-            ..
-        } => Stage::CausedBy,
+        Printed::Print { plain, .. } if says_caused_by(plain.as_bytes()) => Stage::CausedBy,
         Printed::Print { .. } => Stage::Failed,
         Printed::Heading | Printed::CargoFailed { .. } => Stage::Over,
     }
+}
+
+/// Returns true if a line is `Caused by:`, perhaps after spaces.
+fn says_caused_by(plain: &[u8]) -> bool
+    ensures { result ≡ spec.says_caused_by plain.now }
+{
+    match spaces_end(plain) {
+        Some(at) => plain[at..] == CAUSED_BY[..],
+        None => false,
+    }
+}
+
+/// Returns the offset of the first byte that is not a space.
+fn spaces_end(text: &[u8]) -> Option<usize>
+    ensures { result ≡ position (λ b. not (b == 32)) text.now }
+{
+    text.iter().position(|byte| *byte != b' ')
 }
 
 /// Returns the longest start of a line that has at most [`KEPT_BYTES`] bytes and ends between characters.

@@ -1,6 +1,6 @@
 //! A test run that is followed line by line.
 
-ghost use Rattle.std.specs.Prelude.{◌≡◌, ◌++◌, IfOk, OnOk, map, option_map, option_to_list};
+ghost use Rattle.std.specs.Prelude.{◌≡◌, ◌++◌, ◌∷◌, [], IfOk, OnOk, map, option_map, option_to_list};
 ghost use Rattle.test_report_events.specs.Content.{events_of};
 ghost use Rattle.test_report_events.specs.Event.{event_view};
 ghost use Rattle.test_report_run.specs.Note.{note_view};
@@ -12,12 +12,13 @@ mod suites;
 mod test_lines;
 
 use crate::error::{RunError, one_more};
-use crate::note::{Note, RunEnd, TestOutcome};
+use crate::headings::Headings;
+use crate::note::{Disagreement, Note, RunEnd, TestOutcome};
 use crate::run::lines::push_damaged;
 use crate::running::Running;
 use crate::suite::Suite;
 use crate::totals::Totals;
-use std::alloc::Global;
+use std::alloc::{AllocError, Global};
 use test_report_events::event::Event;
 use test_report_events::line::Line;
 
@@ -32,7 +33,14 @@ pub struct TestRun {
     suites: Vec<Box<Suite>>,
 
     suites_started: usize,
+
+    /// The headings of the file, and the name that the last one gives the suites after it.
+    headings: Headings,
     heading: Option<String>,
+
+    /// True if a line of the file was an event of a harness.
+    has_event: bool,
+
     running: Running,
     ended: usize,
     totals: Totals,
@@ -54,7 +62,9 @@ impl TestRun {
             outside: Suite::outside(alloc),
             suites: Vec::new(alloc),
             suites_started: 0,
+            headings: Headings::new(alloc),
             heading: None,
+            has_event: false,
             running: Running::new(alloc),
             ended: 0,
             totals: Totals::new(),
@@ -113,8 +123,11 @@ impl TestRun {
         }
         let outside = std::mem::replace(&mut self.outside, Suite::outside(alloc));
         self.end_early(alloc, outside, &mut notes)?;
+        self.push_no_event(&mut notes)?;
         self.learn(&notes)?;
+        self.headings = Headings::new(alloc);
         self.heading = None;
+        self.has_event = false;
         self.causes_at_file = self.causes;
         self.causes_at_cargo = self.causes;
         Ok(notes)
@@ -169,7 +182,7 @@ impl TestRun {
                 details,
             } => self.on_test_ended(alloc, name, end, details, notes),
             Event::Other => Ok(()),
-            Event::Heading { suite, .. } => self.on_heading(alloc, suite),
+            Event::Heading { suite, path } => self.on_heading(alloc, suite, path),
             Event::CargoFailed {
                 failure,
                 line,
@@ -180,12 +193,35 @@ impl TestRun {
         }
     }
 
-    /// Stores the number of causes if cargo reports a failure outside of a suite.
+    /// Adds a disagreement if no line of the file is an event of a harness, and nothing failed or disagreed in it.
+    fn push_no_event(&self, notes: &mut Vec<Note>) -> Result<(), AllocError>
+        ensures { OnOk result (map note_view notes.new.items ≡ map note_view notes.old.items
+            ++ spec.no_event_notes (run_state self.now)) }
+    {
+        let explained = self.causes > self.causes_at_file;
+        if !self.has_event && !explained {
+            notes.push(Note::Disagreement(Disagreement::NoEvent))?;
+        }
+        Ok(())
+    }
+
+    /// Stores that a line is an event of a harness, and the number of causes if cargo reports a failure outside
+    /// of a suite.
     fn mark(&mut self, event: Event<'_>)
         ensures { run_state self.new ≡ spec.marked (run_state self.old) (event_view event.entry) }
     {
-        if matches!(event, Event::CargoFailed { .. }) && self.suites.is_empty() {
-            self.causes_at_cargo = self.causes;
+        match event {
+            Event::SuiteStarted { .. }
+            | Event::SuiteEnded(_)
+            | Event::TestStarted { .. }
+            | Event::TestEnded { .. }
+            | Event::Other => self.has_event = true,
+            Event::CargoFailed { .. } => {
+                if self.suites.is_empty() {
+                    self.causes_at_cargo = self.causes;
+                }
+            }
+            Event::Heading { .. } | Event::Print { .. } | Event::Damaged { .. } => {}
         }
     }
 
@@ -195,19 +231,28 @@ impl TestRun {
             ≡ spec.learned (run_state self.old) (map note_view notes.now)) }
     {
         for note in notes {
-            match note {
-                Note::Test(test) => {
-                    if matches!(test.outcome, TestOutcome::Failed(_)) {
-                        self.causes = one_more(self.causes)?;
-                    }
-                }
-                Note::Disagreement(_) => {
+            self.learn_note(note)?;
+        }
+        Ok(())
+    }
+
+    /// Adds a note to the sums.
+    fn learn_note(&mut self, note: &Note) -> Result<(), RunError>
+        ensures { OnOk result (run_state self.new
+            ≡ spec.learned (run_state self.old) (note_view note.now ∷ [])) }
+    {
+        match note {
+            Note::Test(test) => {
+                if matches!(test.outcome, TestOutcome::Failed(_)) {
                     self.causes = one_more(self.causes)?;
-                    self.disagreements = one_more(self.disagreements)?;
                 }
-                Note::NotRun(_) => {}
-                Note::Suite(suite) => self.totals.add(suite)?,
             }
+            Note::Disagreement(_) => {
+                self.causes = one_more(self.causes)?;
+                self.disagreements = one_more(self.disagreements)?;
+            }
+            Note::NotRun(_) => {}
+            Note::Suite(suite) => self.totals.add(suite)?,
         }
         Ok(())
     }

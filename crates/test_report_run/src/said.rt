@@ -1,16 +1,18 @@
 //! The numbers in the last lines of a suite.
 
-ghost use Rattle.std.specs.Prelude.{◌≡◌, IfOk};
+ghost use Rattle.std.specs.Prelude.{◌≡◌, ◌+◌, ◌<◌, ◌^◌, ◌↔◌, IfOk, IsOk, unwrap_or};
 ghost use Rattle.test_report_events.specs.Event.{suite_end_view};
-ghost use Rattle.test_report_run.specs.Said.{numbers_of, sum_of, with_said};
+ghost use Rattle.test_report_run.specs.Said.{numbers_of, sum_of, time_sum_of, with_said};
 
 use crate::error::RunError;
 use crate::note::SaidNumbers;
 use test_report_events::event::SuiteEnd;
 
-/// Adds two numbers that may be absent. The sum is absent only if both are.
+/// Adds two numbers that may be absent. The sum is absent only if both are. Fails only if the sum does not
+/// fit.
 pub(crate) fn sum(a: Option<u128>, b: Option<u128>) -> Result<Option<u128>, RunError>
-    ensures { IfOk result (λ sum. sum ≡ sum_of a b) }
+    ensures sum { IfOk result (λ sum. sum ≡ sum_of a b) }
+    ensures fits { IsOk result ↔ (unwrap_or a 0 + unwrap_or b 0 < 2 ^ 128) }
 {
     match (a, b) {
         (Some(a), Some(b)) => Ok(Some(a.checked_add(b).ok_or(RunError::CounterFull)?)),
@@ -19,9 +21,10 @@ pub(crate) fn sum(a: Option<u128>, b: Option<u128>) -> Result<Option<u128>, RunE
     }
 }
 
-/// Adds a number of a line. The sum is absent only if both numbers are.
+/// Adds a number of a line. The sum is absent only if both numbers are. Fails only if the sum does not fit.
 fn with_number(a: Option<u128>, b: Option<u64>) -> Result<Option<u128>, RunError>
-    ensures { IfOk result (λ sum. sum ≡ sum_of a b) }
+    ensures sum { IfOk result (λ sum. sum ≡ sum_of a b) }
+    ensures fits { IsOk result ↔ (unwrap_or a 0 + unwrap_or b 0 < 2 ^ 128) }
 {
     match b {
         Some(b) => sum(a, Some(u128::from(b))),
@@ -29,14 +32,15 @@ fn with_number(a: Option<u128>, b: Option<u64>) -> Result<Option<u128>, RunError
     }
 }
 
-/// Adds two times that may be absent. The sum is absent only if both are.
-pub(crate) fn time_sum(a: Option<u64>, b: Option<u64>) -> Result<Option<u64>, RunError>
-    ensures { IfOk result (λ sum. sum ≡ sum_of a b) }
+/// Adds two times that may be absent. The sum is absent only if both are. A sum that does not fit is the
+/// greatest number that does.
+pub(crate) fn time_sum(a: Option<u64>, b: Option<u64>) -> Option<u64>
+    ensures { result ≡ time_sum_of a b }
 {
     match (a, b) {
-        (Some(a), Some(b)) => Ok(Some(a.checked_add(b).ok_or(RunError::CounterFull)?)),
-        (Some(a), None) => Ok(Some(a)),
-        (None, b) => Ok(b),
+        (Some(a), Some(b)) => Some(a.saturating_add(b)),
+        (Some(a), None) => Some(a),
+        (None, b) => b,
     }
 }
 
@@ -62,7 +66,7 @@ impl Said {
             failed: with_number(self.failed, end.failed)?,
             ignored: with_number(self.ignored, end.ignored)?,
             measured: with_number(self.measured, end.measured)?,
-            time: time_sum(self.time, end.time)?,
+            time: time_sum(self.time, end.time),
         })
     }
 

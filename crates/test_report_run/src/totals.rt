@@ -1,6 +1,6 @@
 //! The sums over all suites of a run.
 
-ghost use Rattle.std.specs.Prelude.{◌≡◌, ◌+◌, IfOk, OnOk};
+ghost use Rattle.std.specs.Prelude.{◌≡◌, ◌+◌, ◌<◌, ◌^◌, ◌↔◌, IfOk, IsOk, OnOk};
 ghost use Rattle.test_report_run.specs.Note.{suite_view};
 ghost use Rattle.test_report_run.specs.Totals.{ending, no_suites, suite_outcome, with_suite};
 
@@ -42,7 +42,7 @@ impl Totals {
         self.end.crashed = crashed.ok_or(RunError::CounterFull)?;
         self.end.skipped = plus(self.end.skipped, suite.skipped)?;
         self.end.not_run = plus(self.end.not_run, suite.not_run)?;
-        self.end.time = time_sum(self.end.time, suite.time)?;
+        self.end.time = time_sum(self.end.time, suite.time);
         self.end.outcome = self.end.outcome.combine(outcome_of(suite)?);
         Ok(())
     }
@@ -85,7 +85,8 @@ fn outcome_of(suite: &SuiteNote) -> Result<RunOutcome, RunError>
 
 /// Adds two numbers. Fails only if the sum does not fit.
 fn plus(a: u128, b: u128) -> Result<u128, RunError>
-    ensures { IfOk result (λ sum. sum ≡ a + b) }
+    ensures sum { IfOk result (λ sum. sum ≡ a + b) }
+    ensures fits { IsOk result ↔ (a + b < 2 ^ 128) }
 {
     a.checked_add(b).ok_or(RunError::CounterFull)
 }

@@ -1,6 +1,6 @@
 //! Lines that are of no suite and of no test: headings, failures of cargo, and what is printed.
 
-ghost use Rattle.std.specs.Prelude.{◌≡◌, ◌++◌, ◌∷◌, [], OnOk, map};
+ghost use Rattle.std.specs.Prelude.{◌≡◌, ◌++◌, ◌∷◌, [], OnOk, map, option_map};
 ghost use Rattle.test_report_run.specs.Note.{Disagrees, IsDamaged, note_view};
 ghost use Rattle.test_report_run.specs.Prints.{AFailure, APrint, cut, printed_view};
 ghost use Rattle.test_report_run.specs.Run as spec;
@@ -15,11 +15,17 @@ use test_report_events::event::CargoFailure;
 
 impl TestRun {
     /// Takes a heading of cargo.
-    pub(crate) fn on_heading(&mut self, alloc: Global, suite: &str) -> Result<(), RunError>
-        ensures { OnOk result (run_state self.new ≡ spec.headed (run_state self.old) suite.now) }
+    pub(crate) fn on_heading(
+        &mut self,
+        alloc: Global,
+        name: &str,
+        path: Option<&str>,
+    ) -> Result<(), RunError>
+        ensures { OnOk result (run_state self.new ≡ spec.headed (run_state self.old) name.now
+            (option_map (λ path. path.now) path.entry)) }
     {
         self.on_print(alloc, Printed::Heading)?;
-        self.heading = Some(String::from_str(alloc, suite)?);
+        self.heading = Some(self.headings.on_heading(alloc, name, path)?);
         Ok(())
     }
 

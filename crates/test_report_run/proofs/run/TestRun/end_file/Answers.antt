@@ -1,10 +1,11 @@
 -- The open suites end early, and then the tests outside of a suite.
-use Rattle.std.proofs.Common.{◌≡◌, ◌∙◌, [], Box, Global, List, None, Vec, ap, arith, map, map-id, sym}
+use Rattle.std.proofs.Common.{◌≡◌, ◌∙◌, ◌++◌, [], Box, Global, List, None, false, Vec, ap, arith, map, map-id, sym}
 use Rattle.std.specs.List.{fold}
 use Rattle.std.proofs.lemmas.Iterator.Consumers.{YieldsList-end}
 use Rattle.std.proofs.lemmas.Iterator.Adapters.{YieldsList-from_vec}
-use Rattle.test_report_run.specs.Note.{note_view}
-use Rattle.test_report_run.specs.Run.{RunState, Step, ended_early, learned, run_state, step}
+use Rattle.test_report_run.specs.Note.{NoteView, note_view}
+use Rattle.test_report_run.specs.Run.{RunState, Step, ended_early, learned, no_event_notes, run_state, step}
+use Rattle.test_report_run.specs.Headings.{HeadingView}
 use Rattle.test_report_run.specs.Suite.{SuiteState, outside_start, state_of}
 use Rattle.test_report_run.specs.declared.note.Note.{Note}
 use Rattle.test_report_run.specs.declared.suite.Suite.{Suite}
@@ -26,7 +27,7 @@ returns-clause-tells c =
     let end = file-end r _ _ _ _ (state_of c.replace-outside.result) suites (ap state_of c.replace-outside.ensures.value) (c.in_ok-end_early-2.ensures
     ∙ ap (λ (o : SuiteState). ended_early (step (record (run_state c.loop-suite.self) { outside = o }) (map note_view c.loop-suite.notes.items))
     (state_of c.replace-outside.result)) outside) in
-    ap (λ (t : Step). t.notes) end
+    c.in_ok-push_no_event.ensures ∙ ap (λ (t : Step). t.notes ++ no_event_notes t.run) end
 
 pub returns-clause-takes : goal.returns-clause-takes
 returns-clause-takes c =
@@ -43,6 +44,8 @@ returns-clause-takes c =
     let end = file-end r _ _ _ _ (state_of c.replace-outside.result) suites (ap state_of c.replace-outside.ensures.value) (c.in_ok-end_early-2.ensures
     ∙ ap (λ (o : SuiteState). ended_early (step (record (run_state c.loop-suite.self) { outside = o }) (map note_view c.loop-suite.notes.items))
     (state_of c.replace-outside.result)) outside) in
-    ap (λ (x : RunState). record x { heading = None; causes_at_file = x.causes; causes_at_cargo = x.causes })
-    (c.in_ok-learn.ensures ∙ ap (λ (notes : List Note). learned (run_state c.end_early-2.new.self) (map note_view notes)) c.deref.ensures.value
-    ∙ ap (λ (t : Step). learned t.run t.notes) end)
+    let over = c.in_ok-learn.ensures ∙ ap (λ (notes : List Note). learned (run_state c.end_early-2.new.self) (map note_view notes)) c.deref.ensures.value
+    ∙ ap (λ (notes : List NoteView). learned (run_state c.end_early-2.new.self) notes) c.in_ok-push_no_event.ensures
+    ∙ ap (λ (t : Step). learned t.run (t.notes ++ no_event_notes t.run)) end in
+    ap (λ (h : List HeadingView). record (run_state c.learn.new.self) { headings = h; heading = None; has_event = false; causes_at_file = c.learn.new.self.causes; causes_at_cargo = c.learn.new.self.causes }) c.new-2.ensures
+    ∙ ap (λ (x : RunState). record x { headings = []; heading = None; has_event = false; causes_at_file = x.causes; causes_at_cargo = x.causes }) over
