@@ -1,22 +1,22 @@
 //! Follows a test run line by line, and returns which tests passed, failed or were skipped, and where lines
 //! of the run contradict each other.
 //!
-//! Make a `TestRun`, and pass the event of each line to `on_event`. Call `end_file` after the last line of
-//! each file, and `end` after the last file. `on_event` and `end_file` return notes, for example that a test
-//! failed. `end` returns the counts and the outcome of the run.
+//! Make a `TestRun`, and pass each line to `on_line`. Call `end_file` after the last line of each file, and
+//! `end` after the last file. `on_line` and `end_file` return notes, for example that a test failed. `end`
+//! returns the counts and the outcome of the run.
 //!
 //! This function does so for a run of one file, with the lines `lines`:
 //!
 //! ```rust
 //! pub fn end_of_lines(alloc: Global, lines: &[&[u8]]) -> Result<RunEnd, RunError>
-//!     ensures { IfOk result (λ end. (events : List EventView)
+//!     ensures { IfOk result (λ end. (events : List (List EventView))
 //!         × AllZip LineSays (map (λ line. line.now) lines.now) events
-//!         × (end ≡ end_of (after_file (fold after run_start events)))) }
+//!         × (end ≡ end_of (after_file (fold run_after run_start events)))) }
 //! {
 //!     let mut run = TestRun::new(alloc);
 //!     for bytes in lines {
 //!         let line = Line::read(alloc, bytes)?;
-//!         run.on_event(alloc, line.event())?;
+//!         run.on_line(alloc, &line)?;
 //!     }
 //!     run.end_file(alloc)?;
 //!     Ok(run.end())

@@ -150,7 +150,7 @@ impl Suite {
           prints = after_line (state_of self.old).prints (printed_view printed.entry);
         }) }
     {
-        self.prints.on_line(alloc, printed)
+        self.prints.on_printed(alloc, printed)
     }
 
     /// Takes the name in a line of a test of the suite.
