@@ -1,7 +1,6 @@
 -- The words for results, outcomes, causes and numbers.
-use Rattle.std.specs.Prelude.{ℕ, List, Bool, ◌++◌, ◌∷◌, [], ◌-◌, codes, if◌then◌else◌, Option}
+use Rattle.std.specs.Prelude.{ℕ, List, Bool, ◌++◌, ◌∷◌, [], ◌-◌, codes, if◌then◌else◌, None, Option, Some}
 use Rattle.std.specs.Fmt.{decimal}
-use Rattle.std.specs.Option.{option_map_or}
 use Rattle.std.specs.Str.{bytes_eq}
 use Rattle.run_events_stats.specs.declared.outcome.run_outcome.RunOutcome.{RunOutcome}
 use Rattle.run_events_stats.specs.declared.outcome.run_outcome.RunOutcome.TheVariants as outcome
@@ -48,19 +47,21 @@ result_word ended.Ok = codes "ok"
 result_word ended.Failed = codes "failed"
 result_word ended.Ignored = codes "ignored"
 
--- a number that the last line of a suite says
-abbrev pub said_number : List ℕ → Option ℕ → List ℕ
-said_number word number = option_map_or (λ n. codes ", " ++ (decimal n ++ word)) number []
+-- what the last line of a suite says: how many tests passed and failed, if it counts them, and the verdict
+unfoldable pub said_numbers : Option ℕ → Option ℕ → List ℕ → List ℕ
+said_numbers (Some p) (Some f) verdict =
+    codes "counts " ++ (decimal p ++ (codes " passed and " ++ (decimal f ++ (codes " failed (" ++ (verdict ++ codes ")")))))
+said_numbers (Some p) None verdict = codes "counts " ++ (decimal p ++ (codes " passed (" ++ (verdict ++ codes ")")))
+said_numbers None (Some f) verdict = codes "counts " ++ (decimal f ++ (codes " failed (" ++ (verdict ++ codes ")")))
+said_numbers None None verdict = codes "says " ++ verdict
 
--- what the last line of a suite says
+-- the words for what the last line of a suite says
 unfoldable pub said_text : SaidNumbers → List ℕ
-said_text said =
-    codes ": its last line says " ++ (verdict_word said.failed_verdict
-    ++ (said_number (codes " passed") said.passed ++ said_number (codes " failed") said.failed))
+said_text said = codes ": its last line " ++ said_numbers said.passed said.failed (verdict_word said.failed_verdict)
 
 -- the numbers of the tests of that suite
 unfoldable pub its_tests : ℕ → ℕ → List ℕ
-its_tests passed failed = codes "; its tests " ++ (decimal passed ++ (codes " and " ++ decimal failed))
+its_tests passed failed = codes ", but " ++ (decimal passed ++ (codes " of its tests passed and " ++ (decimal failed ++ codes " failed")))
 
 -- the key of a suite and a verdict
 unfoldable pub key_and_verdict : Option (List ℕ) → Bool → List ℕ

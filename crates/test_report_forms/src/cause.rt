@@ -3,7 +3,7 @@
 ghost use Rattle.std.specs.Prelude.{◌≡◌, ◌++◌, IfOk, OnOk, option_map, string_bytes};
 ghost use Rattle.test_report_forms.specs.Entry.{entry_view};
 ghost use Rattle.test_report_forms.specs.Model.{cause_of_entry, cause_view, suite_of};
-ghost use Rattle.test_report_forms.specs.Words.{disagreement_line, its_tests, not_run_line, result_word, said_number, said_text, key_and_verdict, verdict_word};
+ghost use Rattle.test_report_forms.specs.Words.{disagreement_line, its_tests, not_run_line, result_word, said_numbers, said_text, key_and_verdict, verdict_word};
 ghost use Rattle.test_report_run.specs.Note.{disagreement_view, text_view};
 
 use crate::entry::Entry;
@@ -146,23 +146,31 @@ pub(crate) fn push_disagreement(
 fn push_said(text: &mut String, said: &SaidNumbers) -> Result<(), AllocError>
     ensures { OnOk result (string_bytes text.new ≡ string_bytes text.old ++ said_text said.now) }
 {
-    text.push_str(": its last line says ")?;
-    text.push_str(verdict(said.failed_verdict))?;
-    push_said_number(text, said.passed, " passed")?;
-    push_said_number(text, said.failed, " failed")
+    text.push_str(": its last line ")?;
+    push_said_numbers(text, said.passed, said.failed, verdict(said.failed_verdict))
 }
 
-/// Appends a number that the last line of a suite says, and the word for it.
-fn push_said_number(text: &mut String, number: Option<u128>, word: &str) -> Result<(), AllocError>
+/// Appends the numbers of passed and failed tests that the last line of a suite has, and its verdict.
+#[tactic(auto, unfolding(crate::specs::Words::said_numbers))]
+fn push_said_numbers(
+    text: &mut String,
+    passed: Option<u128>,
+    failed: Option<u128>,
+    verdict: &str,
+) -> Result<(), AllocError>
     ensures { OnOk result (string_bytes text.new
-        ≡ string_bytes text.old ++ said_number word.now number) }
+        ≡ string_bytes text.old ++ said_numbers passed failed verdict.now) }
 {
-    match number {
-        Some(count) => {
-            write!(text, ", {count}")?;
-            text.push_str(word)
+    match (passed, failed) {
+        (Some(passed), Some(failed)) => {
+            write!(
+                text,
+                "counts {passed} passed and {failed} failed ({verdict})"
+            )
         }
-        None => Ok(()),
+        (Some(passed), None) => write!(text, "counts {passed} passed ({verdict})"),
+        (None, Some(failed)) => write!(text, "counts {failed} failed ({verdict})"),
+        (None, None) => write!(text, "says {verdict}"),
     }
 }
 
@@ -171,7 +179,10 @@ fn push_said_number(text: &mut String, number: Option<u128>, word: &str) -> Resu
 fn push_its_tests(text: &mut String, passed: usize, failed: usize) -> Result<(), AllocError>
     ensures { OnOk result (string_bytes text.new ≡ string_bytes text.old ++ its_tests passed failed) }
 {
-    write!(text, "; its tests {passed} and {failed}")
+    write!(
+        text,
+        ", but {passed} of its tests passed and {failed} failed"
+    )
 }
 
 /// Appends the key of a suite and its verdict.
