@@ -15,7 +15,7 @@ use Rattle.test_report_laws.proofs.Tallies.{run-sums}
 use Rattle.test_report_laws.proofs.Weights.{keeps-line, weigh, weight_of}
 use Rattle.test_report_run.specs.Note.{NoteView}
 use Rattle.test_report_run.specs.Over.{early_notes, early_state, explained_of, last_notes, last_state, rest_of}
-use Rattle.test_report_run.specs.Run.{RunState, Step, after, ended_at, ended_early, file_notes, learned, names_in, notes_at, open_suite, opened, run_start, started_again, step, stray_suite_notes, suite_at, with_suite_at, without_tests}
+use Rattle.test_report_run.specs.Run.{RunState, Step, after, all_ended_early, ended_at, ended_early, file_notes, learned, names_in, no_event_notes, notes_at, open_suite, opened, run_start, started_again, step, stray_suite_notes, suite_at, with_suite_at, without_tests}
 use Rattle.test_report_run.specs.Said.{sum_of}
 use Rattle.test_report_laws.specs.Status.{AnnouncedAreCounted, announced_by}
 use Rattle.test_report_run.specs.Suite.{SuiteState, has_key, joined, outside_start, suite_start, with_line}
@@ -150,7 +150,15 @@ covered-end n notes r i =
     let none = step (record r { suites = [] }) [] in
     let ended = fold ended_early none r.suites in
     let last = early_notes r.outside (names_in (record (ended.run) { outside = outside_start }) r.outside) in
-    omega (arith, i, covered-ends none r.suites, sum_by-append reach ended.notes last, sum_by-append reach notes (file_notes r))
+    let over = all_ended_early r in
+    omega (
+      arith,
+      i,
+      covered-ends none r.suites,
+      sum_by-append reach ended.notes last,
+      sum_by-append reach over.notes (no_event_notes over.run),
+      sum_by-append reach notes (file_notes r),
+    )
 
 -- the sums of a run
 abbrev reached : RunEnd → ℕ

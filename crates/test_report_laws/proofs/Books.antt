@@ -2,24 +2,24 @@
 use Rattle.std.proofs.Common.{◌≡◌, ◌∙◌, ℕ, List, [], ◌∷◌, ◌++◌, ◌+◌, ◌<◌, ◌≤◌, Bool, true, false, cond, Option, Some, None, refl, ap, arith, drop, length, subst, suc, sym, take}
 use Rattle.std.specs.List.{All, count_by, fold, position, remove, sum_by}
 use Rattle.std.specs.Option.{option_map_or, option_or}
-use Rattle.std.specs.Prelude.{◌-◌, ◌==◌, ◌&&◌, if◌then◌else◌, not, option_and_then}
+use Rattle.std.specs.Prelude.{◌-◌, ◌==◌, ◌&&◌, if◌then◌else◌, nat_lt, not, option_and_then}
 use Rattle.std.proofs.lemmas.Bool.{cond_both, eqb-false}
 use Rattle.std.proofs.lemmas.List.Elements.{All-append, All-cons, All-drop, All-get_or, All-head, All-map, All-nil, All-push, All-set, All-tail, All-take}
 use Rattle.std.proofs.lemmas.List.Quantifiers.{position-Some}
 use Rattle.std.proofs.lemmas.List.Sums.{fold-append, sum_by-append, sum_by-cons, sum_by-remove, sum_by-set, sum_by_push}
 use Rattle.run_events_stats.specs.Counters.{counters_of, nothing_known}
 use Rattle.run_events_stats.specs.declared.stats.RunStats.{RunStats}
-use Rattle.test_report_events.specs.Event.{EventView, SuiteEndView, TestEndView, SuiteStarts, SuiteEnds, TestStarts, TestEnds, OtherLine, HeadingLine, CargoFails, Prints}
+use Rattle.test_report_events.specs.Event.{EventView, SuiteEndView, TestEndView, SuiteStarts, SuiteEnds, TestStarts, TestEnds, OtherLine, HeadingLine, CargoFails, Prints, DamagedLine}
 use Rattle.test_report_events.specs.declared.event.TestResult.{TestResult}
 use Rattle.test_report_events.specs.declared.event.TestResult.TheVariants.{Ok, Failed, Ignored}
 use Rattle.test_report_laws.proofs.EndSums.{last_by}
 use Rattle.test_report_laws.proofs.OverRuns.{over-run, up-to-line}
 use Rattle.test_report_laws.proofs.Sums.{sum-if-none, sum-map}
 use Rattle.test_report_run.specs.Ended.{after_end, end_notes}
-use Rattle.test_report_run.specs.Note.{CargoSays, Disagrees, DisagreementView, NoteView, StrayEnds, StraySuiteEnds}
+use Rattle.test_report_run.specs.Note.{CargoSays, Disagrees, DisagreementView, HasNoEvent, IsDamaged, NoteView, StrayEnds, StraySuiteEnds}
 use Rattle.test_report_run.specs.Over.{early_notes, explained_of, last_notes}
-use Rattle.test_report_run.specs.Prints.{AFailure, AHeading, APrint, PrintedView}
-use Rattle.test_report_run.specs.Run.{RunState, Step, after, after_file, counts_tests, ended_at, ended_early, file_notes, is_cause, is_disagreement, is_explained, learned, marked, names_in, notes_at, open_suite, opened, printed_to, run_start, running_ends, running_over, started_again, step, stray_ends, stray_over, stray_suite_notes, stray_test, suite_at, suite_place, suite_prints, told, with_note, with_suite_at, without_tests}
+use Rattle.test_report_run.specs.Prints.{AFailure, AHeading, APrint, PrintedView, cut}
+use Rattle.test_report_run.specs.Run.{RunState, Step, after, after_file, all_ended_early, counts_tests, ended_at, ended_early, file_notes, is_cause, is_disagreement, is_explained, learned, marked, names_in, no_event_notes, notes_at, open_suite, opened, printed_to, run_start, running_ends, running_over, started_again, step, stray_ends, stray_over, stray_suite_notes, stray_test, suite_at, suite_place, suite_prints, told, with_note, with_suite_at, without_tests}
 use Rattle.test_report_run.specs.Running.{is_same, place_of_end, running_at}
 use Rattle.test_report_run.specs.Name.{before_dollar}
 use Rattle.test_report_run.specs.Suite.{FlakyView, OverView, SuiteState, has_key, joined, named, outside_start, suite_start, with_line, with_start}
@@ -276,13 +276,14 @@ module _ {loose : ℕ} {w v : NoteView → ℕ} {h : Kept → ℕ} {Fine : Kept 
       keeps-set r at (with_start (suite_at r at) name) [] f (place-in r name) (fine-at r at f (place-in r name)) (omega arith)
   keeps-line r (TestEnds e) f = keeps-test r e (place_of_end r.running e.name) f
   keeps-line r OtherLine f = keeps-same r [] f refl refl
-  keeps-line r (HeadingLine suite) f = keeps-print r AHeading [] f refl refl
+  keeps-line r (HeadingLine name path) f = keeps-print r AHeading [] f refl refl
   keeps-line r (CargoFails k line plain) f =
       let d = CargoSays plain in
       let counts = length r.suites == 0 && not (is_explained r k) in
       keeps-print r (AFailure line) (if counts then Disagrees d ∷ [] else []) f
       (sum-if-none w counts (Disagrees d) (w_disagree d)) (sum-if-none v counts (Disagrees d) (v_disagree d))
   keeps-line r (Prints line plain) f = keeps-print r (APrint line plain) [] f refl refl
+  keeps-line r (DamagedLine text) f = keeps-if r true (IsDamaged (cut text)) f
 
   -- what holds of a run of which these notes are known
   pub record Holds (notes : List NoteView) (r : RunState) : Type 0 where
@@ -306,7 +307,7 @@ module _ {loose : ℕ} {w v : NoteView → ℕ} {h : Kept → ℕ} {Fine : Kept 
   holds-marked : (notes : List NoteView) (r : RunState) (e : EventView) → Holds notes r → Holds notes (marked r e)
   holds-marked notes r (CargoFails f line plain) i = cond_both (length r.suites == 0) (record r { causes_at_cargo = r.causes }) r (Holds notes)
       (λ _. record { books = i.books; fine = i.fine; sums = i.sums }) (λ _. i)
-  holds-marked notes r e i = i
+  holds-marked notes r e i = record { books = i.books; fine = i.fine; sums = i.sums }
 
   holds-line : (notes : List NoteView) (r : RunState) (e : EventView) → Holds notes r → Holds (notes ++ notes_at r e) (after r e)
   holds-line notes r e i = holds-marked (notes ++ notes_at r e) (learned (told r e).run (told r e).notes) e
@@ -336,8 +337,14 @@ module _ {loose : ℕ} {w v : NoteView → ℕ} {h : Kept → ℕ} {Fine : Kept 
       let last = ends-early (step (record (ended.run) { outside = outside_start }) ended.notes) (r.outside ∷ [])
       (All-cons IsFine r.outside [] i.fine.0 (All-nil IsFine)) in
       let one = sum_by-cons (held h) r.outside [] in
+      let silent = (all_ended_early r).run in
+      let quiet = not silent.has_event && not (nat_lt silent.causes_at_file silent.causes) in
       let x = sum_by-append w notes (file_notes r) in
       let y = sum_by-append v notes (file_notes r) in
+      let a = sum_by-append w (all_ended_early r).notes (no_event_notes silent) in
+      let b = sum_by-append v (all_ended_early r).notes (no_event_notes silent) in
+      let c = sum-if-none w quiet (Disagrees HasNoEvent) (w_disagree HasNoEvent) in
+      let d = sum-if-none v quiet (Disagrees HasNoEvent) (v_disagree HasNoEvent) in
       record {
         whole = record { low = omega (arith, before.low, first.low, last.low); high = λ e. omega (arith, before.high e, first.high e, last.high e) };
         outside = refl;

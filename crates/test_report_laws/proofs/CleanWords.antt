@@ -9,8 +9,8 @@ use Rattle.template.proofs.Controls.{Clean, also, clean-decimal, clean-if, clean
 use Rattle.test_report_laws.proofs.Controls.{clean-name, clean-text}
 use Rattle.test_report_forms.specs.Shown.{and_space, bracket, front, limited, more_bytes, more_note, name_and_space, seconds, three_digits}
 use Rattle.test_report_forms.specs.Title.{title, title_name}
-use Rattle.test_report_forms.specs.Words.{disagreement_line, failed_numbers, failed_word, its_tests, key_and_verdict, not_run_line, other_numbers, outcome_word, passed_numbers, result_word, run_numbers, said_number, said_text, summary_line, verdict_word}
-use Rattle.test_report_run.specs.Note.{CargoSays, DisagreementView, EndsEarly, HasCrashed, HasFailed, HasNoEnd, HasTimedOut, IsFlaky, KindView, SaysOther, StartsOutside, StrayEnds, StraySuiteEnds, TestNoteView}
+use Rattle.test_report_forms.specs.Words.{disagreement_line, failed_numbers, failed_word, its_tests, key_and_verdict, not_run_line, other_numbers, outcome_word, passed_numbers, result_word, run_numbers, said_numbers, said_text, summary_line, verdict_word}
+use Rattle.test_report_run.specs.Note.{CargoSays, DisagreementView, EndsEarly, HasCrashed, HasFailed, HasNoEnd, HasNoEvent, HasTimedOut, IsDamaged, IsFlaky, KindView, SaysOther, StartsOutside, StrayEnds, StraySuiteEnds, TestNoteView}
 use Rattle.test_report_run.specs.declared.note.RunEnd.{RunEnd}
 use Rattle.test_report_run.specs.declared.note.SaidNumbers.{SaidNumbers}
 
@@ -69,20 +69,30 @@ clean-result ended.Failed = word (codes "failed") refl
 clean-result ended.Ignored = word (codes "ignored") refl
 
 -- disagreements
-clean-said_number : (w : List ℕ) (number : Option ℕ) → Clean w → Clean (said_number w number)
-clean-said_number w number h = clean-option (λ n. codes ", " ++ (decimal n ++ w)) (λ n. also (word (codes ", ") refl) (also (clean-decimal n) h)) number
+clean-in_brackets : (w verdict : List ℕ) → Clean w → Clean verdict → Clean (w ++ (verdict ++ codes ")"))
+clean-in_brackets w verdict h k = also h (also k (word (codes ")") refl))
+
+clean-said_numbers : (passed failed : Option ℕ) (verdict : List ℕ) → Clean verdict → Clean (said_numbers passed failed verdict)
+unfolding said_numbers
+clean-said_numbers (Some p) (Some f) verdict h =
+    also (word (codes "counts ") refl) (also (clean-decimal p) (also (word (codes " passed and ") refl)
+    (also (clean-decimal f) (clean-in_brackets (codes " failed (") verdict (word (codes " failed (") refl) h))))
+clean-said_numbers (Some p) None verdict h =
+    also (word (codes "counts ") refl) (also (clean-decimal p) (clean-in_brackets (codes " passed (") verdict (word (codes " passed (") refl) h))
+clean-said_numbers None (Some f) verdict h =
+    also (word (codes "counts ") refl) (also (clean-decimal f) (clean-in_brackets (codes " failed (") verdict (word (codes " failed (") refl) h))
+clean-said_numbers None None verdict h = also (word (codes "says ") refl) h
 
 clean-said : (said : SaidNumbers) → Clean (said_text said)
 unfolding said_text
 clean-said said =
-    also (word (codes ": its last line says ") refl) (also (clean-verdict said.failed_verdict)
-    (also (clean-said_number (codes " passed") said.passed (word (codes " passed") refl))
-    (clean-said_number (codes " failed") said.failed (word (codes " failed") refl))))
+    also (word (codes ": its last line ") refl) (clean-said_numbers said.passed said.failed _ (clean-verdict said.failed_verdict))
 
 clean-its_tests : (passed failed : ℕ) → Clean (its_tests passed failed)
 unfolding its_tests
 clean-its_tests passed failed =
-    also (word (codes "; its tests ") refl) (also (clean-decimal passed) (also (word (codes " and ") refl) (clean-decimal failed)))
+    also (word (codes ", but ") refl) (also (clean-decimal passed) (also (word (codes " of its tests passed and ") refl)
+    (also (clean-decimal failed) (word (codes " failed") refl))))
 
 pub clean-disagreement : (d : DisagreementView) → Clean (disagreement_line d)
 unfolding disagreement_line key_and_verdict
@@ -94,6 +104,8 @@ clean-disagreement (StraySuiteEnds key failed) =
     also (word (codes "a suite ended that had not started: ") refl) (also (clean-name_and_space key) (clean-verdict failed))
 clean-disagreement (StartsOutside n) = also (clean-decimal n) (word (codes " tests started outside of a suite") refl)
 clean-disagreement (CargoSays line) = also (word (codes "cargo: ") refl) (clean-name line)
+clean-disagreement (IsDamaged text) = also (word (codes "a damaged line says that a test or a suite failed: ") refl) (clean-name text)
+clean-disagreement HasNoEvent = word (codes "no line of the input is of a test run") refl
 
 pub clean-not_run : (suite : List ℕ) (n of : ℕ) → Clean (not_run_line suite n of)
 unfolding not_run_line

@@ -11,7 +11,9 @@ use Rattle.test_report_laws.proofs.Announced.{announced-counted}
 use Rattle.test_report_laws.proofs.Books.{position-in}
 use Rattle.test_report_laws.proofs.RunCauses.{cargo-shows, causes-of, weight}
 use Rattle.test_report_laws.proofs.CleanEnds.{clean-whole}
+use Rattle.test_report_laws.proofs.Damage.{lines-shown}
 use Rattle.test_report_laws.proofs.FailedLines.{lines-told, told-failed}
+use Rattle.test_report_laws.proofs.FileEvents.{all-events}
 use Rattle.test_report_laws.proofs.LineParts.{end-weighs, line-weighs}
 use Rattle.test_report_laws.proofs.Outcomes.{outcome-means}
 use Rattle.test_report_laws.proofs.Shown.{last-agrees, stray-shows}
@@ -126,6 +128,8 @@ module _ (files : List (List EventView)) (clean : IsClean (all_notes files)) whe
     clean = clean;
     no_failed_line = omega (arith, clean.none_failed, told-failed (all_notes files), lines-told files);
     no_failed_verdict = zero-or-absurd (failed_verdicts_of files) (λ some. unclean files some clean);
+    no_damaged_line = omega (arith, lines-shown files, no-cause);
+    events = all-events files clean;
     last_lines = ends-well;
     stray_lines = λ r e line closed.
         not-one (counts_tests e) (sym (stray-shows r e closed) ∙ (clean-line r (SuiteEnds e) line).none_disagree);

@@ -6,8 +6,10 @@ pub mod CleanWords
 pub mod Commands
 pub mod Controls
 pub mod Counters
+pub mod Damage
 pub mod EndSums
 pub mod FailedLines
+pub mod FileEvents
 pub mod HtmlLaws
 pub mod InOrder
 pub mod JunitLaws

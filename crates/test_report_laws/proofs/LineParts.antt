@@ -61,3 +61,19 @@ module _ (w : NoteView → ℕ) where
         sum_by-append w (notes_of first end.file) (file_notes last),
         files-weigh run_start end.before end.file end.after,
       )))
+
+  -- what is known before the end of a file, and what the end makes known
+  pub file-weighs : (files : List (List EventView)) (r : RunState) (end : IsFileEndOf files r)
+      → sum_by w (all_notes end.before ++ notes_of (run_after_files run_start end.before) end.file) + sum_by w (file_notes r) ≤ sum_by w (all_notes files)
+  file-weighs files r end =
+      let first = run_after_files run_start end.before in
+      let last = run_after first end.file in
+      let known = all_notes end.before ++ notes_of first end.file in
+      subst (λ (x : RunState). sum_by w known + sum_by w (file_notes x) ≤ sum_by w (all_notes files)) (sym end.run_is)
+      (subst (λ (fs : List (List EventView)). sum_by w known + sum_by w (file_notes last) ≤ sum_by w (all_notes fs)) (sym end.are)
+      (omega (
+        arith,
+        sum_by-append w (all_notes end.before) (notes_of first end.file),
+        sum_by-append w (notes_of first end.file) (file_notes last),
+        files-weigh run_start end.before end.file end.after,
+      )))

@@ -15,9 +15,9 @@ use Rattle.test_report_laws.proofs.Sums.{sum-if-none, sum-map, sum-none}
 use Rattle.test_report_laws.proofs.Weights.{has-number, numbered-end, numbered-line, unnumbered, weigh, weight_of}
 use Rattle.test_report_run.specs.Ended.{after_end, end_notes}
 use Rattle.test_report_laws.specs.Run.{not_run_of}
-use Rattle.test_report_run.specs.Note.{CargoSays, Disagrees, DisagreementView, HasCrashed, HasNoEnd, IsNotRun, NoteView, StrayEnds, StraySuiteEnds, SuiteIs, SuiteNoteView, TestIs, TestNoteView}
+use Rattle.test_report_run.specs.Note.{CargoSays, Disagrees, DisagreementView, HasCrashed, HasNoEnd, HasNoEvent, IsNotRun, NoteView, StrayEnds, StraySuiteEnds, SuiteIs, SuiteNoteView, TestIs, TestNoteView}
 use Rattle.test_report_run.specs.Over.{crash_of, early_disagreements, early_notes, early_state, explained_of, failed_note, failed_notes, flaky_note, flaky_notes, initial_of, last_disagreement, last_notes, last_state, lost, number_notes, rest_of, skipped_note}
-use Rattle.test_report_run.specs.Run.{RunState, Step, after, counts_tests, ended_at, ended_early, file_notes, is_explained, names_in, notes_at, open_suite, opened, place_of_number, running_ends, running_over, started_again, step, stray_ends, stray_over, stray_suite_notes, stray_test, suite_at, suite_place, with_suite_at, without_tests}
+use Rattle.test_report_run.specs.Run.{RunState, Step, after, all_ended_early, counts_tests, ended_at, ended_early, file_notes, is_explained, names_in, no_event_notes, notes_at, open_suite, opened, place_of_number, running_ends, running_over, started_again, step, stray_ends, stray_over, stray_suite_notes, stray_test, suite_at, suite_place, with_suite_at, without_tests}
 use Rattle.test_report_run.specs.Running.{place_of_end, running_at}
 use Rattle.test_report_laws.specs.Status.{NotRunIsNamed, named_not_run}
 use Rattle.test_report_run.specs.Name.{given_by, name_of}
@@ -253,7 +253,12 @@ same-end r numbered none =
     let start = step (record r { suites = [] }) [] in
     let ended = fold ended_early start r.suites in
     let names = names_in (record (ended.run) { outside = outside_start }) r.outside in
-    same-append ended.notes (early_notes r.outside names) (same-ends start r.suites numbered refl) (same-early r.outside names (λ zero. none))
+    let over = all_ended_early r in
+    let quiet = not over.run.has_event && not (nat_lt over.run.causes_at_file over.run.causes) in
+    let d = Disagrees HasNoEvent in
+    same-append over.notes (no_event_notes over.run)
+    (same-append ended.notes (early_notes r.outside names) (same-ends start r.suites numbered refl) (same-early r.outside names (λ zero. none)))
+    (sum-if-none named_not_run quiet d refl ∙ sym (sum-if-none not_run_of quiet d refl))
 
 -- what holds at each line and at each end of a file
 abbrev Named : ℕ → List NoteView → RunState → Type 0

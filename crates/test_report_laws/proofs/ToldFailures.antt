@@ -2,7 +2,7 @@
 use Rattle.std.proofs.Common.{◌≡◌, ℕ, List, [], ◌∷◌, Bool, true, false, cond, Option, Some, None, refl, ap, arith, length, inl, inr, option_and_then, option_map, subst, sym, unwrap_or}
 use Rattle.std.specs.List.{count_by, find, fold, position, range_with_len}
 use Rattle.std.specs.Option.{option_map_or}
-use Rattle.std.specs.Prelude.{◌==◌, ◌&&◌, ◌⊎◌, Contains, IsTrue, if◌then◌else◌, not}
+use Rattle.std.specs.Prelude.{◌==◌, ◌&&◌, ◌⊎◌, Contains, IsTrue, if◌then◌else◌, nat_lt, not}
 use Rattle.std.proofs.lemmas.List.Quantifiers.{position-Some}
 use Rattle.std.proofs.lemmas.List.Sums.{sum_by-append}
 use Rattle.std.proofs.lemmas.Slice.Eq.{bytes_eq-Decides}
@@ -13,9 +13,9 @@ use Rattle.test_report_laws.proofs.EndSums.{by-early, by-last, last_by}
 use Rattle.test_report_laws.proofs.Sums.{sum-if-none}
 use Rattle.test_report_run.specs.Ended.{end_notes, failure_of}
 use Rattle.test_report_laws.specs.Run.{FailureIsTold, NoFailureOfFileEnd, OneFailureOfLine, TellsFailure, is_failure, is_told_failure}
-use Rattle.test_report_run.specs.Note.{CargoSays, Disagrees, Fails, NoteView, StrayEnds, StraySuiteEnds, TestIs, TestNoteView}
+use Rattle.test_report_run.specs.Note.{CargoSays, Disagrees, Fails, HasNoEvent, NoteView, StrayEnds, StraySuiteEnds, TestIs, TestNoteView}
 use Rattle.test_report_run.specs.Over.{early_notes, explained_of}
-use Rattle.test_report_run.specs.Run.{RunState, Step, counts_tests, ended_at, ended_early, is_explained, names_in, notes_at, open_suite, opened, running_ends, running_over, started_again, step, stray_ends, stray_over, stray_suite_notes, stray_test, suite_at, suite_place}
+use Rattle.test_report_run.specs.Run.{RunState, Step, all_ended_early, counts_tests, ended_at, ended_early, is_explained, names_in, no_event_notes, notes_at, open_suite, opened, running_ends, running_over, started_again, step, stray_ends, stray_over, stray_suite_notes, stray_test, suite_at, suite_place}
 use Rattle.test_report_run.specs.Running.{RunningView, attempts_of, ends_in_number, has_name, is_same, no_test, place_by_attempts, place_of_end, running_at, split_at, without_number}
 use Rattle.test_report_run.specs.Suite.{OverView, SuiteState, named, outside_start, suite_name, with_line}
 use Rattle.test_report_laws.proofs.Types.{Explanation}
@@ -96,7 +96,13 @@ pub no-failure : NoFailureOfFileEnd
 no-failure r =
     let none = step (record r { suites = [] }) [] in
     let suites = fold ended_early none r.suites in
-    none-early-all (step (record (suites.run) { outside = outside_start }) suites.notes) (r.outside ∷ []) (none-early-all none r.suites refl)
+    let over = all_ended_early r in
+    omega (
+      arith,
+      none-early-all (step (record (suites.run) { outside = outside_start }) suites.notes) (r.outside ∷ []) (none-early-all none r.suites refl),
+      sum_by-append weight over.notes (no_event_notes over.run),
+      sum-if-none weight (not over.run.has_event && not (nat_lt over.run.causes_at_file over.run.causes)) (Disagrees HasNoEvent) refl,
+    )
 
 -- a failed test has what its line says
 abbrev note_of : SuiteState → OverView → TestEndView → TestNoteView

@@ -17,7 +17,7 @@ use Rattle.test_report_laws.proofs.Weights.{Keeps, has-number, keeps-line, numbe
 use Rattle.test_report_laws.specs.Run.{FailedVerdictShows, IsClean, IsSound, crashed_in, disagreements_in, failed_in, failed_verdicts_of, fails_by, is_crash, is_test, says_failed_verdict}
 use Rattle.test_report_run.specs.Note.{Fails, NoteView, OutcomeView, TestIs}
 use Rattle.test_report_run.specs.Over.{early_notes, last_notes}
-use Rattle.test_report_run.specs.Run.{RunState, Step, after, after_file, ended_at, ended_early, file_notes, has_failed, is_cause, learned, names_in, notes_at, open_suite, opened, started_again, step, stray_suite_notes, suite_at, with_suite_at, without_tests}
+use Rattle.test_report_run.specs.Run.{RunState, Step, after, after_file, all_ended_early, ended_at, ended_early, file_notes, has_failed, is_cause, learned, names_in, no_event_notes, notes_at, open_suite, opened, started_again, step, stray_suite_notes, suite_at, with_suite_at, without_tests}
 use Rattle.test_report_run.specs.Said.{no_lines}
 use Rattle.test_report_run.specs.Suite.{SuiteState, failed_of, has_key, joined, outside_start, suite_start, with_line}
 use Rattle.test_report_laws.specs.Whole.{all_notes}
@@ -157,7 +157,8 @@ end-causes r numbered =
     let none = step (record r { suites = [] }) [] in
     let ended = fold ended_early none r.suites in
     let last = early_notes r.outside (names_in (record (ended.run) { outside = outside_start }) r.outside) in
-    omega (arith, early-causes none r.suites numbered, sum_by-append weight ended.notes last)
+    let over = all_ended_early r in
+    omega (arith, early-causes none r.suites numbered, sum_by-append weight ended.notes last, sum_by-append weight over.notes (no_event_notes over.run))
 
 -- tests that started outside of a suite make a cause known, too
 pub outside-cause : (r : RunState) → 0 < r.outside.started → 0 < count_by is_cause (file_notes r)
@@ -165,7 +166,15 @@ outside-cause r some =
     let ended = fold ended_early (step (record r { suites = [] }) []) r.suites in
     let names = names_in (record (ended.run) { outside = outside_start }) r.outside in
     let last = early_notes r.outside names in
-    omega (arith, early-shows r.outside names (λ zero. some), causes-of last, crashes-fail last, sum_by-append weight ended.notes last)
+    let over = all_ended_early r in
+    omega (
+      arith,
+      early-shows r.outside names (λ zero. some),
+      causes-of last,
+      crashes-fail last,
+      sum_by-append weight ended.notes last,
+      sum_by-append weight over.notes (no_event_notes over.run),
+    )
 
 seen-end : (n : ℕ) (notes : List NoteView) (r : RunState) → weight_of unnumbered r ≡ 0 → Seen n notes r → Seen n (notes ++ file_notes r) (after_file r)
 seen-end n notes r numbered i some = omega (

@@ -4,7 +4,7 @@ use Rattle.std.specs.List.{position, remove, sum_by}
 use Rattle.std.specs.Option.{option_map_or}
 use Rattle.std.specs.Prelude.{◌==◌, if◌then◌else◌, is_none}
 use Rattle.std.proofs.lemmas.List.Sums.{get_or-le-sum_by, sum_by-remove, sum_by-set, sum_by_push}
-use Rattle.test_report_events.specs.Event.{EventView, SuiteEndView, TestEndView, SuiteStarts, SuiteEnds, TestStarts, TestEnds, OtherLine, HeadingLine, CargoFails, Prints}
+use Rattle.test_report_events.specs.Event.{EventView, SuiteEndView, TestEndView, SuiteStarts, SuiteEnds, TestStarts, TestEnds, OtherLine, HeadingLine, CargoFails, Prints, DamagedLine}
 use Rattle.test_report_events.specs.declared.event.TestResult.{TestResult}
 use Rattle.test_report_events.specs.declared.event.TestResult.TheVariants.{Ok, Failed, Ignored}
 use Rattle.test_report_laws.proofs.Books.{IsIn, ends-keep, place-in, position-in}
@@ -75,9 +75,10 @@ is_of_suite (SuiteEnds e) = true
 is_of_suite (TestStarts name) = false
 is_of_suite (TestEnds e) = false
 is_of_suite OtherLine = false
-is_of_suite (HeadingLine suite) = false
+is_of_suite (HeadingLine name path) = false
 is_of_suite (CargoFails f line plain) = false
 is_of_suite (Prints line plain) = false
+is_of_suite (DamagedLine text) = false
 
 -- any other line
 pub keeps-line : (r : RunState) (e : EventView) → is_of_suite e ≡ false → Keeps r (after r e)
@@ -87,9 +88,10 @@ keeps-line r (TestStarts name) other =
     let at = suite_place r name in keeps-set r r.running at (with_start (suite_at r at) name) (place-in r name) (λ g. refl)
 keeps-line r (TestEnds e) other = keeps-test r e (place_of_end r.running e.name)
 keeps-line r OtherLine other = λ g. refl
-keeps-line r (HeadingLine suite) other = keeps-print r AHeading
+keeps-line r (HeadingLine name path) other = keeps-print r AHeading
 keeps-line r (CargoFails f line plain) other = λ g. grind (arith, keeps-print r (AFailure line) g)
 keeps-line r (Prints line plain) other = keeps-print r (APrint line plain)
+keeps-line r (DamagedLine text) other = λ g. refl
 
 -- an open suite has a number
 pub has-number : (r : RunState) (at : ℕ) → weight_of unnumbered r ≡ 0 → at < length r.suites → (suite_at r (Some at)).number ≢ None

@@ -1,9 +1,9 @@
 -- Laws of a run.
-use Rattle.std.specs.Prelude.{◌++◌, ◌≡◌, ◌≢◌, All, IfSome, None, ◌≤◌, ◌<◌, ◌⊎◌, ◌↔◌, ◌+◌, ◌&&◌, [], ℕ, Bool, true, false, Contains, IsTrue, List, if◌then◌else◌, length, nat_lt}
+use Rattle.std.specs.Prelude.{◌++◌, ◌≡◌, ◌≢◌, All, IfSome, None, ◌≤◌, ◌<◌, ◌⊎◌, ◌↔◌, ◌+◌, ◌&&◌, ◌∷◌, [], ℕ, Bool, true, false, Contains, IsTrue, List, if◌then◌else◌, length, nat_lt}
 use Rattle.std.specs.List.{count_by, sum_by}
 use Rattle.run_events_stats.specs.declared.outcome.run_outcome.RunOutcome.{RunOutcome}
 use Rattle.run_events_stats.specs.declared.outcome.run_outcome.RunOutcome.TheVariants as outcome
-use Rattle.test_report_events.specs.Event.{EventView, SuiteEndView, TestEndView, SuiteStarts, SuiteEnds, TestStarts, TestEnds, OtherLine, HeadingLine, CargoFails, Prints}
+use Rattle.test_report_events.specs.Event.{EventView, SuiteEndView, TestEndView, SuiteStarts, SuiteEnds, TestStarts, TestEnds, OtherLine, HeadingLine, CargoFails, Prints, DamagedLine}
 use Rattle.test_report_events.specs.declared.event.CargoFailure.{CargoFailure}
 use Rattle.test_report_events.specs.declared.event.TestResult.{TestResult}
 use Rattle.test_report_events.specs.declared.event.TestResult.TheVariants.{Ok, Failed, Ignored}
@@ -33,9 +33,10 @@ says_failed (SuiteStarts key count) = false
 says_failed (SuiteEnds e) = false
 says_failed (TestStarts name) = false
 says_failed OtherLine = false
-says_failed (HeadingLine suite) = false
+says_failed (HeadingLine name path) = false
 says_failed (CargoFails f line plain) = false
 says_failed (Prints line plain) = false
+says_failed (DamagedLine text) = false
 
 -- a failure of this kind has a line that says so
 abbrev pub is_told : KindView → Bool
@@ -266,9 +267,10 @@ says_failed_verdict (TestEnds e) = false
 says_failed_verdict (SuiteStarts key count) = false
 says_failed_verdict (TestStarts name) = false
 says_failed_verdict OtherLine = false
-says_failed_verdict (HeadingLine suite) = false
+says_failed_verdict (HeadingLine name path) = false
 says_failed_verdict (CargoFails f line plain) = false
 says_failed_verdict (Prints line plain) = false
+says_failed_verdict (DamagedLine text) = false
 
 -- how many last lines of suites in a file have a failed verdict
 abbrev pub failed_verdicts_in : List EventView → ℕ
@@ -282,6 +284,52 @@ failed_verdicts_of files = sum_by failed_verdicts_in files
 abbrev pub FailedVerdictShows : Type 0
 FailedVerdictShows = (files : List (List EventView)) → 0 < failed_verdicts_of files
     → ((whole_end files).outcome ≢ outcome.Success) × ((whole_end files).outcome ≢ outcome.NoTestsRun)
+
+-- the line is damaged, and says that a test or a suite failed
+abbrev pub is_damaged : EventView → Bool
+is_damaged (DamagedLine text) = true
+is_damaged (SuiteStarts key count) = false
+is_damaged (SuiteEnds e) = false
+is_damaged (TestStarts name) = false
+is_damaged (TestEnds e) = false
+is_damaged OtherLine = false
+is_damaged (HeadingLine name path) = false
+is_damaged (CargoFails f line plain) = false
+is_damaged (Prints line plain) = false
+
+-- how many lines of a file are damaged, and say that a test or a suite failed
+abbrev pub damaged_lines_in : List EventView → ℕ
+damaged_lines_in file = count_by is_damaged file
+
+-- how many lines of all files are
+abbrev pub damaged_lines_of : List (List EventView) → ℕ
+damaged_lines_of files = sum_by damaged_lines_in files
+
+-- If a damaged line says that a test or a suite failed, the outcome is neither `Success` nor `NoTestsRun`.
+abbrev pub DamagedLineShows : Type 0
+DamagedLineShows = (files : List (List EventView)) → 0 < damaged_lines_of files
+    → ((whole_end files).outcome ≢ outcome.Success) × ((whole_end files).outcome ≢ outcome.NoTestsRun)
+
+-- the line is an event of a harness
+abbrev pub is_event : EventView → Bool
+is_event (SuiteStarts key count) = true
+is_event (SuiteEnds e) = true
+is_event (TestStarts name) = true
+is_event (TestEnds e) = true
+is_event OtherLine = true
+is_event (HeadingLine name path) = false
+is_event (CargoFails f line plain) = false
+is_event (Prints line plain) = false
+is_event (DamagedLine text) = false
+
+-- how many lines of a file are events of a harness
+abbrev pub events_in : List EventView → ℕ
+events_in file = count_by is_event file
+
+-- If a file has no event of a harness, the outcome is neither `Success` nor `NoTestsRun`.
+abbrev pub NoEventShows : Type 0
+NoEventShows = (before : List (List EventView)) → (file : List EventView) → (rest : List (List EventView)) → events_in file ≡ 0
+    → let end = whole_end (before ++ file ∷ rest) in (end.outcome ≢ outcome.Success) × (end.outcome ≢ outcome.NoTestsRun)
 
 -- each test without end was skipped, and at least as many tests finished or were skipped as were announced
 pub record IsWhole (s : SuiteState) (names : List (List ℕ)) : Type 0 where

@@ -1,11 +1,11 @@
 -- What the outcome of a whole run says of its lines: what a run that succeeds has no line of, and why another one does not.
-use Rattle.std.specs.Prelude.{◌+◌, ◌++◌, ◌∷◌, [], ◌≡◌, ◌≢◌, ◌≤◌, ◌<◌, ◌⊎◌, ◌||◌, ℕ, Bool, true, false, Contains, IsTrue, List, None, Option, Some, length}
+use Rattle.std.specs.Prelude.{◌+◌, ◌++◌, ◌∷◌, [], ◌≡◌, ◌≢◌, ◌≤◌, ◌<◌, ◌⊎◌, ◌||◌, ℕ, Bool, true, false, All, Contains, IsTrue, List, None, Option, Some, length}
 use Rattle.std.specs.List.{sum_by}
 use Rattle.std.specs.Option.{option_map_or}
 use Rattle.run_events_stats.specs.declared.outcome.run_outcome.RunOutcome.TheVariants as outcome
-use Rattle.test_report_events.specs.Event.{EventView, SuiteEndView, SuiteStarts, SuiteEnds, TestStarts, TestEnds, OtherLine, HeadingLine, CargoFails, Prints}
+use Rattle.test_report_events.specs.Event.{EventView, SuiteEndView, SuiteStarts, SuiteEnds, TestStarts, TestEnds, OtherLine, HeadingLine, CargoFails, Prints, DamagedLine}
 use Rattle.test_report_events.specs.declared.event.CargoFailure.{CargoFailure}
-use Rattle.test_report_laws.specs.Run.{Agrees, IsClean, failed_lines_of, failed_verdicts_of, not_run_in, passed_in, skipped_in}
+use Rattle.test_report_laws.specs.Run.{Agrees, IsClean, damaged_lines_of, events_in, failed_lines_of, failed_verdicts_of, not_run_in, passed_in, skipped_in}
 use Rattle.test_report_run.specs.Note.{Disagrees, IsNotRun, NoteView, SuiteIs, TestIs}
 use Rattle.test_report_run.specs.Over.{last_notes}
 use Rattle.test_report_run.specs.Run.{RunState, counts_tests, is_cause, names_in, open_suite, run_start, suite_at}
@@ -78,9 +78,10 @@ announced_by (SuiteEnds e) = 0
 announced_by (TestStarts name) = 0
 announced_by (TestEnds e) = 0
 announced_by OtherLine = 0
-announced_by (HeadingLine suite) = 0
+announced_by (HeadingLine name path) = 0
 announced_by (CargoFails f line plain) = 0
 announced_by (Prints line plain) = 0
+announced_by (DamagedLine text) = 0
 
 -- how many tests the first lines of suites announce in all files
 abbrev pub announced_of : List (List EventView) → ℕ
@@ -104,6 +105,10 @@ pub record IsInOrder (files : List (List EventView)) : Type 0 where
   -- no line says that a test failed, and no last line of a suite has a failed verdict
   pub no_failed_line : failed_lines_of files ≡ 0
   pub no_failed_verdict : failed_verdicts_of files ≡ 0
+  -- no damaged line says that a test or a suite failed
+  pub no_damaged_line : damaged_lines_of files ≡ 0
+  -- each file has an event of a harness
+  pub events : All (λ file. 0 < events_in file) files
   -- each last line that ends a suite says what the tests of the suite are
   pub last_lines : (r : RunState) → (e : SuiteEndView) → (at : ℕ) → IsLineOf files r (SuiteEnds e) → open_suite r e.key ≡ Some at
       → let s = with_line (suite_at r (Some at)) e in s.open_lines ≡ 0 → EndsInOrder s (names_in r s)

@@ -1,10 +1,18 @@
 use Rattle.test_report_laws.proofs.RunCauses.{cargo-shows}
 use Rattle.test_report_laws.proofs.CleanEnds.{clean-whole}
+use Rattle.test_report_laws.proofs.Damage.{damage-shows}
+use Rattle.test_report_laws.proofs.FileEvents.{no-event-shows}
 use Rattle.test_report_laws.proofs.Verdicts.{verdict-shows}
 use Rattle.test_report_laws.proofs.run.success_means.Goals as goal
 
 pub returns-clause-verdicts : goal.returns-clause-verdicts
 returns-clause-verdicts c = verdict-shows
+
+pub returns-clause-damaged : goal.returns-clause-damaged
+returns-clause-damaged c = damage-shows
+
+pub returns-clause-events : goal.returns-clause-events
+returns-clause-events c = no-event-shows
 
 pub returns-clause-whole : goal.returns-clause-whole
 returns-clause-whole c = clean-whole

@@ -1,0 +1,36 @@
+-- Damaged lines that say that a test or a suite failed.
+use Rattle.std.proofs.Common.{ℕ, List, ◌++◌, ◌+◌, ◌<◌, ◌≤◌, cond, arith}
+use Rattle.std.specs.List.{count_by}
+use Rattle.std.proofs.lemmas.List.Sums.{sum_by-append}
+use Rattle.test_report_events.specs.Event.{DamagedLine, EventView}
+use Rattle.test_report_laws.proofs.Outcomes.{outcome-means}
+use Rattle.test_report_laws.proofs.OverRuns.{over-run}
+use Rattle.test_report_laws.proofs.RunCauses.{causes-of, weight}
+use Rattle.test_report_laws.specs.Run.{DamagedLineShows, IsClean, damaged_lines_of, is_damaged}
+use Rattle.test_report_run.specs.Note.{NoteView}
+use Rattle.test_report_run.specs.Run.{RunState, after, file_notes, is_cause, notes_at}
+use Rattle.test_report_laws.specs.Whole.{all_notes}
+
+abbrev damage : EventView → ℕ
+damage e = cond (is_damaged e) 1 0
+
+-- a cause for each of them
+abbrev AreShown : ℕ → List NoteView → RunState → Type 0
+AreShown n notes r = n ≤ count_by is_cause notes
+
+shown-line : (n : ℕ) (notes : List NoteView) (r : RunState) (e : EventView) → AreShown n notes r
+    → AreShown (n + damage e) (notes ++ notes_at r e) (after r e)
+shown-line n notes r (DamagedLine text) i = omega (arith, i, sum_by-append weight notes (notes_at r (DamagedLine text)))
+shown-line n notes r e i = omega (arith, i, sum_by-append weight notes (notes_at r e))
+
+pub lines-shown : (files : List (List EventView)) → damaged_lines_of files ≤ count_by is_cause (all_notes files)
+lines-shown = over-run AreShown AreShown damage (λ n notes r i. i) shown-line
+    (λ n notes r i. omega (arith, i, sum_by-append weight notes (file_notes r))) (omega arith)
+
+unclean : (files : List (List EventView)) → 0 < damaged_lines_of files → IsClean (all_notes files) → ⊥
+unclean files some clean = omega (arith, some, lines-shown files, causes-of (all_notes files), clean.none_failed, clean.none_disagree)
+
+pub damage-shows : DamagedLineShows
+damage-shows files some =
+    let means = outcome-means files in
+    ((λ h. unclean files some (means.success.0 h).0), (λ h. unclean files some (means.no_tests.0 h).0))
