@@ -8,6 +8,9 @@ from report_reading.json_values import Number, value_of
 
 NUMBERS = ("passed", "failed", "ignored", "measured")
 EVENT_HEADS = (b'{ "type"', b'{"type"')
+A_TYPE = re.compile(rb'"type" *: *"(?:test|suite|bench)"')
+A_FAILURE = re.compile(rb'"event" *: *"failed"')
+MOST_DAMAGED = 200
 COLOUR = re.compile("\x1b\\[[0-9;:]*m")
 RUNNING = "Running "
 PROGRAM = re.compile(r"(.*)-[0-9a-fA-F]{16}(?:\.exe)?", re.DOTALL)
@@ -56,9 +59,10 @@ class TestEnd:
 
 @dataclass(frozen=True)
 class Heading:
-    """Cargo names the binary that it runs next."""
+    """Cargo names the binary that it runs next. `path` is None for documentation tests."""
 
     suite_name: str
+    path: Optional[str]
 
 
 @dataclass(frozen=True)
@@ -67,6 +71,18 @@ class CargoFailure:
 
     line: str
     kind: str
+
+
+@dataclass(frozen=True)
+class Damage:
+    """A line that is no event, or the text in front of one, says that a test or a suite failed."""
+
+    text: str
+
+
+@dataclass(frozen=True)
+class KnownLine:
+    """Another line of a harness, which changes nothing else."""
 
 
 def member(said, name, kind):
@@ -105,7 +121,7 @@ def suite_event(said, event):
     if event == "started":
         return SuiteStart(key_of(said), whole_number(said, "test_count"))
     if event not in ("ok", "failed"):
-        return None
+        return None if event is None else KnownLine()
     numbers = {name: whole_number(said, name) for name in NUMBERS}
     present = {name: count for name, count in numbers.items() if count is not None}
     return SuiteEnd(key_of(said), event, present, microseconds(said))
@@ -114,8 +130,10 @@ def suite_event(said, event):
 def test_event(said, event):
     """Returns the event of a line of a test, or None."""
     name = member(said, "name", str)
-    if name is None or event not in ("started", "ok", "failed", "ignored"):
+    if name is None or event is None:
         return None
+    if event not in ("started", "ok", "failed", "ignored"):
+        return KnownLine()
     if event == "started":
         return TestStart(name)
     return TestEnd(name, event, member(said, "reason", str), microseconds(said))
@@ -132,7 +150,7 @@ def event_of_object(said):
         return test_event(said, event)
     if kind == "bench":
         return test_event(said, "failed" if event == "failed" else "ok")
-    return None
+    return KnownLine() if kind == "report" else None
 
 
 def heading_of(line):
@@ -140,9 +158,9 @@ def heading_of(line):
     if line.startswith(RUNNING) and line.endswith(")"):
         target, _, path = line[len(RUNNING) : -1].rpartition(" (")
         program = PROGRAM.fullmatch(re.split(r"[/\\]", path)[-1])
-        return Heading(f"{program[1]} ({target})") if program and target else None
+        return Heading(f"{program[1]} ({target})", path) if program and target else None
     doc_tests = DOC_TESTS.fullmatch(line)
-    return Heading(f"{doc_tests[1]} (doc tests)") if doc_tests else None
+    return Heading(f"{doc_tests[1]} (doc tests)", None) if doc_tests else None
 
 
 def failure_of(line):
@@ -162,26 +180,44 @@ def event_of_print(line):
 
 
 def json_of(line):
-    """Returns the JSON value of a line of bytes, or else that of its end. Raises ValueError if there is none."""
+    """Returns the JSON value of a line of bytes, or else that of its end, and what is in front of it.
+
+    Raises ValueError if there is none."""
     try:
-        return value_of(line.decode())
+        return value_of(line.decode()), b""
     except ValueError:
         at = max(line.rfind(head) for head in EVENT_HEADS)
         if at < 1:
             raise
-        return value_of(line[at:].decode())
+        return value_of(line[at:].decode()), line[:at]
 
 
-def event_of(line):
-    """Returns the event of a line of bytes, or None if it changes nothing."""
-    if b"{" in line:
-        try:
-            return event_of_object(json_of(line))
-        except ValueError:
-            pass
-    return event_of_print(line.decode("utf-8", "replace"))
+def object_of(line):
+    """Returns the event of a line of bytes that an object says, or None, and the bytes that are no event."""
+    try:
+        value, front = json_of(line)
+    except ValueError:
+        return None, line
+    event = event_of_object(value)
+    return event, line if event is None else front
+
+
+def damage_of(text):
+    """Returns the damage of bytes that are no event, or None."""
+    if not (A_TYPE.search(text) and A_FAILURE.search(text)):
+        return None
+    shown = text.removesuffix(b"\r").decode("utf-8", "replace").encode()
+    return Damage(shown[:MOST_DAMAGED].decode("utf-8", "ignore"))
+
+
+def line_events(line):
+    """Yields the events of a line of bytes, and None in their place."""
+    event, rest = object_of(line)
+    yield event or event_of_print(line.decode("utf-8", "replace"))
+    yield damage_of(rest)
 
 
 def events_of(data):
-    """Returns the events of a file's bytes, one after another."""
-    return filter(None, map(event_of, filter(None, data.split(b"\n"))))
+    """Yields the events of a file's bytes, one after another."""
+    for line in filter(None, data.split(b"\n")):
+        yield from filter(None, line_events(line))

@@ -18,15 +18,25 @@ def of_attempts(written):
 
 
 class OpenSuites:
-    """The open suites of a file, its running tests, its part without suite, and the heading in force."""
+    """The open suites of a file, its running tests, its part without suite, and its headings."""
 
     def __init__(self):
         self.heading = None
+        self.paths = defaultdict(list)
+        self.has_event = False
         self.keyed = {}
         self.without_key = None
         self.opened = []
         self.running = defaultdict(deque)
         self.part = Suite(None)
+
+    def take_heading(self, name, path):
+        """Takes a heading. Of the paths of one name, each but the first has its number in the name."""
+        paths = self.paths[name]
+        if path not in paths:
+            paths.append(path)
+        number = paths.index(path) + 1
+        self.heading = name if number == 1 else f"{name} ({number})"
 
     def open(self, suite):
         """Adds a suite. If it has no key, no other suite without key may be open."""

@@ -2,10 +2,10 @@
 
 from dataclasses import dataclass
 
-from report_reading.events import CargoFailure, Heading, SuiteEnd, SuiteStart, TestEnd, TestStart
+from report_reading.events import CargoFailure, Damage, Heading, KnownLine, SuiteEnd, SuiteStart, TestEnd, TestStart
 from report_reading.events import events_of
 from report_reading.open_suites import OpenSuites
-from report_reading.suites import CRASHED, FAILURES, FINISHED, OUTCOMES, PASSED, TIMED_OUT, Suite, Test
+from report_reading.suites import CRASHED, FAILURES, FINISHED, MOST_TIME, OUTCOMES, PASSED, TIMED_OUT, Suite, Test
 from report_reading.texts import shown_name, shown_text
 
 
@@ -35,6 +35,8 @@ class Run:
             TestEnd: self.on_test_end,
             Heading: self.on_heading,
             CargoFailure: self.on_cargo_failure,
+            KnownLine: lambda event: None,
+            Damage: self.on_damage,
         }
 
     def read_file(self, data):
@@ -42,6 +44,7 @@ class Run:
         self.now = OpenSuites()
         self.explained_before_file = self.explained_before_failure = self.explanations
         for event in events_of(data):
+            self.now.has_event |= not isinstance(event, (Heading, CargoFailure, Damage))
             self.takes[type(event)](event)
         self.end_file()
 
@@ -52,6 +55,8 @@ class Run:
         if self.now.part.tests:
             self.parts.append(self.now.part)
             self.close(self.now.part, ended_early=True)
+        if not self.now.has_event and self.explanations == self.explained_before_file:
+            self.disagree("no line of the input is of a test run")
 
     def failed(self, tests):
         """Notes failed tests."""
@@ -65,7 +70,7 @@ class Run:
 
     def on_heading(self, event):
         """Takes a heading."""
-        self.now.heading = event.suite_name
+        self.now.take_heading(event.suite_name, event.path)
 
     def on_suite_start(self, event):
         """Takes the start line of a suite, which may join an open one."""
@@ -126,6 +131,10 @@ class Run:
             self.disagree(f"cargo: {shown_text(event.line)}")
         self.explained_before_failure = self.explanations
 
+    def on_damage(self, event):
+        """Takes a damaged line that says that a test or a suite failed."""
+        self.disagree(f"a damaged line says that a test or a suite failed: {shown_name(event.text)}")
+
     def close(self, suite, ended_early):
         """Ends a suite: first its failed tests become known, then its disagreement, then its tests not run."""
         self.failed(suite.close(ended_early))
@@ -182,7 +191,7 @@ class Run:
             "crashed": total(CRASHED),
             "skipped": sum(suite.skipped() for suite in every),
             "not_run": sum(suite.not_run() for suite in every),
-            "time": sum(times) if times else None,
+            "time": min(sum(times), MOST_TIME) if times else None,
         }
 
     def outcome(self):
@@ -200,13 +209,14 @@ class Run:
 
 def last_line(suite):
     """Returns the text of a disagreement: the numbers of a suite's last line, and those of its tests."""
-    says = [suite.verdict]
+    counts = []
     if suite.counted_passed() is not None:
-        says.append(f"{suite.counted_passed()} passed")
+        counts.append(f"{suite.counted_passed()} passed")
     if "failed" in suite.numbers:
-        says.append(f"{suite.numbers['failed']} failed")
-    counted = f"{suite.count(PASSED)} and {suite.count(*FAILURES)}"
-    return f"its last line says {', '.join(says)}; its tests {counted}"
+        counts.append(f"{suite.numbers['failed']} failed")
+    says = f"counts {' and '.join(counts)} ({suite.verdict})" if counts else f"says {suite.verdict}"
+    tests = f"{suite.count(PASSED)} of its tests passed and {suite.count(*FAILURES)} failed"
+    return f"its last line {says}, but {tests}"
 
 
 def read(paths):

@@ -13,6 +13,8 @@ NOT_RUN = "not run"
 FAILURES = (FAILED, TIMED_OUT, CRASHED)
 FINISHED = (PASSED, *FAILURES)
 TIME_LIMIT = "time limit exceeded"
+# The greatest sum of times, in microseconds.
+MOST_TIME = 2**64 - 1
 # The outcomes of suites and runs, from the lowest to the highest.
 OUTCOMES = ("no-tests-run", "success", "cancelled", "failed")
 
@@ -90,7 +92,7 @@ class Suite:
         for name, count in event.numbers.items():
             self.numbers[name] = self.numbers.get(name, 0) + count
         if event.time is not None:
-            self.last_line_time = (self.last_line_time or 0) + event.time
+            self.last_line_time = min((self.last_line_time or 0) + event.time, MOST_TIME)
         return self.open_starts == 0
 
     def add_test(self, written, starts):
@@ -134,7 +136,7 @@ class Suite:
         if self.last_line_time is not None and not self.ended_early:
             return self.last_line_time
         times = [test.time for test in self.in_state(*FINISHED) if test.time is not None]
-        return sum(times) if times else None
+        return min(sum(times), MOST_TIME) if times else None
 
     def close(self, ended_early):
         """Ends the suite. Returns the tests that failed with it, in the order in which it becomes known."""

@@ -114,8 +114,10 @@ fn test_report_reads_several_files() {
 
 #[test]
 fn test_report_without_tests() {
+    let lines = "{\"type\":\"suite\",\"event\":\"started\",\"test_count\":0}\n\
+        {\"type\":\"suite\",\"event\":\"ok\",\"passed\":0,\"failed\":0}\n";
     for (action, status) in [("fail", 1), ("pass", 0)] {
-        let output = run("test-report", &["--no-tests", action], b"");
+        let output = run("test-report", &["--no-tests", action], lines.as_bytes());
         let report = REPORT
             .replace("1 tests", "0 tests")
             .replace("1 passed", "0 passed")

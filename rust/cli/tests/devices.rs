@@ -108,9 +108,9 @@ fn input_that_is_not_utf8() {
         &["-"],
         b"\xff\xfe\n{ \"type\": \"te\xffst\" }\n",
     );
-    let report = "------------\n     \
+    let report = "no line of the input is of a test run\n------------\n     \
         Summary 0 tests run: 0 passed (0 flaky), 0 failed (0 timed out, 0 crashed), 0 skipped, 0 not run\n\
-        outcome no-tests-run\n";
+        outcome failed\n";
     assert_output(&output, report.as_bytes(), b"", 1, "test-report");
 }
 

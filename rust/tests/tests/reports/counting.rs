@@ -49,7 +49,7 @@ fn ends_without_a_start() {
 "#,
             notes: "FAIL suite 1 b\n    no output was captured\nb ended failed, and had not started\n\
                 d ended ok, and had not started\n\
-                suite 1: its last line says ok; its tests 0 and 1\n\
+                suite 1: its last line says ok, but 0 of its tests passed and 1 failed\n\
                 suite 1: 1 of 2 tests were not run\n",
             summary: "1 tests run: 0 passed (0 flaky), 1 failed (0 timed out, 0 crashed), 1 skipped, 1 not run",
             list: "        FAIL suite 1 b: no output was captured\n",
@@ -77,7 +77,7 @@ fn suites() {
             notes: "CRASH suite 1 b\n    one of 2 tests that ran when its process ended\n\
                 CRASH suite 1 a\n    one of 2 tests that ran when its process ended\n\
                 FAIL suite 2 b\n    no output was captured\nb ended failed, and had not started\n\
-                suite 2: its last line says ok; its tests 1 and 1\n",
+                suite 2: its last line says ok, but 1 of its tests passed and 1 failed\n",
             summary: "5 tests run: 2 passed (0 flaky), 3 failed (0 timed out, 2 crashed), 0 skipped, 0 not run",
             list: "       CRASH suite 1 b: one of 2 tests that ran when its process ended\n       \
                 CRASH suite 1 a: one of 2 tests that ran when its process ended\n        \
@@ -128,7 +128,7 @@ fn last_lines() {
 {"type":"suite","event":"ok","passed":0,"measured":1,"failed":0}
 "#,
             notes: "FAIL suite 1 a\n    no output was captured\n\
-                suite 1: its last line says ok, 1 passed, 0 failed; its tests 0 and 1\n",
+                suite 1: its last line counts 1 passed and 0 failed (ok), but 0 of its tests passed and 1 failed\n",
             summary: "1 tests run: 0 passed (0 flaky), 1 failed (0 timed out, 0 crashed), 0 skipped, 0 not run",
             list: "        FAIL suite 1 a: no output was captured\n",
             outcome: "failed",
@@ -170,4 +170,20 @@ fn several_files() {
     let (text, _) = reported(TextForm::new(OPTIONS), &[first, second]);
     assert_eq!(text, wanted);
     assert_eq!(reported(NamesForm, &[first, second]).0, "x\n");
+}
+
+#[test]
+fn a_sum_of_times_that_does_not_fit() {
+    let mut lines = String::from("{\"type\":\"suite\",\"event\":\"started\"}\n");
+    for number in 0..18_448 {
+        lines.push_str(&format!(
+            "{{\"type\":\"test\",\"event\":\"started\",\"name\":\"t{number}\"}}\n\
+             {{\"type\":\"test\",\"event\":\"ok\",\"name\":\"t{number}\",\"exec_time\":999999999}}\n"
+        ));
+    }
+    lines.push_str("{\"type\":\"test\",\"event\":\"failed\",\"name\":\"real\",\"exec_time\":1}\n");
+    assert_eq!(reported(NamesForm, &[&lines]).0, "real\n");
+    let (text, _) = reported(TextForm::new(OPTIONS), &[&lines, &lines]);
+    let summary = "     Summary [18446744073709.551s] 36898 tests run: 36896 passed (0 flaky), 2 failed ";
+    assert!(text.contains(summary), "{text}");
 }
