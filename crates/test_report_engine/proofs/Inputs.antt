@@ -2,24 +2,25 @@
 use Rattle.std.proofs.Common.{◌≡◌, ◌∙◌, ◌-◌, ◌<◌, ℕ, List, [], ◌∷◌, ◌++◌, Option, ap, append_assoc, arith, drop, length, map, subst, sym, take}
 use Rattle.std.specs.Prelude.{◌==◌, Bool, false, slice_index, true}
 use Rattle.test_report_events.specs.Event.{EventView}
-use Rattle.test_report_events.specs.Laws.{OneEventOfLine}
+use Rattle.test_report_events.specs.Laws.{OneReadingOfLine}
 use Rattle.test_report_events.specs.Line.{LineSays}
 use Rattle.test_report_forms.specs.Entry.{EntryView}
 use Rattle.test_report_forms.specs.Laws.{OneEntry}
 use Rattle.test_report_run.specs.Note.{NoteView, note_view}
-use Rattle.test_report_run.specs.Run.{RunState, after, after_file, file_notes, notes_at, run_state}
+use Rattle.test_report_run.specs.Run as spec
+use Rattle.test_report_run.specs.Run.{RunState, after_file, file_notes, run_state}
 use Rattle.test_report_run.specs.declared.note.Note.{Note}
 use Rattle.test_report_run.specs.declared.note.RunEnd.{RunEnd}
 use Rattle.test_report_run.specs.declared.run.TestRun.{TestRun}
 use Rattle.test_report_engine.specs.Lines.{IsOneLine, with_feed}
-use Rattle.test_report_engine.specs.Reading.{AppendsLinesStart, LeadsTo, ReadsInput, ReadsLine, ReadsStart, WritesNotes}
+use Rattle.test_report_engine.specs.Reading.{AppendsLinesStart, LeadsTo, ReadsInput, ReadsLine, ReadsStart, TakesLine, WritesNotes}
 use Rattle.test_report_engine.specs.Report.{after_end, after_line, end_notes, line_notes, notes_of, notes_of_input, run_after, run_after_input, run_of}
 use Rattle.test_report_engine.specs.declared.report.Report.{Report}
 use Rattle.test_report_engine.proofs.Lines.{divided-at, events-cut, events-line, events-none, feedless-front, joined, one-events, with-feed, without-feed}
 use Rattle.test_report_engine.proofs.Notes.{starts-front, starts-none, starts-then, writes-from, writes-then}
 
 -- the notes of a line, and those of the rest of its input
-notes-line : (r : RunState) (e : EventView) (es : List EventView) → notes_of_input r (e ∷ es) ≡ line_notes r e ++ notes_of_input (after_line r e) es
+notes-line : (r : RunState) (e : List EventView) (es : List (List EventView)) → notes_of_input r (e ∷ es) ≡ line_notes r e ++ notes_of_input (after_line r e) es
 notes-line r e es = append_assoc (line_notes r e) (notes_of (after_line r e) es) (end_notes (run_after (after_line r e) es))
 
 -- a line that has begun, with its end and the rest
@@ -27,13 +28,10 @@ line-rest : (begun end bytes rest : List ℕ) → bytes ≡ begun ++ end → wit
 line-rest begun end bytes rest is = rw is (simp append_assoc)
 
 -- what a run makes known and becomes by a line, and by the end of an input
-line-tells : (run : TestRun) (event : EventView) (notes : List NoteView) → notes ≡ notes_at (run_state run) event → notes ≡ line_notes (run_of run) event
-unfolding run_of line_notes
-line-tells run event notes is = is
-
-line-runs : (old new : TestRun) (event : EventView) → run_state new ≡ after (run_state old) event → run_of new ≡ after_line (run_of old) event
-unfolding run_of after_line
-line-runs old new event is = is
+pub line-takes : (old new : TestRun) (bytes : List ℕ) (events : List EventView) (notes : List NoteView) → LineSays bytes events
+    → notes ≡ spec.notes_of (run_state old) events → run_state new ≡ spec.run_after (run_state old) events → TakesLine old new bytes notes
+unfolding run_of line_notes after_line
+line-takes old new bytes events notes says tells takes = record { events = events; says = says; run_is = takes; tells = tells }
 
 end-tells : (run : TestRun) (notes : List NoteView) → notes ≡ file_notes (run_state run) → notes ≡ end_notes (run_of run)
 unfolding run_of end_notes
@@ -43,20 +41,17 @@ end-runs : (old new : TestRun) → run_state new ≡ after_file (run_state old) 
 unfolding run_of after_end
 end-runs old new is = is
 
-module _ (one-event-of-line : OneEventOfLine) where
+module _ (one-reading-of-line : OneReadingOfLine) where
   -- a line of which a beginning is written
-  pub line-start : (f : EntryView → List ℕ) (run : TestRun) (bytes : List ℕ) (event said : EventView) (slice items : List Note)
-      (b w : Option (List ℕ))
-      → LineSays bytes said → event ≡ said → map note_view items ≡ notes_at (run_state run) event → slice ≡ items
-      → AppendsLinesStart f (map note_view slice) b w
-      → (e : EventView) → LineSays bytes e → AppendsLinesStart f (line_notes (run_of run) e) b w
-  line-start f run bytes event said slice items b w says is tells same starts e other =
+  pub line-start : (f : EntryView → List ℕ) (old new : TestRun) (bytes : List ℕ) (slice items : List Note) (b w : Option (List ℕ))
+      → TakesLine old new bytes (map note_view items) → slice ≡ items → AppendsLinesStart f (map note_view slice) b w
+      → (es : List EventView) → LineSays bytes es → AppendsLinesStart f (line_notes (run_of old) es) b w
+  line-start f old new bytes slice items b w takes same starts es other =
       subst (λ ns. AppendsLinesStart f ns b w)
-      (ap (map note_view) same ∙ line-tells run event (map note_view items) tells
-      ∙ ap (line_notes (run_of run)) (is ∙ one-event-of-line bytes said e says other)) starts
+      (ap (map note_view) same ∙ takes.tells ∙ ap (line_notes (run_of old)) (one-reading-of-line bytes takes.events es takes.says other)) starts
 
 -- nothing is written of a line
-pub line-none : (f : EntryView → List ℕ) (r : RunState) (bytes : List ℕ) (b : Option (List ℕ)) (e : EventView) → LineSays bytes e
+pub line-none : (f : EntryView → List ℕ) (r : RunState) (bytes : List ℕ) (b : Option (List ℕ)) (e : List EventView) → LineSays bytes e
     → AppendsLinesStart f (line_notes r e) b b
 line-none f r bytes b e says = starts-none f (line_notes r e) b
 
@@ -73,22 +68,22 @@ input-none line old input b events are = starts-none (line old.form) (notes_of_i
 
 -- a line of which a beginning is written
 pub input-line-start : {F : Type 0} (line : F → EntryView → List ℕ) (old : Report F) (bytes rest : List ℕ) (b w : Option (List ℕ)) → IsOneLine bytes
-    → ((event : EventView) → LineSays bytes event → AppendsLinesStart (line old.form) (line_notes (run_of old.run) event) b w)
+    → ((es : List EventView) → LineSays bytes es → AppendsLinesStart (line old.form) (line_notes (run_of old.run) es) b w)
     → ReadsStart line old (with_feed bytes ++ rest) b w
 input-line-start line old bytes rest b w one starts events are =
     let first = events-cut bytes rest events one are in
     let r : RunState = run_of old.run in
     subst (λ ns. AppendsLinesStart (line old.form) ns b w)
-    (sym (ap (notes_of_input r) first.is ∙ notes-line r first.event first.others))
-    (starts-front (line old.form) (line_notes r first.event) (notes_of_input (after_line r first.event) first.others) b w (starts first.event first.says))
+    (sym (ap (notes_of_input r) first.is ∙ notes-line r first.own first.others))
+    (starts-front (line old.form) (line_notes r first.own) (notes_of_input (after_line r first.own) first.others) b w (starts first.own first.says))
 
-module _ (one-event-of-line : OneEventOfLine) where
+module _ (one-reading-of-line : OneReadingOfLine) where
   -- the end of an input, of which a beginning is written
   pub input-end-start : {F : Type 0} (line : F → EntryView → List ℕ) (old : Report F) (b w : Option (List ℕ))
       → AppendsLinesStart (line old.form) (end_notes (run_of old.run)) b w → ReadsStart line old [] b w
   input-end-start line old b w starts events are =
       subst (λ es. AppendsLinesStart (line old.form) (notes_of_input (run_of old.run) es) b w)
-      (one-events one-event-of-line [] [] events events-none are) starts
+      (one-events one-reading-of-line [] [] events events-none are) starts
 
 -- a last line
 pub last-start : {F : Type 0} (line : F → EntryView → List ℕ) (old : Report F) (bytes : List ℕ) (b w : Option (List ℕ)) → IsOneLine bytes → 0 < length bytes
@@ -97,17 +92,16 @@ last-start line old bytes b w one some starts events are = starts events (with-f
 
 module _ {F : Type 0} (line : F → EntryView → List ℕ) (last : F → List EntryView → RunEnd → List ℕ) (Knows : F → List EntryView → Type 0) where
   -- a line whose notes are written
-  pub line-read : (old new : Report F) (run : TestRun) (bytes : List ℕ) (event said : EventView) (slice items : List Note) (b w : Option (List ℕ))
-      → LineSays bytes said → event ≡ said → map note_view items ≡ notes_at (run_state old.run) event → run_state run ≡ after (run_state old.run) event
-      → slice ≡ items → new.run ≡ run
+  pub line-read : (old new : Report F) (run : TestRun) (bytes : List ℕ) (slice items : List Note) (b w : Option (List ℕ))
+      → TakesLine old.run run bytes (map note_view items) → slice ≡ items → new.run ≡ run
       → WritesNotes line last Knows (record { run = run; form = old.form; files = old.files }) new (map note_view slice) b w
       → ReadsLine line last Knows old new bytes b w
-  line-read old new run bytes event said slice items b w says is tells takes same same_run writes = record {
-    event = event;
-    says = subst (LineSays bytes) (sym is) says;
-    run_is = ap run_of same_run ∙ line-runs old.run run event takes;
+  line-read old new run bytes slice items b w takes same same_run writes = record {
+    events = takes.events;
+    says = takes.says;
+    run_is = ap run_of same_run ∙ takes.run_is;
     writes =
-        subst (λ ns. WritesNotes line last Knows old new ns b w) (ap (map note_view) same ∙ line-tells old.run event (map note_view items) tells)
+        subst (λ ns. WritesNotes line last Knows old new ns b w) (ap (map note_view) same ∙ takes.tells)
         (writes-from line last Knows old new run (map note_view slice) b w writes);
   }
 
@@ -131,7 +125,7 @@ module _ {F : Type 0} (line : F → EntryView → List ℕ) (last : F → List E
       → ReadsInput line last Knows mid new rest m w → ReadsInput line last Knows old new (with_feed bytes ++ rest) b w
   input-line old mid new bytes rest b m w one first others =
       let r : RunState = run_of old.run in
-      let e = first.event in
+      let e = first.events in
       let es = others.events in
       record {
         events = e ∷ es;
@@ -202,7 +196,7 @@ module _ {F : Type 0} (line : F → EntryView → List ℕ) (last : F → List E
       → front ≡ take at rest → back ≡ drop at rest → at < length rest
       → ((k : ℕ) → k < at → ¬ ((slice_index rest k == 10) ≡ true)) → (slice_index rest at == 10) ≡ true
       → line_then ≡ y ++ front
-      → ((event : EventView) → LineSays line_then event → AppendsLinesStart (line mid.form) (line_notes (run_of mid.run) event) m w)
+      → ((es : List EventView) → LineSays line_then es → AppendsLinesStart (line mid.form) (line_notes (run_of mid.run) es) m w)
       → ReadsStart line old (x ++ (bytes ++ after)) b w
   bytes-line-start old mid x y line_then bytes rest front back after b m w at takes one is_front is_back within before feed is starts =
       let line_one : IsOneLine line_then = subst IsOneLine (sym is) (joined y front one (feedless-front rest front at is_front within before)) in
@@ -213,7 +207,7 @@ module _ {F : Type 0} (line : F → EntryView → List ℕ) (last : F → List E
       bytes-starts old mid x y bytes rest after b m w takes
       (subst (λ l. ReadsStart line mid l m w) whole (input-line-start line mid line_then (then ++ after) m w line_one starts))
 
-module _ (one-event-of-line : OneEventOfLine) (one_entry : OneEntry) {F : Type 0} (line : F → EntryView → List ℕ)
+module _ (one-reading-of-line : OneReadingOfLine) (one_entry : OneEntry) {F : Type 0} (line : F → EntryView → List ℕ)
     (last : F → List EntryView → RunEnd → List ℕ) (Knows : F → List EntryView → Type 0) where
   -- a line, and then a beginning of the rest
   pub input-line-then : (old mid : Report F) (bytes rest : List ℕ) (b m w : Option (List ℕ)) → IsOneLine bytes → ReadsLine line last Knows old mid bytes b m
@@ -222,19 +216,19 @@ module _ (one-event-of-line : OneEventOfLine) (one_entry : OneEntry) {F : Type 0
       let r : RunState = run_of old.run in
       let first = events-cut bytes rest events one are in
       let es = first.others in
-      let same : read.event ≡ first.event = one-event-of-line bytes read.event first.event read.says first.says in
-      let notes : line_notes r read.event ++ notes_of_input (run_of mid.run) es ≡ notes_of_input r events =
-      ap (λ s. line_notes r read.event ++ notes_of_input s es) read.run_is
-      ∙ ap (λ e. line_notes r e ++ notes_of_input (after_line r e) es) same ∙ sym (ap (notes_of_input r) first.is ∙ notes-line r first.event es) in
+      let same : read.events ≡ first.own = one-reading-of-line bytes read.events first.own read.says first.says in
+      let notes : line_notes r read.events ++ notes_of_input (run_of mid.run) es ≡ notes_of_input r events =
+      ap (λ s. line_notes r read.events ++ notes_of_input s es) read.run_is
+      ∙ ap (λ e. line_notes r e ++ notes_of_input (after_line r e) es) same ∙ sym (ap (notes_of_input r) first.is ∙ notes-line r first.own es) in
       subst (λ ns. AppendsLinesStart (line old.form) ns b w) notes
-      (starts-then one_entry line last Knows old mid (line_notes r read.event) (notes_of_input (run_of mid.run) es) b m w read.writes (starts es first.say))
+      (starts-then one_entry line last Knows old mid (line_notes r read.events) (notes_of_input (run_of mid.run) es) b m w read.writes (starts es first.say))
 
   -- a last line
   pub last-line : (old new : Report F) (bytes : List ℕ) (b w : Option (List ℕ)) → IsOneLine bytes → 0 < length bytes
       → ReadsInput line last Knows old new (with_feed bytes ++ []) b w → ReadsInput line last Knows old new bytes b w
   last-line old new bytes b w one some read = record {
     events = read.events;
-    say = without-feed one-event-of-line bytes read.events one some read.say;
+    say = without-feed one-reading-of-line bytes read.events one some read.say;
     run_is = read.run_is;
     writes = read.writes;
   }

@@ -6,7 +6,7 @@ use Rattle.std.proofs.lemmas.List.Elements.{All-append, All-cons, All-head, All-
 use Rattle.std.specs.List.{AllZip, flat_map}
 use Rattle.std.specs.Prelude.{◌==◌, All, slice_index, true}
 use Rattle.test_report_events.specs.Event.{EventView}
-use Rattle.test_report_events.specs.Laws.{OneEventOfLine}
+use Rattle.test_report_events.specs.Laws.{OneReadingOfLine}
 use Rattle.test_report_events.specs.Line.{LineSays}
 use Rattle.test_report_engine.specs.Lines.{AreEventsOf, IsOneLine, not_empty, with_feed}
 use Rattle.test_report_engine.proofs.Lists.{zip-one}
@@ -54,7 +54,7 @@ events-none = record {
 }
 
 -- a line with its line feed, before other lines
-pub events-line : (line rest : List ℕ) (e : EventView) (es : List EventView) → IsOneLine line → LineSays line e → AreEventsOf rest es
+pub events-line : (line rest : List ℕ) (e : List EventView) (es : List (List EventView)) → IsOneLine line → LineSays line e → AreEventsOf rest es
     → AreEventsOf (with_feed line ++ rest) (e ∷ es)
 events-line line rest e es one says others =
     let are = others.are_lines in
@@ -71,14 +71,14 @@ events-line line rest e es one says others =
     }
 
 -- the events of bytes that begin with a line
-pub record LineFirst (line rest : List ℕ) (events : List EventView) : Type 0 where
-  pub event : EventView
-  pub others : List EventView
-  pub is : events ≡ event ∷ others
-  pub says : LineSays line event
+pub record LineFirst (line rest : List ℕ) (events : List (List EventView)) : Type 0 where
+  pub own : List EventView
+  pub others : List (List EventView)
+  pub is : events ≡ own ∷ others
+  pub says : LineSays line own
   pub say : AreEventsOf rest others
 
-cut-at : (line rest : List ℕ) (ended : List (List ℕ)) (last : List ℕ) (lines : List (List ℕ)) (events : List EventView) → IsOneLine line
+cut-at : (line rest : List ℕ) (ended : List (List ℕ)) (last : List ℕ) (lines : List (List ℕ)) (events : List (List EventView)) → IsOneLine line
     → with_feed line ++ rest ≡ flat_map with_feed ended ++ last → All IsOneLine (ended ++ last ∷ []) → lines ≡ ended ++ not_empty last
     → AllZip LineSays lines events → LineFirst line rest events
 cut-at line rest [] last lines events one is each lines_are say =
@@ -90,7 +90,7 @@ cut-at line rest (l ∷ ls) last lines (e ∷ es) one is each lines_are say =
     let cut = feed-cut line l rest behind one (All-head IsOneLine l (ls ++ last ∷ []) each)
     (sym (append_assoc line (10 ∷ []) rest) ∙ is ∙ append_assoc (with_feed l) (flat_map with_feed ls) last ∙ append_assoc l (10 ∷ []) behind) in
     record {
-      event = e;
+      own = e;
       others = es;
       is = refl;
       says = subst (λ x. LineSays x e) (sym cut.0) zip.0;
@@ -107,13 +107,14 @@ cut-at line rest (l ∷ ls) last lines (e ∷ es) one is each lines_are say =
       };
     }
 
-pub events-cut : (line rest : List ℕ) (events : List EventView) → IsOneLine line → AreEventsOf (with_feed line ++ rest) events → LineFirst line rest events
+pub events-cut : (line rest : List ℕ) (events : List (List EventView)) → IsOneLine line → AreEventsOf (with_feed line ++ rest) events
+    → LineFirst line rest events
 events-cut line rest events one are =
     let a = are.are_lines in
     cut-at line rest a.ended a.last are.lines events one a.is a.one_line a.lines_are are.say
 
 -- the events of bytes that are one line
-last-at : (line : List ℕ) (ended : List (List ℕ)) (last : List ℕ) (lines : List (List ℕ)) (events : List EventView) → IsOneLine line
+last-at : (line : List ℕ) (ended : List (List ℕ)) (last : List ℕ) (lines : List (List ℕ)) (events : List (List EventView)) → IsOneLine line
     → line ≡ flat_map with_feed ended ++ last → lines ≡ ended ++ not_empty last → AllZip LineSays lines events → AllZip LineSays (not_empty line) events
 last-at line [] last lines events one is lines_are say =
     subst (λ x. AllZip LineSays x events) (lines_are ∙ ap not_empty (sym is)) say
@@ -121,19 +122,19 @@ last-at line (l ∷ ls) last lines events one is lines_are say =
     absurd (feed-none line l (flat_map with_feed ls ++ last) one
     (is ∙ append_assoc (with_feed l) (flat_map with_feed ls) last ∙ append_assoc l (10 ∷ []) (flat_map with_feed ls ++ last)))
 
-events-last : (line : List ℕ) (events : List EventView) → IsOneLine line → AreEventsOf line events → AllZip LineSays (not_empty line) events
+events-last : (line : List ℕ) (events : List (List EventView)) → IsOneLine line → AreEventsOf line events → AllZip LineSays (not_empty line) events
 events-last line events one are =
     let a = are.are_lines in
     last-at line a.ended a.last are.lines events one a.is a.lines_are are.say
 
-module _ (one-event-of-line : OneEventOfLine) where
+module _ (one-reading-of-line : OneReadingOfLine) where
   -- bytes say one list of events
-  one-at : (input : List ℕ) (ended : List (List ℕ)) (last : List ℕ) (lines : List (List ℕ)) (a b : List EventView)
+  one-at : (input : List ℕ) (ended : List (List ℕ)) (last : List ℕ) (lines : List (List ℕ)) (a b : List (List EventView))
       → input ≡ flat_map with_feed ended ++ last → All IsOneLine (ended ++ last ∷ []) → lines ≡ ended ++ not_empty last
       → AllZip LineSays lines a → AreEventsOf input b → a ≡ b
   one-at input [] last lines a b is each lines_are say other =
       let one = All-head IsOneLine last [] each in
-      zip-one LineSays one-event-of-line (not_empty last) a b (subst (λ x. AllZip LineSays x a) lines_are say)
+      zip-one LineSays one-reading-of-line (not_empty last) a b (subst (λ x. AllZip LineSays x a) lines_are say)
       (events-last last b one (subst (λ x. AreEventsOf x b) is other))
   one-at input (l ∷ ls) last lines [] b is each lines_are say other = absurd (subst (λ x. AllZip LineSays x []) lines_are say)
   one-at input (l ∷ ls) last lines (e ∷ es) b is each lines_are say other =
@@ -141,12 +142,12 @@ module _ (one-event-of-line : OneEventOfLine) where
       let zip : AllZip LineSays (l ∷ (ls ++ not_empty last)) (e ∷ es) = subst (λ x. AllZip LineSays x (e ∷ es)) lines_are say in
       let first = events-cut l behind b (All-head IsOneLine l (ls ++ last ∷ []) each)
       (subst (λ x. AreEventsOf x b) (is ∙ append_assoc (with_feed l) (flat_map with_feed ls) last) other) in
-      let here : e ≡ first.event = one-event-of-line l e first.event zip.0 first.says in
+      let here : e ≡ first.own = one-reading-of-line l e first.own zip.0 first.says in
       let more : es ≡ first.others =
       one-at behind ls last (ls ++ not_empty last) es first.others refl (All-tail IsOneLine l (ls ++ last ∷ []) each) refl zip.1 first.say in
       cc first.is
 
-  pub one-events : (input : List ℕ) (a b : List EventView) → AreEventsOf input a → AreEventsOf input b → a ≡ b
+  pub one-events : (input : List ℕ) (a b : List (List EventView)) → AreEventsOf input a → AreEventsOf input b → a ≡ b
   one-events input a b p q =
       let are = p.are_lines in
       one-at input are.ended are.last p.lines a b are.is are.one_line are.lines_are p.say q
@@ -157,22 +158,22 @@ not_empty-one [] some = absurd (omega arith)
 not_empty-one (b ∷ bs) some = refl
 
 -- a last line says the same with a line feed and without it
-pub with-feed : (line : List ℕ) (events : List EventView) → IsOneLine line → 0 < length line → AreEventsOf line events
+pub with-feed : (line : List ℕ) (events : List (List EventView)) → IsOneLine line → 0 < length line → AreEventsOf line events
     → AreEventsOf (with_feed line ++ []) events
 with-feed line events one some are =
     feed events (subst (λ x. AllZip LineSays x events) (not_empty-one line some) (events-last line events one are))
   where
-    feed : (es : List EventView) → AllZip LineSays (line ∷ []) es → AreEventsOf (with_feed line ++ []) es
+    feed : (es : List (List EventView)) → AllZip LineSays (line ∷ []) es → AreEventsOf (with_feed line ++ []) es
     feed [] zip = absurd zip
     feed (e ∷ []) zip = events-line line [] e [] one zip.0 events-none
     feed (e ∷ (f ∷ es)) zip = absurd zip.1
 
-module _ (one-event-of-line : OneEventOfLine) where
-  pub without-feed : (line : List ℕ) (events : List EventView) → IsOneLine line → 0 < length line → AreEventsOf (with_feed line ++ []) events
+module _ (one-reading-of-line : OneReadingOfLine) where
+  pub without-feed : (line : List ℕ) (events : List (List EventView)) → IsOneLine line → 0 < length line → AreEventsOf (with_feed line ++ []) events
       → AreEventsOf line events
   without-feed line events one some are =
       let first = events-cut line [] events one are in
-      let others : first.others ≡ [] = one-events one-event-of-line [] first.others [] first.say events-none in
+      let others : first.others ≡ [] = one-events one-reading-of-line [] first.others [] first.say events-none in
       record {
         lines = line ∷ [];
         are_lines = record {
@@ -182,7 +183,7 @@ module _ (one-event-of-line : OneEventOfLine) where
           one_line = All-cons IsOneLine line [] one (All-nil IsOneLine);
           lines_are = sym (not_empty-one line some);
         };
-        say = subst (AllZip LineSays (line ∷ [])) (sym (first.is ∙ ap (λ es. first.event ∷ es) others)) (first.says, tt);
+        say = subst (AllZip LineSays (line ∷ [])) (sym (first.is ∙ ap (λ es. first.own ∷ es) others)) (first.says, tt);
       }
 
 -- bytes with no line feed are a line

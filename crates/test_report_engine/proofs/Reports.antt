@@ -1,13 +1,13 @@
 -- What a report has read and written of its inputs.
-use Rattle.std.proofs.Common.{◌≡◌, ◌∙◌, ℕ, List, [], ◌∷◌, ◌++◌, None, Some, IfSome, Option, ap, append-nil, append_assoc, refl, subst, sym, take}
+use Rattle.std.proofs.Common.{◌≡◌, ◌≢◌, ◌≤◌, ◌∙◌, ℕ, List, [], ◌∷◌, ◌++◌, None, Some, IfSome, Option, ap, append-nil, append_assoc, arith, length, refl, subst, sym, take}
 use Rattle.std.proofs.KnownBytes.{Appends-nil, Consumes-trans}
-use Rattle.std.proofs.lemmas.List.{append_cancel_left}
+use Rattle.std.proofs.lemmas.List.{append_cancel_left, length-take-le}
 use Rattle.std.proofs.lemmas.List.Concat.{flat_map-append}
 use Rattle.std.specs.Io.KnownBytes.{Appends, Consumes, IsAtEnd}
 use Rattle.std.specs.List.{AllZip, flat_map}
 use Rattle.program_io.specs.Transfer.{AppendsStart}
 use Rattle.test_report_events.specs.Event.{EventView}
-use Rattle.test_report_events.specs.Laws.{OneEventOfLine}
+use Rattle.test_report_events.specs.Laws.{OneReadingOfLine}
 use Rattle.test_report_forms.specs.Entry.{EntryView, IsEntryOf}
 use Rattle.test_report_forms.specs.Files.{FilesKnow, FilesSay}
 use Rattle.test_report_forms.specs.Laws.{OneEntry}
@@ -18,7 +18,7 @@ use Rattle.test_report_run.specs.Run.{RunState, end_of, run_start, run_state}
 use Rattle.test_report_run.specs.declared.note.RunEnd.{RunEnd}
 use Rattle.test_report_run.specs.declared.run.TestRun.{TestRun}
 use Rattle.test_report_engine.specs.Lines.{AreEventsOf}
-use Rattle.test_report_engine.specs.Reading.{BreaksOff, BreaksOffEnd, FilesHaveRead, Finishes, HasRead, ReadsInput, ReadsOneMore, ReadsPiece, ReadsStart}
+use Rattle.test_report_engine.specs.Reading.{BreaksOff, BreaksOffEnd, FilesHaveRead, Finishes, HasRead, ReadsInput, ReadsOneMore, ReadsPiece, ReadsSome, ReadsStart, piece_size}
 use Rattle.test_report_engine.specs.Report.{AreEntriesOf, AreTexts, IsReport, notes_of_input, notes_of_inputs, run_after_input, run_after_inputs, run_of}
 use Rattle.test_report_engine.specs.declared.report.Report.{Report}
 use Rattle.test_report_engine.proofs.Inputs.{input-none, leads-then}
@@ -26,11 +26,12 @@ use Rattle.test_report_engine.proofs.Lines.{one-events}
 use Rattle.test_report_engine.proofs.Lists.{zip-append, zip-one, zip-split}
 
 -- the run after inputs and one more, and what they make known
-inputs-run : (r : RunState) (es : List (List EventView)) (e : List EventView) → run_after_inputs r (es ++ e ∷ []) ≡ run_after_input (run_after_inputs r es) e
+inputs-run : (r : RunState) (es : List (List (List EventView))) (e : List (List EventView))
+    → run_after_inputs r (es ++ e ∷ []) ≡ run_after_input (run_after_inputs r es) e
 inputs-run r [] e = refl
 inputs-run r (x ∷ es) e = inputs-run (run_after_input r x) es e
 
-inputs-notes : (r : RunState) (es : List (List EventView)) (e : List EventView)
+inputs-notes : (r : RunState) (es : List (List (List EventView))) (e : List (List EventView))
     → notes_of_inputs r (es ++ e ∷ []) ≡ notes_of_inputs r es ++ notes_of_input (run_after_inputs r es) e
 inputs-notes r [] e = append-nil (notes_of_input r e)
 inputs-notes r (x ∷ es) e =
@@ -38,7 +39,7 @@ inputs-notes r (x ∷ es) e =
     ∙ sym (append_assoc (notes_of_input r x) (notes_of_inputs (run_after_input r x) es) (notes_of_input (run_after_inputs (run_after_input r x) es) e))
 
 -- the entries of inputs and of one more
-pub entries-more : (inputs : List (List ℕ)) (input : List ℕ) (entries more : List EntryView) (r s : RunState) (events : List EventView)
+pub entries-more : (inputs : List (List ℕ)) (input : List ℕ) (entries more : List EntryView) (r s : RunState) (events : List (List EventView))
     → AreEntriesOf inputs entries r → AreEventsOf input events → AllZip IsEntryOf (notes_of_input r events) more → s ≡ run_after_input r events
     → AreEntriesOf (inputs ++ input ∷ []) (entries ++ more) s
 entries-more inputs input entries more r s events are say zip run_is =
@@ -57,14 +58,14 @@ entries-more inputs input entries more r s events are say zip run_is =
 pub record OneMore (input : List ℕ) (known entries : List EntryView) (r : RunState) : Type 0 where
   pub more : List EntryView
   pub is : entries ≡ known ++ more
-  pub events : List EventView
+  pub events : List (List EventView)
   pub say : AreEventsOf input events
   pub are : AllZip IsEntryOf (notes_of_input r events) more
 
-module _ (one-event-of-line : OneEventOfLine) (one_entry : OneEntry) where
+module _ (one-reading-of-line : OneReadingOfLine) (one_entry : OneEntry) where
   -- inputs tell one list of events for each
-  pub one-inputs : (inputs : List (List ℕ)) (a b : List (List EventView)) → AllZip AreEventsOf inputs a → AllZip AreEventsOf inputs b → a ≡ b
-  one-inputs inputs a b p q = zip-one AreEventsOf (one-events one-event-of-line) inputs a b p q
+  pub one-inputs : (inputs : List (List ℕ)) (a b : List (List (List EventView))) → AllZip AreEventsOf inputs a → AllZip AreEventsOf inputs b → a ≡ b
+  one-inputs inputs a b p q = zip-one AreEventsOf (one-events one-reading-of-line) inputs a b p q
 
   -- inputs have at most one list of entries, and one run after them
   pub one-entries : (inputs : List (List ℕ)) (a b : List EntryView) (r s : RunState) → AreEntriesOf inputs a r → AreEntriesOf inputs b s → (a ≡ b) × (r ≡ s)
@@ -75,7 +76,7 @@ module _ (one-event-of-line : OneEventOfLine) (one_entry : OneEntry) where
         p.run_is ∙ ap (run_after_inputs run_start) same ∙ sym q.run_is,
       )
 
-  more-at : (inputs : List (List ℕ)) (input : List ℕ) (known entries : List EntryView) (r : RunState) (front back : List (List EventView))
+  more-at : (inputs : List (List ℕ)) (input : List ℕ) (known entries : List EntryView) (r : RunState) (front back : List (List (List EventView)))
       → AreEntriesOf inputs known r → AllZip AreEventsOf inputs front → AllZip AreEventsOf (input ∷ []) back
       → AllZip IsEntryOf (notes_of_inputs run_start (front ++ back)) entries → OneMore input known entries r
   more-at inputs input known entries r front [] are say last zip = absurd last
@@ -134,6 +135,13 @@ pub rest-none : {F : Type 0} (line : F → EntryView → List ℕ) (old : Report
     → IfSome m (λ rest. ReadsStart line old (x ++ rest) b b)
 rest-none line old x None b = tt
 rest-none line old x (Some xs) b = input-none line old (x ++ xs) b
+
+-- at least one byte was read, and at most a piece
+pub reads-some : (k : ℕ) (bytes : List ℕ) (m n : Option (List ℕ)) → Consumes m n (take k bytes) → k ≢ 0 → k ≤ length bytes → length bytes ≤ piece_size
+    → ReadsSome m n
+reads-some k bytes m n consumed some within size =
+    let long : length (take k bytes) ≡ k = length-take-le k bytes within in
+    (take k bytes, consumed, grind arith, grind arith)
 
 -- a beginning of what the next bytes make known
 pub rest-starts : {F : Type 0} (line : F → EntryView → List ℕ) (old : Report F) (x y bytes : List ℕ) (m n v w : Option (List ℕ)) → y ≡ x → Consumes m n bytes
@@ -258,13 +266,13 @@ module _ {F : Type 0} (line : F → EntryView → List ℕ) (last : F → List E
   pub ends-off-none : (report : Report F) (b : Option (List ℕ)) → BreaksOffEnd line last Knows report b b
   ends-off-none report b form inputs written more end has is = ([], more, refl, Appends-nil b)
 
-module _ (one-event-of-line : OneEventOfLine) (one_entry : OneEntry) {F : Type 0} (line : F → EntryView → List ℕ)
+module _ (one-reading-of-line : OneReadingOfLine) (one_entry : OneEntry) {F : Type 0} (line : F → EntryView → List ℕ)
     (last : F → List EntryView → RunEnd → List ℕ) (Knows : F → List EntryView → Type 0) where
   -- a beginning of what one more input makes known
   pub breaks-off : (old : Report F) (input : List ℕ) (b w : Option (List ℕ)) → ReadsStart line old input b w → BreaksOff line last Knows old input b w
   breaks-off old input b w starts form inputs written more has lines =
       let f : EntryView → List ℕ = line form in
-      let one = one-more one-event-of-line one_entry inputs input has.entries lines.entries (run_of old.run) lines.run has.are lines.are in
+      let one = one-more one-reading-of-line one_entry inputs input has.entries lines.entries (run_of old.run) lines.run has.are lines.are in
       let whole : written ++ more ≡ written ++ flat_map f one.more =
       lines.is ∙ ap (flat_map f) one.is ∙ flat_map-append f has.entries one.more ∙ ap (λ x. x ++ flat_map f one.more) (sym has.is) in
       let is : flat_map (line old.form) one.more ≡ more =
@@ -286,5 +294,5 @@ module _ (one-event-of-line : OneEventOfLine) (one_entry : OneEntry) {F : Type 0
   unfolding report-ends
   ends-off report end text b w end_is is start form inputs written more d has other =
       let mine = report-ends line last Knows report end text None None end_is is tt form inputs written has in
-      let same = one-report one-event-of-line one_entry (line form) (last form) inputs (written ++ text) (written ++ more) end d mine.1 other in
+      let same = one-report one-reading-of-line one_entry (line form) (last form) inputs (written ++ text) (written ++ more) end d mine.1 other in
       subst (AppendsStart b w) (append_cancel_left written text more same.0) start

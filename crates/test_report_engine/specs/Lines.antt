@@ -25,8 +25,8 @@ pub record AreLines (input : List ℕ) (lines : List (List ℕ)) : Type 0 where
   pub one_line : All IsOneLine (ended ++ last ∷ [])
   pub lines_are : lines ≡ ended ++ not_empty last
 
--- these are the events of an input: what its lines say, line by line
-pub record AreEventsOf (input : List ℕ) (events : List EventView) : Type 0 where
+-- these are the events of an input: of each line a list
+pub record AreEventsOf (input : List ℕ) (events : List (List EventView)) : Type 0 where
   pub lines : List (List ℕ)
   pub are_lines : AreLines input lines
   pub say : AllZip LineSays lines events

@@ -1,6 +1,6 @@
 -- How far a run is.
 use Rattle.std.specs.Prelude.{◌+◌, ◌-◌, ◌^◌, ℕ, min, unwrap_or}
-use Rattle.test_report_events.specs.Event.{EventView, SuiteStarts, SuiteEnds, TestStarts, TestEnds, OtherLine, HeadingLine, CargoFails, Prints}
+use Rattle.test_report_events.specs.Event.{EventView, SuiteStarts, SuiteEnds, TestStarts, TestEnds, OtherLine, HeadingLine, CargoFails, Prints, DamagedLine}
 
 -- a number of 64 bits that stops at the greatest
 abbrev pub counted : ℕ → ℕ → ℕ
@@ -13,9 +13,10 @@ ended_after n (SuiteEnds e) = n
 ended_after n (TestStarts name) = n
 ended_after n (TestEnds e) = counted n 1
 ended_after n OtherLine = n
-ended_after n (HeadingLine suite) = n
+ended_after n (HeadingLine suite path) = n
 ended_after n (CargoFails failure text plain) = n
 ended_after n (Prints text plain) = n
+ended_after n (DamagedLine text) = n
 
 -- the number of tests that suites announced, after a line
 abbrev pub announced_after : ℕ → EventView → ℕ
@@ -24,6 +25,7 @@ announced_after n (SuiteEnds e) = n
 announced_after n (TestStarts name) = n
 announced_after n (TestEnds e) = n
 announced_after n OtherLine = n
-announced_after n (HeadingLine suite) = n
+announced_after n (HeadingLine suite path) = n
 announced_after n (CargoFails failure text plain) = n
 announced_after n (Prints text plain) = n
+announced_after n (DamagedLine text) = n

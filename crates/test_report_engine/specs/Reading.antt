@@ -1,5 +1,5 @@
 -- What a report has read and written.
-use Rattle.std.specs.Prelude.{◌≡◌, ℕ, List, [], ◌∷◌, ◌++◌, Option}
+use Rattle.std.specs.Prelude.{◌≡◌, ◌<◌, ◌≤◌, ℕ, List, [], ◌∷◌, ◌++◌, Option, length}
 use Rattle.std.specs.Io.KnownBytes.{Appends, Consumes}
 use Rattle.std.specs.List.{AllZip, flat_map}
 use Rattle.program_io.specs.Transfer.{AppendsStart}
@@ -11,6 +11,7 @@ use Rattle.test_report_forms.specs.declared.files.FileForms.{FileForms}
 use Rattle.test_report_forms.specs.declared.files.FileTexts.{FileTexts}
 use Rattle.test_report_run.specs.Note.{NoteView}
 use Rattle.test_report_run.specs.declared.note.RunEnd.{RunEnd}
+use Rattle.test_report_run.specs.declared.run.TestRun.{TestRun}
 use Rattle.test_report_engine.specs.Lines.{AreEventsOf}
 use Rattle.test_report_engine.specs.Report.{AreEntriesOf, AreLinesOf, IsReport, after_line, line_notes, notes_of_input, run_after_input, run_of}
 use Rattle.test_report_engine.specs.declared.report.Report.{Report}
@@ -31,6 +32,14 @@ pub record FilesHaveRead {F : Type 0} (files : FileForms) (report : Report F) (i
   pub know : FilesKnow report.files entries
   pub say : SaysAs report.files files
 
+-- the most bytes that are read at once
+abbrev pub piece_size : ℕ
+piece_size = 16384
+
+-- at least one byte was read, and at most a piece
+abbrev pub ReadsSome : Option (List ℕ) → Option (List ℕ) → Type 0
+ReadsSome at_first left = (bytes : List ℕ) × Consumes at_first left bytes × (0 < length bytes) × (length bytes ≤ piece_size)
+
 -- a beginning of the lines of these notes was appended
 abbrev pub AppendsLinesStart : (EntryView → List ℕ) → List NoteView → Option (List ℕ) → Option (List ℕ) → Type 0
 AppendsLinesStart line notes before behind = (entries : List EntryView) → AllZip IsEntryOf notes entries → AppendsStart before behind (flat_map line entries)
@@ -38,8 +47,15 @@ AppendsLinesStart line notes before behind = (entries : List EntryView) → AllZ
 -- a beginning of the line of each entry of an input was appended: of the bytes that are left of it, and that a report is to read
 abbrev pub ReadsStart : {F : Type 0} → (F → EntryView → List ℕ) → Report F → List ℕ → Option (List ℕ) → Option (List ℕ) → Type 0
 ReadsStart line report input before behind =
-    (events : List EventView) → AreEventsOf input events
+    (events : List (List EventView)) → AreEventsOf input events
     → AppendsLinesStart (line report.form) (notes_of_input (run_of report.run) events) before behind
+
+-- a run took the events of a line, and they make these notes known
+pub record TakesLine (old new : TestRun) (bytes : List ℕ) (notes : List NoteView) : Type 0 where
+  pub events : List EventView
+  pub says : LineSays bytes events
+  pub run_is : run_of new ≡ after_line (run_of old) events
+  pub tells : notes ≡ line_notes (run_of old) events
 
 module _ {F : Type 0} (line : F → EntryView → List ℕ) (last : F → List EntryView → RunEnd → List ℕ) (Knows : F → List EntryView → Type 0) where
   -- a report whose form was this at first has read these inputs, and written this
@@ -69,16 +85,16 @@ module _ {F : Type 0} (line : F → EntryView → List ℕ) (last : F → List E
   abbrev pub WritesNotes : Report F → Report F → List NoteView → Option (List ℕ) → Option (List ℕ) → Type 0
   WritesNotes old new notes before behind = (text : List ℕ) × TakesNotes old new notes text × Appends before behind text
 
-  -- a report took what a line says, and what it makes known was appended
+  -- a report took the events of a line, and what they make known was appended
   pub record ReadsLine (old new : Report F) (bytes : List ℕ) (before behind : Option (List ℕ)) : Type 0 where
-    pub event : EventView
-    pub says : LineSays bytes event
-    pub run_is : run_of new.run ≡ after_line (run_of old.run) event
-    pub writes : WritesNotes old new (line_notes (run_of old.run) event) before behind
-
-  -- a report took what the bytes that are left of an input say, and what they make known was appended
-  pub record ReadsInput (old new : Report F) (input : List ℕ) (before behind : Option (List ℕ)) : Type 0 where
     pub events : List EventView
+    pub says : LineSays bytes events
+    pub run_is : run_of new.run ≡ after_line (run_of old.run) events
+    pub writes : WritesNotes old new (line_notes (run_of old.run) events) before behind
+
+  -- a report took the events of the bytes that are left of an input, and what they make known was appended
+  pub record ReadsInput (old new : Report F) (input : List ℕ) (before behind : Option (List ℕ)) : Type 0 where
+    pub events : List (List EventView)
     pub say : AreEventsOf input events
     pub run_is : run_of new.run ≡ run_after_input (run_of old.run) events
     pub writes : WritesNotes old new (notes_of_input (run_of old.run) events) before behind

@@ -7,7 +7,8 @@ use Rattle.test_report_forms.specs.Files.{FilesSay}
 use Rattle.test_report_forms.specs.declared.files.FileForms.{FileForms}
 use Rattle.test_report_forms.specs.declared.files.FileTexts.{FileTexts}
 use Rattle.test_report_run.specs.Note.{NoteView}
-use Rattle.test_report_run.specs.Run.{RunState, after, after_file, end_of, file_notes, notes_at, run_start, run_state}
+use Rattle.test_report_run.specs.Run as spec
+use Rattle.test_report_run.specs.Run.{RunState, after_file, end_of, file_notes, run_start, run_state}
 use Rattle.test_report_run.specs.declared.note.RunEnd.{RunEnd}
 use Rattle.test_report_run.specs.declared.run.TestRun.{TestRun}
 use Rattle.test_report_engine.specs.Lines.{AreEventsOf}
@@ -16,13 +17,13 @@ use Rattle.test_report_engine.specs.Lines.{AreEventsOf}
 unfoldable pub run_of : TestRun → RunState
 run_of run = run_state run
 
--- what a line makes known
-unfoldable pub line_notes : RunState → EventView → List NoteView
-line_notes run e = notes_at run e
+-- what a line with these events makes known
+unfoldable pub line_notes : RunState → List EventView → List NoteView
+line_notes run line = spec.notes_of run line
 
--- the run after a line
-unfoldable pub after_line : RunState → EventView → RunState
-after_line run e = after run e
+-- the run after such a line
+unfoldable pub after_line : RunState → List EventView → RunState
+after_line run line = spec.run_after run line
 
 -- what the end of an input makes known
 unfoldable pub end_notes : RunState → List NoteView
@@ -32,35 +33,35 @@ end_notes run = file_notes run
 unfoldable pub after_end : RunState → RunState
 after_end run = after_file run
 
--- a run after lines that say these events
-abbrev pub run_after : RunState → List EventView → RunState
-run_after run events = fold after_line run events
+-- a run after lines with these events
+abbrev pub run_after : RunState → List (List EventView) → RunState
+run_after run lines = fold after_line run lines
 
--- what lines make known that say these events
-abbrev pub notes_of : RunState → List EventView → List NoteView
+-- what lines with these events make known
+abbrev pub notes_of : RunState → List (List EventView) → List NoteView
 notes_of run [] = []
-notes_of run (e ∷ es) = line_notes run e ++ notes_of (after_line run e) es
+notes_of run (line ∷ lines) = line_notes run line ++ notes_of (after_line run line) lines
 
 -- a run after an input with these events
-abbrev pub run_after_input : RunState → List EventView → RunState
-run_after_input run events = after_end (run_after run events)
+abbrev pub run_after_input : RunState → List (List EventView) → RunState
+run_after_input run lines = after_end (run_after run lines)
 
 -- what an input makes known that has these events, with its end
-abbrev pub notes_of_input : RunState → List EventView → List NoteView
-notes_of_input run events = notes_of run events ++ end_notes (run_after run events)
+abbrev pub notes_of_input : RunState → List (List EventView) → List NoteView
+notes_of_input run lines = notes_of run lines ++ end_notes (run_after run lines)
 
 -- a run after inputs
-abbrev pub run_after_inputs : RunState → List (List EventView) → RunState
+abbrev pub run_after_inputs : RunState → List (List (List EventView)) → RunState
 run_after_inputs run inputs = fold run_after_input run inputs
 
 -- what inputs make known
-abbrev pub notes_of_inputs : RunState → List (List EventView) → List NoteView
+abbrev pub notes_of_inputs : RunState → List (List (List EventView)) → List NoteView
 notes_of_inputs run [] = []
-notes_of_inputs run (events ∷ inputs) = notes_of_input run events ++ notes_of_inputs (run_after_input run events) inputs
+notes_of_inputs run (lines ∷ inputs) = notes_of_input run lines ++ notes_of_inputs (run_after_input run lines) inputs
 
 -- these are the entries of the run that inputs describe, and the run after them
 pub record AreEntriesOf (inputs : List (List ℕ)) (entries : List EntryView) (run : RunState) : Type 0 where
-  pub events : List (List EventView)
+  pub events : List (List (List EventView))
   pub say : AllZip AreEventsOf inputs events
   pub are : AllZip IsEntryOf (notes_of_inputs run_start events) entries
   pub run_is : run ≡ run_after_inputs run_start events

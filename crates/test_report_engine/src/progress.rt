@@ -6,6 +6,7 @@ ghost use Rattle.test_report_engine.specs.Progress.{announced_after, ended_after
 
 use std::alloc::{AllocError, Global};
 use test_report_events::event::Event;
+use test_report_events::line::Line;
 use test_report_run::error::RunError;
 use test_report_run::note::{Note, TestOutcome};
 use test_report_run::running::Running;
@@ -81,7 +82,7 @@ impl Progress {
                 self.ended = self.ended.saturating_add(1);
                 drop(self.running.end(name));
             }
-            Event::Heading { suite } => self.heading = Some(String::from_str(alloc, suite)?),
+            Event::Heading { suite, .. } => self.heading = Some(String::from_str(alloc, suite)?),
             _ => {}
         }
         Ok(())
@@ -100,15 +101,20 @@ impl Progress {
     }
 }
 
-/// Takes the event of a line and its notes, if the progress of the run is followed.
+/// Takes the events of a line and its notes, if the progress of the run is followed.
 pub(crate) fn take_line(
     alloc: Global,
     progress: &mut Option<Progress>,
-    event: Event<'_>,
+    line: &Line,
     notes: &[Note],
 ) -> Result<(), RunError> {
     if let Some(progress) = progress {
-        progress.take_event(alloc, event)?;
+        for event in [line.before(), Some(line.event()), line.damage()]
+            .into_iter()
+            .flatten()
+        {
+            progress.take_event(alloc, event)?;
+        }
         progress.take_notes(notes);
     }
     Ok(())

@@ -8,6 +8,7 @@ ghost use Rattle.test_report_forms.specs.Files.{FilesKnow};
 ghost use Rattle.test_report_forms.specs.declared.files.FileForms.{FileForms};
 ghost use Rattle.test_report_run.specs.Note.{note_view};
 ghost use Rattle.test_report_engine.specs.Lines.{IsOneLine};
+ghost use Rattle.test_report_engine.specs.Reading.{TakesLine};
 ghost use Rattle.test_report_engine.specs.Report.{AreTexts, line_notes, run_of};
 ghost use Rattle.test_report_engine.specs.declared.fault.Fault.TheVariants as faults;
 
@@ -22,6 +23,7 @@ use test_report_events::line::Line;
 use test_report_forms::entry::Entry;
 use test_report_forms::files::{FileForms, FileTexts};
 use test_report_forms::form::Form;
+use test_report_run::error::RunError;
 use test_report_run::note::{Note, RunEnd};
 use test_report_run::run::TestRun;
 
@@ -91,7 +93,7 @@ impl<F: Form + Drop> Report<F> {
             (λ input. reading.BreaksOff F.line F.last F.Knows self.old input
             (W.written sink.old) (W.written sink.new))) }
     {
-        test_report_events::laws::one_event_of_line();
+        test_report_events::laws::one_reading_of_line();
         test_report_forms::laws::one_entry();
         let mut pieces = Pieces::without_progress(alloc);
         for _piece in 0..u64::MAX {
@@ -103,8 +105,9 @@ impl<F: Form + Drop> Report<F> {
         Err(Fault::CounterFull)
     }
 
-    /// Reads the next bytes of a file of the run, and takes the lines that end in them. Returns false if the
-    /// file has ended. Call it until it returns false, for each file with the same `pieces`.
+    /// Reads the next bytes of a file of the run, at least one and at most 16,384, and takes the lines that end
+    /// in them. Returns false if the file has ended. Call it until it returns false, for each file with the same
+    /// `pieces`.
     ///
     /// If a line makes something known, the report writes it and flushes the sink before it takes the next
     /// line. The call that returns false takes the rest of the last line and the end of the file.
@@ -130,6 +133,7 @@ impl<F: Form + Drop> Report<F> {
         ensures end { IfOk result (λ more. more ≡ false → IsAtEnd (R.left source.new)) }
         ensures empty { IfOk result (λ more. more ≡ false → pieces.new.line.items ≡ []) }
         ensures flushed { OnOk result (W.flushed sink.old ≡ true → W.flushed sink.new ≡ true) }
+        ensures some { IfOk result (λ more. more ≡ true → reading.ReadsSome (R.left source.old) (R.left source.new)) }
         ensures piece { IfOk result (λ more. more ≡ true → reading.ReadsPiece F.line F.last F.Knows
             self.old self.new pieces.old.line.items pieces.new.line.items (R.left source.old) (R.left source.new)
             (W.written sink.old) (W.written sink.new)) }
@@ -184,7 +188,7 @@ impl<F: Form + Drop> Report<F> {
         ensures breaks_off { OnErr result (reading.BreaksOffEnd F.line F.last F.Knows self
             (W.written sink.old) (W.written sink.new)) }
     {
-        test_report_events::laws::one_event_of_line();
+        test_report_events::laws::one_reading_of_line();
         test_report_forms::laws::one_entry();
         let end = self.run.end();
         let mut text = String::new(alloc);
@@ -213,7 +217,7 @@ impl<F: Form + Drop> Report<F> {
         ensures starts { OnErr result ((rest : List ℕ) → reading.ReadsStart F.line self.old
             (begun.old.items ++ (bytes.now ++ rest)) (W.written sink.old) (W.written sink.new)) }
     {
-        test_report_events::laws::one_event_of_line();
+        test_report_events::laws::one_reading_of_line();
         test_report_forms::laws::one_entry();
         let mut rest = bytes;
         while let Some(at) = rest.find_byte(b'\n') {
@@ -241,15 +245,12 @@ impl<F: Form + Drop> Report<F> {
         ensures flushed { OnOk result (W.flushed sink.old ≡ true → W.flushed sink.new ≡ true) }
         ensures reads { OnOk result (reading.ReadsLine F.line F.last F.Knows self.old self.new bytes.now
             (W.written sink.old) (W.written sink.new)) }
-        ensures starts { OnErr result ((event : EventView) → LineSays bytes.now event
-            → reading.AppendsLinesStart (F.line self.old.form) (line_notes (run_of self.old.run) event)
+        ensures starts { OnErr result ((events : List EventView) → LineSays bytes.now events
+            → reading.AppendsLinesStart (F.line self.old.form) (line_notes (run_of self.old.run) events)
             (W.written sink.old) (W.written sink.new)) }
     {
-        test_report_events::laws::one_event_of_line();
-        let line = Line::read(alloc, bytes)?;
-        let event = line.event();
-        let notes = self.run.on_event(alloc, event)?;
-        take_line(alloc, progress, event, notes.as_slice())?;
+        test_report_events::laws::one_reading_of_line();
+        let notes = notes_of_line(alloc, &mut self.run, progress, bytes)?;
         self.write(alloc, notes.as_slice(), sink)
     }
 
@@ -272,7 +273,7 @@ impl<F: Form + Drop> Report<F> {
         ensures starts { OnErr result (reading.ReadsStart F.line self.old begun.now
             (W.written sink.old) (W.written sink.new)) }
     {
-        test_report_events::laws::one_event_of_line();
+        test_report_events::laws::one_reading_of_line();
         test_report_forms::laws::one_entry();
         if !begun.is_empty() {
             self.on_line(alloc, begun, progress, sink)?;
@@ -316,4 +317,20 @@ impl<F: Form + Drop> Report<F> {
         }
         Ok(text)
     }
+}
+
+/// Takes the events of a line and, if the progress of the run is followed, updates it. Returns the notes that
+/// the events make known.
+fn notes_of_line(
+    alloc: Global,
+    run: &mut TestRun,
+    progress: &mut Option<Progress>,
+    bytes: &[u8],
+) -> Result<Vec<Note>, RunError>
+    ensures { IfOk result (λ notes. TakesLine run.old run.new bytes.now (map note_view notes.items)) }
+{
+    let line = Line::read(alloc, bytes)?;
+    let notes = run.on_line(alloc, &line)?;
+    take_line(alloc, progress, &line, notes.as_slice())?;
+    Ok(notes)
 }

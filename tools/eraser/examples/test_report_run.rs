@@ -7,7 +7,7 @@ fn end_of_lines(lines: &[&[u8]]) -> Result<RunEnd, RunError> {
     let mut run = TestRun::new();
     for bytes in lines {
         let line = Line::read(bytes);
-        run.on_event(line.event())?;
+        run.on_line(&line)?;
     }
     run.end_file()?;
     Ok(run.end())

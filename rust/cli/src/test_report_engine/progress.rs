@@ -2,6 +2,7 @@
 //! The progress of a run.
 
 use crate::test_report_events::event::Event;
+use crate::test_report_events::line::Line;
 use crate::test_report_run::error::RunError;
 use crate::test_report_run::note::{Note, TestOutcome};
 use crate::test_report_run::running::Running;
@@ -73,7 +74,7 @@ impl Progress {
                 self.ended = self.ended.saturating_add(1);
                 drop(self.running.end(name));
             }
-            Event::Heading { suite } => self.heading = Some(String::from(suite)),
+            Event::Heading { suite, .. } => self.heading = Some(String::from(suite)),
             _ => {}
         }
         Ok(())
@@ -89,14 +90,19 @@ impl Progress {
     }
 }
 
-/// Takes the event of a line and its notes, if the progress of the run is followed.
+/// Takes the events of a line and its notes, if the progress of the run is followed.
 pub(crate) fn take_line(
     progress: &mut Option<Progress>,
-    event: Event<'_>,
+    line: &Line,
     notes: &[Note],
 ) -> Result<(), RunError> {
     if let Some(progress) = progress {
-        progress.take_event(event)?;
+        for event in [line.before(), Some(line.event()), line.damage()]
+            .into_iter()
+            .flatten()
+        {
+            progress.take_event(event)?;
+        }
         progress.take_notes(notes);
     }
     Ok(())

@@ -10,6 +10,7 @@ use crate::test_report_events::line::Line;
 use crate::test_report_forms::entry::Entry;
 use crate::test_report_forms::files::{FileForms, FileTexts};
 use crate::test_report_forms::form::Form;
+use crate::test_report_run::error::RunError;
 use crate::test_report_run::note::{Note, RunEnd};
 use crate::test_report_run::run::TestRun;
 use bstr::ByteSlice;
@@ -63,8 +64,9 @@ impl<F: Form> Report<F> {
         }
     }
 
-    /// Reads the next bytes of a file of the run, and takes the lines that end in them. Returns false if the
-    /// file has ended. Call it until it returns false, for each file with the same `pieces`.
+    /// Reads the next bytes of a file of the run, at least one and at most 16,384, and takes the lines that end
+    /// in them. Returns false if the file has ended. Call it until it returns false, for each file with the same
+    /// `pieces`.
     ///
     /// If a line makes something known, the report writes it and flushes the sink before it takes the next
     /// line. The call that returns false takes the rest of the last line and the end of the file.
@@ -139,10 +141,7 @@ impl<F: Form> Report<F> {
         progress: &mut Option<Progress>,
         sink: &mut W,
     ) -> Result<(), Fault> {
-        let line = Line::read(bytes);
-        let event = line.event();
-        let notes = self.run.on_event(event)?;
-        take_line(progress, event, notes.as_slice())?;
+        let notes = notes_of_line(&mut self.run, progress, bytes)?;
         self.write(notes.as_slice(), sink)
     }
 
@@ -181,4 +180,17 @@ impl<F: Form> Report<F> {
         }
         text
     }
+}
+
+/// Takes the events of a line and, if the progress of the run is followed, updates it. Returns the notes that
+/// the events make known.
+fn notes_of_line(
+    run: &mut TestRun,
+    progress: &mut Option<Progress>,
+    bytes: &[u8],
+) -> Result<Vec<Note>, RunError> {
+    let line = Line::read(bytes);
+    let notes = run.on_line(&line)?;
+    take_line(progress, &line, notes.as_slice())?;
+    Ok(notes)
 }

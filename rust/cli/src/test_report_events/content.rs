@@ -27,7 +27,7 @@ pub(crate) enum Content {
     Other,
 
     /// A heading of cargo.
-    Heading(String),
+    Heading { suite: String, path: Option<String> },
 
     /// A line that is neither an event of a harness nor a heading. It is a print if `failure` is `None`.
     Text {
@@ -35,6 +35,9 @@ pub(crate) enum Content {
         line: String,
         plain: String,
     },
+
+    /// A damaged line says that a test or a suite failed.
+    Damaged(String),
 }
 
 /// The key of a suite.
@@ -86,13 +89,17 @@ impl Content {
                 details,
             } => Content::TestEnded(TestEnd::of(name, outcome, details)),
             Event::Other => Content::Other,
-            Event::Heading { suite } => Content::Heading(String::from(suite)),
+            Event::Heading { suite, path } => Content::Heading {
+                suite: String::from(suite),
+                path: owned(path),
+            },
             Event::CargoFailed {
                 failure,
                 line,
                 plain,
             } => Content::text(Some(failure), line, plain),
             Event::Print { line, plain } => Content::text(None, line, plain),
+            Event::Damaged { text } => Content::Damaged(String::from(text)),
         }
     }
 
@@ -118,8 +125,9 @@ impl Content {
             },
             Content::TestEnded(end) => end.event(),
             Content::Other => Event::Other,
-            Content::Heading(suite) => Event::Heading {
+            Content::Heading { suite, path } => Event::Heading {
                 suite: suite.as_str(),
+                path: path.as_deref(),
             },
             Content::Text {
                 failure: Some(failure),
@@ -137,6 +145,9 @@ impl Content {
             } => Event::Print {
                 line: line.as_str(),
                 plain: plain.as_str(),
+            },
+            Content::Damaged(text) => Event::Damaged {
+                text: text.as_str(),
             },
         }
     }

@@ -121,6 +121,9 @@ pub enum Event<'a> {
     Heading {
         /// The name of the suites of that binary.
         suite: &'a str,
+
+        /// The path of the binary, or `None` for documentation tests.
+        path: Option<&'a str>,
     },
 
     /// A line in which cargo or nextest reports a failure.
@@ -142,6 +145,12 @@ pub enum Event<'a> {
 
         /// The same text without colours, and without spaces at its start.
         plain: &'a str,
+    },
+
+    /// A damaged line says that a test or a suite failed.
+    Damaged {
+        /// The text of the line, or the text in front of the event that was found at its end.
+        text: &'a str,
     },
 }
 

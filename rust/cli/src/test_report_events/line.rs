@@ -13,7 +13,14 @@ use serde_json::Value;
 /// A parsed line of a test run.
 #[derive(Clone, Debug)]
 pub struct Line {
+    /// The print in front of the event, if there is one.
+    before: Option<Content>,
+
+    /// The event of the line.
     content: Content,
+
+    /// A text of the line is damaged and says a failure.
+    damage: Option<Content>,
 }
 
 impl Line {
@@ -23,7 +30,23 @@ impl Line {
     /// it finds an event even if a test printed text at the start of the same line.
     pub fn read(bytes: &[u8]) -> Line {
         let content = content_of(bytes);
-        Line { content }
+        Line {
+            before: None,
+            content,
+            damage: None,
+        }
+    }
+
+    /// Returns the print that comes before the event of the line, if there is one. Text that a test or a program
+    /// printed without a line feed can be in front of a line of cargo.
+    pub fn before(&self) -> Option<Event<'_>> {
+        self.before.as_ref().map(Content::event)
+    }
+
+    /// Returns the event that the line is damaged and says that a test or a suite failed, if it does. It comes
+    /// after the other events of the line.
+    pub fn damage(&self) -> Option<Event<'_>> {
+        self.damage.as_ref().map(Content::event)
     }
 
     /// Returns the event of the line. It borrows its texts from the line.
@@ -103,7 +126,7 @@ fn print_content(bytes: &[u8]) -> Content {
 fn text_content(bytes: &[u8]) -> Content {
     let plain = plain_text(bytes);
     match heading(plain.as_str()) {
-        Some(suite) => Content::Heading(suite),
+        Some(suite) => Content::Heading { suite, path: None },
         None => {
             let failure = cargo_failure(plain.as_str());
             let line = line_text(bytes);

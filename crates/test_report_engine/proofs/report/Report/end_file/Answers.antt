@@ -18,7 +18,7 @@ returns-in_err-notes-clause-starts g c =
     (g.W.Sink.written c.if-not-is_empty.sink) =
     elim c.if-not-is_empty.branch [
       | then-not-is_empty+in_ok-on_line w ↦
-          ends-line c.one_event_of_line.ensures c.one_entry.ensures g.F.Form.line g.F.Form.last g.F.Form.Knows _ w.on_line.new.self
+          ends-line c.one_reading_of_line.ensures c.one_entry.ensures g.F.Form.line g.F.Form.last g.F.Form.Knows _ w.on_line.new.self
           _ _ _ _ _ c.requires.one_line (some-bytes _ _ c.is_empty.ensures w.if-not-is_empty.true) w.in_ok-on_line.ensures.reads w.self-is
           (ap g.W.Sink.written w.sink-is)
       | else-not-is_empty w ↦ ends-none g.F.Form.line g.F.Form.last g.F.Form.Knows _ _ _ _ _ (grind arith) w.self-is (ap g.W.Sink.written w.sink-is)
@@ -31,13 +31,13 @@ returns-clause-starts g c =
     (g.W.Sink.written c.if-not-is_empty.sink) =
     elim c.if-not-is_empty.branch [
       | then-not-is_empty+in_ok-on_line w ↦
-          ends-line c.one_event_of_line.ensures c.one_entry.ensures g.F.Form.line g.F.Form.last g.F.Form.Knows _ w.on_line.new.self
+          ends-line c.one_reading_of_line.ensures c.one_entry.ensures g.F.Form.line g.F.Form.last g.F.Form.Knows _ w.on_line.new.self
           _ _ _ _ _ c.requires.one_line (some-bytes _ _ c.is_empty.ensures w.if-not-is_empty.true) w.in_ok-on_line.ensures.reads w.self-is
           (ap g.W.Sink.written w.sink-is)
       | else-not-is_empty w ↦ ends-none g.F.Form.line g.F.Form.last g.F.Form.Knows _ _ _ _ _ (grind arith) w.self-is (ap g.W.Sink.written w.sink-is)
     ] in
     on_err_weaker c.write.result
-    (λ starts. ends.starts _ (input-end-start c.one_event_of_line.ensures g.F.Form.line c.if-not-is_empty.self _ _
+    (λ starts. ends.starts _ (input-end-start c.one_reading_of_line.ensures g.F.Form.line c.if-not-is_empty.self _ _
     (end-start _ c.if-not-is_empty.self.run _ _ _ _ c.in_ok-notes.ensures.tells c.as_slice.ensures.value starts)))
     c.write.ensures.starts
 
@@ -47,7 +47,7 @@ returns-clause-reads g c =
     (g.W.Sink.written c.if-not-is_empty.sink) =
     elim c.if-not-is_empty.branch [
       | then-not-is_empty+in_ok-on_line w ↦
-          ends-line c.one_event_of_line.ensures c.one_entry.ensures g.F.Form.line g.F.Form.last g.F.Form.Knows _ w.on_line.new.self
+          ends-line c.one_reading_of_line.ensures c.one_entry.ensures g.F.Form.line g.F.Form.last g.F.Form.Knows _ w.on_line.new.self
           _ _ _ _ _ c.requires.one_line (some-bytes _ _ c.is_empty.ensures w.if-not-is_empty.true) w.in_ok-on_line.ensures.reads w.self-is
           (ap g.W.Sink.written w.sink-is)
       | else-not-is_empty w ↦ ends-none g.F.Form.line g.F.Form.last g.F.Form.Knows _ _ _ _ _ (grind arith) w.self-is (ap g.W.Sink.written w.sink-is)

@@ -9,7 +9,7 @@ returns-in_err-on_end-clause-breaks_off g c = on_err c.from_residual.result (end
 pub returns-in_err-write_all-clause-breaks_off : goal.returns-in_err-write_all-clause-breaks_off
 returns-in_err-write_all-clause-breaks_off g c =
     on_err c.from_residual-in_err-write_all.result
-    (ends-off c.one_event_of_line.ensures c.one_entry.ensures g.F.Form.line g.F.Form.last g.F.Form.Knows
+    (ends-off c.one_reading_of_line.ensures c.one_entry.ensures g.F.Form.line g.F.Form.last g.F.Form.Knows
     c.args.self c.end-end.result c.as_bytes.result.now _ _ c.end-end.ensures
     (λ entries knows. c.as_bytes.ensures.value ∙ c.in_ok-on_end.ensures entries knows
     ∙ ap (λ x. x ++ g.F.Form.last c.args.self.form entries c.end-end.result) c.new-text.ensures.bytes)

@@ -26,7 +26,7 @@ loop-at-preserved g c = record {
   one_line = subst IsOneLine (sym c.clear.ensures.items) empty-line;
   flushed = λ held. c.in_ok-on_line.ensures.flushed (c.loop-at.invariant.flushed held);
   takes =
-      bytes-line c.one_event_of_line.ensures c.one_entry.ensures g.F.Form.line g.F.Form.last g.F.Form.Knows
+      bytes-line c.one_reading_of_line.ensures c.one_entry.ensures g.F.Form.line g.F.Form.last g.F.Form.Knows
       c.args.self.now c.loop-at.self c.on_line.new.self c.args.begun.now.items c.loop-at.begun.items _
       c.as_slice.result.now c.args.bytes.now c.loop-at.rest.now _ _ _ _ _ c.in-Some.at c.loop-at.invariant.takes c.loop-at.invariant.one_line
       c.split_at.ensures.front c.split_at.ensures.back c.in-Some.ensures.0.high

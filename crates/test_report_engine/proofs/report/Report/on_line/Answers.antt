@@ -4,28 +4,19 @@ use Rattle.test_report_engine.proofs.Notes.{on_err, on_err_weaker}
 use Rattle.test_report_engine.specs.Report.{run_of}
 use Rattle.test_report_engine.proofs.report.Report.on_line.Goals as goal
 
-pub returns-in_err-line-clause-starts : goal.returns-in_err-line-clause-starts
-returns-in_err-line-clause-starts g c =
-    on_err c.from_residual.result (line-none (g.F.Form.line c.args.self.now.form) (run_of c.args.self.now.run) c.args.bytes.now _)
-
 pub returns-in_err-notes-clause-starts : goal.returns-in_err-notes-clause-starts
 returns-in_err-notes-clause-starts g c =
-    on_err c.from_residual-in_err-notes.result (line-none (g.F.Form.line c.args.self.now.form) (run_of c.args.self.now.run) c.args.bytes.now _)
-
-pub returns-in_err-take_line-clause-starts : goal.returns-in_err-take_line-clause-starts
-returns-in_err-take_line-clause-starts g c =
-    on_err c.from_residual-in_err-take_line.result (line-none (g.F.Form.line c.args.self.now.form) (run_of c.args.self.now.run) c.args.bytes.now _)
+    on_err c.from_residual.result (line-none (g.F.Form.line c.args.self.now.form) (run_of c.args.self.now.run) c.args.bytes.now _)
 
 pub returns-clause-starts : goal.returns-clause-starts
 returns-clause-starts g c =
     on_err_weaker c.write.result
-    (line-start c.one_event_of_line.ensures _ c.args.self.now.run c.args.bytes.now _ _ _ _ _ _ c.in_ok-line.ensures.says c.event-event.ensures
-    c.in_ok-notes.ensures.tells c.as_slice-2.ensures.value)
+    (line-start c.one_reading_of_line.ensures _ c.args.self.now.run _ c.args.bytes.now _ _ _ _ c.in_ok-notes.ensures c.as_slice.ensures.value)
     c.write.ensures.starts
 
 pub returns-clause-reads : goal.returns-clause-reads
 returns-clause-reads g c =
     on_ok_weaker c.write.result
-    (line-read g.F.Form.line g.F.Form.last g.F.Form.Knows c.args.self.now c.write.new.self _ c.args.bytes.now _ _ _ _ _ _
-    c.in_ok-line.ensures.says c.event-event.ensures c.in_ok-notes.ensures.tells c.in_ok-notes.ensures.takes c.as_slice-2.ensures.value c.write.ensures.same_run)
+    (line-read g.F.Form.line g.F.Form.last g.F.Form.Knows c.args.self.now c.write.new.self _ c.args.bytes.now _ _ _ _
+    c.in_ok-notes.ensures c.as_slice.ensures.value c.write.ensures.same_run)
     c.write.ensures.writes

@@ -6,7 +6,7 @@ use Rattle.test_report_engine.proofs.report.Report.read_file.Goals as goal
 pub returns-in_err-more-clause-breaks_off : goal.returns-in_err-more-clause-breaks_off
 returns-in_err-more-clause-breaks_off g c =
     on_err c.from_residual.result
-    (pieces-break c.one_event_of_line.ensures c.one_entry.ensures g.F.Form.line g.F.Form.last g.F.Form.Knows
+    (pieces-break c.one_reading_of_line.ensures c.one_entry.ensures g.F.Form.line g.F.Form.last g.F.Form.Knows
     c.args.self.now c.loop-piece.self c.loop-piece.pieces.line.items _ _ _ _ _ c.loop-piece.invariant.reads c.in_err-more.ensures.breaks_off)
 
 pub returns-then-not-more-clause-reads : goal.returns-then-not-more-clause-reads
@@ -31,6 +31,6 @@ loop-piece-preserved g c = record {
 
 pub returns-clause-breaks_off : goal.returns-clause-breaks_off
 returns-clause-breaks_off g c =
-    pieces-break c.one_event_of_line.ensures c.one_entry.ensures g.F.Form.line g.F.Form.last g.F.Form.Knows
+    pieces-break c.one_reading_of_line.ensures c.one_entry.ensures g.F.Form.line g.F.Form.last g.F.Form.Knows
     c.args.self.now c.loop-piece.self c.loop-piece.pieces.line.items _ _ _ _ _ c.loop-piece.invariant.reads
     (rest-none g.F.Form.line c.loop-piece.self c.loop-piece.pieces.line.items _ _)

@@ -1,6 +1,6 @@
-use Rattle.std.proofs.Common.{◌∙◌, ap}
+use Rattle.std.proofs.Common.{◌∙◌, ap, arith}
 use Rattle.test_report_engine.proofs.Notes.{on_err}
-use Rattle.test_report_engine.proofs.Reports.{rest-end-starts, rest-starts}
+use Rattle.test_report_engine.proofs.Reports.{reads-some, rest-end-starts, rest-starts}
 use Rattle.test_report_engine.proofs.report.Report.read_piece.Goals as goal
 
 pub returns-in_err-end_file-clause-breaks_off : goal.returns-in_err-end_file-clause-breaks_off
@@ -15,3 +15,6 @@ returns-in_err-on_bytes-clause-breaks_off g c =
     on_err c.from_residual-in_err-on_bytes.result
     (rest-starts g.F.Form.line c.args.self.now c.args.pieces.now.line.items c.replace-line.result.items _ _ _ _ _
     (ap (λ v. v.items) c.replace-line.ensures.value) c.in-Ok.ensures.bytes c.in_err-on_bytes.ensures.starts)
+
+pub returns-clause-some : goal.returns-clause-some
+returns-clause-some g c = λ more. reads-some c.in-Ok.n _ _ _ c.in-Ok.ensures.bytes (grind arith) c.in-Ok.ensures.count (grind arith)
