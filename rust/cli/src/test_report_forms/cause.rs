@@ -51,7 +51,9 @@ fn suite_of(disagreement: &Disagreement) -> Option<&str> {
         Disagreement::StrayEnd { .. }
         | Disagreement::StraySuiteEnd { .. }
         | Disagreement::OutsideSuite { .. }
-        | Disagreement::Cargo { .. } => None,
+        | Disagreement::Cargo { .. }
+        | Disagreement::Damaged { .. }
+        | Disagreement::NoEvent => None,
     }
 }
 
@@ -106,30 +108,39 @@ pub(crate) fn push_disagreement(text: &mut String, disagreement: &Disagreement) 
             text.push_str("cargo: ");
             push_name(text, line.as_str());
         }
+        Disagreement::Damaged { text: line } => {
+            text.push_str("a damaged line says that a test or a suite failed: ");
+            push_name(text, line.as_str());
+        }
+        Disagreement::NoEvent => text.push_str("no line of the input is of a test run"),
     }
 }
 
 /// Appends what the last line of a suite says.
 fn push_said(text: &mut String, said: &SaidNumbers) {
-    text.push_str(": its last line says ");
-    text.push_str(verdict(said.failed_verdict));
-    push_said_number(text, said.passed, " passed");
-    push_said_number(text, said.failed, " failed");
+    text.push_str(": its last line ");
+    push_said_numbers(text, said.passed, said.failed, verdict(said.failed_verdict));
 }
 
-/// Appends a number that the last line of a suite says, and the word for it.
-fn push_said_number(text: &mut String, number: Option<u128>, word: &str) {
-    if let Some(count) = number {
-        {
-            text.push_str(&format!(", {count}"));
-            text.push_str(word);
+/// Appends the numbers of passed and failed tests that the last line of a suite has, and its verdict.
+fn push_said_numbers(text: &mut String, passed: Option<u128>, failed: Option<u128>, verdict: &str) {
+    match (passed, failed) {
+        (Some(passed), Some(failed)) => {
+            text.push_str(&format!(
+                "counts {passed} passed and {failed} failed ({verdict})"
+            ));
         }
+        (Some(passed), None) => text.push_str(&format!("counts {passed} passed ({verdict})")),
+        (None, Some(failed)) => text.push_str(&format!("counts {failed} failed ({verdict})")),
+        (None, None) => text.push_str(&format!("says {verdict}")),
     }
 }
 
 /// Appends the numbers of the tests of a suite whose last line says other numbers.
 fn push_its_tests(text: &mut String, passed: usize, failed: usize) {
-    text.push_str(&format!("; its tests {passed} and {failed}"));
+    text.push_str(&format!(
+        ", but {passed} of its tests passed and {failed} failed"
+    ));
 }
 
 /// Appends the key of a suite and its verdict.

@@ -45,7 +45,7 @@ impl Suite {
             notes.push(self.note(test, TestOutcome::Skipped));
             return Ok(());
         }
-        self.time = time_sum(self.time, details.time)?;
+        self.time = time_sum(self.time, details.time);
         if end == TestResult::Failed {
             return self.on_failed(test, details, notes);
         }

@@ -2,9 +2,9 @@
 //! Follows a test run line by line, and returns which tests passed, failed or were skipped, and where lines
 //! of the run contradict each other.
 //!
-//! Make a `TestRun`, and pass the event of each line to `on_event`. Call `end_file` after the last line of
-//! each file, and `end` after the last file. `on_event` and `end_file` return notes, for example that a test
-//! failed. `end` returns the counts and the outcome of the run.
+//! Make a `TestRun`, and pass each line to `on_line`. Call `end_file` after the last line of each file, and
+//! `end` after the last file. `on_line` and `end_file` return notes, for example that a test failed. `end`
+//! returns the counts and the outcome of the run.
 //!
 //! This function does so for a run of one file, with the lines `lines`:
 //!
@@ -37,6 +37,7 @@
 mod counted;
 mod ended;
 pub mod error;
+mod headings;
 mod last_line;
 pub mod note;
 mod over;

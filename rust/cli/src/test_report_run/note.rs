@@ -157,6 +157,15 @@ pub enum Disagreement {
         /// The line that says so.
         line: String,
     },
+
+    /// A damaged line says that a test or a suite failed.
+    Damaged {
+        /// The text of the line, or its first 200 bytes if it is longer.
+        text: String,
+    },
+
+    /// No line of a file is of a test run, and nothing else in the file says what is wrong.
+    NoEvent,
 }
 
 /// The numbers and the verdict in the last line of a suite. If it has several, their numbers are added.

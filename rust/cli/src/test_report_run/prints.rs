@@ -7,10 +7,13 @@ const KEPT_PRINTS: usize = 3;
 /// The most bytes of a print that are kept.
 const KEPT_BYTES: usize = 200;
 
+/// The line before the one in which cargo names the cause of its failure.
+const CAUSED_BY: &[u8] = b"Caused by:";
+
 /// A line that is no event of a harness.
 #[derive(Clone, Copy)]
 pub(crate) enum Printed<'a> {
-    /// Any line, and the same line without colours and without spaces at the front.
+    /// Any line, and the same line without colours.
     Print { line: &'a str, plain: &'a str },
 
     /// A heading of cargo.
@@ -55,7 +58,7 @@ impl Prints {
     }
 
     /// Takes the next line.
-    pub(crate) fn on_line(&mut self, printed: Printed<'_>) {
+    pub(crate) fn on_printed(&mut self, printed: Printed<'_>) {
         match self.stage {
             Stage::Open => self.on_print(printed),
             Stage::Failed => {
@@ -119,16 +122,26 @@ impl Prints {
 /// Returns the stage after a line that comes after the first failure.
 fn stage_after_failure(printed: Printed<'_>) -> Stage {
     match printed {
-        Printed::Print {
-            plain: "Caused by:",
-            ..
-        } => Stage::CausedBy,
+        Printed::Print { plain, .. } if says_caused_by(plain.as_bytes()) => Stage::CausedBy,
         Printed::Print { .. } => Stage::Failed,
         Printed::Heading | Printed::CargoFailed { .. } => Stage::Over,
     }
 }
 
+/// Returns true if a line is `Caused by:`, perhaps after spaces.
+fn says_caused_by(plain: &[u8]) -> bool {
+    match spaces_end(plain) {
+        Some(at) => plain[at..] == CAUSED_BY[..],
+        None => false,
+    }
+}
+
+/// Returns the offset of the first byte that is not a space.
+fn spaces_end(text: &[u8]) -> Option<usize> {
+    text.iter().position(|byte| *byte != b' ')
+}
+
 /// Returns the longest start of a line that has at most [`KEPT_BYTES`] bytes and ends between characters.
-fn shortened(line: &str) -> &str {
+pub(crate) fn shortened(line: &str) -> &str {
     &line[..line.floor_char_boundary(KEPT_BYTES)]
 }

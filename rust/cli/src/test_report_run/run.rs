@@ -6,8 +6,11 @@ mod suites;
 mod test_lines;
 
 use crate::test_report_events::event::Event;
+use crate::test_report_events::line::Line;
 use crate::test_report_run::error::{RunError, one_more};
-use crate::test_report_run::note::{Note, RunEnd, TestOutcome};
+use crate::test_report_run::headings::Headings;
+use crate::test_report_run::note::{Disagreement, Note, RunEnd, TestOutcome};
+use crate::test_report_run::run::lines::push_damaged;
 use crate::test_report_run::running::Running;
 use crate::test_report_run::suite::Suite;
 use crate::test_report_run::totals::Totals;
@@ -23,7 +26,14 @@ pub struct TestRun {
     suites: Vec<Box<Suite>>,
 
     suites_started: usize,
+
+    /// The headings of the file, and the name that the last one gives the suites after it.
+    headings: Headings,
     heading: Option<String>,
+
+    /// True if a line of the file was an event of a harness.
+    has_event: bool,
+
     running: Running,
     ended: usize,
     totals: Totals,
@@ -43,7 +53,9 @@ impl TestRun {
             outside: Suite::outside(),
             suites: Vec::new(),
             suites_started: 0,
+            headings: Headings::new(),
             heading: None,
+            has_event: false,
             running: Running::new(),
             ended: 0,
             totals: Totals::new(),
@@ -54,11 +66,23 @@ impl TestRun {
         }
     }
 
-    /// Takes the event of the next line, and returns the notes that it makes known. The notes of a suite are
-    /// in this order: its tests without an end, its flaky tests, disagreements, tests that did not run, and
-    /// the numbers of the suite.
+    /// Takes the next line: its events, in their order. Returns the notes that each makes known, one after the
+    /// other.
     ///
     /// After an error the run must not be used: a part of the line may be counted.
+    pub fn on_line(&mut self, line: &Line) -> Result<Vec<Note>, RunError> {
+        let mut notes = Vec::new();
+        self.take(line.before(), &mut notes)?;
+        self.take(Some(line.event()), &mut notes)?;
+        self.take(line.damage(), &mut notes)?;
+        Ok(notes)
+    }
+
+    /// Takes the next event, and returns the notes that it makes known. `on_line` calls it for each event of a
+    /// line. The notes of a suite are in this order: its tests without an end, its flaky tests, disagreements,
+    /// tests that did not run, and the numbers of the suite.
+    ///
+    /// After an error the run must not be used: a part of the event may be counted.
     pub fn on_event(&mut self, event: Event<'_>) -> Result<Vec<Note>, RunError> {
         let mut notes = Vec::new();
         self.tell(event, &mut notes)?;
@@ -76,8 +100,11 @@ impl TestRun {
         }
         let outside = std::mem::replace(&mut self.outside, Suite::outside());
         self.end_early(outside, &mut notes)?;
+        self.push_no_event(&mut notes);
         self.learn(&notes)?;
+        self.headings = Headings::new();
         self.heading = None;
+        self.has_event = false;
         self.causes_at_file = self.causes;
         self.causes_at_cargo = self.causes;
         Ok(notes)
@@ -88,7 +115,15 @@ impl TestRun {
         self.totals.end(self.disagreements)
     }
 
-    /// Takes the event of the next line, except that its notes are not added to the sums.
+    /// Takes an event if there is one, and appends its notes.
+    fn take(&mut self, event: Option<Event<'_>>, notes: &mut Vec<Note>) -> Result<(), RunError> {
+        if let Some(event) = event {
+            notes.append(&mut self.on_event(event)?)?;
+        }
+        Ok(())
+    }
+
+    /// Takes an event, except that its notes are not added to the sums.
     fn tell(&mut self, event: Event<'_>, notes: &mut Vec<Note>) -> Result<(), RunError> {
         match event {
             Event::SuiteStarted { key, test_count } => {
@@ -102,39 +137,65 @@ impl TestRun {
                 details,
             } => self.on_test_ended(name, end, details, notes),
             Event::Other => Ok(()),
-            Event::Heading { suite } => self.on_heading(suite),
+            Event::Heading { suite, path } => self.on_heading(suite, path),
             Event::CargoFailed {
                 failure,
                 line,
                 plain,
             } => self.on_cargo_failed(failure, line, plain, notes),
             Event::Print { line, plain } => self.on_print_line(line, plain),
+            Event::Damaged { text } => push_damaged(text, notes),
         }
     }
 
-    /// Stores the number of causes if cargo reports a failure outside of a suite.
+    /// Adds a disagreement if no line of the file is an event of a harness, and nothing failed or disagreed in it.
+    fn push_no_event(&self, notes: &mut Vec<Note>) {
+        let explained = self.causes > self.causes_at_file;
+        if !self.has_event && !explained {
+            notes.push(Note::Disagreement(Disagreement::NoEvent));
+        }
+    }
+
+    /// Stores that a line is an event of a harness, and the number of causes if cargo reports a failure outside
+    /// of a suite.
     fn mark(&mut self, event: Event<'_>) {
-        if matches!(event, Event::CargoFailed { .. }) && self.suites.is_empty() {
-            self.causes_at_cargo = self.causes;
+        match event {
+            Event::SuiteStarted { .. }
+            | Event::SuiteEnded(_)
+            | Event::TestStarted { .. }
+            | Event::TestEnded { .. }
+            | Event::Other => self.has_event = true,
+            Event::CargoFailed { .. } => {
+                if self.suites.is_empty() {
+                    self.causes_at_cargo = self.causes;
+                }
+            }
+            Event::Heading { .. } | Event::Print { .. } | Event::Damaged { .. } => {}
         }
     }
 
     /// Adds notes to the sums.
     fn learn(&mut self, notes: &[Note]) -> Result<(), RunError> {
         for note in notes {
-            match note {
-                Note::Test(test) => {
-                    if matches!(test.outcome, TestOutcome::Failed(_)) {
-                        self.causes = one_more(self.causes)?;
-                    }
-                }
-                Note::Disagreement(_) => {
+            self.learn_note(note)?;
+        }
+        Ok(())
+    }
+
+    /// Adds a note to the sums.
+    fn learn_note(&mut self, note: &Note) -> Result<(), RunError> {
+        match note {
+            Note::Test(test) => {
+                if matches!(test.outcome, TestOutcome::Failed(_)) {
                     self.causes = one_more(self.causes)?;
-                    self.disagreements = one_more(self.disagreements)?;
                 }
-                Note::NotRun(_) => {}
-                Note::Suite(suite) => self.totals.add(suite)?,
             }
+            Note::Disagreement(_) => {
+                self.causes = one_more(self.causes)?;
+                self.disagreements = one_more(self.disagreements)?;
+            }
+            Note::NotRun(_) => {}
+            Note::Suite(suite) => self.totals.add(suite)?,
         }
         Ok(())
     }

@@ -5,7 +5,8 @@ use crate::test_report_events::event::SuiteEnd;
 use crate::test_report_run::error::RunError;
 use crate::test_report_run::note::SaidNumbers;
 
-/// Adds two numbers that may be absent. The sum is absent only if both are.
+/// Adds two numbers that may be absent. The sum is absent only if both are. Fails only if the sum does not
+/// fit.
 pub(crate) fn sum(a: Option<u128>, b: Option<u128>) -> Result<Option<u128>, RunError> {
     match (a, b) {
         (Some(a), Some(b)) => Ok(Some(a.checked_add(b).ok_or(RunError::CounterFull)?)),
@@ -14,7 +15,7 @@ pub(crate) fn sum(a: Option<u128>, b: Option<u128>) -> Result<Option<u128>, RunE
     }
 }
 
-/// Adds a number of a line. The sum is absent only if both numbers are.
+/// Adds a number of a line. The sum is absent only if both numbers are. Fails only if the sum does not fit.
 fn with_number(a: Option<u128>, b: Option<u64>) -> Result<Option<u128>, RunError> {
     match b {
         Some(b) => sum(a, Some(u128::from(b))),
@@ -22,12 +23,13 @@ fn with_number(a: Option<u128>, b: Option<u64>) -> Result<Option<u128>, RunError
     }
 }
 
-/// Adds two times that may be absent. The sum is absent only if both are.
-pub(crate) fn time_sum(a: Option<u64>, b: Option<u64>) -> Result<Option<u64>, RunError> {
+/// Adds two times that may be absent. The sum is absent only if both are. A sum that does not fit is the
+/// greatest number that does.
+pub(crate) fn time_sum(a: Option<u64>, b: Option<u64>) -> Option<u64> {
     match (a, b) {
-        (Some(a), Some(b)) => Ok(Some(a.checked_add(b).ok_or(RunError::CounterFull)?)),
-        (Some(a), None) => Ok(Some(a)),
-        (None, b) => Ok(b),
+        (Some(a), Some(b)) => Some(a.saturating_add(b)),
+        (Some(a), None) => Some(a),
+        (None, b) => b,
     }
 }
 
@@ -51,7 +53,7 @@ impl Said {
             failed: with_number(self.failed, end.failed)?,
             ignored: with_number(self.ignored, end.ignored)?,
             measured: with_number(self.measured, end.measured)?,
-            time: time_sum(self.time, end.time)?,
+            time: time_sum(self.time, end.time),
         })
     }
 

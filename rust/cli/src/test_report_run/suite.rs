@@ -125,7 +125,7 @@ impl Suite {
 
     /// Takes a line that is no event of a harness.
     pub(crate) fn on_print(&mut self, printed: Printed<'_>) {
-        self.prints.on_line(printed);
+        self.prints.on_printed(printed);
     }
 
     /// Takes the name in a line of a test of the suite.

@@ -34,7 +34,7 @@ impl Totals {
         self.end.crashed = crashed.ok_or(RunError::CounterFull)?;
         self.end.skipped = plus(self.end.skipped, suite.skipped)?;
         self.end.not_run = plus(self.end.not_run, suite.not_run)?;
-        self.end.time = time_sum(self.end.time, suite.time)?;
+        self.end.time = time_sum(self.end.time, suite.time);
         self.end.outcome = self.end.outcome.combine(outcome_of(suite)?);
         Ok(())
     }

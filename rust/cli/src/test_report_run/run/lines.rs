@@ -4,14 +4,14 @@
 use crate::test_report_events::event::CargoFailure;
 use crate::test_report_run::error::RunError;
 use crate::test_report_run::note::{Disagreement, Note};
-use crate::test_report_run::prints::Printed;
+use crate::test_report_run::prints::{Printed, shortened};
 use crate::test_report_run::run::TestRun;
 
 impl TestRun {
     /// Takes a heading of cargo.
-    pub(crate) fn on_heading(&mut self, suite: &str) -> Result<(), RunError> {
+    pub(crate) fn on_heading(&mut self, name: &str, path: Option<&str>) -> Result<(), RunError> {
         self.on_print(Printed::Heading);
-        self.heading = Some(String::from(suite));
+        self.heading = Some(self.headings.on_heading(name, path)?);
         Ok(())
     }
 
@@ -62,4 +62,12 @@ impl TestRun {
         }
         self.outside.on_print(printed);
     }
+}
+
+/// Adds the disagreement of a damaged line that says a failure.
+pub(crate) fn push_damaged(text: &str, notes: &mut Vec<Note>) -> Result<(), RunError> {
+    notes.push(Note::Disagreement(Disagreement::Damaged {
+        text: String::from(shortened(text)),
+    }));
+    Ok(())
 }
