@@ -66,7 +66,11 @@ impl Prints {
     }
 
     /// Takes the next line.
-    pub(crate) fn on_printed(&mut self, alloc: Global, printed: Printed<'_>) -> Result<(), AllocError>
+    pub(crate) fn on_printed(
+        &mut self,
+        alloc: Global,
+        printed: Printed<'_>,
+    ) -> Result<(), AllocError>
         ensures { OnOk result (prints_view self.new
             ≡ after_line (prints_view self.old) (printed_view printed.entry)) }
     {
