@@ -1,6 +1,7 @@
 // Made by tools/erase from crates/test_report_events/src/content.rt. Do not edit.
 //! The event of a line, with texts of its own.
 
+use crate::test_report_events::cargo::CargoLine;
 use crate::test_report_events::event::{
     CargoFailure, Event, SuiteEnd, SuiteKey, TestDetails, TestResult,
 };
@@ -27,14 +28,20 @@ pub(crate) enum Content {
     Other,
 
     /// A heading of cargo.
-    Heading(String),
+    Heading { suite: String, path: Option<String> },
 
-    /// A line that is neither an event of a harness nor a heading. It is a print if `failure` is `None`.
-    Text {
-        failure: Option<CargoFailure>,
+    /// A failure that cargo or nextest reports.
+    Failure {
+        failure: CargoFailure,
         line: String,
         plain: String,
     },
+
+    /// A print.
+    Print { line: String, plain: String },
+
+    /// A damaged line says that a test or a suite failed.
+    Damaged(String),
 }
 
 /// The key of a suite.
@@ -86,22 +93,47 @@ impl Content {
                 details,
             } => Content::TestEnded(TestEnd::of(name, outcome, details)),
             Event::Other => Content::Other,
-            Event::Heading { suite } => Content::Heading(String::from(suite)),
+            Event::Heading { suite, path } => Content::Heading {
+                suite: String::from(suite),
+                path: owned(path),
+            },
             Event::CargoFailed {
                 failure,
                 line,
                 plain,
-            } => Content::text(Some(failure), line, plain),
-            Event::Print { line, plain } => Content::text(None, line, plain),
+            } => Content::Failure {
+                failure,
+                line: String::from(line),
+                plain: String::from(plain),
+            },
+            Event::Print { line, plain } => Content::Print {
+                line: String::from(line),
+                plain: String::from(plain),
+            },
+            Event::Damaged { text } => Content::Damaged(String::from(text)),
         }
     }
 
-    /// Returns the content of a line that is neither an event of a harness nor a heading.
-    fn text(failure: Option<CargoFailure>, line: &str, plain: &str) -> Content {
-        Content::Text {
-            failure,
-            line: String::from(line),
-            plain: String::from(plain),
+    /// Returns the content of a line of cargo. `shown` is the text of the line, if it is a failure.
+    pub(crate) fn of_cargo(says: CargoLine<'_>, shown: &str, text: &str) -> Content {
+        match says {
+            CargoLine::Heading(heading) => Content::Heading {
+                suite: heading.suite(),
+                path: owned(heading.path()),
+            },
+            CargoLine::Failure(failure) => Content::Failure {
+                failure,
+                line: String::from(shown),
+                plain: String::from(text),
+            },
+        }
+    }
+
+    /// Returns a print that is only a part of its line.
+    pub(crate) fn print(text: &str) -> Content {
+        Content::Print {
+            line: String::from(text),
+            plain: String::from(text),
         }
     }
 
@@ -118,11 +150,12 @@ impl Content {
             },
             Content::TestEnded(end) => end.event(),
             Content::Other => Event::Other,
-            Content::Heading(suite) => Event::Heading {
+            Content::Heading { suite, path } => Event::Heading {
                 suite: suite.as_str(),
+                path: path.as_deref(),
             },
-            Content::Text {
-                failure: Some(failure),
+            Content::Failure {
+                failure,
                 line,
                 plain,
             } => Event::CargoFailed {
@@ -130,13 +163,12 @@ impl Content {
                 line: line.as_str(),
                 plain: plain.as_str(),
             },
-            Content::Text {
-                failure: None,
-                line,
-                plain,
-            } => Event::Print {
+            Content::Print { line, plain } => Event::Print {
                 line: line.as_str(),
                 plain: plain.as_str(),
+            },
+            Content::Damaged(text) => Event::Damaged {
+                text: text.as_str(),
             },
         }
     }
