@@ -1,5 +1,5 @@
 -- The contents of an element: sound parts in it are read as they are read alone.
-use Rattle.std.proofs.Common.{◌≡◌, ◌∙◌, refl, ap, ℕ, zero, suc, Bool, true, List, [], ◌∷◌, ◌++◌, ◌&&◌, append-nil, if◌then◌else◌, map, None, Some, unwrap_or}
+use Rattle.std.proofs.Common.{◌≡◌, ◌∙◌, refl, ap, ℕ, zero, suc, Bool, true, List, [], ◌∷◌, ◌++◌, ◌&&◌, append-nil, if◌then◌else◌, map, None, slice_get, Some, unwrap_or}
 use Rattle.std.proofs.lemmas.Bool.{and_parts, false≢true}
 use Rattle.std.proofs.lemmas.List.Folds.{flat_map-map}
 use Rattle.std.proofs.lemmas.Slice.Eq.{bytes_eq-Decides}
@@ -14,7 +14,8 @@ use Rattle.template.specs.Elements.{elements_named, elements_of, parts_end_in, p
 use Rattle.template.specs.Document.{filled_tree}
 use Rattle.template.specs.Filled.{closed_trees, filled_trees, read_part, read_parts, read_trees, trees_at}
 use Rattle.template.specs.Reader.{Content, Open, Place, Reading, Reference, in_order, only, read_tree, step, whole, with_byte}
-use Rattle.template.specs.Shows.{body, items_at}
+use Rattle.template.specs.Sections.{sections}
+use Rattle.template.specs.Shows.{items_at}
 use Rattle.template.specs.Template.{NoParts, OnePart, Parts, TextPart, Values}
 use Rattle.template.specs.Tree.{ElementTree, NoTrees, OneTree, TextTree, TreeView, Trees}
 
@@ -158,11 +159,11 @@ each-one f g one [] = refl
 each-one f g one (x ∷ xs) = ap (λ l. l ++ flat_map f xs) (one x) ∙ ap (λ l. g x ∷ l) (each-one f g one xs)
 
 -- if the items are made of these, and there is one element with a name in each item, these elements are all with this name, in this order
-pub one_for_each : {X : Type 0} (name : List ℕ) (ps : Parts) (vs : Values) (s : List ℕ) (path : List (List ℕ)) (b : Parts)
+pub one_for_each : {X : Type 0} (name : List ℕ) (ps : Parts) (vs : Values) (path : List (List ℕ)) (b : Parts)
     (item : X → Values) (element : X → TreeView) (xs : List X)
-    → is_sound ps ≡ true → parts_end_in name s path ps at_start ≡ true → body ps s path ≡ Some b → items_at (s ∷ path) vs ≡ map item xs
+    → is_sound ps ≡ true → parts_end_in name path ps at_start ≡ true → slice_get (sections ps path) 0 ≡ Some b → items_at path vs ≡ map item xs
     → ((x : X) → elements_of name b (item x) ≡ element x ∷ []) → elements_of name ps vs ≡ map element xs
-one_for_each name ps vs s path b item element xs sound ends is of one =
-    section_elements name ps vs s path b sound ends is
+one_for_each name ps vs path b item element xs sound ends is of one =
+    section_elements name ps vs path b sound ends is
     ∙ (ap (flat_map (elements_of name b)) of
     ∙ (flat_map-map (elements_of name b) item xs ∙ each-one (λ x. elements_of name b (item x)) element one xs))

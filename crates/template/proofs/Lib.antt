@@ -10,10 +10,10 @@ pub mod Filling
 pub mod Lacks
 pub mod Controls
 pub mod Parts
-pub mod Bodies
 pub mod Showing
 pub mod Document
 pub mod Sections
+pub mod Phrases
 pub mod Marking
 pub mod Frames
 pub mod Log

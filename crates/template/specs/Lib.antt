@@ -10,6 +10,7 @@ pub mod Clean
 pub mod Shows
 pub mod Document
 pub mod Sections
+pub mod Phrases
 pub mod Marks
 pub mod Children
 pub mod Elements
