@@ -3,8 +3,7 @@ use Rattle.std.proofs.Common.{◌≡◌, ◌∙◌, refl, sym, ap, ℕ, Bool, tr
 use Rattle.std.proofs.lemmas.Bool.{and_parts, false≢true}
 use Rattle.std.specs.List.{flat_map, fold}
 use Rattle.template.proofs.Contents.{contents}
-use Rattle.template.proofs.Elements.{end-goes}
-use Rattle.template.proofs.Filling.{goes_on}
+use Rattle.template.proofs.Filling.{end-goes, goes_on}
 use Rattle.template.proofs.Frames.{joined, with_text}
 use Rattle.template.specs.Check.{after_parts, at_start, is_sound}
 use Rattle.template.specs.Children.{elements}

@@ -6,8 +6,8 @@ use Rattle.std.proofs.lemmas.Slice.Eq.{bytes_eq-Decides}
 use Rattle.std.specs.List.{flat_map, fold}
 use Rattle.std.specs.Str.{bytes_eq}
 use Rattle.template.proofs.Data.{more-data}
-use Rattle.template.proofs.Elements.{end-goes, end-log, parts-keep, section_elements, sound-under}
-use Rattle.template.proofs.Filling.{goes_on, parts-read}
+use Rattle.template.proofs.Elements.{end-log, parts-keep, section_elements, sound-under}
+use Rattle.template.proofs.Filling.{end-goes, goes_on, parts-read}
 use Rattle.template.proofs.Frames.{joined, under}
 use Rattle.template.specs.Check.{after_parts, at_start, bare, is_end, is_sound}
 use Rattle.template.specs.Elements.{elements_named, elements_of, parts_end_in, parts_end_none, text_tree, trees_of}
@@ -96,11 +96,7 @@ one-whole (Content p) t h = one-only p.trees p.around t h
 one-whole (Reference p name) t h = absurd (let e : None ≡ Some t = h in cc)
 one-whole _ t h = absurd (let e : None ≡ Some t = h in cc)
 
--- the trees of a text or a template that has one tree
-pub one_tree : (text : List ℕ) (t : TreeView) → read_tree text ≡ Some t → read_trees text ≡ Some (OneTree t NoTrees)
-unfolding read_tree read_trees
-one_tree text t h = one-whole (fold step at_start text) t h
-
+-- the trees of a template that has one tree
 pub one_filled : (ps : Parts) (vs : Values) (t : TreeView) → filled_tree ps vs ≡ Some t → filled_trees ps vs ≡ Some (OneTree t NoTrees)
 unfolding filled_tree filled_trees
 one_filled ps vs t h = one-whole (read_parts ps vs at_start) t h

@@ -5,7 +5,7 @@ use Rattle.std.proofs.lemmas.Grind.{flat_map-append}
 use Rattle.std.proofs.lemmas.Slice.Eq.{bytes_eq-Decides}
 use Rattle.std.specs.List.{flat_map, fold}
 use Rattle.std.specs.Str.{bytes_eq}
-use Rattle.template.proofs.Filling.{goes_on, no_value_is_markup, part-read, parts-read, passed, same-goes-on, section-read, went-on}
+use Rattle.template.proofs.Filling.{end-goes, goes_on, no_value_is_markup, part-read, parts-read, passed, same-goes-on, section-read, went-on}
 use Rattle.template.proofs.Frames.{lasts, run-under, under}
 use Rattle.template.proofs.Log.{in-order, log, log-data, log-joined, log-text, named_back}
 use Rattle.template.specs.Check.{after_part, after_parts, at_start, bare, is_end, is_sound, same_state}
@@ -22,10 +22,6 @@ use Rattle.template.specs.Tree.{NoTrees, TreeView}
 end-lasts : (r : Reading) → is_end (bare r) ≡ true → lasts r ≡ true
 end-lasts (Content p) h = refl
 end-lasts _ h = absurd (false≢true h)
-
-pub end-goes : (r : Reading) → is_end r ≡ true → goes_on r ≡ true
-end-goes (Content p) h = refl
-end-goes _ h = absurd (false≢true h)
 
 -- a sound template is read at any place as at an empty one
 pub sound-under : (b : Parts) (vs : Values) (q : Place) → is_sound b ≡ true → goes_on (after_parts b (bare (Content q))) ≡ true

@@ -8,6 +8,7 @@ pub mod Bare
 pub mod Data
 pub mod Filling
 pub mod Lacks
+pub mod Allowed
 pub mod Controls
 pub mod Parts
 pub mod Showing

@@ -126,31 +126,13 @@ quiet-hole : (kind : Hole) (s : Marking) (text : List ℕ) → is_place kind s �
 unfolding hole_text markup plain
 quiet-hole hole.Plain Outside text h = quiet-plain_chars true (chars (shown text))
 quiet-hole hole.Text InPre text h = quiet-each (markup_byte false) quiet-markup (shown text)
-quiet-hole hole.Plain Reference text h = absurd (false≢true h)
-quiet-hole hole.Plain (Tag name) text h = absurd (false≢true h)
-quiet-hole hole.Plain InPre text h = absurd (false≢true h)
-quiet-hole hole.Plain (TagInPre name) text h = absurd (false≢true h)
-quiet-hole hole.Text Outside text h = absurd (false≢true h)
-quiet-hole hole.Text Reference text h = absurd (false≢true h)
-quiet-hole hole.Text (Tag name) text h = absurd (false≢true h)
-quiet-hole hole.Text (TagInPre name) text h = absurd (false≢true h)
-quiet-hole hole.Attribute s text h = absurd (false≢true h)
+quiet-hole _ _ text h = absurd (false≢true h)
 
 -- a section ends in the state in which it begins
 same-ends : (s t : Marking) → same_marking s t ≡ true → s ≡ t
 same-ends Outside Outside h = refl
 same-ends InPre InPre h = refl
-same-ends Outside Reference h = absurd (false≢true h)
-same-ends Outside (Tag name) h = absurd (false≢true h)
-same-ends Outside InPre h = absurd (false≢true h)
-same-ends Outside (TagInPre name) h = absurd (false≢true h)
-same-ends InPre Outside h = absurd (false≢true h)
-same-ends InPre Reference h = absurd (false≢true h)
-same-ends InPre (Tag name) h = absurd (false≢true h)
-same-ends InPre (TagInPre name) h = absurd (false≢true h)
-same-ends Reference t h = absurd (false≢true h)
-same-ends (Tag name) t h = absurd (false≢true h)
-same-ends (TagInPre name) t h = absurd (false≢true h)
+same-ends _ _ h = absurd (false≢true h)
 
 -- from one state to another, a text has the marks of another text
 record Reads (s : Marking) (text own : List ℕ) (t : Marking) : Type 0 where

@@ -9,6 +9,7 @@ pub mod Filled
 pub mod Clean
 pub mod Shows
 pub mod Document
+pub mod Html
 pub mod Sections
 pub mod Phrases
 pub mod Marks

@@ -21,7 +21,8 @@ pub fn shows_values()
     ensures { ShowsValues }
 {}
 
-/// What is rendered of a template that is one element is one tree: the tree of the template with the values as data.
+/// What is rendered of a template that is one element is one tree: the tree of the template with the values as data. XML
+/// has a place for each of its characters.
 pub fn renders_one_tree()
     ensures { RendersOneTree }
 {}

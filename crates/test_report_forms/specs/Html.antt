@@ -4,6 +4,7 @@ use Rattle.std.specs.List.{list_all}
 use Rattle.template.specs.Clean.{is_clean}
 use Rattle.template.specs.Document.{is_document}
 use Rattle.template.specs.Hole.{hole_text}
+use Rattle.template.specs.Html.{is_html}
 use Rattle.template.specs.Parse.{parse}
 use Rattle.template.specs.Sections.{first_section, sections}
 use Rattle.template.specs.Shows.{parts_show}
@@ -152,10 +153,11 @@ title_text t = phrase_text title_phrase (failed_values t)
 abbrev pub suite_text : RowView → List ℕ
 suite_text r = phrase_text suite_phrase (suite_values r)
 
--- The template of the page is one element without control characters. It has all holes and phrases. There is one section for each failed test, with
--- the holes of a failed test, and one for each problem, with the hole for its line.
+-- The template of the page is one element without control characters, and HTML ends each element where XML does. It has all holes and phrases. There
+-- is one section for each failed test, with the holes of a failed test, and one for each problem, with the hole for its line.
 pub record PageIsSound : Type 0 where
   pub document : is_document page_parts ≡ true
+  pub html : is_html page_parts ≡ true
   pub clean : is_clean page_parts ≡ true
   pub holes : list_all (has_hole page_parts) page_holes ≡ true
   pub phrases : list_all (shows_phrase page_parts) page_phrases ≡ true

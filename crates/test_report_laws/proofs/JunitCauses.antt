@@ -222,6 +222,7 @@ module _ (c : JunitCause) where
         trees = is.trees;
         is = is.is;
         has = All-cons (Contains is.own) (attribute (codes "name") c.suite) [] named (All-nil (Contains is.own));
+        distinct = is.distinct;
         are = (one.element, one.is_one, subst (λ x. IsCaseElement x one.element) one.has one.is);
       }
 
@@ -233,6 +234,7 @@ module _ (c : JunitCause) where
         trees = is.trees;
         is = is.is;
         has = All-nil (Contains is.own);
+        distinct = is.distinct;
         are = (one.element, one.is_one, suite-has one.of one.element one.has one.is);
       }
 

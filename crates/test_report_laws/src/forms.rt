@@ -98,9 +98,9 @@ pub fn markdown_shows()
 }
 
 /// What `junit` and `html` write is a header and a text that reads back as one tree: that of the template with the
-/// values as data. So whatever the lines of a run hold, they end no element and begin none. In the tree of `junit` the
+/// values as data. XML has a place for each character of this text: control characters, U+FFFE and U+FFFF are replaced. So whatever the lines of a run hold, they end no element and begin none. In the tree of `junit` the
 /// elements are one for each suite, in order, and in it one for each of its test cases, in order, with the numbers of
-/// test cases, names, times, reasons and output of these.
+/// test cases, names, times, reasons and output of these. No element has an attribute twice.
 pub fn documents_read_back()
     ensures junit { JunitReadsBack }
     ensures html { HtmlReadsBack }

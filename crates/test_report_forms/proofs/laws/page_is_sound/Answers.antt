@@ -6,6 +6,7 @@ use Rattle.std.specs.List.{list_all}
 use Rattle.std.specs.Str.{chars}
 use Rattle.template.specs.Clean.{is_clean}
 use Rattle.template.specs.Document.{is_document}
+use Rattle.template.specs.Html.{is_html}
 use Rattle.template.specs.Parse.{parse}
 use Rattle.template.specs.Reader.{step}
 use Rattle.template.specs.Sections.{sections}
@@ -21,6 +22,10 @@ use Rattle.test_report_forms.proofs.laws.page_is_sound.Goals as goal
 is-one-element : passes is_document (parse PAGE.now) ≡ true
 unfolding is_document parse step chars encode_utf8
 is-one-element = refl
+
+ends-as-in-html : passes is_html (parse PAGE.now) ≡ true
+unfolding is_html parse step chars encode_utf8
+ends-as-in-html = refl
 
 has-no-controls : passes is_clean (parse PAGE.now) ≡ true
 unfolding parse chars encode_utf8
@@ -83,6 +88,7 @@ returns c =
     (passed has_problems (parse PAGE.now) has-list-of-problems) in
     record {
       document = passed is_document (parse PAGE.now) is-one-element;
+      html = passed is_html (parse PAGE.now) ends-as-in-html;
       clean = passed is_clean (parse PAGE.now) has-no-controls;
       holes = passed shows_all (parse PAGE.now) has-all-holes;
       phrases = passed says_all (parse PAGE.now) has-all-phrases;
