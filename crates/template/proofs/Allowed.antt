@@ -1,5 +1,5 @@
 -- What a template renders has no characters that pass a test, if its own texts have none and no value is shown with one.
-use Rattle.std.proofs.Common.{◌≡◌, ◌∙◌, ◌≤◌, ◌<◌, ◌==◌, ◌&&◌, ◌||◌, refl, sym, subst, ap, arith, ℕ, Bool, true, false, List, [], ◌∷◌, ◌++◌, codes, if◌then◌else◌, nat_lt, not}
+use Rattle.std.proofs.Common.{◌≡◌, ◌∙◌, ◌≤◌, ◌<◌, ◌==◌, ◌&&◌, ◌||◌, refl, sym, subst, ap, arith, ℕ, Bool, true, false, List, [], ◌∷◌, codes, if◌then◌else◌, nat_lt, not}
 use Rattle.std.proofs.lemmas.Bool.{and_parts}
 use Rattle.std.proofs.lemmas.Bool.Decides.{nat_tests}
 use Rattle.std.proofs.lemmas.List.Concat.{flat_map-append}

@@ -12,8 +12,8 @@ use Rattle.template.proofs.Frames.{joined, under}
 use Rattle.template.specs.Check.{after_parts, at_start, bare, is_end, is_sound}
 use Rattle.template.specs.Elements.{elements_named, elements_of, parts_end_in, parts_end_none, text_tree, trees_of}
 use Rattle.template.specs.Document.{filled_tree}
-use Rattle.template.specs.Filled.{closed_trees, filled_trees, read_part, read_parts, read_trees, trees_at}
-use Rattle.template.specs.Reader.{Content, Open, Place, Reading, Reference, in_order, only, read_tree, step, whole, with_byte}
+use Rattle.template.specs.Filled.{closed_trees, filled_trees, read_part, read_parts, trees_at}
+use Rattle.template.specs.Reader.{Content, Open, Place, Reading, Reference, in_order, only, step, whole, with_byte}
 use Rattle.template.specs.Sections.{sections}
 use Rattle.template.specs.Shows.{items_at}
 use Rattle.template.specs.Template.{NoParts, OnePart, Parts, TextPart, Values}

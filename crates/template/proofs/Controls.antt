@@ -1,27 +1,19 @@
 -- What a template renders has no control characters.
-use Rattle.std.proofs.Common.{◌≡◌, ◌∙◌, ◌≤◌, ◌<◌, ◌==◌, ◌&&◌, ◌||◌, refl, sym, subst, ap, arith, ℕ, zero, suc, Bool, true, false, List, [], ◌∷◌, ◌++◌, codes, if◌then◌else◌, nat_lt, Option, Some, None}
-use Rattle.std.proofs.lemmas.Bool.{and_parts}
+use Rattle.std.proofs.Common.{◌≡◌, ◌∙◌, ◌≤◌, ◌<◌, ◌==◌, ◌||◌, refl, sym, subst, ap, arith, ℕ, zero, suc, Bool, true, false, List, [], ◌∷◌, ◌++◌, if◌then◌else◌, Option, Some, None}
 use Rattle.std.proofs.lemmas.Bool.Decides.{nat_tests}
-use Rattle.std.proofs.lemmas.List.Concat.{flat_map-append}
-use Rattle.std.proofs.lemmas.Slice.Eq.{bytes_eq-Decides}
 use Rattle.std.proofs.lemmas.Str.{NoCharPasses-append, NoCharPasses-nil, encode_ascii}
 use Rattle.std.specs.Char.{encode_utf8}
 use Rattle.std.specs.Fmt.{decimal}
 use Rattle.std.specs.List.{flat_map, list_all}
 use Rattle.std.specs.Option.{option_map_or}
 use Rattle.std.specs.Prelude.{replicate}
-use Rattle.std.specs.Str.{NonePass, chars, encode_utf8_all}
+use Rattle.std.specs.Str.{NonePass, chars}
 use Rattle.template.proofs.Allowed.{lacks-parts}
 use Rattle.template.proofs.Characters.{chars-before, chars-encode}
 use Rattle.template.proofs.Lacks.{lacks-byte, lacks-decimal, lacks-escape, lacks-word, not-false, one-char, visible}
-use Rattle.template.proofs.Written.{high-kept, past-ascii}
 use Rattle.template.specs.Laws.{RendersNoControls}
 use Rattle.template.specs.Clean.{HasNoControls, is_seen}
-use Rattle.template.specs.Hole.{hole_text, markup, markup_byte, plain, plain_char, plain_chars}
-use Rattle.template.specs.Shown.{allowed, escape, is_escaped, shown, shown_char}
-use Rattle.template.specs.Template.{EachPart, HolePart, NoParts, NonePart, OnePart, PartView, Parts, TextPart, Values, if_none, items_of, part_text, parts_text, text_of}
-use Rattle.template.specs.declared.hole.Hole.{Hole}
-use Rattle.template.specs.declared.hole.Hole.TheVariants as hole
+use Rattle.template.specs.Shown.{allowed, escape, is_escaped}
 
 -- a text without control characters
 pub record Clean (text : List ℕ) : Type 0 where

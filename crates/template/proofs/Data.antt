@@ -7,7 +7,7 @@ use Rattle.std.proofs.lemmas.List.Sums.{fold-append}
 use Rattle.std.specs.List.{flat_map, fold}
 use Rattle.template.specs.Check.{bare, takes}
 use Rattle.template.specs.Filled.{with_data}
-use Rattle.template.specs.Reader.{AfterValue, AttributeName, Content, EndTag, Equals, Opening, Place, Reading, Reference, Refused, Slash, Space, StartName, Tag, Value, ValueReference, more_text, step, with_byte}
+use Rattle.template.specs.Reader.{Content, Place, Reading, Tag, Value, more_text, step, with_byte}
 use Rattle.template.specs.Hole.{hole_text, markup, markup_byte}
 use Rattle.template.specs.Shown.{shown}
 use Rattle.template.specs.Tree.{TextTree, TreeView}

@@ -9,7 +9,7 @@ use Rattle.template.specs.Laws.{NoValueIsMarkup}
 use Rattle.template.specs.Check.{after_part, after_parts, at_start, bare, bare_open, bare_place, bare_step, same_state, is_end, is_sound, same_names, takes}
 use Rattle.template.specs.Filled.{closed_trees, filled_trees, read_part, read_trees, trees_at, read_parts, reader_if_none}
 use Rattle.template.specs.Tree.{NoTrees, TreeView, Trees}
-use Rattle.template.specs.Reader.{AfterValue, AttributeName, Content, EndTag, Equals, Open, Opening, Reading, Reference, Refused, Slash, Space, StartName, Value, ValueReference, in_order, step}
+use Rattle.template.specs.Reader.{AfterValue, Content, Open, Reading, Refused, in_order, step}
 use Rattle.template.specs.Template.{EachPart, HolePart, NoParts, NonePart, OnePart, PartView, Parts, TextPart, Values, if_none, items_of, part_text, parts_text, text_of}
 use Rattle.template.specs.Shown.{shown}
 use Rattle.template.specs.declared.hole.Hole.TheVariants as hole

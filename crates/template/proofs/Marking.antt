@@ -10,7 +10,7 @@ use Rattle.std.specs.Str.{chars}
 use Rattle.template.proofs.Written.{Highs, past-ascii}
 use Rattle.template.specs.Hole.{hole_text, is_syntax, markup, markup_byte, plain, plain_char, plain_chars, reference}
 use Rattle.template.specs.Laws.{NoValueIsMark}
-use Rattle.template.specs.Marks.{InPre, Marking, Outside, Reference, Tag, TagInPre, are_placed, is_mark, is_markdown, is_place, is_placed, mark_step, marking_after, marking_after_all, marks, marks_from, own_marks, same_marking, without_hole, without_holes}
+use Rattle.template.specs.Marks.{InPre, Marking, Outside, Reference, are_placed, is_mark, is_markdown, is_place, is_placed, mark_step, marking_after, marking_after_all, marks, marks_from, own_marks, same_marking, without_hole, without_holes}
 use Rattle.template.specs.Shown.{shown}
 use Rattle.template.specs.Template.{EachPart, HolePart, NoParts, NonePart, OnePart, PartView, Parts, TextPart, Values, if_none, items_of, part_text, parts_text, text_of}
 use Rattle.template.specs.declared.hole.Hole.{Hole}

@@ -1,10 +1,10 @@
 -- What a template renders has what each phrase of it renders.
-use Rattle.std.proofs.Common.{◌≡◌, ◌∙◌, ◌++◌, ◌∷◌, [], ◌&&◌, ◌||◌, refl, sym, ap, arith, subst, ℕ, Bool, true, false, List, append-nil, append_assoc, map}
+use Rattle.std.proofs.Common.{◌≡◌, ◌∙◌, ◌++◌, ◌∷◌, [], refl, sym, ap, arith, subst, ℕ, Bool, true, List, append-nil, append_assoc, map}
 use Rattle.std.proofs.lemmas.Bool.{and_parts, false≢true}
 use Rattle.std.proofs.lemmas.Grind.{flat_map-append}
 use Rattle.std.proofs.lemmas.List.Elements.{All-weaker, Contains-append_right}
 use Rattle.std.proofs.lemmas.Slice.Eq.{bytes_eq-Decides}
-use Rattle.std.specs.List.{All, Contains, flat_map, list_any}
+use Rattle.std.specs.List.{Contains, flat_map, list_any}
 use Rattle.template.proofs.Parts.{in-part, in-right}
 use Rattle.template.proofs.Sections.{all-sections}
 use Rattle.template.proofs.Showing.{either-true, one-kind}

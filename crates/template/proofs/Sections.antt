@@ -1,5 +1,5 @@
 -- What a template renders has what each section renders of each item.
-use Rattle.std.proofs.Common.{◌≡◌, ◌<◌, ◌++◌, ◌∷◌, [], refl, sym, ap, arith, subst, ℕ, zero, suc, Bool, true, false, List, if◌then◌else◌, length, slice_index_or}
+use Rattle.std.proofs.Common.{◌≡◌, ◌<◌, ◌∷◌, [], refl, sym, arith, subst, ℕ, zero, suc, Bool, true, false, List, if◌then◌else◌, length, slice_index_or}
 use Rattle.std.proofs.Math.Logic.{⊎_elim}
 use Rattle.std.proofs.lemmas.List.Elements.{All-cons, All-nil, Contains-append_cases}
 use Rattle.std.proofs.lemmas.Slice.Eq.{bytes_eq-Decides}
@@ -9,7 +9,7 @@ use Rattle.template.proofs.Parts.{Has, all-wider, each-item, in-left, in-right, 
 use Rattle.template.specs.Laws.{ShowsSections}
 use Rattle.template.specs.Sections.{part_sections, sections}
 use Rattle.template.specs.Shows.{items_at}
-use Rattle.template.specs.Template.{EachPart, HolePart, NoParts, NonePart, OnePart, PartView, Parts, TextPart, Values, items_of, part_text, parts_text}
+use Rattle.template.specs.Template.{EachPart, NoParts, OnePart, PartView, Parts, Values, items_of, part_text, parts_text}
 
 -- the elements of nothing, of one, and of a choice
 no-element : {X : Type 0} (x : X) (P : Type 0) → Contains [] x → P

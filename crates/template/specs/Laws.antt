@@ -1,5 +1,5 @@
 -- Laws of all templates and all values.
-use Rattle.std.specs.Prelude.{◌≡◌, ◌∷◌, ℕ, true, List, Some, slice_get}
+use Rattle.std.specs.Prelude.{◌≡◌, ℕ, true, List, Some, slice_get}
 use Rattle.std.specs.List.{All, Contains, flat_map}
 use Rattle.template.specs.Check.{at_start, is_sound}
 use Rattle.template.specs.Clean.{HasNoControls, is_clean}

@@ -1,7 +1,7 @@
 -- The sections of a template. A path is the names of sections, one in another.
 use Rattle.std.specs.Prelude.{◌++◌, ◌∷◌, [], ℕ, List, if◌then◌else◌, slice_get, unwrap_or}
 use Rattle.std.specs.Str.{bytes_eq}
-use Rattle.template.specs.Template.{EachPart, HolePart, NoParts, NonePart, OnePart, PartView, Parts, TextPart}
+use Rattle.template.specs.Template.{EachPart, NoParts, OnePart, PartView, Parts}
 
 abbrev mutual
   -- the parts for each item on a path, in each section on it that a part has

@@ -16,10 +16,11 @@ use Rattle.template.specs.Template.{ItemValue, NoValues, Parts, ValueView, Value
 use Rattle.template.specs.Tree.{AttributeView, ElementTree, NoTrees, OneTree, TreeView}
 use Rattle.test_report_forms.proofs.JunitParts.{attempt_elements, attempt_parts, case_contents, case_elements, case_open, case_parts, elements_in_case, elements_in_run, elements_in_suite, error_elements, failure_elements, flaky_elements, items_elements, kind_parts, kinds, of_kind, output_elements, reason_with, run_contents, run_tree, skipped_elements, suite_contents, suite_elements, suite_open, suite_parts, times_of}
 use Rattle.test_report_forms.specs.Junit.{junit_parts}
-use Rattle.test_report_forms.specs.JunitCase.{CaseKindView, CaseView, FailedCase, PassedCase, ReasonView, SkippedCase, suite_name}
+use Rattle.test_report_forms.specs.JunitCase.{CaseKindView, CaseView, FailedCase, PassedCase, ReasonView, SkippedCase}
 use Rattle.test_report_forms.specs.JunitSuite.{SuiteView, counts_of, sums_of}
 use Rattle.test_report_forms.specs.JunitTree.{ChildView, IsCaseElement, IsChild, IsRunElement, IsSuiteElement, bare_child, case_attributes, children_of, output_child, reason_child, sums_attributes, suite_attributes, time_attribute}
 use Rattle.test_report_forms.specs.JunitValues.{attempts, case_values, counts_values, junit_values, kind_values, reason_items, reason_name, reason_values, suite_values}
+use Rattle.test_report_forms.specs.Model.{suite_name}
 use Rattle.test_report_forms.specs.Values.{items, one_text, option_item, time_item}
 
 -- the attributes of an element are its own

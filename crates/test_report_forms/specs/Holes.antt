@@ -1,10 +1,10 @@
 -- Lists of the holes and the phrases of a template.
-use Rattle.std.specs.Prelude.{◌++◌, ◌∷◌, [], ℕ, Bool, false, List, codes, map, unwrap_or}
+use Rattle.std.specs.Prelude.{◌++◌, ◌∷◌, [], ℕ, Bool, false, List, codes, map}
 use Rattle.std.specs.Option.{option_map_or}
-use Rattle.template.specs.Parse.{parse}
+use Rattle.template.specs.Parse.{parse, template_parts}
 use Rattle.template.specs.Phrases.{has_phrase}
 use Rattle.template.specs.Shows.{parts_show}
-use Rattle.template.specs.Template.{NoParts, Parts, ValueView, parts_text, values_of}
+use Rattle.template.specs.Template.{Parts, ValueView, parts_text, values_of}
 use Rattle.template.specs.declared.hole.Hole.{Hole}
 
 -- a hole: its kind, the lists that it is in, one in another, and its name
@@ -41,13 +41,9 @@ pub record PhraseView : Type 0 where
 abbrev pub phrases : List (List ℕ) → List (List ℕ) → List PhraseView
 phrases path texts = map (λ text. record { path = path; text = text }) texts
 
--- the parts of a phrase
-abbrev pub phrase_parts : List ℕ → Parts
-phrase_parts text = unwrap_or (parse text) NoParts
-
 -- what a phrase renders of values
 abbrev pub phrase_text : List ℕ → List ValueView → List ℕ
-phrase_text text values = parts_text (phrase_parts text) (values_of values)
+phrase_text text values = parts_text (template_parts text) (values_of values)
 
 -- these parts have a phrase, which is a template
 abbrev pub shows_phrase : Parts → PhraseView → Bool

@@ -1,14 +1,14 @@
 -- The form for a browser.
-use Rattle.std.specs.Prelude.{◌≡◌, ◌++◌, ◌∷◌, [], ℕ, true, List, codes, unwrap_or}
+use Rattle.std.specs.Prelude.{◌≡◌, ◌++◌, ◌∷◌, [], ℕ, true, List, codes}
 use Rattle.std.specs.List.{list_all}
 use Rattle.template.specs.Clean.{is_clean}
 use Rattle.template.specs.Document.{is_document}
 use Rattle.template.specs.Hole.{hole_text}
 use Rattle.template.specs.Html.{is_html}
-use Rattle.template.specs.Parse.{parse}
+use Rattle.template.specs.Parse.{template_parts}
 use Rattle.template.specs.Sections.{first_section, sections}
 use Rattle.template.specs.Shows.{parts_show}
-use Rattle.template.specs.Template.{NoParts, Parts, Values, parts_text, values_of}
+use Rattle.template.specs.Template.{Parts, Values, parts_text, values_of}
 use Rattle.template.specs.declared.hole.Hole.TheVariants as hole
 use Rattle.test_report_forms.specs.Entry.{EntryView}
 use Rattle.test_report_forms.specs.Holes.{HoleView, PhraseView, has_hole, holes, phrase_text, phrases, problem_holes, run_holes, shows_phrase}
@@ -19,7 +19,7 @@ use Rattle.test_report_run.specs.declared.note.RunEnd.{RunEnd}
 
 -- the template of the page
 unfoldable pub page_parts : Parts
-page_parts = unwrap_or (parse PAGE.now) NoParts
+page_parts = template_parts PAGE.now
 
 -- the page of these values as it is written
 unfoldable pub page_text : Values → List ℕ

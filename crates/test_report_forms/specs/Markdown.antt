@@ -4,7 +4,7 @@ use Rattle.std.specs.List.{list_all}
 use Rattle.template.specs.Clean.{is_clean}
 use Rattle.template.specs.Hole.{hole_text}
 use Rattle.template.specs.Marks.{is_markdown}
-use Rattle.template.specs.Parse.{parse}
+use Rattle.template.specs.Parse.{template_parts}
 use Rattle.template.specs.Sections.{sections}
 use Rattle.template.specs.Template.{NoParts, Parts, parts_text, values_of}
 use Rattle.template.specs.declared.hole.Hole.TheVariants as hole
@@ -17,7 +17,7 @@ use Rattle.test_report_run.specs.declared.note.RunEnd.{RunEnd}
 
 -- the template of the summary
 unfoldable pub markdown_parts : Parts
-markdown_parts = unwrap_or (parse MARKDOWN.now) NoParts
+markdown_parts = template_parts MARKDOWN.now
 
 -- what is written at the end of a run with these entries
 unfoldable pub markdown_of : ℕ → List EntryView → RunEnd → List ℕ

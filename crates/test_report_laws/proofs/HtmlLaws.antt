@@ -9,7 +9,7 @@ use Rattle.template.proofs.Controls.{Clean, also, word}
 use Rattle.template.proofs.Parts.{in-part}
 use Rattle.template.specs.Hole.{hole_text}
 use Rattle.template.specs.Laws.{RendersNoControls, RendersOneTree, ShowsPhrases, ShowsSections, ShowsValues}
-use Rattle.template.specs.Parse.{parse}
+use Rattle.template.specs.Parse.{parse, template_parts}
 use Rattle.template.specs.Shows.{HasPart, items_at}
 use Rattle.template.specs.Template.{Parts, Values, part_text, parts_text, text_of, values_of}
 use Rattle.template.specs.declared.hole.Hole.TheVariants as hole
@@ -17,7 +17,6 @@ use Rattle.test_report_laws.proofs.Parts.{in-left, in-right}
 use Rattle.test_report_laws.proofs.Phrases.{numbers-written, numbers_before, phrase-of, shown-phrases, values-of}
 use Rattle.test_report_laws.proofs.ReportValues.{failed-at, problems-at, suites-at}
 use Rattle.test_report_laws.proofs.ShownValues.{names-causes, shown-holes, unmapped}
-use Rattle.test_report_forms.specs.Holes.{phrase_parts}
 use Rattle.test_report_forms.specs.Html.{PageIsSound, failed_parts, heading_phrase, html_of, page_heading, page_holes, page_parts, page_phrases, page_text, problem_parts, suite_phrase, summary_phrase, time_phrase, title_phrase}
 use Rattle.test_report_forms.specs.Model.{ReportView, report_of}
 use Rattle.test_report_forms.specs.Values.{failed_values, one_text, report_values, run_values, suite_values, values_of_run}
@@ -64,27 +63,27 @@ unfolding html_of
 html-shows-phrases sound shows limit entries end =
     let vs = values_of_run limit entries end in
     All-weaker (HasPhrase vs (parts_text page_parts vs)) (HasPhrase vs (page_text vs))
-    (λ p. all-in-page vs (parts_text (phrase_parts p.text)) (items_at p.path vs)) page_phrases
+    (λ p. all-in-page vs (parts_text (template_parts p.text)) (items_at p.path vs)) page_phrases
     (shown-phrases shows page_parts vs page_phrases sound.phrases)
 
 module _ (r : ReportView) where
   abbrev vs : Values
   vs = values_of (report_values r)
 
-  heading : parts_text (phrase_parts heading_phrase) vs ≡ page_heading (outcome_word r.end.outcome)
+  heading : parts_text (template_parts heading_phrase) vs ≡ page_heading (outcome_word r.end.outcome)
   unfolding parse chars encode_utf8 part_text parts_text report_values run_values
   heading = refl
 
-  numbers : parts_text (phrase_parts summary_phrase) vs
-      ≡ codes "<p class=\"summary\">" ++ numbers_before hole.Text r.end (parts_text (phrase_parts time_phrase) vs)
+  numbers : parts_text (template_parts summary_phrase) vs
+      ≡ codes "<p class=\"summary\">" ++ numbers_before hole.Text r.end (parts_text (template_parts time_phrase) vs)
   unfolding parse chars encode_utf8 part_text parts_text report_values run_values
   numbers = refl
 
-  has-numbers : HasPart (parts_text (phrase_parts summary_phrase) vs) (run_numbers r.end)
+  has-numbers : HasPart (parts_text (template_parts summary_phrase) vs) (run_numbers r.end)
   has-numbers = record {
     before = codes "<p class=\"summary\">";
-    after = parts_text (phrase_parts time_phrase) vs;
-    is = numbers ∙ ap (λ l. codes "<p class=\"summary\">" ++ l) (numbers-written hole.Text r.end (parts_text (phrase_parts time_phrase) vs));
+    after = parts_text (template_parts time_phrase) vs;
+    is = numbers ∙ ap (λ l. codes "<p class=\"summary\">" ++ l) (numbers-written hole.Text r.end (parts_text (template_parts time_phrase) vs));
   }
 
 pub html-says-end : PageIsSound → ShowsPhrases → HtmlSaysEnd
@@ -93,7 +92,7 @@ html-says-end sound shows limit entries end =
     let report = report_of limit entries end in
     let vs = values_of_run limit entries end in
     let all = html-shows-phrases sound shows limit entries end in
-    let first = λ (words : List ℕ). All-head (λ i. HasPart page (parts_text (phrase_parts words) i)) vs [] in
+    let first = λ (words : List ℕ). All-head (λ i. HasPart page (parts_text (template_parts words) i)) vs [] in
     record {
       outcome = subst (HasPart page) (heading report) (first heading_phrase (phrase-of vs page page_phrases [] heading_phrase refl all));
       numbers = in-part (first summary_phrase (phrase-of vs page page_phrases [] summary_phrase refl all)) (has-numbers report);
@@ -115,13 +114,13 @@ html-shows-items sound in_sections in_phrases limit entries end =
       failed = unmapped (part failed_parts) (λ t. values_of (failed_values t)) _
           (subst (All (part failed_parts)) (failed-at report) (all-in-page vs (parts_text failed_parts) _
           (in_sections page_parts vs at_failed failed_parts (subst (λ l. Contains l failed_parts) (sym sound.failed) (0, omega arith, refl)))));
-      titles = unmapped (part (phrase_parts title_phrase)) (λ t. values_of (failed_values t)) _
-          (subst (All (part (phrase_parts title_phrase))) (failed-at report) (phrase-of vs page page_phrases at_failed title_phrase refl all));
+      titles = unmapped (part (template_parts title_phrase)) (λ t. values_of (failed_values t)) _
+          (subst (All (part (template_parts title_phrase))) (failed-at report) (phrase-of vs page page_phrases at_failed title_phrase refl all));
       problems = unmapped (part problem_parts) (λ l. values_of (one_text (codes "line") l)) _
           (subst (All (part problem_parts)) (problems-at report) (all-in-page vs (parts_text problem_parts) _
           (in_sections page_parts vs at_problem problem_parts (subst (λ l. Contains l problem_parts) (sym sound.problem) (0, omega arith, refl)))));
-      suites = unmapped (part (phrase_parts suite_phrase)) (λ s. values_of (suite_values s)) _
-          (subst (All (part (phrase_parts suite_phrase))) (suites-at report) (phrase-of vs page page_phrases at_suite suite_phrase refl all));
+      suites = unmapped (part (template_parts suite_phrase)) (λ s. values_of (suite_values s)) _
+          (subst (All (part (template_parts suite_phrase))) (suites-at report) (phrase-of vs page page_phrases at_suite suite_phrase refl all));
     }
 
 -- the tree

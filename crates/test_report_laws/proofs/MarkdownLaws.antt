@@ -7,14 +7,13 @@ use Rattle.std.specs.Prelude.{Contains}
 use Rattle.std.specs.Str.{chars}
 use Rattle.template.proofs.Parts.{in-part}
 use Rattle.template.specs.Laws.{NoValueIsMark, RendersNoControls, ShowsPhrases, ShowsSections, ShowsValues}
-use Rattle.template.specs.Parse.{parse}
+use Rattle.template.specs.Parse.{parse, template_parts}
 use Rattle.template.specs.Shows.{HasPart}
 use Rattle.template.specs.Template.{Parts, Values, part_text, parts_text, values_of}
 use Rattle.template.specs.declared.hole.Hole.TheVariants as hole
 use Rattle.test_report_laws.proofs.Phrases.{numbers-written, numbers_before, phrase-of, shown-phrases, values-of}
 use Rattle.test_report_laws.proofs.ReportValues.{failed-at}
 use Rattle.test_report_laws.proofs.ShownValues.{names-causes, shown-holes, unmapped}
-use Rattle.test_report_forms.specs.Holes.{phrase_parts}
 use Rattle.test_report_forms.specs.Markdown.{MarkdownIsSound, details_parts, failed_sections, heading_phrase, markdown_heading, markdown_holes, markdown_of, markdown_parts, markdown_phrases, row_parts, summary_phrase, time_phrase}
 use Rattle.test_report_forms.specs.Model.{ReportView, failures_of, report_of}
 use Rattle.test_report_forms.specs.Values.{failed_values, report_values, run_values, values_of_run}
@@ -54,19 +53,19 @@ module _ (r : ReportView) where
   abbrev vs : Values
   vs = values_of (report_values r)
 
-  heading : parts_text (phrase_parts heading_phrase) vs ≡ markdown_heading (outcome_word r.end.outcome)
+  heading : parts_text (template_parts heading_phrase) vs ≡ markdown_heading (outcome_word r.end.outcome)
   unfolding parse chars encode_utf8 part_text parts_text report_values run_values
   heading = refl
 
-  numbers : parts_text (phrase_parts summary_phrase) vs ≡ numbers_before hole.Plain r.end (parts_text (phrase_parts time_phrase) vs)
+  numbers : parts_text (template_parts summary_phrase) vs ≡ numbers_before hole.Plain r.end (parts_text (template_parts time_phrase) vs)
   unfolding parse chars encode_utf8 part_text parts_text report_values run_values
   numbers = refl
 
-  has-numbers : HasPart (parts_text (phrase_parts summary_phrase) vs) (run_numbers r.end)
+  has-numbers : HasPart (parts_text (template_parts summary_phrase) vs) (run_numbers r.end)
   has-numbers = record {
     before = [];
-    after = parts_text (phrase_parts time_phrase) vs;
-    is = numbers ∙ numbers-written hole.Plain r.end (parts_text (phrase_parts time_phrase) vs);
+    after = parts_text (template_parts time_phrase) vs;
+    is = numbers ∙ numbers-written hole.Plain r.end (parts_text (template_parts time_phrase) vs);
   }
 
 pub markdown-says-end : MarkdownIsSound → ShowsPhrases → MarkdownSaysEnd
@@ -75,7 +74,7 @@ markdown-says-end sound shows limit entries end =
     let report = report_of limit entries end in
     let vs = values_of_run limit entries end in
     let all = markdown-shows-phrases sound shows limit entries end in
-    let first = λ (words : List ℕ). All-head (λ i. HasPart text (parts_text (phrase_parts words) i)) vs [] in
+    let first = λ (words : List ℕ). All-head (λ i. HasPart text (parts_text (template_parts words) i)) vs [] in
     record {
       outcome = subst (HasPart text) (heading report) (first heading_phrase (phrase-of vs text markdown_phrases [] heading_phrase refl all));
       numbers = in-part (first summary_phrase (phrase-of vs text markdown_phrases [] summary_phrase refl all)) (has-numbers report);

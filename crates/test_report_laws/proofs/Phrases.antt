@@ -11,12 +11,12 @@ use Rattle.template.proofs.Escapes.{written_decimal}
 use Rattle.template.proofs.Showing.{either-true, one-kind}
 use Rattle.template.specs.Hole.{hole_text}
 use Rattle.template.specs.Laws.{ShowsPhrases}
-use Rattle.template.specs.Parse.{parse}
+use Rattle.template.specs.Parse.{parse, template_parts}
 use Rattle.template.specs.Phrases.{has_phrase}
 use Rattle.template.specs.Shows.{HasPart, items_at, same_kind}
 use Rattle.template.specs.Template.{NoParts, Parts, Values, parts_text, text_of}
 use Rattle.template.specs.declared.hole.Hole.{Hole}
-use Rattle.test_report_forms.specs.Holes.{HoleView, PhraseView, phrase_parts, shows_phrase}
+use Rattle.test_report_forms.specs.Holes.{HoleView, PhraseView, shows_phrase}
 use Rattle.test_report_forms.specs.Words.{failed_numbers, other_numbers, passed_numbers, run_numbers}
 use Rattle.test_report_laws.specs.Forms.{HasPhrase, HasValues}
 use Rattle.test_report_run.specs.Suite.{failed_of}
@@ -72,7 +72,7 @@ one-phrase path text p e =
 
 pub phrase-of : (vs : Values) (text : List ℕ) (ps : List PhraseView) (path : List (List ℕ)) (words : List ℕ)
     → list_any (is_phrase path words) ps ≡ true → All (HasPhrase vs text) ps
-    → All (λ i. HasPart text (parts_text (phrase_parts words) i)) (items_at path vs)
+    → All (λ i. HasPart text (parts_text (template_parts words) i)) (items_at path vs)
 phrase-of vs text ps path words = found (HasPhrase vs text) (is_phrase path words) (phrase path words) (one-phrase path words) ps
 
 -- what is rendered has the phrases of the template
@@ -86,7 +86,7 @@ shown-phrases shows ps vs [] e = All-nil (HasPhrase vs (parts_text ps vs))
 shown-phrases shows ps vs (p ∷ hs) e =
     let both = and_parts _ _ e in
     All-cons (HasPhrase vs (parts_text ps vs)) p hs
-    (shows ps vs p.path (phrase_parts p.text) (parsed-phrase (has_phrase ps p.path) (parse p.text) both.0)) (shown-phrases shows ps vs hs both.1)
+    (shows ps vs p.path (template_parts p.text) (parsed-phrase (has_phrase ps p.path) (parse p.text) both.0)) (shown-phrases shows ps vs hs both.1)
 
 -- the numbers of a run, as a phrase renders them before another text
 module _ (kind : Hole) (e : RunEnd) where

@@ -7,6 +7,7 @@ use Rattle.std.specs.Str.{NoCharPasses}
 use Rattle.template.specs.Document.{filled_tree}
 use Rattle.template.specs.Hole.{hole_text}
 use Rattle.template.specs.Marks.{marks, own_marks}
+use Rattle.template.specs.Parse.{template_parts}
 use Rattle.template.specs.Reader.{read_tree}
 use Rattle.template.specs.Shows.{HasPart, items_at}
 use Rattle.template.specs.Template.{Values, parts_text, text_of}
@@ -14,7 +15,7 @@ use Rattle.template.specs.Tree.{TreeView}
 use Rattle.template.specs.declared.hole.Hole.TheVariants as hole
 use Rattle.test_report_forms.specs.Entry.{EntryView, IsEntryOf, LinesDisagree, SuiteNotRun, SuiteOver, TestFailed, TestPassed, TestSkipped}
 use Rattle.test_report_forms.specs.Github.{github_last, github_line, message, property}
-use Rattle.test_report_forms.specs.Holes.{HoleView, PhraseView, phrase_parts}
+use Rattle.test_report_forms.specs.Holes.{HoleView, PhraseView}
 use Rattle.test_report_forms.specs.Html.{failed_text, html_of, page_heading, page_holes, page_parts, page_phrases, problem_text, suite_text, title_text}
 use Rattle.test_report_forms.specs.Markdown.{details_text, markdown_heading, markdown_holes, markdown_of, markdown_parts, markdown_phrases, row_text}
 use Rattle.test_report_forms.specs.Model.{ReportView, cause_line, report_of}
@@ -118,7 +119,7 @@ HtmlShowsValues = (limit : ℕ) (entries : List EntryView) (end : RunEnd)
 
 -- a text has what a phrase renders of each item on its path
 abbrev pub HasPhrase : Values → List ℕ → PhraseView → Type 0
-HasPhrase values text p = All (λ i. HasPart text (parts_text (phrase_parts p.text) i)) (items_at p.path values)
+HasPhrase values text p = All (λ i. HasPart text (parts_text (template_parts p.text) i)) (items_at p.path values)
 
 -- What the form for a browser writes has every phrase of its template, with the values in their places.
 abbrev pub HtmlShowsPhrases : Type 0
