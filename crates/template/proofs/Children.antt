@@ -1,16 +1,15 @@
 -- The elements in sound parts are those of each part, one after another.
-use Rattle.std.proofs.Common.{◌≡◌, ◌∙◌, refl, sym, ap, ℕ, Bool, true, false, List, [], ◌∷◌, ◌++◌, ◌&&◌, append-nil, append_assoc, map, Some, unwrap_or}
+use Rattle.std.proofs.Common.{◌≡◌, ◌∙◌, refl, sym, ap, ℕ, Bool, true, false, List, [], ◌∷◌, ◌++◌, ◌&&◌, append-nil, append_assoc, unwrap_or}
 use Rattle.std.proofs.lemmas.Bool.{and_parts, false≢true}
 use Rattle.std.specs.List.{flat_map, fold}
 use Rattle.template.proofs.Contents.{contents}
-use Rattle.template.proofs.Elements.{end-goes}
-use Rattle.template.proofs.Filling.{goes_on}
+use Rattle.template.proofs.Filling.{end-goes}
 use Rattle.template.proofs.Frames.{joined, with_text}
 use Rattle.template.specs.Check.{after_parts, at_start, is_sound}
 use Rattle.template.specs.Children.{elements}
 use Rattle.template.specs.Elements.{trees_of}
 use Rattle.template.specs.Filled.{filled_trees, read_part, read_parts, trees_at}
-use Rattle.template.specs.Reader.{Content, Open, Place, Reading, in_order}
+use Rattle.template.specs.Reader.{Content, Reading, in_order}
 use Rattle.template.specs.Template.{EachPart, HolePart, NoParts, NonePart, OnePart, PartView, Parts, TextPart, Values, items_of}
 use Rattle.template.specs.Tree.{ElementTree, NoTrees, OneTree, TextTree, TreeView, Trees}
 

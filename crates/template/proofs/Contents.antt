@@ -1,20 +1,21 @@
 -- The contents of an element: sound parts in it are read as they are read alone.
-use Rattle.std.proofs.Common.{◌≡◌, ◌∙◌, refl, ap, ℕ, zero, suc, Bool, true, List, [], ◌∷◌, ◌++◌, ◌&&◌, append-nil, if◌then◌else◌, map, None, Some, unwrap_or}
+use Rattle.std.proofs.Common.{◌≡◌, ◌∙◌, refl, ap, ℕ, zero, suc, Bool, true, List, [], ◌∷◌, ◌++◌, ◌&&◌, append-nil, if◌then◌else◌, map, None, slice_get, Some, unwrap_or}
 use Rattle.std.proofs.lemmas.Bool.{and_parts, false≢true}
 use Rattle.std.proofs.lemmas.List.Folds.{flat_map-map}
 use Rattle.std.proofs.lemmas.Slice.Eq.{bytes_eq-Decides}
 use Rattle.std.specs.List.{flat_map, fold}
 use Rattle.std.specs.Str.{bytes_eq}
 use Rattle.template.proofs.Data.{more-data}
-use Rattle.template.proofs.Elements.{end-goes, end-log, parts-keep, section_elements, sound-under}
-use Rattle.template.proofs.Filling.{goes_on, parts-read}
+use Rattle.template.proofs.Elements.{end-log, parts-keep, section_elements, sound-under}
+use Rattle.template.proofs.Filling.{end-goes, goes_on, parts-read}
 use Rattle.template.proofs.Frames.{joined, under}
 use Rattle.template.specs.Check.{after_parts, at_start, bare, is_end, is_sound}
 use Rattle.template.specs.Elements.{elements_named, elements_of, parts_end_in, parts_end_none, text_tree, trees_of}
 use Rattle.template.specs.Document.{filled_tree}
-use Rattle.template.specs.Filled.{closed_trees, filled_trees, read_part, read_parts, read_trees, trees_at}
-use Rattle.template.specs.Reader.{Content, Open, Place, Reading, Reference, in_order, only, read_tree, step, whole, with_byte}
-use Rattle.template.specs.Shows.{body, items_at}
+use Rattle.template.specs.Filled.{closed_trees, filled_trees, read_part, read_parts, trees_at}
+use Rattle.template.specs.Reader.{Content, Open, Place, Reading, Reference, in_order, only, step, whole, with_byte}
+use Rattle.template.specs.Sections.{sections}
+use Rattle.template.specs.Shows.{items_at}
 use Rattle.template.specs.Template.{NoParts, OnePart, Parts, TextPart, Values}
 use Rattle.template.specs.Tree.{ElementTree, NoTrees, OneTree, TextTree, TreeView, Trees}
 
@@ -95,11 +96,7 @@ one-whole (Content p) t h = one-only p.trees p.around t h
 one-whole (Reference p name) t h = absurd (let e : None ≡ Some t = h in cc)
 one-whole _ t h = absurd (let e : None ≡ Some t = h in cc)
 
--- the trees of a text or a template that has one tree
-pub one_tree : (text : List ℕ) (t : TreeView) → read_tree text ≡ Some t → read_trees text ≡ Some (OneTree t NoTrees)
-unfolding read_tree read_trees
-one_tree text t h = one-whole (fold step at_start text) t h
-
+-- the trees of a template that has one tree
 pub one_filled : (ps : Parts) (vs : Values) (t : TreeView) → filled_tree ps vs ≡ Some t → filled_trees ps vs ≡ Some (OneTree t NoTrees)
 unfolding filled_tree filled_trees
 one_filled ps vs t h = one-whole (read_parts ps vs at_start) t h
@@ -158,11 +155,11 @@ each-one f g one [] = refl
 each-one f g one (x ∷ xs) = ap (λ l. l ++ flat_map f xs) (one x) ∙ ap (λ l. g x ∷ l) (each-one f g one xs)
 
 -- if the items are made of these, and there is one element with a name in each item, these elements are all with this name, in this order
-pub one_for_each : {X : Type 0} (name : List ℕ) (ps : Parts) (vs : Values) (s : List ℕ) (path : List (List ℕ)) (b : Parts)
+pub one_for_each : {X : Type 0} (name : List ℕ) (ps : Parts) (vs : Values) (path : List (List ℕ)) (b : Parts)
     (item : X → Values) (element : X → TreeView) (xs : List X)
-    → is_sound ps ≡ true → parts_end_in name s path ps at_start ≡ true → body ps s path ≡ Some b → items_at (s ∷ path) vs ≡ map item xs
+    → is_sound ps ≡ true → parts_end_in name path ps at_start ≡ true → slice_get (sections ps path) 0 ≡ Some b → items_at path vs ≡ map item xs
     → ((x : X) → elements_of name b (item x) ≡ element x ∷ []) → elements_of name ps vs ≡ map element xs
-one_for_each name ps vs s path b item element xs sound ends is of one =
-    section_elements name ps vs s path b sound ends is
+one_for_each name ps vs path b item element xs sound ends is of one =
+    section_elements name ps vs path b sound ends is
     ∙ (ap (flat_map (elements_of name b)) of
     ∙ (flat_map-map (elements_of name b) item xs ∙ each-one (λ x. elements_of name b (item x)) element one xs))

@@ -7,7 +7,7 @@ use Rattle.std.proofs.lemmas.List.Sums.{fold-append}
 use Rattle.std.specs.List.{flat_map, fold}
 use Rattle.template.specs.Check.{bare, takes}
 use Rattle.template.specs.Filled.{with_data}
-use Rattle.template.specs.Reader.{AfterValue, AttributeName, Content, EndTag, Equals, Opening, Place, Reading, Reference, Refused, Slash, Space, StartName, Tag, Value, ValueReference, more_text, step, with_byte}
+use Rattle.template.specs.Reader.{Content, Place, Reading, Tag, Value, more_text, step, with_byte}
 use Rattle.template.specs.Hole.{hole_text, markup, markup_byte}
 use Rattle.template.specs.Shown.{shown}
 use Rattle.template.specs.Tree.{TextTree, TreeView}
@@ -69,31 +69,7 @@ pub data-read : (kind : Hole) (r : Reading) (text : List ℕ) → takes kind (ba
 unfolding hole_text markup
 data-read hole.Attribute (Value t name value) text h = all-value t name (shown text) value
 data-read hole.Text (Content p) text h = all-data (shown text) p
-data-read hole.Attribute (Content p) text h = absurd (false≢true h)
-data-read hole.Attribute (Reference p name) text h = absurd (false≢true h)
-data-read hole.Attribute (Opening p) text h = absurd (false≢true h)
-data-read hole.Attribute (StartName p name) text h = absurd (false≢true h)
-data-read hole.Attribute (Space t) text h = absurd (false≢true h)
-data-read hole.Attribute (AttributeName t name) text h = absurd (false≢true h)
-data-read hole.Attribute (Equals t name) text h = absurd (false≢true h)
-data-read hole.Attribute (ValueReference t name value ref) text h = absurd (false≢true h)
-data-read hole.Attribute (AfterValue t) text h = absurd (false≢true h)
-data-read hole.Attribute (Slash t) text h = absurd (false≢true h)
-data-read hole.Attribute (EndTag p rest) text h = absurd (false≢true h)
-data-read hole.Attribute Refused text h = absurd (false≢true h)
-data-read hole.Text (Reference p name) text h = absurd (false≢true h)
-data-read hole.Text (Opening p) text h = absurd (false≢true h)
-data-read hole.Text (StartName p name) text h = absurd (false≢true h)
-data-read hole.Text (Space t) text h = absurd (false≢true h)
-data-read hole.Text (AttributeName t name) text h = absurd (false≢true h)
-data-read hole.Text (Equals t name) text h = absurd (false≢true h)
-data-read hole.Text (Value t name value) text h = absurd (false≢true h)
-data-read hole.Text (ValueReference t name value ref) text h = absurd (false≢true h)
-data-read hole.Text (AfterValue t) text h = absurd (false≢true h)
-data-read hole.Text (Slash t) text h = absurd (false≢true h)
-data-read hole.Text (EndTag p rest) text h = absurd (false≢true h)
-data-read hole.Text Refused text h = absurd (false≢true h)
-data-read hole.Plain r text h = absurd (false≢true h)
+data-read _ _ text h = absurd (false≢true h)
 
 -- data after a text is more of this text
 pub more-data : (bytes text : List ℕ) (trees : List TreeView) → fold with_byte (TextTree text ∷ trees) bytes ≡ TextTree (text ++ bytes) ∷ trees
@@ -103,28 +79,4 @@ more-data (b ∷ bytes) text trees = more-data bytes (text ++ b ∷ []) trees �
 pub data-bare : (kind : Hole) (r : Reading) (text : List ℕ) → takes kind (bare r) ≡ true → bare (with_data r text) ≡ bare r
 data-bare hole.Attribute (Value t name value) text h = refl
 data-bare hole.Text (Content p) text h = refl
-data-bare hole.Attribute (Content p) text h = absurd (false≢true h)
-data-bare hole.Attribute (Reference p name) text h = absurd (false≢true h)
-data-bare hole.Attribute (Opening p) text h = absurd (false≢true h)
-data-bare hole.Attribute (StartName p name) text h = absurd (false≢true h)
-data-bare hole.Attribute (Space t) text h = absurd (false≢true h)
-data-bare hole.Attribute (AttributeName t name) text h = absurd (false≢true h)
-data-bare hole.Attribute (Equals t name) text h = absurd (false≢true h)
-data-bare hole.Attribute (ValueReference t name value ref) text h = absurd (false≢true h)
-data-bare hole.Attribute (AfterValue t) text h = absurd (false≢true h)
-data-bare hole.Attribute (Slash t) text h = absurd (false≢true h)
-data-bare hole.Attribute (EndTag p rest) text h = absurd (false≢true h)
-data-bare hole.Attribute Refused text h = absurd (false≢true h)
-data-bare hole.Text (Reference p name) text h = absurd (false≢true h)
-data-bare hole.Text (Opening p) text h = absurd (false≢true h)
-data-bare hole.Text (StartName p name) text h = absurd (false≢true h)
-data-bare hole.Text (Space t) text h = absurd (false≢true h)
-data-bare hole.Text (AttributeName t name) text h = absurd (false≢true h)
-data-bare hole.Text (Equals t name) text h = absurd (false≢true h)
-data-bare hole.Text (Value t name value) text h = absurd (false≢true h)
-data-bare hole.Text (ValueReference t name value ref) text h = absurd (false≢true h)
-data-bare hole.Text (AfterValue t) text h = absurd (false≢true h)
-data-bare hole.Text (Slash t) text h = absurd (false≢true h)
-data-bare hole.Text (EndTag p rest) text h = absurd (false≢true h)
-data-bare hole.Text Refused text h = absurd (false≢true h)
-data-bare hole.Plain r text h = absurd (false≢true h)
+data-bare _ _ text h = absurd (false≢true h)

@@ -5,16 +5,18 @@ use Rattle.std.proofs.lemmas.Bool.{and_parts, false≢true}
 use Rattle.std.proofs.lemmas.Bool.Decides.{eqb_tells}
 use Rattle.std.proofs.lemmas.Slice.Eq.{bytes_eq-Decides}
 use Rattle.std.specs.List.{fold}
+use Rattle.template.proofs.Allowed.{xml_chars}
 use Rattle.template.proofs.Bare.{bare-step}
 use Rattle.template.proofs.Data.{run, run-more}
 use Rattle.template.proofs.Filling.{goes_on, part-read, parts-read, passed, refused-part, same-goes-on, section-read, went-on}
+use Rattle.template.proofs.Frames.{place_of}
 use Rattle.template.specs.Laws.{RendersOneTree}
-use Rattle.template.specs.Check.{after_part, after_parts, at_start, bare, bare_open, same_state, takes}
-use Rattle.template.specs.Document.{end_tag, ends_document, ends_only, filled_tree, has_open, inside, inside_part, inside_parts, inside_text, is_document, is_last_tag}
+use Rattle.template.specs.Check.{after_part, after_parts, at_start, bare, bare_open, has_open, part_passes, parts_pass, same_state, takes, text_passes}
+use Rattle.template.specs.Document.{end_tag, ends_document, ends_only, filled_tree, inside, is_document, is_last_tag}
 use Rattle.template.specs.Filled.{read_part, read_parts, reader_if_none, with_data}
 use Rattle.template.specs.Reader.{AfterValue, AttributeName, Content, EndTag, Equals, Open, Opening, Place, Reading, Reference, Refused, Slash, Space, StartName, Tag, Value, ValueReference, closed, end_byte, end_name, in_order, is_letter, is_name_byte, meaning, meant, meant_in_value, read_tree, step, tag_byte, whole}
 use Rattle.template.specs.Template.{EachPart, HolePart, NoParts, NonePart, OnePart, PartView, Parts, TextPart, Values, items_of, part_text, parts_text, text_of}
-use Rattle.template.specs.Shown.{shown}
+use Rattle.template.specs.Shown.{is_text_of, is_xml_char, shown}
 use Rattle.template.specs.declared.hole.Hole.{Hole}
 use Rattle.template.specs.declared.hole.Hole.TheVariants as hole
 use Rattle.template.specs.Tree.{ElementTree, NoTrees, TreeView}
@@ -25,19 +27,7 @@ base_of trees [] = trees
 base_of trees (o ∷ os) = base_of o.before os
 
 abbrev base : Reading → List TreeView
-base (Content p) = base_of p.trees p.around
-base (Reference p name) = base_of p.trees p.around
-base (Opening p) = base_of p.trees p.around
-base (StartName p name) = base_of p.trees p.around
-base (Space t) = base_of t.place.trees t.place.around
-base (AttributeName t name) = base_of t.place.trees t.place.around
-base (Equals t name) = base_of t.place.trees t.place.around
-base (Value t name value) = base_of t.place.trees t.place.around
-base (ValueReference t name value ref) = base_of t.place.trees t.place.around
-base (AfterValue t) = base_of t.place.trees t.place.around
-base (Slash t) = base_of t.place.trees t.place.around
-base (EndTag p rest) = base_of p.trees p.around
-base Refused = []
+base r = base_of (place_of r).trees (place_of r).around
 
 base-if : (t : Bool) (x y : Reading) (b : List TreeView) → (inside x ≡ true → base x ≡ b) → (inside y ≡ true → base y ≡ b)
     → inside (if t then x else y) ≡ true → base (if t then x else y) ≡ b
@@ -103,24 +93,14 @@ open-bare (o ∷ os) = refl
 inside-bare : (r : Reading) → inside (bare r) ≡ inside r
 inside-bare (Content p) = open-bare p.around
 inside-bare (Reference p name) = open-bare p.around
-inside-bare (Opening p) = refl
-inside-bare (StartName p name) = refl
-inside-bare (Space t) = refl
-inside-bare (AttributeName t name) = refl
-inside-bare (Equals t name) = refl
-inside-bare (Value t name value) = refl
-inside-bare (ValueReference t name value ref) = refl
-inside-bare (AfterValue t) = refl
-inside-bare (Slash t) = refl
-inside-bare (EndTag p rest) = refl
-inside-bare Refused = refl
+inside-bare _ = refl
 
-base-text : (text : List ℕ) (r : Reading) → inside_text (bare r) text ≡ true → base (fold step r text) ≡ base r
+base-text : (text : List ℕ) (r : Reading) → text_passes inside text (bare r) ≡ true → base (fold step r text) ≡ base r
 base-text [] r h = refl
 base-text (c ∷ text) r h =
     let both = and_parts _ _ h in
     let here : inside (step r c) ≡ true = sym (inside-bare (step r c)) ∙ (ap inside (bare-step r c) ∙ both.0) in
-    base-text text (step r c) (ap (λ b. inside_text b text) (bare-step r c) ∙ both.1) ∙ base-step r c here
+    base-text text (step r c) (ap (text_passes inside text) (bare-step r c) ∙ both.1) ∙ base-step r c here
 
 base-data : (kind : Hole) (r : Reading) (text : List ℕ) → takes kind (bare r) ≡ true → inside (bare r) ≡ true → base (with_data r text) ≡ base r
 base-data hole.Attribute (Value t name value) text h k = refl
@@ -164,18 +144,18 @@ none-base (i ∷ items) s r h = refl
 
 -- parts keep the trees outside
 abbrev KeepBase : Parts → Type 0
-KeepBase ps = (vs : Values) (r : Reading) → goes_on (after_parts ps (bare r)) ≡ true → inside_parts ps (bare r) ≡ true → base (read_parts ps vs r) ≡ base r
+KeepBase ps = (vs : Values) (r : Reading) → goes_on (after_parts ps (bare r)) ≡ true → parts_pass inside ps (bare r) ≡ true → base (read_parts ps vs r) ≡ base r
 
 section-base : (ps : Parts) → KeepBase ps → (vs : Values) (r s : Reading) → same_state (after_parts ps (bare r)) (bare r) ≡ true
-    → inside_parts ps (bare r) ≡ true → bare s ≡ bare r → (base (read_parts ps vs s) ≡ base s) × (bare (read_parts ps vs s) ≡ bare r)
+    → parts_pass inside ps (bare r) ≡ true → bare s ≡ bare r → (base (read_parts ps vs s) ≡ base s) × (bare (read_parts ps vs s) ≡ bare r)
 section-base ps keep vs r s e h k =
     let goes : goes_on (after_parts ps (bare s)) ≡ true = ap (λ b. goes_on (after_parts ps b)) k ∙ same-goes-on (after_parts ps (bare r)) (bare r) e in
-    (keep vs s goes (ap (inside_parts ps) k ∙ h), (section-read ps (parts-read ps) vs r s e k).bare_is)
+    (keep vs s goes (ap (parts_pass inside ps) k ∙ h), (section-read ps (parts-read ps) vs r s e k).bare_is)
 
 mutual
   unfolding read_part read_parts
 
-  part-base : (p : PartView) (vs : Values) (r : Reading) → goes_on (after_part p (bare r)) ≡ true → inside_part p (bare r) ≡ true
+  part-base : (p : PartView) (vs : Values) (r : Reading) → goes_on (after_part p (bare r)) ≡ true → part_passes inside p (bare r) ≡ true
       → base (read_part p vs r) ≡ base r
   part-base (TextPart text) vs r g h = base-text text r h
   part-base (HolePart kind name) vs r g h = base-data kind r (shown (text_of name vs)) (passed (takes kind (bare r)) (bare r) g) h
@@ -186,14 +166,14 @@ mutual
       let e = passed (same_state (after_parts ps (bare r)) (bare r)) (bare r) g in
       none-base (items_of name vs) (read_parts ps vs r) r (section-base ps (parts-base ps) vs r r e h refl).0
 
-  parts-base : (ps : Parts) (vs : Values) (r : Reading) → goes_on (after_parts ps (bare r)) ≡ true → inside_parts ps (bare r) ≡ true
+  parts-base : (ps : Parts) (vs : Values) (r : Reading) → goes_on (after_parts ps (bare r)) ≡ true → parts_pass inside ps (bare r) ≡ true
       → base (read_parts ps vs r) ≡ base r
   parts-base NoParts vs r g h = refl
   parts-base (OnePart p ps) vs r g h =
       let both = and_parts _ _ h in
       let first = went-on ps (after_part p (bare r)) g in
       let after = (part-read p vs r first).bare_is in
-      parts-base ps vs (read_part p vs r) (ap (λ b. goes_on (after_parts ps b)) after ∙ g) (ap (inside_parts ps) after ∙ both.1)
+      parts-base ps vs (read_part p vs r) (ap (λ b. goes_on (after_parts ps b)) after ∙ g) (ap (parts_pass inside ps) after ∙ both.1)
       ∙ part-base p vs r first both.0
 
 and-false : (b : Bool) → (b && false) ≡ false
@@ -242,18 +222,7 @@ last-open trees (o ∷ []) text h e =
 
 last-text : (r : Reading) (text : List ℕ) → is_last_tag (TextPart text) (bare r) ≡ true → base r ≡ [] → IsTree r (text ++ []) (run r text)
 last-text (Content p) text h e = last-open p.trees p.around text h e
-last-text (Reference p name) text h e = absurd (false≢true h)
-last-text (Opening p) text h e = absurd (false≢true h)
-last-text (StartName p name) text h e = absurd (false≢true h)
-last-text (Space t) text h e = absurd (false≢true h)
-last-text (AttributeName t name) text h e = absurd (false≢true h)
-last-text (Equals t name) text h e = absurd (false≢true h)
-last-text (Value t name value) text h e = absurd (false≢true h)
-last-text (ValueReference t name value ref) text h e = absurd (false≢true h)
-last-text (AfterValue t) text h e = absurd (false≢true h)
-last-text (Slash t) text h e = absurd (false≢true h)
-last-text (EndTag p rest) text h e = absurd (false≢true h)
-last-text Refused text h e = absurd (false≢true h)
+last-text _ text h e = absurd (false≢true h)
 
 -- the last part is no more than a text
 last-refused : (p : PartView) → is_last_tag p Refused ≡ false
@@ -266,23 +235,12 @@ never-ends : (ps : Parts) → ends_document ps Refused ≡ false
 never-ends NoParts = refl
 never-ends (OnePart p NoParts) = last-refused p
 never-ends (OnePart p (OnePart q ps)) =
-    ap (λ b. inside_part p Refused && b) (ap (ends_document (OnePart q ps)) (refused-part p) ∙ never-ends (OnePart q ps))
-    ∙ and-false (inside_part p Refused)
+    ap (λ b. part_passes inside p Refused && b) (ap (ends_document (OnePart q ps)) (refused-part p) ∙ never-ends (OnePart q ps))
+    ∙ and-false (part_passes inside p Refused)
 
 ends-goes-on : (ps : Parts) (r : Reading) → ends_document ps r ≡ true → goes_on r ≡ true
 ends-goes-on ps Refused h = absurd (false≢true (sym (never-ends ps) ∙ h))
-ends-goes-on ps (Content p) h = refl
-ends-goes-on ps (Reference p name) h = refl
-ends-goes-on ps (Opening p) h = refl
-ends-goes-on ps (StartName p name) h = refl
-ends-goes-on ps (Space t) h = refl
-ends-goes-on ps (AttributeName t name) h = refl
-ends-goes-on ps (Equals t name) h = refl
-ends-goes-on ps (Value t name value) h = refl
-ends-goes-on ps (ValueReference t name value ref) h = refl
-ends-goes-on ps (AfterValue t) h = refl
-ends-goes-on ps (Slash t) h = refl
-ends-goes-on ps (EndTag p rest) h = refl
+ends-goes-on ps _ h = refl
 
 -- parts of one element
 document-read : (ps : Parts) (vs : Values) (r : Reading) → ends_document ps (bare r) ≡ true → base r ≡ []
@@ -304,5 +262,7 @@ document-read (OnePart p (OnePart q ps)) vs r h e =
 pub renders_one_tree : RendersOneTree
 unfolding is_document read_tree filled_tree
 renders_one_tree ps vs h =
-    let one = document-read ps vs at_start h refl in
-    (one.tree, ap whole one.is ∙ one.has, one.has)
+    let both = and_parts _ _ h in
+    let one = document-read ps vs at_start both.1 refl in
+    let chars : is_text_of is_xml_char (parts_text ps vs) ≡ true = xml_chars ps vs both.0 in
+    (one.tree, ap (λ b. if b then whole (run at_start (parts_text ps vs)) else None) chars ∙ (ap whole one.is ∙ one.has), one.has)

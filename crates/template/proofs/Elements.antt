@@ -1,13 +1,11 @@
 -- Which elements a rendered template has: those of each item of a section, one after another.
-use Rattle.std.proofs.Common.{◌≡◌, ◌∙◌, refl, sym, ap, ℕ, Bool, true, List, [], ◌∷◌, ◌++◌, ◌&&◌, append-nil, append_assoc, if◌then◌else◌, Option, Some, None, unwrap_or}
+use Rattle.std.proofs.Common.{◌≡◌, ◌∙◌, refl, sym, ap, ℕ, Bool, true, false, List, [], ◌∷◌, ◌++◌, ◌&&◌, append-nil, append_assoc, if◌then◌else◌, None, slice_get, Some, unwrap_or}
 use Rattle.std.proofs.lemmas.Bool.{and_parts, false≢true}
 use Rattle.std.proofs.lemmas.Grind.{flat_map-append}
 use Rattle.std.proofs.lemmas.Slice.Eq.{bytes_eq-Decides}
 use Rattle.std.specs.List.{flat_map, fold}
-use Rattle.std.specs.Option.{option_or}
 use Rattle.std.specs.Str.{bytes_eq}
-use Rattle.template.proofs.Bodies.{if-some}
-use Rattle.template.proofs.Filling.{goes_on, no_value_is_markup, part-read, parts-read, passed, same-goes-on, section-read, went-on}
+use Rattle.template.proofs.Filling.{end-goes, goes_on, no_value_is_markup, part-read, parts-read, passed, same-goes-on, section-read, went-on}
 use Rattle.template.proofs.Frames.{lasts, run-under, under}
 use Rattle.template.proofs.Log.{in-order, log, log-data, log-joined, log-text, named_back}
 use Rattle.template.specs.Check.{after_part, after_parts, at_start, bare, is_end, is_sound, same_state}
@@ -15,7 +13,8 @@ use Rattle.template.specs.Elements.{elements_named, elements_of, is_between, par
 use Rattle.template.specs.Filled.{closed_trees, filled_trees, read_part, read_parts, reader_if_none, trees_at}
 use Rattle.template.specs.Laws.{ShowsElements}
 use Rattle.template.specs.Reader.{Content, Open, Place, Reading, Refused}
-use Rattle.template.specs.Shows.{body, items_at, part_body}
+use Rattle.template.specs.Sections.{part_sections, sections}
+use Rattle.template.specs.Shows.{items_at}
 use Rattle.template.specs.Template.{EachPart, HolePart, NoParts, NonePart, OnePart, PartView, Parts, TextPart, Values, items_of, parts_text}
 use Rattle.template.specs.Tree.{NoTrees, TreeView}
 
@@ -23,10 +22,6 @@ use Rattle.template.specs.Tree.{NoTrees, TreeView}
 end-lasts : (r : Reading) → is_end (bare r) ≡ true → lasts r ≡ true
 end-lasts (Content p) h = refl
 end-lasts _ h = absurd (false≢true h)
-
-pub end-goes : (r : Reading) → is_end r ≡ true → goes_on r ≡ true
-end-goes (Content p) h = refl
-end-goes _ h = absurd (false≢true h)
 
 -- a sound template is read at any place as at an empty one
 pub sound-under : (b : Parts) (vs : Values) (q : Place) → is_sound b ≡ true → goes_on (after_parts b (bare (Content q))) ≡ true
@@ -127,10 +122,15 @@ flat-twice f g (x ∷ xs) = flat_map-append f (g x) (flat_map g xs) ∙ ap (λ l
 some-is : (x y : Parts) → Some x ≡ Some y → x ≡ y
 some-is x y e = cc
 
-either-body : (o rest : Option Parts) (b : Parts) (x y : Bool) (P : Type 0) → (o ≡ Some b → x ≡ true → P) → (rest ≡ Some b → y ≡ true → P)
-    → option_or o rest ≡ Some b → elim o as (λ _. Bool) [ None ↦ y | Some c ↦ x ] ≡ true → P
-either-body None rest b x y P f g is h = g is h
-either-body (Some c) rest b x y P f g is h = f is h
+-- the first section of a part, or of the parts after it
+either-section : (own rest : List Parts) (b : Parts) (x y : Bool) (P : Type 0) → (slice_get own 0 ≡ Some b → x ≡ true → P)
+    → (slice_get rest 0 ≡ Some b → y ≡ true → P) → slice_get (own ++ rest) 0 ≡ Some b → elim own as (λ _. Bool) [ [] ↦ y | c ∷ cs ↦ x ] ≡ true → P
+either-section [] rest b x y P f g is h = g is h
+either-section (c ∷ own) rest b x y P f g is h = f is h
+
+if-first : (t : Bool) (bs : List Parts) (b : Parts) → slice_get (if t then bs else []) 0 ≡ Some b → (t ≡ true) × (slice_get bs 0 ≡ Some b)
+if-first true bs b h = (refl, h)
+if-first false bs b h = absurd (let e : None ≡ Some b = h in cc)
 
 -- parts in which elements with this name end in one section alone
 module _ (name : List ℕ) (b : Parts) where
@@ -149,42 +149,37 @@ module _ (name : List ℕ) (b : Parts) where
   mutual
     unfolding read_part read_parts
 
-    part-adds : (p : PartView) (vs : Values) (s : List ℕ) (path : List (List ℕ)) (r : Reading) → part_body p s path ≡ Some b
+    part-adds : (p : PartView) (vs : Values) (s : List ℕ) (path : List (List ℕ)) (r : Reading) → slice_get (part_sections p s path) 0 ≡ Some b
         → goes_on (after_part p (bare r)) ≡ true → part_ends_in name path p (bare r) ≡ true
-        → log name (read_part p vs r) ≡ log name r ++ flat_map (elements_of name b) (items_at (s ∷ path) vs)
-    part-adds (TextPart text) vs s path r is g h = absurd (false≢true h)
-    part-adds (HolePart hole key) vs s path r is g h = absurd (false≢true h)
-    part-adds (NonePart key ps) vs s path r is g h = absurd (false≢true h)
-    part-adds (EachPart key ps) vs s [] r is g h =
-        let both = if-some (bytes_eq key s) (Some ps) b is in
-        let here = and_parts (is_between (bare r)) (is_sound ps) h in
-        section-adds ps key s [] vs r both.0
-        (each-item name ps (at_path []) r g
-        (λ i q k goes. sound-adds name ps i q here.1 (ap is_between k ∙ here.0) goes
-        ∙ ap (λ l. log name q ++ l) (ap (λ c. elements_of name c i) (some-is ps b both.1) ∙ sym (append-nil (elements_of name b i)))))
-    part-adds (EachPart key ps) vs s (t ∷ path) r is g h =
-        let both = if-some (bytes_eq key s) (body ps t path) b is in
-        section-adds ps key s (t ∷ path) vs r both.0
-        (each-item name ps (at_path (t ∷ path)) r g
-        (λ i q k goes. parts-add ps i t path q both.1 goes (ap (parts_end_in name t path ps) k ∙ h)))
+        → log name (read_part p vs r) ≡ log name r ++ at_path (s ∷ path) vs
+    part-adds (EachPart key ps) vs s path r is g h =
+        let both = if-first (bytes_eq key s) (sections ps path) b is in
+        section-adds ps key s path vs r both.0
+        (each-item name ps (at_path path) r g
+        (λ i q k goes. parts-add ps i path q both.1 goes (ap (parts_end_in name path ps) k ∙ h)))
+    part-adds _ vs s path r is g h = absurd (false≢true h)
 
-    parts-add : (ps : Parts) (vs : Values) (s : List ℕ) (path : List (List ℕ)) (r : Reading) → body ps s path ≡ Some b
-        → goes_on (after_parts ps (bare r)) ≡ true → parts_end_in name s path ps (bare r) ≡ true
-        → log name (read_parts ps vs r) ≡ log name r ++ flat_map (elements_of name b) (items_at (s ∷ path) vs)
-    parts-add NoParts vs s path r is g h = absurd (false≢true h)
-    parts-add (OnePart p ps) vs s path r is g h =
+    parts-add : (ps : Parts) (vs : Values) (path : List (List ℕ)) (r : Reading) → slice_get (sections ps path) 0 ≡ Some b
+        → goes_on (after_parts ps (bare r)) ≡ true → parts_end_in name path ps (bare r) ≡ true
+        → log name (read_parts ps vs r) ≡ log name r ++ at_path path vs
+    parts-add ps vs [] r is g h =
+        let here = and_parts (is_between (bare r)) (is_sound ps) h in
+        sound-adds name ps vs r here.1 here.0 g
+        ∙ ap (λ l. log name r ++ l) (ap (λ c. elements_of name c vs) (some-is ps b is) ∙ sym (append-nil (elements_of name b vs)))
+    parts-add NoParts vs (s ∷ path) r is g h = absurd (false≢true h)
+    parts-add (OnePart p ps) vs (s ∷ path) r is g h =
         let first = went-on ps (after_part p (bare r)) g in
         let after = (part-read p vs r first).bare_is in
         let q = read_part p vs r in
         let goes : goes_on (after_parts ps (bare q)) ≡ true = ap (λ x. goes_on (after_parts ps x)) after ∙ g in
-        either-body (part_body p s path) (body ps s path) b
+        either-section (part_sections p s path) (sections ps (s ∷ path)) b
         (part_ends_in name path p (bare r) && parts_end_none name ps (after_part p (bare r)))
-        (part_ends_none name p (bare r) && parts_end_in name s path ps (after_part p (bare r)))
+        (part_ends_none name p (bare r) && parts_end_in name (s ∷ path) ps (after_part p (bare r)))
         (log name (read_parts ps vs q) ≡ log name r ++ at_path (s ∷ path) vs)
         (λ found k. let both = and_parts _ _ k in
         parts-keep name ps vs q goes (ap (parts_end_none name ps) after ∙ both.1) ∙ part-adds p vs s path r found first both.0)
         (λ found k. let both = and_parts _ _ k in
-        parts-add ps vs s path q found goes (ap (parts_end_in name s path ps) after ∙ both.1)
+        parts-add ps vs (s ∷ path) q found goes (ap (parts_end_in name (s ∷ path) ps) after ∙ both.1)
         ∙ ap (λ l. l ++ at_path (s ∷ path) vs) (part-keeps name p vs r first both.0)) is h
 
 -- the elements at the end of a text
@@ -198,16 +193,16 @@ end-log name (Content p) h = over-log name p.trees p.around h
 end-log name _ h = absurd (false≢true h)
 
 -- the elements in a template are those in the items of the section
-pub section_elements : (name : List ℕ) (ps : Parts) (vs : Values) (s : List ℕ) (path : List (List ℕ)) (b : Parts)
-    → is_sound ps ≡ true → parts_end_in name s path ps at_start ≡ true → body ps s path ≡ Some b
-    → elements_of name ps vs ≡ flat_map (elements_of name b) (items_at (s ∷ path) vs)
+pub section_elements : (name : List ℕ) (ps : Parts) (vs : Values) (path : List (List ℕ)) (b : Parts)
+    → is_sound ps ≡ true → parts_end_in name path ps at_start ≡ true → slice_get (sections ps path) 0 ≡ Some b
+    → elements_of name ps vs ≡ flat_map (elements_of name b) (items_at path vs)
 unfolding is_sound filled_trees
-section_elements name ps vs s path b sound ends is =
+section_elements name ps vs path b sound ends is =
     let goes = end-goes (after_parts ps at_start) sound in
     let end : is_end (bare (read_parts ps vs at_start)) ≡ true = ap is_end (parts-read ps vs at_start goes).bare_is ∙ sound in
-    end-log name (read_parts ps vs at_start) end ∙ parts-add name b ps vs s path at_start is goes ends
+    end-log name (read_parts ps vs at_start) end ∙ parts-add name b ps vs path at_start is goes ends
 
 pub shows_elements : ShowsElements
-shows_elements name ps vs s path b sound ends is =
+shows_elements name ps vs path b sound ends is =
     let all = no_value_is_markup ps vs sound in
-    (all.0, all.1, all.2, sym (ap (λ t. elements_named name (unwrap_or t NoTrees)) all.2) ∙ section_elements name ps vs s path b sound ends is)
+    (all.0, all.1, all.2, sym (ap (λ t. elements_named name (unwrap_or t NoTrees)) all.2) ∙ section_elements name ps vs path b sound ends is)

@@ -9,7 +9,7 @@ use Rattle.template.specs.Laws.{NoValueIsMarkup}
 use Rattle.template.specs.Check.{after_part, after_parts, at_start, bare, bare_open, bare_place, bare_step, same_state, is_end, is_sound, same_names, takes}
 use Rattle.template.specs.Filled.{closed_trees, filled_trees, read_part, read_trees, trees_at, read_parts, reader_if_none}
 use Rattle.template.specs.Tree.{NoTrees, TreeView, Trees}
-use Rattle.template.specs.Reader.{AfterValue, AttributeName, Content, EndTag, Equals, Open, Opening, Reading, Reference, Refused, Slash, Space, StartName, Value, ValueReference, in_order, step}
+use Rattle.template.specs.Reader.{AfterValue, Content, Open, Reading, Refused, in_order, step}
 use Rattle.template.specs.Template.{EachPart, HolePart, NoParts, NonePart, OnePart, PartView, Parts, TextPart, Values, if_none, items_of, part_text, parts_text, text_of}
 use Rattle.template.specs.Shown.{shown}
 use Rattle.template.specs.declared.hole.Hole.TheVariants as hole
@@ -44,18 +44,7 @@ mutual
 -- what is refused before parts is refused after them
 pub went-on : (ps : Parts) (r : Reading) → goes_on (after_parts ps r) ≡ true → goes_on r ≡ true
 went-on ps Refused h = absurd (false≢true (sym (ap goes_on (refused-parts ps)) ∙ h))
-went-on ps (Content p) h = refl
-went-on ps (Reference p name) h = refl
-went-on ps (Opening p) h = refl
-went-on ps (StartName p name) h = refl
-went-on ps (Space t) h = refl
-went-on ps (AttributeName t name) h = refl
-went-on ps (Equals t name) h = refl
-went-on ps (Value t name value) h = refl
-went-on ps (ValueReference t name value ref) h = refl
-went-on ps (AfterValue t) h = refl
-went-on ps (Slash t) h = refl
-went-on ps (EndTag p rest) h = refl
+went-on ps _ h = refl
 
 -- a test without which the reader refuses
 pub passed : (b : Bool) (r : Reading) → goes_on (if b then r else Refused) ≡ true → b ≡ true
@@ -97,61 +86,16 @@ same-open (o ∷ os) (q ∷ qs) h =
 
 pub both-same : (x y : Reading) → same_state (bare x) (bare y) ≡ true → bare x ≡ bare y
 both-same (Content p) (Content q) h = ap (λ l. Content (record { trees = []; around = l })) (same-open p.around q.around h)
-both-same (Content p) (Reference q name) h = absurd (false≢true h)
-both-same (Content p) (Opening q) h = absurd (false≢true h)
-both-same (Content p) (StartName q name) h = absurd (false≢true h)
-both-same (Content p) (Space u) h = absurd (false≢true h)
-both-same (Content p) (AttributeName u name) h = absurd (false≢true h)
-both-same (Content p) (Equals u name) h = absurd (false≢true h)
-both-same (Content p) (Value u name value) h = absurd (false≢true h)
-both-same (Content p) (ValueReference u name value ref) h = absurd (false≢true h)
-both-same (Content p) (AfterValue u) h = absurd (false≢true h)
-both-same (Content p) (Slash u) h = absurd (false≢true h)
-both-same (Content p) (EndTag q rest) h = absurd (false≢true h)
-both-same (Content p) (Refused) h = absurd (false≢true h)
 both-same (AfterValue t) (AfterValue u) h =
     let both = and_parts _ _ h in
     ap (λ name. AfterValue (record { place = bare_place t.place; name = name; attributes = [] })) ((bytes_eq-Decides t.name u.name).0 both.0)
     ∙ ap (λ l. AfterValue (record { place = record { trees = []; around = l }; name = u.name; attributes = [] }))
     (same-open t.place.around u.place.around both.1)
-both-same (AfterValue t) (Content q) h = absurd (false≢true h)
-both-same (AfterValue t) (Reference q name) h = absurd (false≢true h)
-both-same (AfterValue t) (Opening q) h = absurd (false≢true h)
-both-same (AfterValue t) (StartName q name) h = absurd (false≢true h)
-both-same (AfterValue t) (Space u) h = absurd (false≢true h)
-both-same (AfterValue t) (AttributeName u name) h = absurd (false≢true h)
-both-same (AfterValue t) (Equals u name) h = absurd (false≢true h)
-both-same (AfterValue t) (Value u name value) h = absurd (false≢true h)
-both-same (AfterValue t) (ValueReference u name value ref) h = absurd (false≢true h)
-both-same (AfterValue t) (Slash u) h = absurd (false≢true h)
-both-same (AfterValue t) (EndTag q rest) h = absurd (false≢true h)
-both-same (AfterValue t) (Refused) h = absurd (false≢true h)
-both-same (Reference p name) y h = absurd (false≢true h)
-both-same (Opening p) y h = absurd (false≢true h)
-both-same (StartName p name) y h = absurd (false≢true h)
-both-same (Space t) y h = absurd (false≢true h)
-both-same (AttributeName t name) y h = absurd (false≢true h)
-both-same (Equals t name) y h = absurd (false≢true h)
-both-same (Value t name value) y h = absurd (false≢true h)
-both-same (ValueReference t name value ref) y h = absurd (false≢true h)
-both-same (Slash t) y h = absurd (false≢true h)
-both-same (EndTag p rest) y h = absurd (false≢true h)
-both-same (Refused) y h = absurd (false≢true h)
+both-same _ _ h = absurd (false≢true h)
 
 pub same-goes-on : (x y : Reading) → same_state x y ≡ true → goes_on x ≡ true
-same-goes-on (Content p) y h = refl
-same-goes-on (Reference p name) y h = refl
-same-goes-on (Opening p) y h = refl
-same-goes-on (StartName p name) y h = refl
-same-goes-on (Space t) y h = refl
-same-goes-on (AttributeName t name) y h = refl
-same-goes-on (Equals t name) y h = refl
-same-goes-on (Value t name value) y h = refl
-same-goes-on (ValueReference t name value ref) y h = refl
-same-goes-on (AfterValue t) y h = refl
-same-goes-on (Slash t) y h = refl
-same-goes-on (EndTag p rest) y h = refl
 same-goes-on Refused y h = absurd (false≢true h)
+same-goes-on _ y h = refl
 
 -- what is rendered of these parts is read
 abbrev pub AreRead : Parts → Type 0
@@ -209,37 +153,15 @@ no-names trees (o ∷ os) h = absurd (false≢true h)
 
 is-over : (r : Reading) → is_end (bare r) ≡ true → IsOver r
 is-over (Content p) h = record { trees = in_order p.trees NoTrees; are = no-names p.trees p.around h }
-is-over (Reference p name) h = absurd (false≢true h)
-is-over (Opening p) h = absurd (false≢true h)
-is-over (StartName p name) h = absurd (false≢true h)
-is-over (Space t) h = absurd (false≢true h)
-is-over (AttributeName t name) h = absurd (false≢true h)
-is-over (Equals t name) h = absurd (false≢true h)
-is-over (Value t name value) h = absurd (false≢true h)
-is-over (ValueReference t name value ref) h = absurd (false≢true h)
-is-over (AfterValue t) h = absurd (false≢true h)
-is-over (Slash t) h = absurd (false≢true h)
-is-over (EndTag p rest) h = absurd (false≢true h)
-is-over (Refused) h = absurd (false≢true h)
+is-over _ h = absurd (false≢true h)
 
-end-goes-on : (r : Reading) → is_end r ≡ true → goes_on r ≡ true
-end-goes-on (Content p) h = refl
-end-goes-on (Reference p name) h = refl
-end-goes-on (Opening p) h = refl
-end-goes-on (StartName p name) h = refl
-end-goes-on (Space t) h = refl
-end-goes-on (AttributeName t name) h = refl
-end-goes-on (Equals t name) h = refl
-end-goes-on (Value t name value) h = refl
-end-goes-on (ValueReference t name value ref) h = refl
-end-goes-on (AfterValue t) h = refl
-end-goes-on (Slash t) h = refl
-end-goes-on (EndTag p rest) h = refl
-end-goes-on Refused h = absurd (false≢true h)
+pub end-goes : (r : Reading) → is_end r ≡ true → goes_on r ≡ true
+end-goes (Content p) h = refl
+end-goes _ h = absurd (false≢true h)
 
 pub no_value_is_markup : NoValueIsMarkup
 unfolding is_sound read_trees filled_trees
 no_value_is_markup ps vs h =
-    let all = parts-read ps vs at_start (end-goes-on (after_parts ps at_start) h) in
+    let all = parts-read ps vs at_start (end-goes (after_parts ps at_start) h) in
     let over = is-over (read_parts ps vs at_start) (ap is_end all.bare_is ∙ h) in
     (over.trees, ap trees_at all.is ∙ over.are, over.are)

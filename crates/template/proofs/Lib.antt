@@ -8,12 +8,13 @@ pub mod Bare
 pub mod Data
 pub mod Filling
 pub mod Lacks
+pub mod Allowed
 pub mod Controls
 pub mod Parts
-pub mod Bodies
 pub mod Showing
 pub mod Document
 pub mod Sections
+pub mod Phrases
 pub mod Marking
 pub mod Frames
 pub mod Log

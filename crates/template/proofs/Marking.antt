@@ -10,7 +10,7 @@ use Rattle.std.specs.Str.{chars}
 use Rattle.template.proofs.Written.{Highs, past-ascii}
 use Rattle.template.specs.Hole.{hole_text, is_syntax, markup, markup_byte, plain, plain_char, plain_chars, reference}
 use Rattle.template.specs.Laws.{NoValueIsMark}
-use Rattle.template.specs.Marks.{InPre, Marking, Outside, Reference, Tag, TagInPre, are_placed, is_mark, is_markdown, is_place, is_placed, mark_step, marking_after, marking_after_all, marks, marks_from, own_marks, same_marking, without_hole, without_holes}
+use Rattle.template.specs.Marks.{InPre, Marking, Outside, Reference, are_placed, is_mark, is_markdown, is_place, is_placed, mark_step, marking_after, marking_after_all, marks, marks_from, own_marks, same_marking, without_hole, without_holes}
 use Rattle.template.specs.Shown.{shown}
 use Rattle.template.specs.Template.{EachPart, HolePart, NoParts, NonePart, OnePart, PartView, Parts, TextPart, Values, if_none, items_of, part_text, parts_text, text_of}
 use Rattle.template.specs.declared.hole.Hole.{Hole}
@@ -126,31 +126,13 @@ quiet-hole : (kind : Hole) (s : Marking) (text : List ℕ) → is_place kind s �
 unfolding hole_text markup plain
 quiet-hole hole.Plain Outside text h = quiet-plain_chars true (chars (shown text))
 quiet-hole hole.Text InPre text h = quiet-each (markup_byte false) quiet-markup (shown text)
-quiet-hole hole.Plain Reference text h = absurd (false≢true h)
-quiet-hole hole.Plain (Tag name) text h = absurd (false≢true h)
-quiet-hole hole.Plain InPre text h = absurd (false≢true h)
-quiet-hole hole.Plain (TagInPre name) text h = absurd (false≢true h)
-quiet-hole hole.Text Outside text h = absurd (false≢true h)
-quiet-hole hole.Text Reference text h = absurd (false≢true h)
-quiet-hole hole.Text (Tag name) text h = absurd (false≢true h)
-quiet-hole hole.Text (TagInPre name) text h = absurd (false≢true h)
-quiet-hole hole.Attribute s text h = absurd (false≢true h)
+quiet-hole _ _ text h = absurd (false≢true h)
 
 -- a section ends in the state in which it begins
 same-ends : (s t : Marking) → same_marking s t ≡ true → s ≡ t
 same-ends Outside Outside h = refl
 same-ends InPre InPre h = refl
-same-ends Outside Reference h = absurd (false≢true h)
-same-ends Outside (Tag name) h = absurd (false≢true h)
-same-ends Outside InPre h = absurd (false≢true h)
-same-ends Outside (TagInPre name) h = absurd (false≢true h)
-same-ends InPre Outside h = absurd (false≢true h)
-same-ends InPre Reference h = absurd (false≢true h)
-same-ends InPre (Tag name) h = absurd (false≢true h)
-same-ends InPre (TagInPre name) h = absurd (false≢true h)
-same-ends Reference t h = absurd (false≢true h)
-same-ends (Tag name) t h = absurd (false≢true h)
-same-ends (TagInPre name) t h = absurd (false≢true h)
+same-ends _ _ h = absurd (false≢true h)
 
 -- from one state to another, a text has the marks of another text
 record Reads (s : Marking) (text own : List ℕ) (t : Marking) : Type 0 where

@@ -4,7 +4,7 @@ use Rattle.std.proofs.lemmas.Bool.{and_parts, false≢true}
 use Rattle.std.proofs.lemmas.List.Elements.{All-cons, All-nil}
 use Rattle.std.proofs.lemmas.Slice.Eq.{bytes_eq-Decides}
 use Rattle.std.specs.List.{All, flat_map}
-use Rattle.template.proofs.Bodies.{Has, all-wider, each-item}
+use Rattle.template.proofs.Parts.{Has, all-wider, each-item, in-left, in-right, whole-part}
 use Rattle.template.specs.Laws.{ShowsValues}
 use Rattle.template.specs.Hole.{hole_text}
 use Rattle.template.specs.Shows.{items_at, part_shows, parts_show, same_kind}
@@ -12,20 +12,15 @@ use Rattle.template.specs.Template.{EachPart, HolePart, NoParts, NonePart, OnePa
 use Rattle.template.specs.declared.hole.Hole.{Hole}
 use Rattle.template.specs.declared.hole.Hole.TheVariants as hole
 
-either-true : (a b : Bool) (P : Type 0) → (a ≡ true → P) → (b ≡ true → P) → (a || b) ≡ true → P
+pub either-true : (a b : Bool) (P : Type 0) → (a ≡ true → P) → (b ≡ true → P) → (a || b) ≡ true → P
 either-true true b P p q h = p refl
 either-true false b P p q h = q h
 
-one-kind : (k l : Hole) → same_kind k l ≡ true → k ≡ l
+pub one-kind : (k l : Hole) → same_kind k l ≡ true → k ≡ l
 one-kind hole.Text hole.Text h = refl
 one-kind hole.Attribute hole.Attribute h = refl
 one-kind hole.Plain hole.Plain h = refl
-one-kind hole.Text hole.Attribute h = absurd (false≢true h)
-one-kind hole.Text hole.Plain h = absurd (false≢true h)
-one-kind hole.Attribute hole.Text h = absurd (false≢true h)
-one-kind hole.Attribute hole.Plain h = absurd (false≢true h)
-one-kind hole.Plain hole.Text h = absurd (false≢true h)
-one-kind hole.Plain hole.Attribute h = absurd (false≢true h)
+one-kind _ _ h = absurd (false≢true h)
 
 module _ (kind : Hole) (name : List ℕ) where
   abbrev value : Values → List ℕ
@@ -57,9 +52,8 @@ module _ (kind : Hole) (name : List ℕ) where
     parts-show NoParts vs path h = absurd (false≢true h)
     parts-show (OnePart p ps) vs path h =
         either-true (part_shows p kind path name) (parts_show ps kind path name) (All (Has value (part_text p vs ++ parts_text ps vs)) (items_at path vs))
-        (λ here. all-wider value [] (parts_text ps vs) (part_text p vs) _ (items_at path vs) refl (part-shows p vs path here))
-        (λ later. all-wider value (part_text p vs) [] (parts_text ps vs) _ (items_at path vs)
-        (ap (λ t. part_text p vs ++ t) (sym (append-nil (parts_text ps vs)))) (parts-show ps vs path later)) h
+        (λ here. all-wider value (items_at path vs) (in-left (parts_text ps vs) (whole-part (part_text p vs))) (part-shows p vs path here))
+        (λ later. all-wider value (items_at path vs) (in-right (part_text p vs) (whole-part (parts_text ps vs))) (parts-show ps vs path later)) h
 
 pub shows_values : ShowsValues
 shows_values ps vs kind path name = parts-show kind name ps vs path

@@ -1,7 +1,7 @@
 -- Whether every value of a template is in a text or in the value of an attribute.
-use Rattle.std.specs.Prelude.{ℕ, ◌||◌, not, codes, Bool, ◌&&◌, true, false, List, [], ◌∷◌, if◌then◌else◌, map}
-use Rattle.std.specs.List.{fold}
-use Rattle.std.specs.Str.{bytes_eq}
+use Rattle.std.specs.Prelude.{ℕ, not, codes, Bool, ◌&&◌, true, false, List, [], ◌∷◌, if◌then◌else◌, map}
+use Rattle.std.specs.List.{fold, list_any}
+use Rattle.std.specs.Str.{bytes_eq, str_eq_ignore_ascii_case}
 use Rattle.template.specs.Reader.{AfterValue, AttributeName, Content, EndTag, Equals, Open, Opening, Place, Reading, Reference, Refused, Slash, Space, StartName, Tag, Value, ValueReference, step}
 use Rattle.template.specs.declared.hole.Hole.{Hole}
 use Rattle.template.specs.declared.hole.Hole.TheVariants as hole
@@ -52,15 +52,25 @@ same_state (Content p) (Content q) = same_names p.around q.around
 same_state (AfterValue t) (AfterValue u) = bytes_eq t.name u.name && same_names t.place.around u.place.around
 same_state _ _ = false
 
--- no value may be outside of all elements, or in an element whose text HTML reads without references
-abbrev pub keeps_out : List Open → Bool
-keeps_out [] = true
-keeps_out (o ∷ os) = bytes_eq o.name (codes "style") || bytes_eq o.name (codes "script")
+-- the elements in which HTML reads no references, or which it does not show
+abbrev pub raw_names : List (List ℕ)
+raw_names =
+    codes "style" ∷ codes "script" ∷ codes "noscript" ∷ codes "xmp" ∷ codes "iframe" ∷ codes "noembed" ∷ codes "noframes" ∷ codes "plaintext"
+    ∷ codes "template" ∷ []
 
--- a value may be here: in the value of an attribute, or in a text
+-- an element has one of these names, in letters of any case
+abbrev pub is_raw : Open → Bool
+is_raw o = list_any (str_eq_ignore_ascii_case o.name) raw_names
+
+-- an element is open
+abbrev pub has_open : List Open → Bool
+has_open [] = false
+has_open (o ∷ os) = true
+
+-- a value may be here: in the value of an attribute, or in a text in an element, and in no element with such a name
 abbrev pub takes : Hole → Reading → Bool
-takes hole.Attribute (Value t name value) = true
-takes hole.Text (Content p) = not (keeps_out p.around)
+takes hole.Attribute (Value t name value) = not (list_any is_raw t.place.around)
+takes hole.Text (Content p) = has_open p.around && not (list_any is_raw p.around)
 takes _ _ = false
 
 abbrev mutual
@@ -76,6 +86,24 @@ abbrev mutual
   after_parts NoParts r = r
   after_parts (OnePart p ps) r = after_parts ps (after_part p r)
 
+-- the bare states of the reader pass a test after each byte of a text
+abbrev pub text_passes : (Reading → Bool) → List ℕ → Reading → Bool
+text_passes test [] r = true
+text_passes test (c ∷ text) r = test (bare_step r c) && text_passes test text (bare_step r c)
+
+abbrev mutual
+  -- they pass it after each byte of a part
+  pub part_passes : (Reading → Bool) → PartView → Reading → Bool
+  part_passes test (TextPart text) r = text_passes test text r
+  part_passes test (HolePart kind name) r = test r
+  part_passes test (EachPart name ps) r = parts_pass test ps r
+  part_passes test (NonePart name ps) r = parts_pass test ps r
+
+  -- they pass it after each byte of parts
+  pub parts_pass : (Reading → Bool) → Parts → Reading → Bool
+  parts_pass test NoParts r = true
+  parts_pass test (OnePart p ps) r = part_passes test p r && parts_pass test ps (after_part p r)
+
 -- the state before a text
 abbrev pub at_start : Reading
 at_start = Content (record { trees = []; around = [] })
@@ -85,6 +113,6 @@ abbrev pub is_end : Reading → Bool
 is_end (Content p) = same_names p.around []
 is_end _ = false
 
--- values are only in texts and in values of attributes, and all elements are closed
+-- values are only in texts and in values of attributes, in elements in which HTML reads references, and all elements are closed
 unfoldable pub is_sound : Parts → Bool
 is_sound ps = is_end (after_parts ps at_start)

@@ -1,10 +1,10 @@
 -- The elements with one name: which they are, and whether they are all in one section of a template.
-use Rattle.std.specs.Prelude.{◌&&◌, ◌++◌, ℕ, Bool, true, false, not, List, [], ◌∷◌, if◌then◌else◌, Some, None, unwrap_or}
+use Rattle.std.specs.Prelude.{◌&&◌, ◌++◌, ℕ, Bool, true, false, not, List, [], ◌∷◌, if◌then◌else◌, unwrap_or}
 use Rattle.std.specs.Str.{bytes_eq}
 use Rattle.template.specs.Check.{after_part, bare_step, is_sound}
 use Rattle.template.specs.Filled.{filled_trees}
 use Rattle.template.specs.Reader.{Content, EndTag, Open, Reading, Slash}
-use Rattle.template.specs.Shows.{part_body}
+use Rattle.template.specs.Sections.{part_sections}
 use Rattle.template.specs.Template.{EachPart, HolePart, NoParts, NonePart, OnePart, PartView, Parts, TextPart, Values}
 use Rattle.template.specs.Tree.{ElementTree, NoTrees, OneTree, TextTree, TreeView, Trees}
 
@@ -68,18 +68,16 @@ is_between (Content p) = true
 is_between _ = false
 
 abbrev mutual
-  -- a part is a section: the parts for each item on this path in it are sound and between tags, and elements with this name end only there
+  -- a part is a section: elements with this name end only in the parts for each item on this path in it
   pub part_ends_in : List ℕ → List (List ℕ) → PartView → Reading → Bool
-  part_ends_in name path (TextPart text) r = false
-  part_ends_in name path (HolePart hole key) r = false
-  part_ends_in name [] (EachPart key ps) r = is_between r && is_sound ps
-  part_ends_in name (s ∷ path) (EachPart key ps) r = parts_end_in name s path ps r
-  part_ends_in name path (NonePart key ps) r = false
+  part_ends_in name path (EachPart key ps) r = parts_end_in name path ps r
+  part_ends_in name path _ r = false
 
   -- the parts for each item on this path are sound and between tags, and elements with this name end only there
-  pub parts_end_in : List ℕ → List ℕ → List (List ℕ) → Parts → Reading → Bool
-  parts_end_in name s path NoParts r = false
-  parts_end_in name s path (OnePart p ps) r = elim (part_body p s path) as (λ _. Bool) [
-    | None ↦ part_ends_none name p r && parts_end_in name s path ps (after_part p r)
-    | Some b ↦ part_ends_in name path p r && parts_end_none name ps (after_part p r)
+  pub parts_end_in : List ℕ → List (List ℕ) → Parts → Reading → Bool
+  parts_end_in name [] ps r = is_between r && is_sound ps
+  parts_end_in name (s ∷ path) NoParts r = false
+  parts_end_in name (s ∷ path) (OnePart p ps) r = elim (part_sections p s path) as (λ _. Bool) [
+    | [] ↦ part_ends_none name p r && parts_end_in name (s ∷ path) ps (after_part p r)
+    | b ∷ bs ↦ part_ends_in name path p r && parts_end_none name ps (after_part p r)
   ]

@@ -9,7 +9,9 @@ pub mod Filled
 pub mod Clean
 pub mod Shows
 pub mod Document
+pub mod Html
 pub mod Sections
+pub mod Phrases
 pub mod Marks
 pub mod Children
 pub mod Elements

@@ -3,6 +3,8 @@ use Rattle.std.specs.Prelude.{◌&&◌, ◌||◌, ◌==◌, ◌++◌, ◌∷◌,
 use Rattle.std.specs.Char.{is_ascii_punctuation}
 use Rattle.std.specs.List.{fold}
 use Rattle.std.specs.Str.{bytes_eq}
+use Rattle.template.specs.Phrases.{begin_with, part_pieces, pieces, same_part}
+use Rattle.template.specs.Reader.{is_letter}
 use Rattle.template.specs.Template.{EachPart, HolePart, NoParts, NonePart, OnePart, PartView, Parts, TextPart, Values, parts_text}
 use Rattle.template.specs.declared.hole.Hole.{Hole}
 use Rattle.template.specs.declared.hole.Hole.TheVariants as hole
@@ -15,11 +17,17 @@ pub data Marking : Type 0 where
   InPre : Marking
   TagInPre : List ℕ → Marking
 
+-- a tag begins with this: a comment, which can have `>` in it, does not
+abbrev pub is_tag : List ℕ → Bool
+is_tag [] = false
+is_tag (c ∷ name) = c == 47 || is_letter c
+
 -- the state after one more byte
 abbrev pub mark_step : Marking → ℕ → Marking
 mark_step Outside c = if c == 38 then Reference else if c == 60 then Tag [] else Outside
 mark_step Reference c = if c == 59 then Outside else Reference
-mark_step (Tag name) c = if c == 62 then (if bytes_eq name (codes "pre") then InPre else Outside) else Tag (name ++ (c ∷ []))
+mark_step (Tag name) c =
+    if c == 62 && is_tag name then (if bytes_eq name (codes "pre") then InPre else Outside) else Tag (name ++ (c ∷ []))
 mark_step InPre c = if c == 60 then TagInPre [] else InPre
 mark_step (TagInPre name) c = if c == 62 then (if bytes_eq name (codes "/pre") then Outside else InPre) else TagInPre (name ++ (c ∷ []))
 
@@ -94,6 +102,33 @@ abbrev mutual
   are_placed s NoParts = true
   are_placed s (OnePart p ps) = is_placed s p && are_placed (marking_after s p) ps
 
--- each `Plain` hole is outside of `<pre>`, each `Text` hole is in it, there is no `Attribute` hole, and the end is outside
+-- a piece is a line feed
+abbrev pub is_feed : PartView → Bool
+is_feed p = same_part p (TextPart (10 ∷ []))
+
+-- each `<pre>` among pieces, of which the first ones come after these two, is after two line feeds
+abbrev pub pre_after_feeds : PartView → PartView → List PartView → Bool
+pre_after_feeds p q [] = true
+pre_after_feeds p q (r ∷ ps) =
+    (not (begin_with (r ∷ ps) (part_pieces (TextPart (codes "<pre>")))) || (is_feed p && is_feed q)) && pre_after_feeds q r ps
+
+-- each `<pre>` of a list of pieces is after two line feeds
+abbrev pub begins_pre : List PartView → Bool
+begins_pre ps = pre_after_feeds (TextPart []) (TextPart []) ps
+
+abbrev mutual
+  -- each `<pre>` in a section begins a line, after an empty line in this section
+  pub part_begins_pre : PartView → Bool
+  part_begins_pre (EachPart name ps) = begins_pre (pieces ps) && parts_begin_pre ps
+  part_begins_pre (NonePart name ps) = begins_pre (pieces ps) && parts_begin_pre ps
+  part_begins_pre _ = true
+
+  -- the same of each section among parts
+  pub parts_begin_pre : Parts → Bool
+  parts_begin_pre NoParts = true
+  parts_begin_pre (OnePart p ps) = part_begins_pre p && parts_begin_pre ps
+
+-- each `Plain` hole is outside of `<pre>`, each `Text` hole is in it, there is no `Attribute` hole, and the end is outside. Each `<pre>` begins a
+-- line, after an empty line
 unfoldable pub is_markdown : Parts → Bool
-is_markdown ps = are_placed Outside ps && same_marking (marking_after_all Outside ps) Outside
+is_markdown ps = are_placed Outside ps && (same_marking (marking_after_all Outside ps) Outside && (begins_pre (pieces ps) && parts_begin_pre ps))

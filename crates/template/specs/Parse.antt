@@ -1,9 +1,9 @@
 -- The parts of a template's text: `{{name}}` and `{{*name}}` are holes, `{{#name}}` and `{{^name}}` begin a section, and `{{/name}}` ends it.
-use Rattle.std.specs.Prelude.{ℕ, Bool, ◌==◌, ◌||◌, true, false, List, [], ◌∷◌, ◌++◌, codes, if◌then◌else◌, map, reverse, Option, Some, None, string_bytes}
+use Rattle.std.specs.Prelude.{ℕ, Bool, ◌==◌, ◌||◌, true, false, List, [], ◌∷◌, ◌++◌, codes, if◌then◌else◌, map, reverse, Option, Some, None, string_bytes, unwrap_or}
 use Rattle.std.specs.Char.{encode_utf8}
 use Rattle.std.specs.List.{fold}
 use Rattle.std.specs.Str.{bytes_eq, chars}
-use Rattle.template.specs.Template.{EachPart, HolePart, NonePart, PartView, Parts, TextPart, part_view, parts_of}
+use Rattle.template.specs.Template.{EachPart, HolePart, NoParts, NonePart, PartView, Parts, TextPart, part_view, parts_of}
 use Rattle.template.specs.declared.hole.Hole.{Hole}
 use Rattle.template.specs.declared.hole.Hole.TheVariants as hole
 use Rattle.template.specs.declared.parse.Kind.{Kind}
@@ -110,11 +110,7 @@ all_over (s ∷ ss) parts = None
 -- the parts at the end
 abbrev pub parsed : ParsingView → Option Parts
 parsed (InText p text) = all_over p.sections (with_text p text).parts
-parsed (OneBrace p text) = None
-parsed (TwoBraces p) = None
-parsed (InName p k name) = None
-parsed (NameEnd p k name) = None
-parsed Bad = None
+parsed _ = None
 
 -- the state before a text
 abbrev pub start : ParsingView
@@ -123,6 +119,10 @@ start = InText (record { sections = []; parts = []; in_tag = false }) []
 -- the parts of a text
 unfoldable pub parse : List ℕ → Option Parts
 parse text = parsed (fold parse_step start (chars text))
+
+-- the parts of a text that is a template, and no parts of another text
+abbrev pub template_parts : List ℕ → Parts
+template_parts text = unwrap_or (parse text) NoParts
 
 -- a section that is kept
 abbrev pub section_view : Section → SectionView

@@ -1,7 +1,6 @@
--- The holes of a template, and the parts for each item of its sections.
-use Rattle.std.specs.Prelude.{◌≡◌, ◌&&◌, ◌||◌, ◌++◌, ◌∷◌, [], ℕ, Bool, true, false, List, Option, Some, None, if◌then◌else◌}
+-- The holes of a template.
+use Rattle.std.specs.Prelude.{◌≡◌, ◌&&◌, ◌||◌, ◌++◌, ◌∷◌, [], ℕ, Bool, true, false, List}
 use Rattle.std.specs.List.{flat_map}
-use Rattle.std.specs.Option.{option_or}
 use Rattle.std.specs.Str.{bytes_eq}
 use Rattle.template.specs.Template.{EachPart, HolePart, NoParts, NonePart, OnePart, PartView, Parts, TextPart, Values, items_of}
 use Rattle.template.specs.declared.hole.Hole.{Hole}
@@ -39,17 +38,3 @@ pub record HasPart (text part : List ℕ) : Type 0 where
   pub before : List ℕ
   pub after : List ℕ
   pub is : text ≡ before ++ (part ++ after)
-
-abbrev mutual
-  -- the parts for each item on a path, in the first section with these names that a part is
-  pub part_body : PartView → List ℕ → List (List ℕ) → Option Parts
-  part_body (TextPart text) s path = None
-  part_body (HolePart kind key) s path = None
-  part_body (EachPart key ps) s [] = if bytes_eq key s then Some ps else None
-  part_body (EachPart key ps) s (t ∷ path) = if bytes_eq key s then body ps t path else None
-  part_body (NonePart key ps) s path = None
-
-  -- the parts for each item on a path, in the first section with these names among parts
-  pub body : Parts → List ℕ → List (List ℕ) → Option Parts
-  body NoParts s path = None
-  body (OnePart p ps) s path = option_or (part_body p s path) (body ps s path)

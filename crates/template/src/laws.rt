@@ -1,6 +1,6 @@
 //! Laws of templates: facts that hold for every template and all values.
 
-ghost use Rattle.template.specs.Laws.{NoValueIsMark, NoValueIsMarkup, RendersNoControls, RendersOneTree, ShowsElements, ShowsItems, ShowsSections, ShowsValues};
+ghost use Rattle.template.specs.Laws.{NoValueIsMark, NoValueIsMarkup, RendersNoControls, RendersOneTree, ShowsElements, ShowsPhrases, ShowsSections, ShowsValues};
 
 /// What is rendered has no control characters except tabs and line feeds, and no characters that change the direction
 /// of writing, if the template has none.
@@ -21,19 +21,22 @@ pub fn shows_values()
     ensures { ShowsValues }
 {}
 
-/// What is rendered has, for each item in the sections with these names, what the innermost of them renders of it.
-pub fn shows_items()
-    ensures { ShowsItems }
-{}
-
-/// What is rendered of a template that is one element is one tree: the tree of the template with the values as data.
+/// What is rendered of a template that is one element is one tree: the tree of the template with the values as data. XML
+/// has a place for each of its characters.
 pub fn renders_one_tree()
     ensures { RendersOneTree }
 {}
 
-/// What is rendered has this for every section with these names, if a template has several.
+/// What is rendered has, for each item in the sections with these names, what each of the innermost ones renders of it.
 pub fn shows_sections()
     ensures { ShowsSections }
+{}
+
+/// What is next to each other in a template is next to each other in what it renders. A phrase is itself a template. If
+/// the innermost of the sections with these names has its parts in a row, then what is rendered has, for each item in
+/// these sections, what the phrase renders of it.
+pub fn shows_phrases()
+    ensures { ShowsPhrases }
 {}
 
 /// What a template of Markdown renders has the marks of the template and no others: a line, a cell of a table and a

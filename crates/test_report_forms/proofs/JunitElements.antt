@@ -7,7 +7,7 @@ use Rattle.std.specs.Prelude.{Contains}
 use Rattle.std.specs.Str.{bytes_eq, chars}
 use Rattle.template.proofs.Contents.{data_tree, one_filled}
 use Rattle.template.proofs.Items.{items_first, items_last, other_items, own_items}
-use Rattle.template.specs.Children.{attribute, elements}
+use Rattle.template.specs.Children.{attribute, elements, have_own_names}
 use Rattle.template.specs.Document.{filled_tree}
 use Rattle.template.specs.Elements.{text_tree, trees_of}
 use Rattle.template.specs.Reader.{in_order, with_byte}
@@ -16,10 +16,11 @@ use Rattle.template.specs.Template.{ItemValue, NoValues, Parts, ValueView, Value
 use Rattle.template.specs.Tree.{AttributeView, ElementTree, NoTrees, OneTree, TreeView}
 use Rattle.test_report_forms.proofs.JunitParts.{attempt_elements, attempt_parts, case_contents, case_elements, case_open, case_parts, elements_in_case, elements_in_run, elements_in_suite, error_elements, failure_elements, flaky_elements, items_elements, kind_parts, kinds, of_kind, output_elements, reason_with, run_contents, run_tree, skipped_elements, suite_contents, suite_elements, suite_open, suite_parts, times_of}
 use Rattle.test_report_forms.specs.Junit.{junit_parts}
-use Rattle.test_report_forms.specs.JunitCase.{CaseKindView, CaseView, FailedCase, PassedCase, ReasonView, SkippedCase, suite_name}
+use Rattle.test_report_forms.specs.JunitCase.{CaseKindView, CaseView, FailedCase, PassedCase, ReasonView, SkippedCase}
 use Rattle.test_report_forms.specs.JunitSuite.{SuiteView, counts_of, sums_of}
 use Rattle.test_report_forms.specs.JunitTree.{ChildView, IsCaseElement, IsChild, IsRunElement, IsSuiteElement, bare_child, case_attributes, children_of, output_child, reason_child, sums_attributes, suite_attributes, time_attribute}
 use Rattle.test_report_forms.specs.JunitValues.{attempts, case_values, counts_values, junit_values, kind_values, reason_items, reason_name, reason_values, suite_values}
+use Rattle.test_report_forms.specs.Model.{suite_name}
 use Rattle.test_report_forms.specs.Values.{items, one_text, option_item, time_item}
 
 -- the attributes of an element are its own
@@ -98,8 +99,8 @@ no-text : NoTrees ≡ text_tree (shown [])
 unfolding shown chars
 no-text = refl
 
-is-bare : (name : List ℕ) (own : List AttributeView) → IsChild (bare_child name) (ElementTree name own NoTrees)
-is-bare name own = record { own = own; trees = NoTrees; is = refl; has = All-nil (Contains own); are = no-text }
+is-bare : (name : List ℕ) (own : List AttributeView) → have_own_names own ≡ true → IsChild (bare_child name) (ElementTree name own NoTrees)
+is-bare name own h = record { own = own; trees = NoTrees; is = refl; has = All-nil (Contains own); distinct = h; are = no-text }
 
 is-reason : (r : ReasonView) → IsChild (reason_child r) (reason_with (reason_name r.is_error) (values_of (reason_values r.message r.type_of r.why)))
 is-reason r = record {
@@ -107,6 +108,7 @@ is-reason r = record {
   trees = in_order (fold with_byte [] (shown r.why)) NoTrees;
   is = refl;
   has = all-own (attribute (codes "message") r.message ∷ attribute (codes "type") r.type_of ∷ []);
+  distinct = refl;
   are = data_tree (shown r.why);
 }
 
@@ -116,6 +118,7 @@ is-output text = record {
   trees = in_order (fold with_byte [] (shown text)) NoTrees;
   is = refl;
   has = All-nil (Contains []);
+  distinct = refl;
   are = data_tree (shown text);
 }
 
@@ -125,7 +128,7 @@ zip-attempts zero = tt
 zip-attempts (suc n) =
     let bare = bare_child (codes "flakyFailure") in
     subst (λ l. AllZip IsChild (bare ∷ replicate n bare) (l ++ items_elements (codes "attempt") attempt_parts (values_of (attempts n))))
-    (sym (attempt_elements NoValues)) (is-bare (codes "flakyFailure") _, zip-attempts n)
+    (sym (attempt_elements NoValues)) (is-bare (codes "flakyFailure") _ refl, zip-attempts n)
 
 without-nils : {X : Type 0} (xs : List X) → ((xs ++ []) ++ []) ++ [] ≡ xs
 without-nils xs = append-nil ((xs ++ []) ++ []) ∙ (append-nil (xs ++ []) ∙ append-nil xs)
@@ -169,12 +172,17 @@ zip-failed false message type_of why (Some text) =
 zip-kind : (k : CaseKindView) → AllZip IsChild (children_of k) (kinds (values_of (kind_values k)))
 zip-kind (PassedCase n) = zip-passed n
 zip-kind SkippedCase =
-    subst (λ l. AllZip IsChild (children_of SkippedCase) ((l ++ []) ++ [])) (sym skipped_elements) (is-bare (codes "skipped") [], tt)
+    subst (λ l. AllZip IsChild (children_of SkippedCase) ((l ++ []) ++ [])) (sym skipped_elements) (is-bare (codes "skipped") [] refl, tt)
 zip-kind (FailedCase r) = zip-failed r.is_error r.message r.type_of r.why r.output
 
 -- test cases
 abbrev case-tree : CaseView → TreeView
 case-tree c = ElementTree (codes "testcase") (case_open (item c) c.time).attributes (trees_of case_contents (item c))
+
+-- their attributes have names of their own
+case-names : (c : CaseView) (time : Option ℕ) → have_own_names (case_attributes (record c { time = time })) ≡ true
+case-names c None = refl
+case-names c (Some t) = refl
 
 is-case : (c : CaseView) → IsCaseElement c (case-tree c)
 is-case c = record {
@@ -182,6 +190,7 @@ is-case c = record {
   trees = trees_of case_contents (item c);
   is = refl;
   has = all-own (case_attributes c);
+  distinct = case-names c c.time;
   are = subst (AllZip IsChild (children_of c.kind)) (sym (elements_in_case (item c) ∙ only-kinds c)) (zip-kind c.kind);
 }
 
@@ -209,12 +218,17 @@ suite_cases s =
 abbrev suite-tree : SuiteView → TreeView
 suite-tree s = ElementTree (codes "testsuite") (suite_open (suite_item s) s.time).attributes (trees_of suite_contents (suite_item s))
 
+suite-names : (s : SuiteView) (time : Option ℕ) → have_own_names (suite_attributes (record s { time = time })) ≡ true
+suite-names s None = refl
+suite-names s (Some t) = refl
+
 is-suite : (s : SuiteView) → IsSuiteElement s (suite-tree s)
 is-suite s = record {
   own = suite_attributes s;
   trees = trees_of suite_contents (suite_item s);
   is = refl;
   has = all-own (suite_attributes s);
+  distinct = suite-names s s.time;
   are = subst (AllZip IsCaseElement s.cases) (sym (elements_in_suite (suite_item s)))
       (zip-items IsCaseElement (codes "case") case_parts (suite_item s) item s.cases (suite_cases s) (zip-cases s.cases));
 }
@@ -241,6 +255,11 @@ run_suites suites time =
     items_last (codes "suite") (run-front suites time) (items (codes "suite") suite_values suites) (no-times time (codes "suite") refl)
     ∙ own_items (codes "suite") suite_item suites
 
+run-names : (suites : List SuiteView) (time : Option ℕ)
+    → have_own_names (attribute (codes "name") (codes "test-report") ∷ (sums_attributes (sums_of suites) ++ time_attribute time)) ≡ true
+run-names suites None = refl
+run-names suites (Some t) = refl
+
 same-tree : (t u : TreeView) → Some (OneTree t NoTrees) ≡ Some (OneTree u NoTrees) → t ≡ u
 same-tree t u e = cc
 
@@ -254,6 +273,7 @@ is_run suites time t h =
       trees = trees_of run_contents vs;
       is = same-tree t _ (sym (one_filled junit_parts vs t h) ∙ run_tree vs time (run-times suites time));
       has = more-own named own own (all-own own);
+      distinct = run-names suites time;
       are = subst (AllZip IsSuiteElement suites) (sym (elements_in_run vs))
           (zip-items IsSuiteElement (codes "suite") suite_parts vs suite_item suites (run_suites suites time) (zip-suites suites));
     }

@@ -13,8 +13,8 @@ use Rattle.template.specs.Filled.{filled_trees, read_part, read_parts, trees_at}
 use Rattle.template.specs.Parse.{parse}
 use Rattle.template.specs.Reader.{Open, Reading, in_order, step, with_byte}
 use Rattle.template.specs.Shown.{shown}
-use Rattle.template.specs.Shows.{body}
-use Rattle.template.specs.Template.{NoParts, NoValues, Parts, Values, items_of, text_of, values_of}
+use Rattle.template.specs.Sections.{first_section}
+use Rattle.template.specs.Template.{NoValues, Parts, Values, items_of, text_of, values_of}
 use Rattle.template.specs.Tree.{AttributeView, ElementTree, NoTrees, OneTree, TextTree, TreeView}
 use Rattle.test_report_forms.specs.Junit.{junit_parts}
 use Rattle.test_report_forms.specs.JunitTree.{time_attribute}
@@ -23,17 +23,17 @@ use Rattle.test_report_forms.specs.Values.{one_text}
 
 -- the parts for each suite, for each test case, and for what is in it
 unfoldable pub suite_parts : Parts
-suite_parts = unwrap_or (body junit_parts (codes "suite") []) NoParts
+suite_parts = first_section junit_parts (codes "suite" ∷ [])
 
 unfoldable pub case_parts : Parts
-case_parts = unwrap_or (body suite_parts (codes "case") []) NoParts
+case_parts = first_section suite_parts (codes "case" ∷ [])
 
 -- the parts for each item of a list in a test case
 unfoldable pub kind_parts : List ℕ → Parts
-kind_parts key = unwrap_or (body case_parts key []) NoParts
+kind_parts key = first_section case_parts (key ∷ [])
 
 unfoldable pub attempt_parts : Parts
-attempt_parts = unwrap_or (body (kind_parts (codes "flaky")) (codes "attempt") []) NoParts
+attempt_parts = first_section (kind_parts (codes "flaky")) (codes "attempt" ∷ [])
 
 -- the items of a time
 abbrev pub times_of : Option ℕ → List Values
@@ -43,7 +43,7 @@ times_of time = map (λ t. values_of (one_text (codes "seconds") t)) (option_to_
 abbrev after_times : ℕ → Parts → Values → List Values → Reading
 after_times n ps vs times =
     read_parts (parts_after (n + 1) (first_parts (n + 2) ps)) vs
-    (fold (λ s i. read_parts (unwrap_or (body ps (codes "time") []) NoParts) i s) (read_parts (first_parts n ps) vs at_start) times)
+    (fold (λ s i. read_parts (first_section ps (codes "time" ∷ [])) i s) (read_parts (first_parts n ps) vs at_start) times)
 
 -- a test case
 abbrev pub case_open : Values → Option ℕ → Open

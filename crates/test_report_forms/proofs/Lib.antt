@@ -3,7 +3,6 @@ pub mod Ends
 pub mod Filtered
 pub mod Heads
 pub mod Joins
-pub mod JunitTemplate
 pub mod JunitParts
 pub mod JunitElements
 pub mod Kept

@@ -1,7 +1,10 @@
--- Lists of the holes of a template.
-use Rattle.std.specs.Prelude.{◌++◌, ◌∷◌, [], ℕ, Bool, List, codes, map}
+-- Lists of the holes and the phrases of a template.
+use Rattle.std.specs.Prelude.{◌++◌, ◌∷◌, [], ℕ, Bool, false, List, codes, map}
+use Rattle.std.specs.Option.{option_map_or}
+use Rattle.template.specs.Parse.{parse, template_parts}
+use Rattle.template.specs.Phrases.{has_phrase}
 use Rattle.template.specs.Shows.{parts_show}
-use Rattle.template.specs.Template.{Parts}
+use Rattle.template.specs.Template.{Parts, ValueView, parts_text, values_of}
 use Rattle.template.specs.declared.hole.Hole.{Hole}
 
 -- a hole: its kind, the lists that it is in, one in another, and its name
@@ -28,3 +31,20 @@ problem_holes kind = holes kind (codes "problems" ∷ codes "problem" ∷ []) (c
 -- these parts have a hole
 abbrev pub has_hole : Parts → HoleView → Bool
 has_hole ps h = parts_show ps h.kind h.path h.name
+
+-- a phrase: the lists that it is in, one in another, and what is next to each other there, as a template
+pub record PhraseView : Type 0 where
+  pub path : List (List ℕ)
+  pub text : List ℕ
+
+-- phrases in the same lists
+abbrev pub phrases : List (List ℕ) → List (List ℕ) → List PhraseView
+phrases path texts = map (λ text. record { path = path; text = text }) texts
+
+-- what a phrase renders of values
+abbrev pub phrase_text : List ℕ → List ValueView → List ℕ
+phrase_text text values = parts_text (template_parts text) (values_of values)
+
+-- these parts have a phrase, which is a template
+abbrev pub shows_phrase : Parts → PhraseView → Bool
+shows_phrase ps p = option_map_or (has_phrase ps p.path) (parse p.text) false

@@ -1,22 +1,25 @@
 -- The form for a browser.
-use Rattle.std.specs.Prelude.{◌≡◌, ◌++◌, ◌∷◌, [], ℕ, true, List, Some, codes, unwrap_or}
+use Rattle.std.specs.Prelude.{◌≡◌, ◌++◌, ◌∷◌, [], ℕ, true, List, codes}
 use Rattle.std.specs.List.{list_all}
 use Rattle.template.specs.Clean.{is_clean}
 use Rattle.template.specs.Document.{is_document}
-use Rattle.template.specs.Parse.{parse}
-use Rattle.template.specs.Shows.{body}
-use Rattle.template.specs.Template.{NoParts, Parts, Values, parts_text, values_of}
+use Rattle.template.specs.Hole.{hole_text}
+use Rattle.template.specs.Html.{is_html}
+use Rattle.template.specs.Parse.{template_parts}
+use Rattle.template.specs.Sections.{first_section, sections}
+use Rattle.template.specs.Shows.{parts_show}
+use Rattle.template.specs.Template.{Parts, Values, parts_text, values_of}
 use Rattle.template.specs.declared.hole.Hole.TheVariants as hole
 use Rattle.test_report_forms.specs.Entry.{EntryView}
-use Rattle.test_report_forms.specs.Holes.{HoleView, has_hole, holes, problem_holes, run_holes}
-use Rattle.test_report_forms.specs.Model.{FailedView}
-use Rattle.test_report_forms.specs.Values.{failed_values, one_text, values_of_run}
+use Rattle.test_report_forms.specs.Holes.{HoleView, PhraseView, has_hole, holes, phrase_text, phrases, problem_holes, run_holes, shows_phrase}
+use Rattle.test_report_forms.specs.Model.{FailedView, RowView}
+use Rattle.test_report_forms.specs.Values.{failed_values, one_text, suite_values, values_of_run}
 use Rattle.test_report_forms.specs.declared.page_template.TheConstants.{PAGE}
 use Rattle.test_report_run.specs.declared.note.RunEnd.{RunEnd}
 
 -- the template of the page
 unfoldable pub page_parts : Parts
-page_parts = unwrap_or (parse PAGE.now) NoParts
+page_parts = template_parts PAGE.now
 
 -- the page of these values as it is written
 unfoldable pub page_text : Values → List ℕ
@@ -58,13 +61,81 @@ page_holes =
     ++ (holes hole.Text (codes "slowest" ∷ codes "slow" ∷ []) (codes "name" ∷ codes "share" ∷ codes "seconds" ∷ [])
     ++ holes hole.Attribute (codes "slowest" ∷ codes "slow" ∷ []) (codes "share" ∷ [])))))))
 
+-- the heading, with the outcome
+abbrev pub heading_phrase : List ℕ
+heading_phrase = codes "<h1>Test report: <span class=\"word {{outcome}}\">{{outcome}}</span></h1>"
+
+-- the numbers of a run, each with its word
+abbrev pub numbers_phrase : List ℕ
+numbers_phrase =
+    codes "{{finished}} tests run: {{passed}} passed ({{flaky}} flaky), {{failed}} failed ({{timed_out}} timed out, "
+    ++ codes "{{crashed}} crashed), {{skipped}} skipped, {{not_run}} not run"
+
+-- the time of a run, if it is known, at the end of the numbers
+abbrev pub time_phrase : List ℕ
+time_phrase = codes "{{#time}}, in {{seconds}}s{{/time}}</p>"
+
+-- the numbers and the time of a run
+abbrev pub summary_phrase : List ℕ
+summary_phrase = codes "<p class=\"summary\">" ++ (numbers_phrase ++ time_phrase)
+
+-- the status, the suite and the name of a failed test
+abbrev pub title_phrase : List ℕ
+title_phrase = codes "<span class=\"status\">{{status}}</span> {{#suite}}<span class=\"suite\">{{name}}</span> {{/suite}}<span>{{name}}</span>"
+
+-- the bar of numbers
+abbrev pub bar_phrase : List ℕ
+bar_phrase =
+    codes "{{#bar}}<div class=\"bar\" aria-hidden=\"true\">{{#part}}"
+    ++ codes "<span class=\"{{class}}\" style=\"flex-grow: {{number}}\">{{number}}</span>{{/part}}</div>"
+
+-- the row of a suite: its name, its numbers in words and its time
+abbrev pub suite_phrase : List ℕ
+suite_phrase =
+    codes "<tr><th scope=\"row\">{{name}}</th><td>" ++ (bar_phrase ++ codes "{{/bar}}<div class=\"words\">{{words}}</div></td>"
+    ++ codes "<td class=\"time\">{{#time}}{{seconds}}s{{/time}}")
+
+-- the row of a slow test
+abbrev pub slow_phrase : List ℕ
+slow_phrase =
+    codes "<tr><th scope=\"row\">{{name}}</th><td><div class=\"bar\"><span style=\"flex-basis: {{share}}%\">{{share}} %</span></div></td>"
+    ++ codes "<td class=\"time\">{{seconds}}s</td></tr>"
+
+-- the columns of the table of suites
+abbrev pub suite_columns : List ℕ
+suite_columns = codes "<th scope=\"col\">Suite</th><th scope=\"col\">Tests</th><th scope=\"col\" class=\"time\">Time</th>"
+
+-- the columns of the table of slow tests
+abbrev pub slow_columns : List ℕ
+slow_columns = codes "<th scope=\"col\">Test</th><th scope=\"col\">Share of the slowest</th><th scope=\"col\" class=\"time\">Time</th>"
+
+-- the phrases of the page
+abbrev pub page_phrases : List PhraseView
+page_phrases =
+    phrases [] (heading_phrase ∷ summary_phrase ∷ (bar_phrase ++ codes "\n{{/bar}}") ∷ suite_columns ∷ [])
+    ++ (phrases (codes "problems" ∷ []) (codes "<h2>Problems of the run</h2>\n" ∷ [])
+    ++ (phrases (codes "problems" ∷ codes "problem" ∷ []) (codes "<li>{{line}}</li>" ∷ [])
+    ++ (phrases (codes "failures" ∷ []) (codes "<h2>Failed tests</h2>\n" ∷ [])
+    ++ (phrases (codes "failures" ∷ codes "failed" ∷ []) (title_phrase ∷ codes "<pre><code>{{why}}</code></pre>" ∷ [])
+    ++ (phrases (codes "failures" ∷ codes "failed" ∷ codes "note" ∷ [])
+    (codes "{{#attempts}} ({{count}} attempts){{/attempts}}{{#time}} {{seconds}}s{{/time}}" ∷ [])
+    ++ (phrases (codes "suites" ∷ codes "suite" ∷ []) (suite_phrase ∷ [])
+    ++ (phrases (codes "slowest" ∷ []) (slow_columns ∷ [])
+    ++ phrases (codes "slowest" ∷ codes "slow" ∷ []) (slow_phrase ∷ []))))))))
+
+-- the heading of the page with this word for the outcome
+abbrev pub page_heading : List ℕ → List ℕ
+page_heading word =
+    codes "<h1>Test report: <span class=\"word " ++ (hole_text hole.Attribute word
+    ++ (codes "\">" ++ (hole_text hole.Text word ++ codes "</span></h1>")))
+
 -- the parts of the page for each failed test
 unfoldable pub failed_parts : Parts
-failed_parts = unwrap_or (body page_parts (codes "failures") (codes "failed" ∷ [])) NoParts
+failed_parts = first_section page_parts (codes "failures" ∷ codes "failed" ∷ [])
 
 -- the parts of the page for each problem
 unfoldable pub problem_parts : Parts
-problem_parts = unwrap_or (body page_parts (codes "problems") (codes "problem" ∷ [])) NoParts
+problem_parts = first_section page_parts (codes "problems" ∷ codes "problem" ∷ [])
 
 -- what the page has of a failed test
 abbrev pub failed_text : FailedView → List ℕ
@@ -74,11 +145,23 @@ failed_text t = parts_text failed_parts (values_of (failed_values t))
 abbrev pub problem_text : List ℕ → List ℕ
 problem_text line = parts_text problem_parts (values_of (one_text (codes "line") line))
 
--- The template of the page is one element without control characters. It has all holes, and those of a failed test are in one section.
+-- the status, the suite and the name of a failed test, one after another
+abbrev pub title_text : FailedView → List ℕ
+title_text t = phrase_text title_phrase (failed_values t)
+
+-- the row of a suite
+abbrev pub suite_text : RowView → List ℕ
+suite_text r = phrase_text suite_phrase (suite_values r)
+
+-- The template of the page is one element without control characters, and HTML ends each element where XML does. It has all holes and phrases. There
+-- is one section for each failed test, with the holes of a failed test, and one for each problem, with the hole for its line.
 pub record PageIsSound : Type 0 where
   pub document : is_document page_parts ≡ true
+  pub html : is_html page_parts ≡ true
   pub clean : is_clean page_parts ≡ true
   pub holes : list_all (has_hole page_parts) page_holes ≡ true
-  pub failed : body page_parts (codes "failures") (codes "failed" ∷ []) ≡ Some failed_parts
+  pub phrases : list_all (shows_phrase page_parts) page_phrases ≡ true
+  pub failed : sections page_parts (codes "failures" ∷ codes "failed" ∷ []) ≡ failed_parts ∷ []
   pub failed_holes : list_all (has_hole failed_parts) (failed_holes []) ≡ true
-  pub problem : body page_parts (codes "problems") (codes "problem" ∷ []) ≡ Some problem_parts
+  pub problem : sections page_parts (codes "problems" ∷ codes "problem" ∷ []) ≡ problem_parts ∷ []
+  pub problem_hole : parts_show problem_parts hole.Text [] (codes "line") ≡ true

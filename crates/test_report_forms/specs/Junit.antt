@@ -1,9 +1,9 @@
 -- JUnit's XML: the suites of the entries of a run, and what is written of them.
-use Rattle.std.specs.Prelude.{◌&&◌, ◌++◌, ◌∷◌, [], ℕ, Bool, not, List, codes, if◌then◌else◌, map, Option, Some, None, unwrap_or}
+use Rattle.std.specs.Prelude.{◌&&◌, ◌++◌, ◌∷◌, [], ℕ, Bool, not, List, codes, if◌then◌else◌, map, Option, Some, None}
 use Rattle.std.specs.List.{find, fold}
 use Rattle.std.specs.Option.{option_map_or}
-use Rattle.template.specs.Parse.{parse}
-use Rattle.template.specs.Template.{NoParts, Parts, Values, parts_text, values_of}
+use Rattle.template.specs.Parse.{template_parts}
+use Rattle.template.specs.Template.{Parts, Values, parts_text, values_of}
 use Rattle.test_report_forms.specs.Model.{CauseView, cause_of_entry, no_tests_ran}
 use Rattle.test_report_forms.specs.Entry.{EntryView, LinesDisagree, SuiteNotRun, SuiteOver, TestFailed, TestPassed, TestSkipped}
 use Rattle.test_report_forms.specs.JunitCase.{CaseView, case_view, failed_case, own_name, passed_case, problem_case, skipped_case}
@@ -109,7 +109,7 @@ junit_suites options entries end = all_suites (junit_state options entries) (no_
 
 -- the template
 unfoldable pub junit_parts : Parts
-junit_parts = unwrap_or (parse JUNIT.now) NoParts
+junit_parts = template_parts JUNIT.now
 
 -- the first line of an XML document
 unfoldable pub xml_header : List ℕ

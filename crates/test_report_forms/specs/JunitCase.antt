@@ -1,6 +1,6 @@
 -- The test cases of JUnit's XML.
-use Rattle.std.specs.Prelude.{◌-◌, [], ℕ, Bool, true, false, not, List, codes, Option, None, option_map, string_bytes, unwrap_or}
-use Rattle.test_report_forms.specs.Model.{FailedView, shown_failure_of}
+use Rattle.std.specs.Prelude.{◌-◌, [], ℕ, Bool, true, false, not, List, codes, Option, None, option_map, string_bytes}
+use Rattle.test_report_forms.specs.Model.{FailedView, shown_failure_of, suite_name}
 use Rattle.test_report_forms.specs.Shown.{shown_name}
 use Rattle.test_report_forms.specs.Title.{title_name}
 use Rattle.test_report_forms.specs.Why.{WhyView, without_returns}
@@ -50,10 +50,6 @@ case_kind_view (kind.Failed reason) = FailedCase (reason_view reason)
 -- a test case that is kept
 abbrev pub case_view : Case → CaseView
 case_view c = record { name = string_bytes c.name; suite = string_bytes c.suite; time = c.time; kind = case_kind_view c.kind }
-
--- the name of a suite as it is shown
-unfoldable pub suite_name : Option (List ℕ) → List ℕ
-suite_name name = shown_name (unwrap_or name (codes "(no suite)"))
 
 -- the test case of a test
 abbrev pub test_case : TestNoteView → CaseKindView → CaseView

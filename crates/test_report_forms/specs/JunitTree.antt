@@ -10,9 +10,10 @@ use Rattle.template.specs.Shown.{shown}
 use Rattle.template.specs.Template.{values_of}
 use Rattle.template.specs.Tree.{AttributeView, TreeView}
 use Rattle.test_report_forms.specs.Junit.{junit_parts}
-use Rattle.test_report_forms.specs.JunitCase.{CaseKindView, CaseView, FailedCase, PassedCase, ReasonView, SkippedCase, suite_name}
+use Rattle.test_report_forms.specs.JunitCase.{CaseKindView, CaseView, FailedCase, PassedCase, ReasonView, SkippedCase}
 use Rattle.test_report_forms.specs.JunitSuite.{SuiteView, counts_of, sums_of}
 use Rattle.test_report_forms.specs.JunitValues.{junit_values, reason_name}
+use Rattle.test_report_forms.specs.Model.{suite_name}
 use Rattle.test_report_forms.specs.Shown.{seconds}
 use Rattle.test_report_forms.specs.declared.junit_suite.JunitCounts.{JunitCounts}
 

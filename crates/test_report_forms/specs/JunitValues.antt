@@ -2,8 +2,9 @@
 use Rattle.std.specs.Prelude.{◌++◌, ◌∷◌, [], ℕ, Bool, List, codes, if◌then◌else◌, Option, replicate}
 use Rattle.std.specs.Fmt.{decimal}
 use Rattle.template.specs.Template.{ItemValue, NoValues, ValueView, section, values_of}
-use Rattle.test_report_forms.specs.JunitCase.{CaseKindView, CaseView, FailedCase, PassedCase, ReasonView, SkippedCase, suite_name}
+use Rattle.test_report_forms.specs.JunitCase.{CaseKindView, CaseView, FailedCase, PassedCase, ReasonView, SkippedCase}
 use Rattle.test_report_forms.specs.JunitSuite.{SuiteView, counts_of, sums_of}
+use Rattle.test_report_forms.specs.Model.{suite_name}
 use Rattle.test_report_forms.specs.Values.{items, one_text, option_item, time_item}
 use Rattle.test_report_forms.specs.declared.junit_suite.JunitCounts.{JunitCounts}
 

@@ -133,8 +133,8 @@ abbrev pub has_row : Option (List ℕ) → Numbers → Bool
 has_row None n = not (are_zero n)
 has_row (Some name) n = true
 
--- the name of a suite in its row
-abbrev pub suite_name : Option (List ℕ) → List ℕ
+-- the name of a suite as it is shown
+unfoldable pub suite_name : Option (List ℕ) → List ℕ
 suite_name name = shown_name (unwrap_or name (codes "(no suite)"))
 
 -- the row of a suite, if it has one

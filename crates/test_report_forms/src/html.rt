@@ -4,6 +4,7 @@ ghost use Rattle.std.specs.Prelude.{◌≡◌, ◌++◌, [], OnOk, string_bytes}
 ghost use Rattle.template.specs.Template.{values_view};
 ghost use Rattle.test_report_forms.specs.Html as spec;
 
+use crate::document::push_document;
 use crate::entry::Entry;
 use crate::form::Form;
 use crate::model::ReportModel;
@@ -11,7 +12,7 @@ use crate::options::Options;
 use crate::page_template::PAGE;
 use crate::values::report_values;
 use std::alloc::{AllocError, Global};
-use template::{Value, parse_template, render};
+use template::Value;
 use test_report_run::note::RunEnd;
 
 /// The form for a browser: one page without scripts or outside resources, written at the end.
@@ -64,10 +65,7 @@ fn push_page(alloc: Global, text: &mut String, values: &[Value]) -> Result<(), A
     ensures { OnOk result (string_bytes text.new
         ≡ string_bytes text.old ++ spec.page_text (values_view values.now)) }
 {
-    let Some(parts) = parse_template(alloc, PAGE)? else {
-        unreachable!();
-    };
     text.push_str("<!DOCTYPE html>\n")?;
-    render(text, parts.as_slice(), values)?;
+    push_document(alloc, text, PAGE, values)?;
     text.push('\n')
 }

@@ -13,6 +13,7 @@ ghost use Rattle.test_report_forms.specs.Model.{cause_of_entry, cause_view, no_t
 ghost use Rattle.test_report_run.specs.Note.{text_view};
 
 use crate::cause::{Cause, cause_of};
+use crate::document::push_document;
 use crate::entry::Entry;
 use crate::form::Form;
 use crate::junit_case::{Case, OWN_NAME, text_of};
@@ -22,7 +23,7 @@ use crate::junit_values::junit_values;
 use crate::model::no_tests_ran;
 use crate::options::Options;
 use std::alloc::{AllocError, Global};
-use template::{Value, parse_template, render};
+use template::Value;
 use test_report_run::note::{RunEnd, SuiteNote};
 
 /// The line of a run in which no test ran.
@@ -269,20 +270,17 @@ impl Form for JunitForm {
         let no_tests = self.says_no_tests(end);
         let suites = self.take_suites(alloc, no_tests)?;
         let values = junit_values(alloc, suites, end.time)?;
-        push_document(alloc, text, values.as_slice())
+        push_xml(alloc, text, values.as_slice())
     }
 }
 
 /// Appends JUnit's XML of these values.
 #[tactic(auto, unfolding(crate::specs::Junit::junit_text))]
-fn push_document(alloc: Global, text: &mut String, values: &[Value]) -> Result<(), AllocError>
+fn push_xml(alloc: Global, text: &mut String, values: &[Value]) -> Result<(), AllocError>
     ensures { OnOk result (string_bytes text.new
         ≡ string_bytes text.old ++ spec.junit_text (values_view values.now)) }
 {
-    let Some(parts) = parse_template(alloc, JUNIT)? else {
-        unreachable!();
-    };
     text.push_str("<?xml version=\"1.0\" encoding=\"UTF-8\"?>\n")?;
-    render(text, parts.as_slice(), values)?;
+    push_document(alloc, text, JUNIT, values)?;
     text.push('\n')
 }

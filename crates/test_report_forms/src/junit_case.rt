@@ -8,6 +8,7 @@ ghost use Rattle.test_report_forms.specs.Why.{why_view, without_returns};
 ghost use Rattle.test_report_run.specs.Note.{failure_view, kind_view, test_view, text_view};
 
 use crate::failed_test::{FailedTest, shown_failure};
+use crate::model::suite_name;
 use crate::shown::push_name;
 use crate::title::shown_name;
 use crate::why::{Why, without_returns};
@@ -72,7 +73,7 @@ impl Case {
     {
         Ok(Case {
             name: name_text(alloc, shown_name(test))?,
-            suite: suite_text(alloc, text_of(&test.suite))?,
+            suite: suite_name(alloc, text_of(&test.suite))?,
             time: test.time,
             kind,
         })
@@ -179,14 +180,6 @@ fn name_text(alloc: Global, name: &str) -> Result<String, AllocError>
     let mut text = String::new(alloc);
     push_name(&mut text, name)?;
     Ok(text)
-}
-
-/// Returns the name of a suite as it is shown.
-#[tactic(auto, unfolding(crate::specs::JunitCase::suite_name))]
-pub(crate) fn suite_text(alloc: Global, name: Option<&str>) -> Result<String, AllocError>
-    ensures { IfOk result (λ text. string_bytes text ≡ spec.suite_name (option_map (λ n. n.now) name.entry)) }
-{
-    name_text(alloc, name.unwrap_or("(no suite)"))
 }
 
 /// Returns the output of a test, in which each line ends with a line feed alone.

@@ -18,8 +18,9 @@ ghost use Rattle.test_report_forms.specs.JunitSuite.{suite_view};
 ghost use Rattle.test_report_forms.specs.JunitValues as spec;
 ghost use Rattle.test_report_forms.specs.Values.{one_text};
 
-use crate::junit_case::{Case, CaseKind, Reason, suite_text, text_of};
+use crate::junit_case::{Case, CaseKind, Reason, text_of};
 use crate::junit_suite::{JunitCounts, JunitSuite};
+use crate::model::suite_name;
 use crate::values::{one_text, push_option, push_time};
 use std::alloc::{AllocError, Global};
 use template::{Value, push_item, push_section, push_text};
@@ -47,7 +48,7 @@ fn suite_values(alloc: Global, suite: JunitSuite) -> Result<Vec<Value>, AllocErr
 {
     let JunitSuite { name, time, cases } = suite;
     let mut values = counts_values(alloc, JunitCounts::of_cases(cases.as_slice()))?;
-    push_text(&mut values, "name", suite_text(alloc, text_of(&name))?)?;
+    push_text(&mut values, "name", suite_name(alloc, text_of(&name))?)?;
     push_time(alloc, &mut values, time)?;
     for case in cases {
         push_item(&mut values, "case", case_values(alloc, case)?)?;

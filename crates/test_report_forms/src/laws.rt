@@ -21,17 +21,17 @@ pub fn one_entry()
     one_why();
 }
 
-/// The template of the page is one element, in which no value is read as markup. Its own texts have no control
-/// characters. It has a place for each value in `page_holes`, and shows a failed test's status, suite, name, note and
-/// reason together.
+/// The template of the page is one element, in which no value is read as markup. HTML ends each element where XML does.
+/// Its own texts have no control characters. It has a place for each value in `page_holes`, and each phrase in `page_phrases`: for example, each number
+/// of the run is next to its word. It shows a failed test's status, suite, name, note and reason together.
 pub fn page_is_sound()
     ensures { PageIsSound }
 {}
 
 /// In the template of the summary no value is a mark of Markdown. Its own texts have no control characters. It has a
-/// place for the outcome, the numbers and the time of the run, and for the line of each problem. It shows a failed
-/// test's status, suite, name, time and short reason in a row of the table, and its status, suite, name, attempts and
-/// reason in the details after the table.
+/// place for the outcome, the numbers and the time of the run, and for the line of each problem, and each phrase in
+/// `markdown_phrases`. It shows a failed test's status, suite, name, time and short reason in a row of the table, and its
+/// status, suite, name, attempts and reason in the details after the table.
 pub fn markdown_is_sound()
     ensures { MarkdownIsSound }
 {}

@@ -27,6 +27,7 @@
 #![tactic(auto)]
 
 mod cause;
+mod document;
 pub mod entry;
 mod failed_test;
 pub mod files;

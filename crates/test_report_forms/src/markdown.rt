@@ -1,9 +1,8 @@
 //! The form for the summary of a workflow on GitHub.
 
-ghost use Rattle.std.specs.Prelude.{◌≡◌, ◌++◌, [], OnOk, string_bytes};
-ghost use Rattle.template.specs.Template.{parts_text, values_view};
-ghost use Rattle.test_report_forms.specs.Markdown as spec;
+ghost use Rattle.std.specs.Prelude.{◌≡◌, []};
 
+use crate::document::push_document;
 use crate::entry::Entry;
 use crate::form::Form;
 use crate::markdown_template::MARKDOWN;
@@ -11,7 +10,6 @@ use crate::model::ReportModel;
 use crate::options::Options;
 use crate::values::report_values;
 use std::alloc::{AllocError, Global};
-use template::{Value, parse_template, render};
 use test_report_run::note::RunEnd;
 
 /// The form for the summary of a workflow on GitHub: a part of a page in Markdown, written at the end.
@@ -54,17 +52,6 @@ impl Form for MarkdownForm {
 
     fn on_end(&mut self, alloc: Global, end: &RunEnd, text: &mut String) -> Result<(), AllocError> {
         let values = report_values(alloc, self.model.take_out(alloc), end)?;
-        push_markdown(alloc, text, values.as_slice())
+        push_document(alloc, text, MARKDOWN, values.as_slice())
     }
-}
-
-/// Appends the summary of these values.
-fn push_markdown(alloc: Global, text: &mut String, values: &[Value]) -> Result<(), AllocError>
-    ensures { OnOk result (string_bytes text.new
-        ≡ string_bytes text.old ++ parts_text spec.markdown_parts (values_view values.now)) }
-{
-    let Some(parts) = parse_template(alloc, MARKDOWN)? else {
-        unreachable!();
-    };
-    render(text, parts.as_slice(), values)
 }

@@ -11,6 +11,7 @@ ghost use Rattle.test_report_run.specs.Note.{suite_view, test_view, text_view};
 use crate::cause::cause_of;
 use crate::entry::Entry;
 use crate::failed_test::{FailedTest, shown_failure};
+use crate::junit_case::text_of;
 use crate::numbers::Numbers;
 use crate::shown::push_name;
 use crate::slowest::Slowest;
@@ -174,7 +175,7 @@ impl SuiteRow {
             return Ok(None);
         }
         Ok(Some(SuiteRow {
-            name: suite_name(alloc, &suite.name)?,
+            name: suite_name(alloc, text_of(&suite.name))?,
             numbers,
             time: suite.time,
         }))
@@ -189,14 +190,12 @@ fn has_row(name: &Option<String>, numbers: Numbers) -> bool
 }
 
 /// Returns the name of a suite as it is shown.
-fn suite_name(alloc: Global, name: &Option<String>) -> Result<String, AllocError>
-    ensures { IfOk result (λ shown. string_bytes shown ≡ spec.suite_name (text_view name.now)) }
+#[tactic(auto, unfolding(crate::specs::Model::suite_name))]
+pub(crate) fn suite_name(alloc: Global, name: Option<&str>) -> Result<String, AllocError>
+    ensures { IfOk result (λ shown. string_bytes shown ≡ spec.suite_name (option_map (λ n. n.now) name.entry)) }
 {
     let mut shown = String::new(alloc);
-    match name {
-        Some(name) => push_name(&mut shown, name.as_str())?,
-        None => push_name(&mut shown, "(no suite)")?,
-    }
+    push_name(&mut shown, name.unwrap_or("(no suite)"))?;
     Ok(shown)
 }
 

@@ -1,21 +1,27 @@
 -- The page has no control characters, shows what is known, and reads back: by the laws of templates.
-use Rattle.std.proofs.Common.{◌≡◌, refl, subst, arith, ℕ, List, [], ◌∷◌, codes, Some}
-use Rattle.std.proofs.lemmas.List.Elements.{All-contains, All-weaker}
+use Rattle.std.proofs.Common.{◌≡◌, ◌∙◌, ◌++◌, refl, sym, ap, subst, arith, ℕ, List, [], ◌∷◌, codes}
+use Rattle.std.proofs.lemmas.List.Elements.{All-head, All-weaker}
+use Rattle.std.specs.Char.{encode_utf8}
 use Rattle.std.specs.List.{All}
 use Rattle.std.specs.Prelude.{Contains}
-use Rattle.template.specs.Hole.{hole_text}
-use Rattle.template.specs.Laws.{RendersNoControls, RendersOneTree, ShowsItems, ShowsValues}
-use Rattle.template.specs.Shows.{HasPart, body, items_at}
-use Rattle.template.specs.Template.{Parts, Values, parts_text, text_of, values_of}
-use Rattle.template.specs.declared.hole.Hole.TheVariants as hole
+use Rattle.std.specs.Str.{chars}
 use Rattle.template.proofs.Controls.{Clean, also, word}
+use Rattle.template.proofs.Parts.{in-part}
+use Rattle.template.specs.Hole.{hole_text}
+use Rattle.template.specs.Laws.{RendersNoControls, RendersOneTree, ShowsPhrases, ShowsSections, ShowsValues}
+use Rattle.template.specs.Parse.{parse, template_parts}
+use Rattle.template.specs.Shows.{HasPart, items_at}
+use Rattle.template.specs.Template.{Parts, Values, part_text, parts_text, text_of, values_of}
+use Rattle.template.specs.declared.hole.Hole.TheVariants as hole
 use Rattle.test_report_laws.proofs.Parts.{in-left, in-right}
-use Rattle.test_report_laws.proofs.ReportValues.{failed-at, problems-at}
+use Rattle.test_report_laws.proofs.Phrases.{numbers-written, numbers_before, phrase-of, shown-phrases, values-of}
+use Rattle.test_report_laws.proofs.ReportValues.{failed-at, problems-at, suites-at}
 use Rattle.test_report_laws.proofs.ShownValues.{names-causes, shown-holes, unmapped}
-use Rattle.test_report_forms.specs.Html.{PageIsSound, failed_parts, html_of, page_holes, page_parts, page_text, problem_parts}
-use Rattle.test_report_forms.specs.Model.{report_of}
-use Rattle.test_report_forms.specs.Values.{failed_values, one_text, values_of_run}
-use Rattle.test_report_laws.specs.Forms.{HasValues, HtmlHasNoControls, HtmlNamesCauses, HtmlReadsBack, HtmlShowsItems, HtmlShowsValues}
+use Rattle.test_report_forms.specs.Html.{PageIsSound, failed_parts, heading_phrase, html_of, page_heading, page_holes, page_parts, page_phrases, page_text, problem_parts, suite_phrase, summary_phrase, time_phrase, title_phrase}
+use Rattle.test_report_forms.specs.Model.{ReportView, report_of}
+use Rattle.test_report_forms.specs.Values.{failed_values, one_text, report_values, run_values, suite_values, values_of_run}
+use Rattle.test_report_forms.specs.Words.{outcome_word, run_numbers}
+use Rattle.test_report_laws.specs.Forms.{HasPhrase, HasValues, HtmlHasNoControls, HtmlNamesCauses, HtmlReadsBack, HtmlSaysEnd, HtmlShowsItems, HtmlShowsPhrases, HtmlShowsValues}
 
 -- what is in the body is in the page
 in-page : (vs : Values) {part : List ℕ} → HasPart (parts_text page_parts vs) part → HasPart (page_text vs) part
@@ -45,29 +51,76 @@ pub html-names-causes : HtmlShowsValues → HtmlNamesCauses
 html-names-causes shows limit entries end =
     let page = html_of limit entries end in
     let vs = values_of_run limit entries end in
-    let of_hole = λ (path : List (List ℕ)) (name : List ℕ) (is : Contains page_holes (record { kind = hole.Text; path = path; name = name })).
-    All-contains (HasValues vs page) page_holes (record { kind = hole.Text; path = path; name = name }) (shows limit entries end) is in
+    let all = shows limit entries end in
     names-causes page hole.Text limit entries end
-    (of_hole (codes "failures" ∷ codes "failed" ∷ []) (codes "name") (16, omega arith, refl))
-    (of_hole (codes "problems" ∷ codes "problem" ∷ []) (codes "line") (14, omega arith, refl)) (of_hole [] (codes "outcome") (0, omega arith, refl))
+    (values-of vs page page_holes hole.Text (codes "failures" ∷ codes "failed" ∷ []) (codes "name") refl all)
+    (values-of vs page page_holes hole.Text (codes "problems" ∷ codes "problem" ∷ []) (codes "line") refl all)
+    (values-of vs page page_holes hole.Text [] (codes "outcome") refl all)
 
--- sections
-in-section : ShowsItems → (vs : Values) (s name : List ℕ) (b : Parts) → body page_parts s (name ∷ []) ≡ Some b
-    → All (λ i. HasPart (page_text vs) (parts_text b i)) (items_at (s ∷ name ∷ []) vs)
-in-section shows vs s name b is = all-in-page vs (parts_text b) _ (shows page_parts vs s (name ∷ []) b is)
-
-pub html-shows-items : PageIsSound → ShowsItems → HtmlShowsItems
+-- phrases
+pub html-shows-phrases : PageIsSound → ShowsPhrases → HtmlShowsPhrases
 unfolding html_of
-html-shows-items sound shows limit entries end =
+html-shows-phrases sound shows limit entries end =
     let vs = values_of_run limit entries end in
+    All-weaker (HasPhrase vs (parts_text page_parts vs)) (HasPhrase vs (page_text vs))
+    (λ p. all-in-page vs (parts_text (template_parts p.text)) (items_at p.path vs)) page_phrases
+    (shown-phrases shows page_parts vs page_phrases sound.phrases)
+
+module _ (r : ReportView) where
+  abbrev vs : Values
+  vs = values_of (report_values r)
+
+  heading : parts_text (template_parts heading_phrase) vs ≡ page_heading (outcome_word r.end.outcome)
+  unfolding parse chars encode_utf8 part_text parts_text report_values run_values
+  heading = refl
+
+  numbers : parts_text (template_parts summary_phrase) vs
+      ≡ codes "<p class=\"summary\">" ++ numbers_before hole.Text r.end (parts_text (template_parts time_phrase) vs)
+  unfolding parse chars encode_utf8 part_text parts_text report_values run_values
+  numbers = refl
+
+  has-numbers : HasPart (parts_text (template_parts summary_phrase) vs) (run_numbers r.end)
+  has-numbers = record {
+    before = codes "<p class=\"summary\">";
+    after = parts_text (template_parts time_phrase) vs;
+    is = numbers ∙ ap (λ l. codes "<p class=\"summary\">" ++ l) (numbers-written hole.Text r.end (parts_text (template_parts time_phrase) vs));
+  }
+
+pub html-says-end : PageIsSound → ShowsPhrases → HtmlSaysEnd
+html-says-end sound shows limit entries end =
+    let page = html_of limit entries end in
     let report = report_of limit entries end in
+    let vs = values_of_run limit entries end in
+    let all = html-shows-phrases sound shows limit entries end in
+    let first = λ (words : List ℕ). All-head (λ i. HasPart page (parts_text (template_parts words) i)) vs [] in
     record {
-      failed = unmapped (λ i. HasPart (page_text vs) (parts_text failed_parts i)) (λ t. values_of (failed_values t)) _
-          (subst (All (λ i. HasPart (page_text vs) (parts_text failed_parts i))) (failed-at report)
-          (in-section shows vs (codes "failures") (codes "failed") failed_parts sound.failed));
-      problems = unmapped (λ i. HasPart (page_text vs) (parts_text problem_parts i)) (λ l. values_of (one_text (codes "line") l)) _
-          (subst (All (λ i. HasPart (page_text vs) (parts_text problem_parts i))) (problems-at report)
-          (in-section shows vs (codes "problems") (codes "problem") problem_parts sound.problem));
+      outcome = subst (HasPart page) (heading report) (first heading_phrase (phrase-of vs page page_phrases [] heading_phrase refl all));
+      numbers = in-part (first summary_phrase (phrase-of vs page page_phrases [] summary_phrase refl all)) (has-numbers report);
+    }
+
+-- the items of a report
+pub html-shows-items : PageIsSound → ShowsSections → ShowsPhrases → HtmlShowsItems
+unfolding html_of
+html-shows-items sound in_sections in_phrases limit entries end =
+    let vs = values_of_run limit entries end in
+    let page = page_text vs in
+    let report = report_of limit entries end in
+    let all = html-shows-phrases sound in_phrases limit entries end in
+    let part = λ (b : Parts) (i : Values). HasPart page (parts_text b i) in
+    let at_failed = codes "failures" ∷ codes "failed" ∷ [] in
+    let at_problem = codes "problems" ∷ codes "problem" ∷ [] in
+    let at_suite = codes "suites" ∷ codes "suite" ∷ [] in
+    record {
+      failed = unmapped (part failed_parts) (λ t. values_of (failed_values t)) _
+          (subst (All (part failed_parts)) (failed-at report) (all-in-page vs (parts_text failed_parts) _
+          (in_sections page_parts vs at_failed failed_parts (subst (λ l. Contains l failed_parts) (sym sound.failed) (0, omega arith, refl)))));
+      titles = unmapped (part (template_parts title_phrase)) (λ t. values_of (failed_values t)) _
+          (subst (All (part (template_parts title_phrase))) (failed-at report) (phrase-of vs page page_phrases at_failed title_phrase refl all));
+      problems = unmapped (part problem_parts) (λ l. values_of (one_text (codes "line") l)) _
+          (subst (All (part problem_parts)) (problems-at report) (all-in-page vs (parts_text problem_parts) _
+          (in_sections page_parts vs at_problem problem_parts (subst (λ l. Contains l problem_parts) (sym sound.problem) (0, omega arith, refl)))));
+      suites = unmapped (part (template_parts suite_phrase)) (λ s. values_of (suite_values s)) _
+          (subst (All (part (template_parts suite_phrase))) (suites-at report) (phrase-of vs page page_phrases at_suite suite_phrase refl all));
     }
 
 -- the tree

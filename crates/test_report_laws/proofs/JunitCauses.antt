@@ -22,10 +22,10 @@ use Rattle.test_report_laws.proofs.Parts.{KeptHas, OneHas, all-weaker-named, in-
 use Rattle.test_report_forms.proofs.JunitElements.{item, run_item, run_suites, suite_cases, suite_item}
 use Rattle.test_report_forms.specs.Entry.{EntryView, LinesDisagree, SuiteNotRun, SuiteOver, TestFailed, TestPassed, TestSkipped}
 use Rattle.test_report_forms.specs.Junit.{JunitState, add_case, add_cause, add_own, added_to, all_suites, close, end_suite, junit_entry, junit_of, junit_parts, junit_start, junit_state, junit_suites, junit_text, no_tests_case, or_new, own_cases, own_suite, suite_over, without_first, without_suite, xml_header}
-use Rattle.test_report_forms.specs.JunitCase.{CaseView, failed_case, own_name, passed_case, problem_case, skipped_case, suite_name}
+use Rattle.test_report_forms.specs.JunitCase.{CaseView, failed_case, own_name, passed_case, problem_case, skipped_case}
 use Rattle.test_report_forms.specs.JunitSuite.{SuiteView, counts_of, is_named, new_suite, same_name, with_case}
 use Rattle.test_report_forms.specs.JunitTree.{IsCaseElement, IsRunElement, IsSuiteElement, sums_attributes, time_attribute}
-use Rattle.test_report_forms.specs.Model.{CauseView, cause_of_entry, no_tests_ran}
+use Rattle.test_report_forms.specs.Model.{CauseView, cause_of_entry, no_tests_ran, suite_name}
 use Rattle.test_report_laws.specs.Junit.{HasElement, HasJunitCase, HasJunitCases, JunitCause, JunitNamesCauses, JunitReadsBack, JunitSaysNoTests, failed_cause, junit_cause, no_test_cause, other_cause}
 use Rattle.test_report_forms.specs.declared.options.Options.{Options}
 use Rattle.test_report_run.specs.declared.note.RunEnd.{RunEnd}
@@ -222,6 +222,7 @@ module _ (c : JunitCause) where
         trees = is.trees;
         is = is.is;
         has = All-cons (Contains is.own) (attribute (codes "name") c.suite) [] named (All-nil (Contains is.own));
+        distinct = is.distinct;
         are = (one.element, one.is_one, subst (λ x. IsCaseElement x one.element) one.has one.is);
       }
 
@@ -233,6 +234,7 @@ module _ (c : JunitCause) where
         trees = is.trees;
         is = is.is;
         has = All-nil (Contains is.own);
+        distinct = is.distinct;
         are = (one.element, one.is_one, suite-has one.of one.element one.has one.is);
       }
 

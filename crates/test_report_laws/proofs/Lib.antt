@@ -22,6 +22,7 @@ pub mod Numerals
 pub mod Outcomes
 pub mod OverRuns
 pub mod Parts
+pub mod Phrases
 pub mod ReportReasons
 pub mod ReportValues
 pub mod RunCauses

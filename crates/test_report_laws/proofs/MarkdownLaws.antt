@@ -1,18 +1,24 @@
 -- The summary has no control characters, shows what is known, and keeps the marks of its template: by the laws of templates.
-use Rattle.std.proofs.Common.{refl, sym, subst, arith, ℕ, List, [], ◌∷◌, codes}
-use Rattle.std.proofs.lemmas.List.Elements.{All-contains}
+use Rattle.std.proofs.Common.{◌≡◌, ◌∙◌, refl, sym, subst, arith, ℕ, List, [], ◌∷◌, codes}
+use Rattle.std.proofs.lemmas.List.Elements.{All-head}
+use Rattle.std.specs.Char.{encode_utf8}
 use Rattle.std.specs.List.{All}
 use Rattle.std.specs.Prelude.{Contains}
-use Rattle.template.specs.Laws.{NoValueIsMark, RendersNoControls, ShowsSections, ShowsValues}
+use Rattle.std.specs.Str.{chars}
+use Rattle.template.proofs.Parts.{in-part}
+use Rattle.template.specs.Laws.{NoValueIsMark, RendersNoControls, ShowsPhrases, ShowsSections, ShowsValues}
+use Rattle.template.specs.Parse.{parse, template_parts}
 use Rattle.template.specs.Shows.{HasPart}
-use Rattle.template.specs.Template.{Parts, parts_text, values_of}
+use Rattle.template.specs.Template.{Parts, Values, part_text, parts_text, values_of}
 use Rattle.template.specs.declared.hole.Hole.TheVariants as hole
+use Rattle.test_report_laws.proofs.Phrases.{numbers-written, numbers_before, phrase-of, shown-phrases, values-of}
 use Rattle.test_report_laws.proofs.ReportValues.{failed-at}
 use Rattle.test_report_laws.proofs.ShownValues.{names-causes, shown-holes, unmapped}
-use Rattle.test_report_forms.specs.Markdown.{MarkdownIsSound, details_parts, failed_sections, markdown_holes, markdown_of, markdown_parts, row_parts}
-use Rattle.test_report_forms.specs.Model.{failures_of, report_of}
-use Rattle.test_report_forms.specs.Values.{failed_values, values_of_run}
-use Rattle.test_report_laws.specs.Forms.{HasValues, MarkdownHasNoControls, MarkdownKeepsMarks, MarkdownNamesCauses, MarkdownShowsTests, MarkdownShowsValues}
+use Rattle.test_report_forms.specs.Markdown.{MarkdownIsSound, details_parts, failed_sections, heading_phrase, markdown_heading, markdown_holes, markdown_of, markdown_parts, markdown_phrases, row_parts, summary_phrase, time_phrase}
+use Rattle.test_report_forms.specs.Model.{ReportView, failures_of, report_of}
+use Rattle.test_report_forms.specs.Values.{failed_values, report_values, run_values, values_of_run}
+use Rattle.test_report_forms.specs.Words.{outcome_word, run_numbers}
+use Rattle.test_report_laws.specs.Forms.{MarkdownHasNoControls, MarkdownKeepsMarks, MarkdownNamesCauses, MarkdownSaysEnd, MarkdownShowsPhrases, MarkdownShowsTests, MarkdownShowsValues}
 
 pub markdown-has-no-controls : MarkdownIsSound → RendersNoControls → MarkdownHasNoControls
 unfolding markdown_of
@@ -31,11 +37,48 @@ pub markdown-names-causes : MarkdownShowsValues → MarkdownNamesCauses
 markdown-names-causes shows limit entries end =
     let text = markdown_of limit entries end in
     let vs = values_of_run limit entries end in
-    let of_hole = λ (path : List (List ℕ)) (name : List ℕ) (is : Contains markdown_holes (record { kind = hole.Plain; path = path; name = name })).
-    All-contains (HasValues vs text) markdown_holes (record { kind = hole.Plain; path = path; name = name }) (shows limit entries end) is in
+    let all = shows limit entries end in
     names-causes text hole.Plain limit entries end
-    (of_hole (codes "failures" ∷ codes "failed" ∷ []) (codes "name") (12, omega arith, refl))
-    (of_hole (codes "problems" ∷ codes "problem" ∷ []) (codes "line") (10, omega arith, refl)) (of_hole [] (codes "outcome") (0, omega arith, refl))
+    (values-of vs text markdown_holes hole.Plain (codes "failures" ∷ codes "failed" ∷ []) (codes "name") refl all)
+    (values-of vs text markdown_holes hole.Plain (codes "problems" ∷ codes "problem" ∷ []) (codes "line") refl all)
+    (values-of vs text markdown_holes hole.Plain [] (codes "outcome") refl all)
+
+-- phrases
+pub markdown-shows-phrases : MarkdownIsSound → ShowsPhrases → MarkdownShowsPhrases
+unfolding markdown_of
+markdown-shows-phrases sound shows limit entries end =
+    shown-phrases shows markdown_parts (values_of_run limit entries end) markdown_phrases sound.phrases
+
+module _ (r : ReportView) where
+  abbrev vs : Values
+  vs = values_of (report_values r)
+
+  heading : parts_text (template_parts heading_phrase) vs ≡ markdown_heading (outcome_word r.end.outcome)
+  unfolding parse chars encode_utf8 part_text parts_text report_values run_values
+  heading = refl
+
+  numbers : parts_text (template_parts summary_phrase) vs ≡ numbers_before hole.Plain r.end (parts_text (template_parts time_phrase) vs)
+  unfolding parse chars encode_utf8 part_text parts_text report_values run_values
+  numbers = refl
+
+  has-numbers : HasPart (parts_text (template_parts summary_phrase) vs) (run_numbers r.end)
+  has-numbers = record {
+    before = [];
+    after = parts_text (template_parts time_phrase) vs;
+    is = numbers ∙ numbers-written hole.Plain r.end (parts_text (template_parts time_phrase) vs);
+  }
+
+pub markdown-says-end : MarkdownIsSound → ShowsPhrases → MarkdownSaysEnd
+markdown-says-end sound shows limit entries end =
+    let text = markdown_of limit entries end in
+    let report = report_of limit entries end in
+    let vs = values_of_run limit entries end in
+    let all = markdown-shows-phrases sound shows limit entries end in
+    let first = λ (words : List ℕ). All-head (λ i. HasPart text (parts_text (template_parts words) i)) vs [] in
+    record {
+      outcome = subst (HasPart text) (heading report) (first heading_phrase (phrase-of vs text markdown_phrases [] heading_phrase refl all));
+      numbers = in-part (first summary_phrase (phrase-of vs text markdown_phrases [] summary_phrase refl all)) (has-numbers report);
+    }
 
 -- the row and the details of each failed test
 pub markdown-shows-tests : MarkdownIsSound → ShowsSections → MarkdownShowsTests
@@ -45,7 +88,7 @@ markdown-shows-tests sound shows limit entries end =
     let tests = λ (b : Parts) (is : Contains failed_sections b).
     unmapped (λ i. HasPart (parts_text markdown_parts vs) (parts_text b i)) (λ t. values_of (failed_values t)) (failures_of limit entries)
     (subst (All (λ i. HasPart (parts_text markdown_parts vs) (parts_text b i))) (failed-at (report_of limit entries end))
-    (shows markdown_parts vs (codes "failures") (codes "failed" ∷ []) b is)) in
+    (shows markdown_parts vs (codes "failures" ∷ codes "failed" ∷ []) b is)) in
     record {
       rows = tests row_parts (subst (λ l. Contains l row_parts) (sym sound.failed) (0, omega arith, refl));
       details = tests details_parts (subst (λ l. Contains l details_parts) (sym sound.failed) (1, omega arith, refl));

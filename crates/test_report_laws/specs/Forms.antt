@@ -7,6 +7,7 @@ use Rattle.std.specs.Str.{NoCharPasses}
 use Rattle.template.specs.Document.{filled_tree}
 use Rattle.template.specs.Hole.{hole_text}
 use Rattle.template.specs.Marks.{marks, own_marks}
+use Rattle.template.specs.Parse.{template_parts}
 use Rattle.template.specs.Reader.{read_tree}
 use Rattle.template.specs.Shows.{HasPart, items_at}
 use Rattle.template.specs.Template.{Values, parts_text, text_of}
@@ -14,9 +15,9 @@ use Rattle.template.specs.Tree.{TreeView}
 use Rattle.template.specs.declared.hole.Hole.TheVariants as hole
 use Rattle.test_report_forms.specs.Entry.{EntryView, IsEntryOf, LinesDisagree, SuiteNotRun, SuiteOver, TestFailed, TestPassed, TestSkipped}
 use Rattle.test_report_forms.specs.Github.{github_last, github_line, message, property}
-use Rattle.test_report_forms.specs.Holes.{HoleView}
-use Rattle.test_report_forms.specs.Html.{failed_text, html_of, page_holes, page_parts, problem_text}
-use Rattle.test_report_forms.specs.Markdown.{details_text, markdown_holes, markdown_of, markdown_parts, row_text}
+use Rattle.test_report_forms.specs.Holes.{HoleView, PhraseView}
+use Rattle.test_report_forms.specs.Html.{failed_text, html_of, page_heading, page_holes, page_parts, page_phrases, problem_text, suite_text, title_text}
+use Rattle.test_report_forms.specs.Markdown.{details_text, markdown_heading, markdown_holes, markdown_of, markdown_parts, markdown_phrases, row_text}
 use Rattle.test_report_forms.specs.Model.{ReportView, cause_line, report_of}
 use Rattle.test_report_forms.specs.Names.{names_line}
 use Rattle.test_report_forms.specs.Shown.{shown_name}
@@ -24,7 +25,7 @@ use Rattle.template.specs.Shown.{is_escaped, turns_writing}
 use Rattle.test_report_forms.specs.Text.{text_last, text_line}
 use Rattle.test_report_forms.specs.Title.{title_name}
 use Rattle.test_report_forms.specs.Values.{values_of_run}
-use Rattle.test_report_forms.specs.Words.{outcome_word}
+use Rattle.test_report_forms.specs.Words.{outcome_word, run_numbers}
 use Rattle.test_report_forms.specs.declared.options.Options.{Options}
 use Rattle.test_report_run.specs.Note.{NoteView}
 use Rattle.test_report_run.specs.declared.note.RunEnd.{RunEnd}
@@ -116,12 +117,33 @@ abbrev pub HtmlShowsValues : Type 0
 HtmlShowsValues = (limit : ℕ) (entries : List EntryView) (end : RunEnd)
     → All (HasValues (values_of_run limit entries end) (html_of limit entries end)) page_holes
 
--- a page has what its section of failed tests renders of each failed test, and what its list of problems renders of each problem
+-- a text has what a phrase renders of each item on its path
+abbrev pub HasPhrase : Values → List ℕ → PhraseView → Type 0
+HasPhrase values text p = All (λ i. HasPart text (parts_text (template_parts p.text) i)) (items_at p.path values)
+
+-- What the form for a browser writes has every phrase of its template, with the values in their places.
+abbrev pub HtmlShowsPhrases : Type 0
+HtmlShowsPhrases = (limit : ℕ) (entries : List EntryView) (end : RunEnd)
+    → All (HasPhrase (values_of_run limit entries end) (html_of limit entries end)) page_phrases
+
+-- a text has a heading with the word for the outcome of a run, and the numbers of the run, each with its word
+pub record SaysEnd (heading : List ℕ → List ℕ) (end : RunEnd) (text : List ℕ) : Type 0 where
+  pub outcome : HasPart text (heading (outcome_word end.outcome))
+  pub numbers : HasPart text (run_numbers end)
+
+-- What the form for a browser writes has the heading and the numbers of the run.
+abbrev pub HtmlSaysEnd : Type 0
+HtmlSaysEnd = (limit : ℕ) (entries : List EntryView) (end : RunEnd) → SaysEnd page_heading end (html_of limit entries end)
+
+-- a page has what its section of failed tests renders of each failed test, with the status, the suite and the name one after another, what its list
+-- of problems renders of each problem, and a row for each suite
 pub record HasItems (report : ReportView) (page : List ℕ) : Type 0 where
   pub failed : All (λ t. HasPart page (failed_text t)) report.failed
+  pub titles : All (λ t. HasPart page (title_text t)) report.failed
   pub problems : All (λ l. HasPart page (problem_text l)) report.problems
+  pub suites : All (λ r. HasPart page (suite_text r)) report.suites
 
--- What the form for a browser writes has the status, suite, name and reason of each failed test together, and each problem in the list of problems.
+-- What the form for a browser writes has the values of each failed test together, each problem in the list of problems, and each suite in a row.
 abbrev pub HtmlShowsItems : Type 0
 HtmlShowsItems = (limit : ℕ) (entries : List EntryView) (end : RunEnd) → HasItems (report_of limit entries end) (html_of limit entries end)
 
@@ -134,6 +156,15 @@ MarkdownNamesCauses = (limit : ℕ) (entries : List EntryView) (end : RunEnd)
 abbrev pub MarkdownShowsValues : Type 0
 MarkdownShowsValues = (limit : ℕ) (entries : List EntryView) (end : RunEnd)
     → All (HasValues (values_of_run limit entries end) (markdown_of limit entries end)) markdown_holes
+
+-- What the form for a summary writes has every phrase of its template, with the values in their places.
+abbrev pub MarkdownShowsPhrases : Type 0
+MarkdownShowsPhrases = (limit : ℕ) (entries : List EntryView) (end : RunEnd)
+    → All (HasPhrase (values_of_run limit entries end) (markdown_of limit entries end)) markdown_phrases
+
+-- What the form for a summary writes has the heading and the numbers of the run.
+abbrev pub MarkdownSaysEnd : Type 0
+MarkdownSaysEnd = (limit : ℕ) (entries : List EntryView) (end : RunEnd) → SaysEnd markdown_heading end (markdown_of limit entries end)
 
 -- a summary has what its two sections of failed tests render of each failed test: a row of the table, and details
 pub record HasRows (report : ReportView) (summary : List ℕ) : Type 0 where

@@ -11,10 +11,10 @@ use Rattle.template.specs.Shows.{HasPart}
 use Rattle.template.specs.Tree.{TreeView, Trees}
 use Rattle.test_report_forms.specs.Entry.{EntryView, LinesDisagree, SuiteNotRun, SuiteOver, TestFailed, TestPassed, TestSkipped}
 use Rattle.test_report_forms.specs.Junit.{junit_of, junit_parts, junit_suites, no_tests_case, values_at_end, xml_header}
-use Rattle.test_report_forms.specs.JunitCase.{CaseView, failed_case, own_name, problem_case, suite_name}
+use Rattle.test_report_forms.specs.JunitCase.{CaseView, failed_case, own_name, problem_case}
 use Rattle.test_report_forms.specs.JunitSuite.{SuiteView}
 use Rattle.test_report_forms.specs.JunitTree.{IsCaseElement, IsRunElement, IsSuiteElement}
-use Rattle.test_report_forms.specs.Model.{CauseView, cause_of_entry, no_tests_ran}
+use Rattle.test_report_forms.specs.Model.{CauseView, cause_of_entry, no_tests_ran, suite_name}
 use Rattle.test_report_forms.specs.Why.{WhyView}
 use Rattle.test_report_forms.specs.declared.options.Options.{Options}
 use Rattle.test_report_run.specs.Note.{FailureView, TestNoteView}

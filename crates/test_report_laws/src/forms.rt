@@ -1,6 +1,6 @@
 //! Laws of what the forms write.
 
-ghost use Rattle.test_report_laws.specs.Forms.{GithubHasNoControls, GithubNamesCauses, HtmlHasNoControls, HtmlNamesCauses, HtmlReadsBack, HtmlShowsItems, HtmlShowsValues, MarkdownHasNoControls, MarkdownKeepsMarks, MarkdownNamesCauses, MarkdownShowsTests, MarkdownShowsValues, NamesAreLines, OnlyCommands, TextHasNoControls, TextNamesCauses};
+ghost use Rattle.test_report_laws.specs.Forms.{GithubHasNoControls, GithubNamesCauses, HtmlHasNoControls, HtmlNamesCauses, HtmlReadsBack, HtmlSaysEnd, HtmlShowsItems, HtmlShowsPhrases, HtmlShowsValues, MarkdownHasNoControls, MarkdownKeepsMarks, MarkdownNamesCauses, MarkdownSaysEnd, MarkdownShowsPhrases, MarkdownShowsTests, MarkdownShowsValues, NamesAreLines, OnlyCommands, TextHasNoControls, TextNamesCauses};
 ghost use Rattle.test_report_laws.specs.Junit.{JunitHasCases, JunitHasNoControls, JunitNamesCauses, JunitReadsBack, JunitSaysNoTests};
 
 /// Every line that the form for GitHub writes of entries of notes (`IsEntryOf`) is a command for an error or a
@@ -50,15 +50,22 @@ pub fn names_causes()
     template::laws::shows_values();
 }
 
-/// The page of `html` has, somewhere in its text, every value of the report that its template has a place for
-/// (`page_holes`), escaped as for this place. Of a number or the word for the outcome this says little, because the
-/// style sheet has the same characters. The page has the status, the suite, the name and the reason of each failed test together, as its
-/// section of failed tests renders them, and each problem as its list of problems does.
+/// The page of `html` has a heading with the outcome, and the numbers of the run with the word for each, such as
+/// `15 tests run: 5 passed (1 flaky), ..` (`end`). It has each phrase of its template (`page_phrases`): what is next to
+/// each other there is next to each other in the page, with the values in their places. It has the status, the suite and
+/// the name of each failed test one after another, and with the reason as its section of failed tests renders them. It
+/// has each problem as its list of problems renders it, and a row with the name, the numbers and the time of each suite.
+///
+/// It also has, somewhere in its text, every value of the report that its template has a place for (`page_holes`),
+/// escaped as for this place.
 pub fn html_shows()
-    ensures values { HtmlShowsValues }
+    ensures end { HtmlSaysEnd }
+    ensures phrases { HtmlShowsPhrases }
     ensures items { HtmlShowsItems }
+    ensures values { HtmlShowsValues }
 {
-    template::laws::shows_items();
+    template::laws::shows_phrases();
+    template::laws::shows_sections();
     template::laws::shows_values();
     test_report_forms::laws::page_is_sound();
 }
@@ -71,25 +78,29 @@ pub fn junit_has_cases()
     documents_read_back();
 }
 
-/// The summary of `markdown` has every value of the report that its template has a place for (`markdown_holes`). It has
-/// a row and details for each failed test, as its sections of failed tests render them. What Markdown can read as its
-/// own in it (`marks`) is the template's, so a line, a cell and a `<pre>` end where the template ends them, whatever the
-/// lines of a run hold.
+/// The summary of `markdown` has a heading with the outcome, and the numbers of the run with the word for each (`end`).
+/// It has each phrase of its template (`markdown_phrases`), with the values in their places, and every value of the
+/// report that its template has a place for (`markdown_holes`). It has a row and details for each failed test, as its
+/// sections of failed tests render them. What Markdown can read as its own in it (`marks`) is the template's, so a line,
+/// a cell and a `<pre>` end where the template ends them, whatever the lines of a run hold.
 pub fn markdown_shows()
+    ensures end { MarkdownSaysEnd }
+    ensures phrases { MarkdownShowsPhrases }
     ensures values { MarkdownShowsValues }
     ensures tests { MarkdownShowsTests }
     ensures marks { MarkdownKeepsMarks }
 {
     template::laws::no_value_is_mark();
+    template::laws::shows_phrases();
     template::laws::shows_sections();
     template::laws::shows_values();
     test_report_forms::laws::markdown_is_sound();
 }
 
 /// What `junit` and `html` write is a header and a text that reads back as one tree: that of the template with the
-/// values as data. So whatever the lines of a run hold, they end no element and begin none. In the tree of `junit` the
+/// values as data. XML has a place for each character of this text: control characters, U+FFFE and U+FFFF are replaced. So whatever the lines of a run hold, they end no element and begin none. In the tree of `junit` the
 /// elements are one for each suite, in order, and in it one for each of its test cases, in order, with the numbers of
-/// test cases, names, times, reasons and output of these.
+/// test cases, names, times, reasons and output of these. No element has an attribute twice.
 pub fn documents_read_back()
     ensures junit { JunitReadsBack }
     ensures html { HtmlReadsBack }

@@ -1,7 +1,8 @@
 // Made by tools/erase from crates/test_report_forms/src/html.rt. Do not edit.
 //! The form for a browser: one page.
 
-use crate::template::{Value, parse_template, render};
+use crate::template::Value;
+use crate::test_report_forms::document::push_document;
 use crate::test_report_forms::entry::Entry;
 use crate::test_report_forms::form::Form;
 use crate::test_report_forms::model::ReportModel;
@@ -38,10 +39,7 @@ impl Form for HtmlForm {
 
 /// Appends the page of these values.
 fn push_page(text: &mut String, values: &[Value]) {
-    let Some(parts) = parse_template(PAGE) else {
-        unreachable!();
-    };
     text.push_str("<!DOCTYPE html>\n");
-    render(text, parts.as_slice(), values);
+    push_document(text, PAGE, values);
     text.push('\n');
 }

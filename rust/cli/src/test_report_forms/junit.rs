@@ -1,8 +1,9 @@
 // Made by tools/erase from crates/test_report_forms/src/junit.rt. Do not edit.
 //! The form for build servers: JUnit's XML, as nextest writes it.
 
-use crate::template::{Value, parse_template, render};
+use crate::template::Value;
 use crate::test_report_forms::cause::{Cause, cause_of};
+use crate::test_report_forms::document::push_document;
 use crate::test_report_forms::entry::Entry;
 use crate::test_report_forms::form::Form;
 use crate::test_report_forms::junit_case::{Case, OWN_NAME, text_of};
@@ -167,16 +168,13 @@ impl Form for JunitForm {
         let no_tests = self.says_no_tests(end);
         let suites = self.take_suites(no_tests);
         let values = junit_values(suites, end.time);
-        push_document(text, values.as_slice());
+        push_xml(text, values.as_slice());
     }
 }
 
 /// Appends JUnit's XML of these values.
-fn push_document(text: &mut String, values: &[Value]) {
-    let Some(parts) = parse_template(JUNIT) else {
-        unreachable!();
-    };
+fn push_xml(text: &mut String, values: &[Value]) {
     text.push_str("<?xml version=\"1.0\" encoding=\"UTF-8\"?>\n");
-    render(text, parts.as_slice(), values);
+    push_document(text, JUNIT, values);
     text.push('\n');
 }

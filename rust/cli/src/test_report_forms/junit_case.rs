@@ -2,6 +2,7 @@
 //! The test cases of JUnit's XML.
 
 use crate::test_report_forms::failed_test::{FailedTest, shown_failure};
+use crate::test_report_forms::model::suite_name;
 use crate::test_report_forms::shown::push_name;
 use crate::test_report_forms::title::shown_name;
 use crate::test_report_forms::why::{Why, without_returns};
@@ -63,7 +64,7 @@ impl Case {
     fn of_test(test: &TestNote, kind: CaseKind) -> Case {
         Case {
             name: name_text(shown_name(test)),
-            suite: suite_text(text_of(&test.suite)),
+            suite: suite_name(text_of(&test.suite)),
             time: test.time,
             kind,
         }
@@ -139,11 +140,6 @@ fn name_text(name: &str) -> String {
     let mut text = String::new();
     push_name(&mut text, name);
     text
-}
-
-/// Returns the name of a suite as it is shown.
-pub(crate) fn suite_text(name: Option<&str>) -> String {
-    name_text(name.unwrap_or("(no suite)"))
 }
 
 /// Returns the output of a test, in which each line ends with a line feed alone.

@@ -12,8 +12,9 @@
 //! | `failure` or `error` (`message`, `type`, `why`), `output` (its `text`) | each `case` that failed |
 
 use crate::template::{Value, push_item, push_section, push_text};
-use crate::test_report_forms::junit_case::{Case, CaseKind, Reason, suite_text, text_of};
+use crate::test_report_forms::junit_case::{Case, CaseKind, Reason, text_of};
 use crate::test_report_forms::junit_suite::{JunitCounts, JunitSuite};
+use crate::test_report_forms::model::suite_name;
 use crate::test_report_forms::values::{one_text, push_option, push_time};
 
 /// Returns the values of a run with these suites.
@@ -30,7 +31,7 @@ pub(crate) fn junit_values(suites: Vec<JunitSuite>, time: Option<u64>) -> Vec<Va
 fn suite_values(suite: JunitSuite) -> Vec<Value> {
     let JunitSuite { name, time, cases } = suite;
     let mut values = counts_values(JunitCounts::of_cases(cases.as_slice()));
-    push_text(&mut values, "name", suite_text(text_of(&name)));
+    push_text(&mut values, "name", suite_name(text_of(&name)));
     push_time(&mut values, time);
     for case in cases {
         push_item(&mut values, "case", case_values(case));

@@ -1,7 +1,7 @@
 // Made by tools/erase from crates/test_report_forms/src/markdown.rt. Do not edit.
 //! The form for the summary of a workflow on GitHub.
 
-use crate::template::{Value, parse_template, render};
+use crate::test_report_forms::document::push_document;
 use crate::test_report_forms::entry::Entry;
 use crate::test_report_forms::form::Form;
 use crate::test_report_forms::markdown_template::MARKDOWN;
@@ -32,14 +32,6 @@ impl Form for MarkdownForm {
 
     fn on_end(&mut self, end: &RunEnd, text: &mut String) {
         let values = report_values(self.model.take_out(), end);
-        push_markdown(text, values.as_slice());
+        push_document(text, MARKDOWN, values.as_slice());
     }
-}
-
-/// Appends the summary of these values.
-fn push_markdown(text: &mut String, values: &[Value]) {
-    let Some(parts) = parse_template(MARKDOWN) else {
-        unreachable!();
-    };
-    render(text, parts.as_slice(), values);
 }

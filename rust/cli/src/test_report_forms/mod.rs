@@ -34,6 +34,7 @@
 //! ```
 
 mod cause;
+mod document;
 pub mod entry;
 mod failed_test;
 pub mod files;

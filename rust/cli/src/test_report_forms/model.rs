@@ -4,6 +4,7 @@
 use crate::test_report_forms::cause::cause_of;
 use crate::test_report_forms::entry::Entry;
 use crate::test_report_forms::failed_test::{FailedTest, shown_failure};
+use crate::test_report_forms::junit_case::text_of;
 use crate::test_report_forms::numbers::Numbers;
 use crate::test_report_forms::shown::push_name;
 use crate::test_report_forms::slowest::Slowest;
@@ -124,7 +125,7 @@ impl SuiteRow {
             return None;
         }
         Some(SuiteRow {
-            name: suite_name(&suite.name),
+            name: suite_name(text_of(&suite.name)),
             numbers,
             time: suite.time,
         })
@@ -137,12 +138,9 @@ fn has_row(name: &Option<String>, numbers: Numbers) -> bool {
 }
 
 /// Returns the name of a suite as it is shown.
-fn suite_name(name: &Option<String>) -> String {
+pub(crate) fn suite_name(name: Option<&str>) -> String {
     let mut shown = String::new();
-    match name {
-        Some(name) => push_name(&mut shown, name.as_str()),
-        None => push_name(&mut shown, "(no suite)"),
-    }
+    push_name(&mut shown, name.unwrap_or("(no suite)"));
     shown
 }
 

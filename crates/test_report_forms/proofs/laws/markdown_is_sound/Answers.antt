@@ -9,8 +9,8 @@ use Rattle.template.specs.Marks.{is_markdown}
 use Rattle.template.specs.Parse.{parse}
 use Rattle.template.specs.Sections.{sections}
 use Rattle.template.specs.Template.{NoParts, Parts}
-use Rattle.test_report_forms.specs.Holes.{has_hole}
-use Rattle.test_report_forms.specs.Markdown.{details_holes, details_parts, markdown_holes, markdown_parts, row_holes, row_parts}
+use Rattle.test_report_forms.specs.Holes.{has_hole, shows_phrase}
+use Rattle.test_report_forms.specs.Markdown.{details_holes, details_parts, markdown_holes, markdown_parts, markdown_phrases, row_holes, row_parts}
 use Rattle.test_report_forms.specs.declared.markdown_template.TheConstants.{MARKDOWN}
 use Rattle.test_report_forms.proofs.laws.markdown_is_sound.Goals as goal
 
@@ -23,7 +23,8 @@ are_failed _ = false
 abbrev is_sound : Option Parts → Bool
 is_sound None = false
 is_sound (Some ps) =
-    is_markdown ps && (is_clean ps && (list_all (has_hole ps) markdown_holes && are_failed (sections ps (codes "failures") (codes "failed" ∷ []))))
+    is_markdown ps && (is_clean ps && (list_all (has_hole ps) markdown_holes && (list_all (shows_phrase ps) markdown_phrases
+    && are_failed (sections ps (codes "failures" ∷ codes "failed" ∷ [])))))
 
 computed : is_sound (parse MARKDOWN.now) ≡ true
 unfolding is_markdown parse chars encode_utf8
@@ -35,16 +36,15 @@ record Failed (all : List Parts) (row details : Parts) : Type 0 where
   pub details_have : list_all (has_hole details) (details_holes []) ≡ true
 
 failed-parts : (all : List Parts) → are_failed all ≡ true → Failed all (unwrap_or (slice_get all 0) NoParts) (unwrap_or (slice_get all 1) NoParts)
-failed-parts [] h = absurd (false≢true h)
-failed-parts (row ∷ []) h = absurd (false≢true h)
 failed-parts (row ∷ details ∷ []) h = let both = and_parts _ _ h in record { found = refl; row_has = both.0; details_have = both.1 }
-failed-parts (row ∷ details ∷ other ∷ all) h = absurd (false≢true h)
+failed-parts _ h = absurd (false≢true h)
 
 record Sound (ps : Parts) : Type 0 where
   pub markdown : is_markdown ps ≡ true
   pub clean : is_clean ps ≡ true
   pub holes : list_all (has_hole ps) markdown_holes ≡ true
-  pub failed : are_failed (sections ps (codes "failures") (codes "failed" ∷ [])) ≡ true
+  pub phrases : list_all (shows_phrase ps) markdown_phrases ≡ true
+  pub failed : are_failed (sections ps (codes "failures" ∷ codes "failed" ∷ [])) ≡ true
 
 sound-parts : (o : Option Parts) → is_sound o ≡ true → Sound (unwrap_or o NoParts)
 sound-parts None h = absurd (false≢true h)
@@ -52,7 +52,8 @@ sound-parts (Some ps) h =
     let markdown = and_parts _ _ h in
     let clean = and_parts _ _ markdown.1 in
     let holes = and_parts _ _ clean.1 in
-    record { markdown = markdown.0; clean = clean.0; holes = holes.0; failed = holes.1 }
+    let phrases = and_parts _ _ holes.1 in
+    record { markdown = markdown.0; clean = clean.0; holes = holes.0; phrases = phrases.0; failed = phrases.1 }
 
 sound : Sound markdown_parts
 unfolding markdown_parts
@@ -66,6 +67,7 @@ returns c =
       markdown = sound.markdown;
       clean = sound.clean;
       holes = sound.holes;
+      phrases = sound.phrases;
       failed = failed.found;
       row = failed.row_has;
       details = failed.details_have;

@@ -1,5 +1,11 @@
-use Rattle.test_report_laws.proofs.MarkdownLaws.{markdown-keeps-marks, markdown-shows-tests, markdown-shows-values}
+use Rattle.test_report_laws.proofs.MarkdownLaws.{markdown-keeps-marks, markdown-says-end, markdown-shows-phrases, markdown-shows-tests, markdown-shows-values}
 use Rattle.test_report_laws.proofs.forms.markdown_shows.Goals as goal
+
+pub returns-clause-end : goal.returns-clause-end
+returns-clause-end c = markdown-says-end c.markdown_is_sound.ensures c.shows_phrases.ensures
+
+pub returns-clause-phrases : goal.returns-clause-phrases
+returns-clause-phrases c = markdown-shows-phrases c.markdown_is_sound.ensures c.shows_phrases.ensures
 
 pub returns-clause-values : goal.returns-clause-values
 returns-clause-values c = markdown-shows-values c.markdown_is_sound.ensures c.shows_values.ensures

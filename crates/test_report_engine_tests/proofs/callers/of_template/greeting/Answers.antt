@@ -30,7 +30,7 @@ unfolding parse chars encode_utf8
 is-page = refl
 
 one-element : is_document page ≡ true
-unfolding is_document step
+unfolding is_document step chars encode_utf8
 one-element = refl
 
 -- the tree
