@@ -2,9 +2,10 @@ pub mod Announced
 pub mod Books
 pub mod CleanEnds
 pub mod CleanForms
+pub mod CleanLines
 pub mod CleanWords
+pub mod ColouredText
 pub mod Commands
-pub mod Controls
 pub mod Counters
 pub mod EndSums
 pub mod FailedLines
@@ -13,7 +14,9 @@ pub mod InOrder
 pub mod JunitLaws
 pub mod JunitNamed
 pub mod JunitCauses
+pub mod KeyedLines
 pub mod LineParts
+pub mod Lines
 pub mod MarkdownLaws
 pub mod NotRun
 pub mod Numerals
@@ -30,7 +33,7 @@ pub mod ShownValues
 pub mod Sound
 pub mod Sums
 pub mod Tallies
-pub mod TextCauses
+pub mod TextLines
 pub mod ToldFailures
 pub mod Types
 pub mod Verdicts
