@@ -16,7 +16,7 @@ use Rattle.test_report_forms.specs.Why.{WhyView}
 use Rattle.test_report_forms.specs.Words.{disagreement_line, not_run_line, outcome_word, summary_line}
 use Rattle.test_report_laws.proofs.CleanLines.{CleanLine, digits-lack, fewer}
 use Rattle.test_report_laws.proofs.CleanWords.{clean-outcome, clean-summary}
-use Rattle.test_report_laws.proofs.Lines.{IsWritten, blocks-lines, bytes-lack, has-blocks}
+use Rattle.test_report_laws.proofs.Lines.{IsWritten, blocks-lines, bytes-lack, has-blocks, in-one-line}
 use Rattle.test_report_laws.proofs.Numerals.{HasNumbers, IsColumn, IsNumber, IsNumbered, entry-numbers}
 use Rattle.test_report_laws.specs.Commands.{IsCommand, IsProperty, OnlyCommands, ends_value, command_names, is_line_end, written}
 use Rattle.test_report_laws.specs.Forms.{is_unseen}
@@ -51,11 +51,8 @@ within h = fewer ends_value is_line_end (λ c. value-end (c == 44) (c == 58) (is
 end-feed : (c : ℕ) → is_line_end c ≡ false → (c == 10) ≡ false
 end-feed c e = grind (arith, nat_tests, e)
 
-low-feed : (b : ℕ) → (b == 10) ≡ true → b < 128
-low-feed b e = grind (arith, nat_tests, e)
-
 in-line : {text : List ℕ} → Inner text → IsInLine text
-in-line {text} h = record { has_no_feed = bytes-lack (λ b. b == 10) low-feed text (fewer is_line_end (λ b. b == 10) end-feed h) }
+in-line h = in-one-line (fewer is_line_end (λ b. b == 10) end-feed h)
 
 -- messages, and the values of properties
 module _ (p : ℕ → Bool) (escapes : list_all (visible p) (codes "%25") ≡ true) (returns : list_all (visible p) (codes "%0D") ≡ true)

@@ -28,6 +28,7 @@ pub mod ReportValues
 pub mod RunCauses
 pub mod RunReasons
 pub mod SameRun
+pub mod ShortLines
 pub mod Shown
 pub mod ShownValues
 pub mod Sound

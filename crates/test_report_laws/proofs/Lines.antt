@@ -27,8 +27,11 @@ low-feed b e = grind (arith, nat_tests, e)
 unseen-feed : (c : ℕ) → is_unseen c ≡ false → (c == 10) ≡ false
 unseen-feed c e = grind (arith, nat_tests, e)
 
+pub in-one-line : {text : List ℕ} → Lacks (λ b. b == 10) text → IsInLine text
+in-one-line {text} h = record { has_no_feed = bytes-lack (λ b. b == 10) low-feed text h }
+
 pub in-line : {text : List ℕ} → CleanLine text → IsInLine text
-in-line {text} h = record { has_no_feed = bytes-lack (λ b. b == 10) low-feed text (fewer is_unseen (λ b. b == 10) unseen-feed h) }
+in-line h = in-one-line (fewer is_unseen (λ b. b == 10) unseen-feed h)
 
 pub also : {xs ys : List ℕ} → IsInLine xs → IsInLine ys → IsInLine (xs ++ ys)
 also {xs} {ys} a b = record { has_no_feed = All-append (λ b. (b == 10) ≡ false) xs ys a.has_no_feed b.has_no_feed }

@@ -1,13 +1,14 @@
 -- The lines of the forms that write each entry at once.
 use Rattle.std.specs.Prelude.{◌≡◌, ◌≢◌, ◌==◌, ◌++◌, ◌⊎◌, ℕ, false, List, [], ◌∷◌, Some, None, Option, ⊤, codes}
 use Rattle.std.specs.List.{All, Contains, filter_map, flat_map, slice_split}
-use Rattle.test_report_forms.specs.Entry.{EntryView, IsEntryOf, LinesDisagree, SuiteNotRun, TestFailed}
+use Rattle.test_report_forms.specs.Entry.{EntryView, IsEntryOf, LinesDisagree, SuiteNotRun, TestFailed, entry_view}
 use Rattle.test_report_forms.specs.Github.{github_last, github_line, message, properties, title_property}
 use Rattle.test_report_forms.specs.Names.{names_line}
 use Rattle.test_report_forms.specs.Shown.{bracket, front, limited, shown_name, shown_text}
 use Rattle.test_report_forms.specs.Text.{attempts_note, text_last, text_line, why_lines}
 use Rattle.test_report_forms.specs.Title.{title}
 use Rattle.test_report_forms.specs.Words.{disagreement_line, failed_word, not_run_line, outcome_word, status_text, summary_line}
+use Rattle.test_report_forms.specs.declared.entry.Entry.{Entry}
 use Rattle.test_report_forms.specs.declared.options.Options.{Options}
 use Rattle.test_report_laws.specs.Status.{RanNoTests}
 use Rattle.test_report_run.specs.Note.{NoteView}
@@ -89,6 +90,10 @@ names_block _ = None
 abbrev pub IsShortInLine : Options → EntryView → Type 0
 IsShortInLine o (TestFailed t f w) = IsInLine (shown_text o.raw (front w.short o.limit))
 IsShortInLine o _ = ⊤
+
+-- The short reason of each entry of a note is shown in one line.
+abbrev pub ShortIsInLine : Type 0
+ShortIsInLine = (o : Options) (n : NoteView) (e : Entry) → IsEntryOf n (entry_view e) → IsShortInLine o (entry_view e)
 
 -- a report for people has the block of each failed test and of each other cause, in the order of the entries, then the summary, and the outcome last
 pub record TextSays (o : Options) (entries : List EntryView) (end : RunEnd) (text : List ℕ) : Type 0 where

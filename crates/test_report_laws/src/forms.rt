@@ -4,7 +4,7 @@ ghost use Rattle.test_report_laws.specs.Colours.{TextIsColoured};
 ghost use Rattle.test_report_laws.specs.Commands.{OnlyCommands};
 ghost use Rattle.test_report_laws.specs.Forms.{GithubHasNoControls, HtmlHasNoControls, HtmlNamesCauses, HtmlReadsBack, HtmlShowsItems, HtmlShowsValues, MarkdownHasNoControls, MarkdownKeepsMarks, MarkdownNamesCauses, MarkdownShowsTests, MarkdownShowsValues, NamesAreLines, TextHasNoControls};
 ghost use Rattle.test_report_laws.specs.Junit.{JunitHasCases, JunitHasNoControls, JunitNamesCauses, JunitReadsBack, JunitSaysNoTests};
-ghost use Rattle.test_report_laws.specs.Lines.{GithubNamesCauses, NamesNamesTests, TextNamesCauses};
+ghost use Rattle.test_report_laws.specs.Lines.{GithubNamesCauses, NamesNamesTests, ShortIsInLine, TextNamesCauses};
 
 /// Every line that the form for GitHub writes of entries of notes (`IsEntryOf`) is a command for an error or a
 /// notice: `::`, the name of the command, properties or none, `::` and a message. The value of a property has no
@@ -39,9 +39,9 @@ pub fn no_controls()
 /// What `text` writes has, in the order of the entries, a line for each failed test, with its status, its time, its
 /// name and its attempts, and under it why it failed. It has a line for each disagreement, and for each suite whose
 /// tests were not all run. The last line is the outcome, which says if no test ran. The summary is the line after
-/// the last line of dashes, if each short reason is shown in one line. `github` writes a command for each of these
-/// entries, and as the last line the one with the summary and the outcome. `names` writes the name of each failed
-/// test. These are whole lines.
+/// the last line of dashes, if each short reason is shown in one line, as those of notes are (`short`). `github`
+/// writes a command for each of these entries, and as the last line the one with the summary and the outcome.
+/// `names` writes the name of each failed test. These are whole lines.
 ///
 /// What `html` and `markdown` write has the name of each failed test, the line of each disagreement, the line of each
 /// suite whose tests were not all run, and the outcome.
@@ -52,6 +52,7 @@ pub fn no_controls()
 /// test case that says so, unless `no_tests_pass` is true, and the text has `no test ran` (`no_tests`).
 pub fn names_causes()
     ensures text { TextNamesCauses }
+    ensures short { ShortIsInLine }
     ensures github { GithubNamesCauses }
     ensures names { NamesNamesTests }
     ensures junit { JunitNamesCauses }

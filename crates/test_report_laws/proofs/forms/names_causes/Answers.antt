@@ -1,4 +1,5 @@
 use Rattle.test_report_laws.proofs.Commands.{github-names-causes}
+use Rattle.test_report_laws.proofs.ShortLines.{short-is-in-line}
 use Rattle.test_report_laws.proofs.TextLines.{names-names-tests, text-names-causes}
 use Rattle.test_report_laws.proofs.HtmlLaws.{html-names-causes}
 use Rattle.test_report_laws.proofs.JunitCauses.{junit-names-causes, junit-says-no-tests}
@@ -7,6 +8,9 @@ use Rattle.test_report_laws.proofs.forms.names_causes.Goals as goal
 
 pub returns-clause-text : goal.returns-clause-text
 returns-clause-text c = text-names-causes
+
+pub returns-clause-short : goal.returns-clause-short
+returns-clause-short c = short-is-in-line
 
 pub returns-clause-github : goal.returns-clause-github
 returns-clause-github c = github-names-causes
