@@ -4,11 +4,12 @@ use Rattle.std.specs.Char.{encode_utf8}
 use Rattle.std.specs.List.{flat_map}
 use Rattle.std.specs.Option.{option_map_or}
 use Rattle.std.specs.Str.{chars}
-use Rattle.test_report_forms.specs.Entry.{EntryView, LinesDisagree, SuiteNotRun, SuiteOver, TestFailed, TestPassed, TestSkipped}
+use Rattle.test_report_forms.specs.Entry.{EntryView, TestFailed}
+use Rattle.test_report_forms.specs.Model.{cause_line}
 use Rattle.test_report_forms.specs.Shown.{limited, shown_name}
 use Rattle.test_report_forms.specs.Title.{title}
 use Rattle.test_report_forms.specs.Why.{PlaceView, WhyView}
-use Rattle.test_report_forms.specs.Words.{disagreement_line, not_run_line, outcome_word, summary_line}
+use Rattle.test_report_forms.specs.Words.{outcome_word, summary_line}
 use Rattle.test_report_run.specs.Note.{TestNoteView}
 use Rattle.test_report_run.specs.declared.note.RunEnd.{RunEnd}
 
@@ -57,14 +58,10 @@ failed_command limit t w = codes "::error " ++ (properties w.place ++ (title_pro
 unfoldable pub error_command : List ℕ → List ℕ
 error_command text = codes "::error::" ++ (message text ++ codes "\n")
 
--- what is written of an entry
+-- what is written of an entry: the annotation of a failed test or of a cause
 abbrev pub github_line : ℕ → EntryView → List ℕ
 github_line limit (TestFailed t f w) = failed_command limit t w
-github_line limit (LinesDisagree d) = error_command (disagreement_line d)
-github_line limit (SuiteNotRun suite n of) = error_command (not_run_line suite n of)
-github_line limit (TestPassed t) = []
-github_line limit (TestSkipped t) = []
-github_line limit (SuiteOver s) = []
+github_line limit e = option_map_or error_command (cause_line e) []
 
 -- what is written at the end
 unfoldable pub github_last : RunEnd → List ℕ

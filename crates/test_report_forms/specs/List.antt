@@ -3,7 +3,7 @@ use Rattle.std.specs.Prelude.{ℕ, List, ◌++◌, ◌-◌, ◌^◌, ◌∷◌, 
 use Rattle.std.specs.Fmt.{decimal}
 use Rattle.std.specs.List.{flat_map, fold, insert, position_or_len}
 use Rattle.std.specs.Option.{option_map_or}
-use Rattle.test_report_forms.specs.Entry.{EntryView, LinesDisagree, SuiteNotRun, SuiteOver, TestFailed, TestPassed, TestSkipped}
+use Rattle.test_report_forms.specs.Entry.{EntryView, TestFailed, TestPassed}
 use Rattle.test_report_forms.specs.Shown.{bracket, front, shown_text}
 use Rattle.test_report_forms.specs.Title.{title}
 use Rattle.test_report_forms.specs.Words.{failed_word, status_text}
@@ -60,11 +60,7 @@ flaky_passed o t = if nat_lt 1 t.attempts then flaky_line o t ∷ [] else []
 -- the line of a flaky test that an entry adds
 abbrev pub flaky_of : Options → EntryView → List KeyedLine
 flaky_of o (TestPassed t) = flaky_passed o t
-flaky_of o (TestSkipped t) = []
-flaky_of o (TestFailed t f w) = []
-flaky_of o (LinesDisagree d) = []
-flaky_of o (SuiteNotRun suite n of) = []
-flaky_of o (SuiteOver s) = []
+flaky_of o _ = []
 
 -- the line of a failed test
 unfoldable pub failed_line : Options → TestNoteView → List ℕ → List ℕ → List ℕ
@@ -73,11 +69,7 @@ failed_line o t word short = list_line o word t ++ (codes ": " ++ (shown_text o.
 -- the line of a failed test that an entry adds
 abbrev pub failed_of : Options → EntryView → List ℕ
 failed_of o (TestFailed t f w) = failed_line o t (failed_word f.kind) w.short
-failed_of o (TestPassed t) = []
-failed_of o (TestSkipped t) = []
-failed_of o (LinesDisagree d) = []
-failed_of o (SuiteNotRun suite n of) = []
-failed_of o (SuiteOver s) = []
+failed_of o _ = []
 
 -- the line of a test with this time
 unfoldable pub slow_line : Options → TestNoteView → ℕ → KeyedLine
@@ -91,10 +83,7 @@ timed o t = option_map_or (λ time. slow_line o t time ∷ []) t.time []
 abbrev pub slow_of : Options → EntryView → List KeyedLine
 slow_of o (TestPassed t) = timed o t
 slow_of o (TestFailed t f w) = timed o t
-slow_of o (TestSkipped t) = []
-slow_of o (LinesDisagree d) = []
-slow_of o (SuiteNotRun suite n of) = []
-slow_of o (SuiteOver s) = []
+slow_of o _ = []
 
 -- the flaky tests that passed, in the order in which they ended
 abbrev pub flaky_lines : Options → List EntryView → List KeyedLine

@@ -1,11 +1,13 @@
 -- The form for people who read a terminal.
 use Rattle.std.specs.Prelude.{ℕ, List, ◌++◌, ◌==◌, [], codes, if◌then◌else◌, nat_lt}
 use Rattle.std.specs.Fmt.{decimal}
-use Rattle.test_report_forms.specs.Entry.{EntryView, LinesDisagree, SuiteNotRun, SuiteOver, TestFailed, TestPassed, TestSkipped}
+use Rattle.std.specs.Option.{option_map_or}
+use Rattle.test_report_forms.specs.Entry.{EntryView, TestFailed}
 use Rattle.test_report_forms.specs.List.{short_list}
+use Rattle.test_report_forms.specs.Model.{cause_line}
 use Rattle.test_report_forms.specs.Shown.{bracket, front, indented, more_bytes}
 use Rattle.test_report_forms.specs.Title.{title}
-use Rattle.test_report_forms.specs.Words.{disagreement_line, failed_word, not_run_line, outcome_word, status_text, summary_line}
+use Rattle.test_report_forms.specs.Words.{failed_word, outcome_word, status_text, summary_line}
 use Rattle.test_report_forms.specs.declared.options.Options.{Options}
 use Rattle.test_report_run.specs.Note.{TestNoteView}
 use Rattle.test_report_run.specs.declared.note.RunEnd.{RunEnd}
@@ -31,14 +33,10 @@ failed_head o t word =
 unfoldable pub failed_text : Options → TestNoteView → List ℕ → List ℕ → List ℕ
 failed_text o t word why = failed_head o t word ++ why_lines o why
 
--- what is written of an entry
+-- what is written of an entry: a failed test, or the line of a cause
 abbrev pub text_line : Options → EntryView → List ℕ
 text_line o (TestFailed t f w) = failed_text o t (failed_word f.kind) w.text
-text_line o (LinesDisagree d) = disagreement_line d ++ codes "\n"
-text_line o (SuiteNotRun suite n of) = not_run_line suite n of ++ codes "\n"
-text_line o (TestPassed t) = []
-text_line o (TestSkipped t) = []
-text_line o (SuiteOver s) = []
+text_line o e = option_map_or (λ line. line ++ codes "\n") (cause_line e) []
 
 -- the line before the summary, and the summary
 unfoldable pub summary_lines : RunEnd → List ℕ

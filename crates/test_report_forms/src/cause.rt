@@ -91,10 +91,7 @@ fn result_word(result_of: TestResult) -> &'static str
 
 /// Appends the line of a disagreement, without its line feed.
 #[tactic(auto, unfolding(crate::specs::Words::disagreement_line))]
-pub(crate) fn push_disagreement(
-    text: &mut String,
-    disagreement: &Disagreement,
-) -> Result<(), AllocError>
+fn push_disagreement(text: &mut String, disagreement: &Disagreement) -> Result<(), AllocError>
     ensures { OnOk result (string_bytes text.new
         ≡ string_bytes text.old ++ disagreement_line (disagreement_view disagreement.now)) }
 {
@@ -201,7 +198,7 @@ fn push_key_and_verdict(
 
 /// Appends the line of the tests of a suite that were not run, without its line feed.
 #[tactic(auto, unfolding(crate::specs::Words::not_run_line))]
-pub(crate) fn push_not_run(text: &mut String, not_run: &NotRun) -> Result<(), AllocError>
+fn push_not_run(text: &mut String, not_run: &NotRun) -> Result<(), AllocError>
     ensures { OnOk result (string_bytes text.new ≡ string_bytes text.old
         ++ not_run_line (string_bytes not_run.now.suite) not_run.now.not_run not_run.now.initial_run_count) }
 {

@@ -1,11 +1,14 @@
 //! The form for the log of a workflow on GitHub.
 
 ghost use Rattle.std.specs.Prelude.{◌≡◌, ◌++◌, [], OnOk, option_map, string_bytes};
+ghost use Rattle.std.specs.Option.{option_map_or};
+ghost use Rattle.test_report_forms.specs.Entry.{entry_view};
+ghost use Rattle.test_report_forms.specs.Model.{cause_line};
 ghost use Rattle.test_report_forms.specs.Github.{column_property, data_char, error_command, failed_command, message, place_properties, properties, property, property_char, title_property, why_message};
 ghost use Rattle.test_report_forms.specs.Why.{place_view, why_view};
 ghost use Rattle.test_report_run.specs.Note.{test_view};
 
-use crate::cause::{push_disagreement, push_not_run};
+use crate::cause::cause_of;
 use crate::entry::Entry;
 use crate::form::Form;
 use crate::options::Options;
@@ -52,6 +55,17 @@ impl GithubForm {
         push_properties(alloc, text, &why.place)?;
         push_title_property(alloc, text, test)?;
         push_message(alloc, text, why.text.as_str(), self.limit)
+    }
+}
+
+/// Appends the annotation of the cause of an entry. Appends nothing if it has none.
+fn push_cause(alloc: Global, entry: &Entry<'_>, text: &mut String) -> Result<(), AllocError>
+    ensures { OnOk result (string_bytes text.new ≡ string_bytes text.old
+        ++ option_map_or error_command (cause_line (entry_view entry.now)) []) }
+{
+    match cause_of(alloc, entry)? {
+        Some(cause) => push_error(text, cause.line.as_str()),
+        None => Ok(()),
     }
 }
 
@@ -104,18 +118,13 @@ impl Form for GithubForm {
         entry: &Entry<'_>,
         text: &mut String,
     ) -> Result<(), AllocError> {
-        let mut line = String::new(alloc);
         match entry {
-            Entry::Passed(_) | Entry::Skipped(_) | Entry::Suite(_) => Ok(()),
             Entry::Failed { test, why, .. } => self.push_failed(alloc, test, why, text),
-            Entry::Disagreement(disagreement) => {
-                push_disagreement(&mut line, disagreement)?;
-                push_error(text, line.as_str())
-            }
-            Entry::NotRun(not_run) => {
-                push_not_run(&mut line, not_run)?;
-                push_error(text, line.as_str())
-            }
+            Entry::Passed(_)
+            | Entry::Skipped(_)
+            | Entry::Disagreement(_)
+            | Entry::NotRun(_)
+            | Entry::Suite(_) => push_cause(alloc, entry, text),
         }
     }
 

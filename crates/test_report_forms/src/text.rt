@@ -1,11 +1,13 @@
 //! The form for people who read a terminal.
 
-ghost use Rattle.std.specs.Prelude.{◌≡◌, ◌++◌, [], OnOk, string_bytes};
+ghost use Rattle.std.specs.Prelude.{◌≡◌, ◌++◌, [], OnOk, codes, string_bytes};
+ghost use Rattle.std.specs.Option.{option_map_or};
 ghost use Rattle.test_report_forms.specs.Entry.{entry_view};
+ghost use Rattle.test_report_forms.specs.Model.{cause_line};
 ghost use Rattle.test_report_forms.specs.Text as spec;
 ghost use Rattle.test_report_run.specs.Note.{test_view};
 
-use crate::cause::{push_disagreement, push_not_run};
+use crate::cause::cause_of;
 use crate::entry::Entry;
 use crate::form::Form;
 use crate::list::ShortList;
@@ -38,25 +40,40 @@ impl TextForm {
     }
 
     /// Appends the text of an entry.
-    fn push_entry(&self, entry: &Entry<'_>, text: &mut String) -> Result<(), AllocError>
+    fn push_entry(
+        &self,
+        alloc: Global,
+        entry: &Entry<'_>,
+        text: &mut String,
+    ) -> Result<(), AllocError>
         ensures { OnOk result (string_bytes text.new
             ≡ string_bytes text.old ++ spec.text_line self.now.options (entry_view entry.now)) }
     {
         match entry {
-            Entry::Passed(_) | Entry::Skipped(_) | Entry::Suite(_) => Ok(()),
             Entry::Failed { test, failure, why } => {
                 let status = failed_status(&failure.kind);
                 push_failed(text, test, status, why.text.as_str(), self.options)
             }
-            Entry::Disagreement(disagreement) => {
-                push_disagreement(text, disagreement)?;
-                text.push('\n')
-            }
-            Entry::NotRun(not_run) => {
-                push_not_run(text, not_run)?;
-                text.push('\n')
-            }
+            Entry::Passed(_)
+            | Entry::Skipped(_)
+            | Entry::Disagreement(_)
+            | Entry::NotRun(_)
+            | Entry::Suite(_) => push_cause(alloc, entry, text),
         }
+    }
+}
+
+/// Appends the line of the cause of an entry. Appends nothing if it has none.
+fn push_cause(alloc: Global, entry: &Entry<'_>, text: &mut String) -> Result<(), AllocError>
+    ensures { OnOk result (string_bytes text.new ≡ string_bytes text.old
+        ++ option_map_or (λ line. line ++ codes "\n") (cause_line (entry_view entry.now)) []) }
+{
+    match cause_of(alloc, entry)? {
+        Some(cause) => {
+            text.push_str(cause.line.as_str())?;
+            text.push('\n')
+        }
+        None => Ok(()),
     }
 }
 
@@ -171,7 +188,7 @@ impl Form for TextForm {
         entry: &Entry<'_>,
         text: &mut String,
     ) -> Result<(), AllocError> {
-        self.push_entry(entry, text)?;
+        self.push_entry(alloc, entry, text)?;
         self.list.on_entry(alloc, entry, self.options)
     }
 

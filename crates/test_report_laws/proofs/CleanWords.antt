@@ -1,13 +1,14 @@
--- The words, numbers, names and times of a report have no control characters.
-use Rattle.std.proofs.Common.{◌-◌, ◌/◌, ◌%◌, refl, ℕ, Bool, false, List, ◌++◌, codes, length, Option, Some, None}
+-- The words, numbers, names and times of a report are parts of lines, without control characters.
+use Rattle.std.proofs.Common.{◌-◌, ◌/◌, ◌%◌, refl, ℕ, Bool, List, ◌++◌, codes, length, Option, Some, None}
 use Rattle.std.specs.Fmt.{decimal}
 use Rattle.run_events_stats.specs.declared.outcome.run_outcome.RunOutcome.{RunOutcome}
 use Rattle.run_events_stats.specs.declared.outcome.run_outcome.RunOutcome.TheVariants as outcome
 use Rattle.test_report_events.specs.declared.event.TestResult.{TestResult}
 use Rattle.test_report_events.specs.declared.event.TestResult.TheVariants as ended
-use Rattle.template.proofs.Controls.{Clean, also, clean-decimal, clean-if, clean-option, clean-replicate, nothing, word}
-use Rattle.test_report_laws.proofs.Controls.{clean-name, clean-text}
-use Rattle.test_report_forms.specs.Shown.{and_space, bracket, front, limited, more_bytes, more_note, name_and_space, seconds, three_digits}
+use Rattle.test_report_laws.proofs.CleanLines.{CleanLine, also, clean-decimal, clean-if, clean-name, clean-option, clean-replicate, nothing, word}
+use Rattle.test_report_forms.specs.List.{flaky_word}
+use Rattle.test_report_forms.specs.Shown.{and_space, bracket, name_and_space, seconds, three_digits}
+use Rattle.test_report_forms.specs.Text.{attempts_note}
 use Rattle.test_report_forms.specs.Title.{title, title_name}
 use Rattle.test_report_forms.specs.Words.{disagreement_line, failed_numbers, failed_word, its_tests, key_and_verdict, not_run_line, other_numbers, outcome_word, passed_numbers, result_word, run_numbers, said_numbers, said_text, summary_line, verdict_word}
 use Rattle.test_report_run.specs.Note.{CargoSays, DisagreementView, EndsEarly, HasCrashed, HasFailed, HasNoEnd, HasNoEvent, HasTimedOut, IsDamaged, IsFlaky, KindView, SaysOther, StartsOutside, StrayEnds, StraySuiteEnds, TestNoteView}
@@ -15,14 +16,14 @@ use Rattle.test_report_run.specs.declared.note.RunEnd.{RunEnd}
 use Rattle.test_report_run.specs.declared.note.SaidNumbers.{SaidNumbers}
 
 -- times
-clean-three : (n : ℕ) → Clean (three_digits n)
+clean-three : (n : ℕ) → CleanLine (three_digits n)
 clean-three n = also (clean-replicate 48 (3 - length (decimal n)) refl) (clean-decimal n)
 
-pub clean-seconds : (micros : ℕ) → Clean (seconds micros)
+pub clean-seconds : (micros : ℕ) → CleanLine (seconds micros)
 unfolding seconds
 clean-seconds micros = also (clean-decimal (micros / 1000000)) (also (word (codes ".") refl) (clean-three (micros / 1000 % 1000)))
 
-pub clean-bracket : (time : Option ℕ) → Clean (bracket time)
+pub clean-bracket : (time : Option ℕ) → CleanLine (bracket time)
 unfolding bracket
 clean-bracket None = nothing
 clean-bracket (Some micros) =
@@ -31,48 +32,49 @@ clean-bracket (Some micros) =
     also (word (codes "[") refl) (also padding (also (word (codes ".") refl) (also (clean-three (micros / 1000 % 1000)) (word (codes "s] ") refl))))
 
 -- names and texts
-pub clean-name_and_space : (name : Option (List ℕ)) → Clean (name_and_space name)
+pub clean-name_and_space : (name : Option (List ℕ)) → CleanLine (name_and_space name)
 unfolding name_and_space
 clean-name_and_space name = clean-option and_space (λ n. also (clean-name n) (word (codes " ") refl)) name
 
-pub clean-title : (t : TestNoteView) → Clean (title t)
+pub clean-title : (t : TestNoteView) → CleanLine (title t)
 unfolding title
 clean-title t = also (clean-name_and_space t.suite) (clean-name (title_name t))
 
-clean-more_note : (more : ℕ) → Clean (more_note more)
-clean-more_note more = clean-if _ nothing (also (word (codes "\n(") refl) (also (clean-decimal more) (word (codes " more bytes)") refl)))
-
-pub clean-limited : (text : List ℕ) (limit : ℕ) → Clean (limited text limit)
-unfolding limited
-clean-limited text limit = also (clean-text false (front text limit) refl) (clean-more_note (more_bytes text limit))
-
 -- words
-pub clean-failed_word : (kind : KindView) → Clean (failed_word kind)
+pub clean-failed_word : (kind : KindView) → CleanLine (failed_word kind)
 clean-failed_word HasFailed = word (codes "FAIL") refl
 clean-failed_word HasTimedOut = word (codes "TIMEOUT") refl
 clean-failed_word HasNoEnd = word (codes "FAIL") refl
 clean-failed_word IsFlaky = word (codes "FAIL") refl
 clean-failed_word (HasCrashed crash) = word (codes "CRASH") refl
 
-pub clean-outcome : (o : RunOutcome) → Clean (outcome_word o)
+pub clean-outcome : (o : RunOutcome) → CleanLine (outcome_word o)
 clean-outcome outcome.Success = word (codes "success") refl
 clean-outcome outcome.NoTestsRun = word (codes "no-tests-run") refl
 clean-outcome (outcome.Cancelled step) = word (codes "cancelled") refl
 clean-outcome (outcome.Failed step) = word (codes "failed") refl
 
-clean-verdict : (failed : Bool) → Clean (verdict_word failed)
+clean-verdict : (failed : Bool) → CleanLine (verdict_word failed)
 clean-verdict failed = clean-if failed (word (codes "failed") refl) (word (codes "ok") refl)
 
-clean-result : (how : TestResult) → Clean (result_word how)
+clean-result : (how : TestResult) → CleanLine (result_word how)
 clean-result ended.Ok = word (codes "ok") refl
 clean-result ended.Failed = word (codes "failed") refl
 clean-result ended.Ignored = word (codes "ignored") refl
 
+pub clean-flaky_word : (attempts : ℕ) → CleanLine (flaky_word attempts)
+unfolding flaky_word
+clean-flaky_word attempts = also (word (codes "FLAKY ") refl) (also (clean-decimal attempts) (also (word (codes "/") refl) (clean-decimal attempts)))
+
+pub clean-attempts : (attempts : ℕ) → CleanLine (attempts_note attempts)
+unfolding attempts_note
+clean-attempts attempts = clean-if _ (also (word (codes " (") refl) (also (clean-decimal attempts) (word (codes " attempts)") refl))) nothing
+
 -- disagreements
-clean-in_brackets : (w verdict : List ℕ) → Clean w → Clean verdict → Clean (w ++ (verdict ++ codes ")"))
+clean-in_brackets : (w verdict : List ℕ) → CleanLine w → CleanLine verdict → CleanLine (w ++ (verdict ++ codes ")"))
 clean-in_brackets w verdict h k = also h (also k (word (codes ")") refl))
 
-clean-said_numbers : (passed failed : Option ℕ) (verdict : List ℕ) → Clean verdict → Clean (said_numbers passed failed verdict)
+clean-said_numbers : (passed failed : Option ℕ) (verdict : List ℕ) → CleanLine verdict → CleanLine (said_numbers passed failed verdict)
 unfolding said_numbers
 clean-said_numbers (Some p) (Some f) verdict h =
     also (word (codes "counts ") refl) (also (clean-decimal p) (also (word (codes " passed and ") refl)
@@ -83,18 +85,18 @@ clean-said_numbers None (Some f) verdict h =
     also (word (codes "counts ") refl) (also (clean-decimal f) (clean-in_brackets (codes " failed (") verdict (word (codes " failed (") refl) h))
 clean-said_numbers None None verdict h = also (word (codes "says ") refl) h
 
-clean-said : (said : SaidNumbers) → Clean (said_text said)
+clean-said : (said : SaidNumbers) → CleanLine (said_text said)
 unfolding said_text
 clean-said said =
     also (word (codes ": its last line ") refl) (clean-said_numbers said.passed said.failed _ (clean-verdict said.failed_verdict))
 
-clean-its_tests : (passed failed : ℕ) → Clean (its_tests passed failed)
+clean-its_tests : (passed failed : ℕ) → CleanLine (its_tests passed failed)
 unfolding its_tests
 clean-its_tests passed failed =
     also (word (codes ", but ") refl) (also (clean-decimal passed) (also (word (codes " of its tests passed and ") refl)
     (also (clean-decimal failed) (word (codes " failed") refl))))
 
-pub clean-disagreement : (d : DisagreementView) → Clean (disagreement_line d)
+pub clean-disagreement : (d : DisagreementView) → CleanLine (disagreement_line d)
 unfolding disagreement_line key_and_verdict
 clean-disagreement (EndsEarly suite) = also (clean-name suite) (word (codes " ended early") refl)
 clean-disagreement (SaysOther suite said passed failed) = also (clean-name suite) (also (clean-said said) (clean-its_tests passed failed))
@@ -107,14 +109,14 @@ clean-disagreement (CargoSays line) = also (word (codes "cargo: ") refl) (clean-
 clean-disagreement (IsDamaged text) = also (word (codes "a damaged line says that a test or a suite failed: ") refl) (clean-name text)
 clean-disagreement HasNoEvent = word (codes "no line of the input is of a test run") refl
 
-pub clean-not_run : (suite : List ℕ) (n of : ℕ) → Clean (not_run_line suite n of)
+pub clean-not_run : (suite : List ℕ) (n of : ℕ) → CleanLine (not_run_line suite n of)
 unfolding not_run_line
 clean-not_run suite n of =
     also (clean-name suite) (also (word (codes ": ") refl) (also (clean-decimal n) (also (word (codes " of ") refl)
     (also (clean-decimal of) (word (codes " tests were not run") refl)))))
 
 -- the numbers of a run
-clean-numbers : (e : RunEnd) → Clean (run_numbers e)
+clean-numbers : (e : RunEnd) → CleanLine (run_numbers e)
 unfolding run_numbers passed_numbers failed_numbers other_numbers
 clean-numbers e =
     let passed =
@@ -126,6 +128,6 @@ clean-numbers e =
     let others = also (clean-decimal e.skipped) (also (word (codes " skipped, ") refl) (also (clean-decimal e.not_run) (word (codes " not run") refl))) in
     also passed (also failed others)
 
-pub clean-summary : (e : RunEnd) → Clean (summary_line e)
+pub clean-summary : (e : RunEnd) → CleanLine (summary_line e)
 unfolding summary_line
 clean-summary e = also (clean-bracket e.time) (clean-numbers e)

@@ -1,241 +1,307 @@
 -- Every line that is written to the log of a workflow is a command.
-use Rattle.std.proofs.Common.{◌≡◌, ◌∙◌, ◌≤◌, ◌==◌, ◌&&◌, ◌+◌, ◌/◌, ◌%◌, ◌-◌, refl, sym, subst, ap, arith, ℕ, zero, suc, Bool, true, false, true≢false, not, List, [], ◌∷◌, ◌++◌, append_assoc, codes, cond, if◌then◌else◌, length, nat_lt, Option, Some, None}
+use Rattle.std.proofs.Common.{◌≡◌, ◌∙◌, ◌<◌, ◌==◌, ◌||◌, refl, sym, subst, ap, arith, ℕ, Bool, true, false, List, [], ◌∷◌, ◌++◌, append-nil, append_assoc, codes, if◌then◌else◌, inl, Option, Some, None, true≢false}
 use Rattle.std.proofs.lemmas.Bool.Decides.{nat_tests}
-use Rattle.std.proofs.lemmas.List.Elements.{All-cons, All-head, All-nil, All-tail}
+use Rattle.std.proofs.lemmas.List.Elements.{All-append, All-cons, All-head, All-nil, All-tail, All-weaker}
 use Rattle.std.proofs.lemmas.List.Splits.{slice_split_at}
 use Rattle.std.specs.Char.{encode_utf8, is_ascii_digit}
-use Rattle.std.specs.Fmt.{decimal, digit_glyph, digits, digits_onto}
-use Rattle.std.specs.List.{All, AllPass, flat_map, list_all, slice_split}
-use Rattle.std.specs.Prelude.{replicate}
+use Rattle.std.specs.List.{All, Contains, flat_map, join_with_byte, list_all, slice_split}
 use Rattle.std.specs.Str.{chars}
-use Rattle.run_events_stats.specs.declared.outcome.run_outcome.RunOutcome.{RunOutcome}
-use Rattle.run_events_stats.specs.declared.outcome.run_outcome.RunOutcome.TheVariants as outcome
-use Rattle.test_report_laws.proofs.Numerals.{HasNumbers, IsColumn, IsNumber, IsNumbered, entry-numbers}
-use Rattle.test_report_forms.proofs.Tests.{and-left, and-right}
+use Rattle.template.proofs.Lacks.{Lacks, both, lacks-flat_map, lacks-word, none, one-char, visible}
 use Rattle.test_report_forms.specs.Entry.{EntryView, IsEntryOf, LinesDisagree, SuiteNotRun, SuiteOver, TestFailed, TestPassed, TestSkipped}
-use Rattle.test_report_forms.specs.Github.{column_property, data_char, error_command, failed_command, github_last, github_line, message, place_properties, properties, property, property_char, title_property, why_message}
-use Rattle.test_report_laws.specs.Forms.{OnlyCommands, is_line_end, is_log_line}
+use Rattle.test_report_forms.specs.Github.{data_char, error_command, failed_command, github_last, github_line, message, place_properties, properties, column_property, property, property_char, title_property, why_message}
 use Rattle.test_report_forms.specs.Place.{PlaceView}
-use Rattle.test_report_forms.specs.Shown.{bracket, limited, shown_name, three_digits}
+use Rattle.test_report_forms.specs.Shown.{limited, shown_name}
 use Rattle.test_report_forms.specs.Title.{title}
 use Rattle.test_report_forms.specs.Why.{WhyView}
-use Rattle.test_report_forms.specs.Words.{disagreement_line, failed_numbers, not_run_line, other_numbers, outcome_word, passed_numbers, run_numbers, summary_line}
+use Rattle.test_report_forms.specs.Words.{disagreement_line, not_run_line, outcome_word, summary_line}
+use Rattle.test_report_laws.proofs.CleanLines.{CleanLine, digits-lack, fewer}
+use Rattle.test_report_laws.proofs.CleanWords.{clean-outcome, clean-summary}
+use Rattle.test_report_laws.proofs.Lines.{IsWritten, blocks-lines, bytes-lack, has-blocks, in-one-line}
+use Rattle.test_report_laws.proofs.Numerals.{HasNumbers, IsColumn, IsNumber, IsNumbered, entry-numbers}
+use Rattle.test_report_laws.specs.Commands.{IsCommand, IsProperty, OnlyCommands, ends_value, command_names, is_line_end, written}
+use Rattle.test_report_laws.specs.Forms.{is_unseen}
+use Rattle.test_report_laws.specs.Lines.{Block, GithubNamesCauses, IsInLine, github_block, notice}
 use Rattle.test_report_run.specs.Note.{NoteView, TestNoteView}
 use Rattle.test_report_run.specs.declared.note.RunEnd.{RunEnd}
 
--- bytes without the end of a line
-abbrev inner : ℕ → Bool
-inner b = not (is_line_end b)
+-- texts without an end of a line
+abbrev Inner : List ℕ → Type 0
+Inner text = Lacks is_line_end text
 
-record Inner (bs : List ℕ) : Type 0 where
-  pub all : list_all inner bs ≡ true
+abbrev Value : List ℕ → Type 0
+Value text = Lacks ends_value text
 
-joined : (xs ys : List ℕ) → list_all inner xs ≡ true → list_all inner ys ≡ true → list_all inner (xs ++ ys) ≡ true
-joined [] ys p q = q
-joined (x ∷ xs) ys p q =
-    elim (inner x) as (λ b. (b && list_all inner xs) ≡ true → (b && list_all inner (xs ++ ys)) ≡ true)
-    [ true ↦ λ e. joined xs ys e q | false ↦ λ e. e ] p
+unseen-end : (c : ℕ) → is_unseen c ≡ false → is_line_end c ≡ false
+unseen-end c e = grind (arith, nat_tests, e)
 
-also : {xs ys : List ℕ} → Inner xs → Inner ys → Inner (xs ++ ys)
-also {xs} {ys} p q = record { all = joined xs ys p.all q.all }
+inner : {text : List ℕ} → CleanLine text → Inner text
+inner h = fewer is_unseen is_line_end unseen-end h
 
-word : (xs : List ℕ) → list_all inner xs ≡ true → Inner xs
-word xs e = record { all = e }
+plain : (bs : List ℕ) → list_all (visible is_line_end) bs ≡ true → Inner bs
+plain bs e = lacks-word is_line_end bs e
 
-inner-more : (b : ℕ) (bs : List ℕ) → inner b ≡ true → Inner bs → Inner (b ∷ bs)
-inner-more b bs e h = record { all = ap (λ x. x && list_all inner bs) e ∙ h.all }
+value-end : (comma colon end : Bool) → (comma || (colon || end)) ≡ false → end ≡ false
+value-end true colon end e = absurd (true≢false e)
+value-end false true end e = absurd (true≢false e)
+value-end false false end e = e
 
-inner-flat_map : (f : ℕ → List ℕ) → ((x : ℕ) → Inner (f x)) → (xs : List ℕ) → Inner (flat_map f xs)
-inner-flat_map f h [] = word [] refl
-inner-flat_map f h (x ∷ xs) = also (h x) (inner-flat_map f h xs)
+within : {text : List ℕ} → Value text → Inner text
+within h = fewer ends_value is_line_end (λ c. value-end (c == 44) (c == 58) (is_line_end c)) h
 
-inner-replicate : (c n : ℕ) → inner c ≡ true → Inner (replicate n c)
-inner-replicate c zero e = word [] refl
-inner-replicate c (suc n) e = inner-more c (replicate n c) e (inner-replicate c n e)
+end-feed : (c : ℕ) → is_line_end c ≡ false → (c == 10) ≡ false
+end-feed c e = grind (arith, nat_tests, e)
 
-high : (b : ℕ) → 14 ≤ b → inner b ≡ true
-high b h = grind (arith, nat_tests, h)
+in-line : {text : List ℕ} → Inner text → IsInLine text
+in-line h = in-one-line (fewer is_line_end (λ b. b == 10) end-feed h)
 
--- numbers
-glyph : (d : ℕ) → inner (digit_glyph false d) ≡ true
-glyph d =
-    elim (nat_lt d 10) as (λ b. inner (if b then 48 + d else 87 + d) ≡ true)
-    [ true ↦ high (48 + d) (omega arith) | false ↦ high (87 + d) (omega arith) ]
-
-inner-digits : (k base n : ℕ) (acc : List ℕ) → Inner acc → Inner (digits_onto k base false n acc)
-inner-digits zero base n acc h = h
-inner-digits (suc k) base n acc h =
-    let more = inner-more (digit_glyph false (n % base)) acc (glyph (n % base)) h in
-    let longer = digit_glyph false (n % base) ∷ acc in
-    elim (n / base == 0) as (λ b. Inner (if b then longer else digits_onto k base false (n / base) longer))
-    [ true ↦ more | false ↦ inner-digits k base (n / base) longer more ]
-
-inner-decimal : (n : ℕ) → Inner (decimal n)
-unfolding digits
-inner-decimal n = inner-digits 64 10 n [] (word [] refl)
-
--- characters
-inner-cond : (b : Bool) (xs ys : List ℕ) → Inner xs → Inner ys → Inner (cond b xs ys)
-inner-cond true xs ys p q = p
-inner-cond false xs ys p q = q
-
-not-end : (c : ℕ) → (c == 10) ≡ false → (c == 13) ≡ false → inner c ≡ true
-not-end c p q = rw (p, q) refl
-
-inner-encode : (c : ℕ) → (c == 10) ≡ false → (c == 13) ≡ false → Inner (encode_utf8 c)
-unfolding encode_utf8
-inner-encode c p q =
-    let next = λ (n : ℕ) (bs : List ℕ) (h : Inner bs). inner-more (128 + n % 64) bs (high (128 + n % 64) (omega arith)) h in
-    let none = word [] refl in
-    inner-cond _ _ _ (inner-more c [] (not-end c p q) none) (
-    inner-cond _ _ _ (inner-more (192 + c / 64) _ (high (192 + c / 64) (omega arith)) (next c [] none)) (
-    inner-cond _ _ _ (inner-more (224 + c / 4096) _ (high (224 + c / 4096) (omega arith)) (next (c / 64) _ (next c [] none)))
-    (inner-more (240 + c / 262144) _ (high (240 + c / 262144) (omega arith)) (next (c / 4096) _ (next (c / 64) _ (next c [] none))))
-    )
-    )
-
-inner-data : (c : ℕ) → Inner (data_char c)
-inner-data c =
-    elim (c == 37) as (λ b. Inner (if b then codes "%25" else (if c == 13 then codes "%0D" else (if c == 10 then codes "%0A" else encode_utf8 c)))) [
-      | true ↦ word (codes "%25") refl
-      | false ↦ elim (c == 13) as (λ b. (c == 13) ≡ b → Inner (if b then codes "%0D" else (if c == 10 then codes "%0A" else encode_utf8 c))) [
-        | true ↦ λ q. word (codes "%0D") refl
-        | false ↦ λ q. elim (c == 10) as (λ b. (c == 10) ≡ b → Inner (if b then codes "%0A" else encode_utf8 c)) [
-          | true ↦ λ p. word (codes "%0A") refl
-          | false ↦ λ p. inner-encode c p q
+-- messages, and the values of properties
+module _ (p : ℕ → Bool) (escapes : list_all (visible p) (codes "%25") ≡ true) (returns : list_all (visible p) (codes "%0D") ≡ true)
+    (feeds : list_all (visible p) (codes "%0A") ≡ true) (c : ℕ) (other : (c == 13) ≡ false → (c == 10) ≡ false → p c ≡ false) where
+  lacks-data : Lacks p (data_char c)
+  lacks-data =
+      elim (c == 37) as (λ b. Lacks p (if b then codes "%25" else (if c == 13 then codes "%0D" else (if c == 10 then codes "%0A" else encode_utf8 c)))) [
+        | true ↦ lacks-word p (codes "%25") escapes
+        | false ↦ elim (c == 13) as (λ b. (c == 13) ≡ b → Lacks p (if b then codes "%0D" else (if c == 10 then codes "%0A" else encode_utf8 c))) [
+          | true ↦ λ e. lacks-word p (codes "%0D") returns
+          | false ↦ λ e. elim (c == 10) as (λ b. (c == 10) ≡ b → Lacks p (if b then codes "%0A" else encode_utf8 c)) [
+            | true ↦ λ f. lacks-word p (codes "%0A") feeds
+            | false ↦ λ f. one-char p c (other e f)
+          ] refl
         ] refl
-      ] refl
-    ]
-
-inner-property_char : (c : ℕ) → Inner (property_char c)
-inner-property_char c =
-    elim (c == 58) as (λ b. Inner (if b then codes "%3A" else (if c == 44 then codes "%2C" else data_char c))) [
-      | true ↦ word (codes "%3A") refl
-      | false ↦ elim (c == 44) as (λ b. Inner (if b then codes "%2C" else data_char c)) [ true ↦ word (codes "%2C") refl | false ↦ inner-data c ]
-    ]
+      ]
 
 inner-message : (text : List ℕ) → Inner (message text)
-inner-message text = inner-flat_map data_char inner-data (chars text)
+inner-message text =
+    lacks-flat_map is_line_end data_char (λ c. lacks-data is_line_end refl refl refl c (λ e f. rw (e, f) refl)) (chars text)
 
-inner-property : (text : List ℕ) → Inner (property text)
-inner-property text = inner-flat_map property_char inner-property_char (chars text)
+value-char : (c : ℕ) → Value (property_char c)
+value-char c =
+    elim (c == 58) as (λ b. (c == 58) ≡ b → Value (if b then codes "%3A" else (if c == 44 then codes "%2C" else data_char c))) [
+      | true ↦ λ e. lacks-word ends_value (codes "%3A") refl
+      | false ↦ λ e. elim (c == 44) as (λ b. (c == 44) ≡ b → Value (if b then codes "%2C" else data_char c)) [
+        | true ↦ λ f. lacks-word ends_value (codes "%2C") refl
+        | false ↦ λ f. lacks-data ends_value refl refl refl c (λ g h. rw (e, f, g, h) refl)
+      ] refl
+    ] refl
 
--- digits
-digit : (x : ℕ) → is_ascii_digit x ≡ true → inner x ≡ true
-digit x e = grind (arith, nat_tests, e)
+value-property : (text : List ℕ) → Value (property text)
+value-property text = lacks-flat_map ends_value property_char value-char (chars text)
 
-inner-list : (ds : List ℕ) → list_all is_ascii_digit ds ≡ true → Inner ds
-inner-list [] e = word [] refl
-inner-list (x ∷ xs) e =
-    inner-more x xs (digit x (and-left (is_ascii_digit x) (list_all is_ascii_digit xs) e))
-    (inner-list xs (and-right (is_ascii_digit x) (list_all is_ascii_digit xs) e))
+value-digit : (b : ℕ) → is_ascii_digit b ≡ true → visible ends_value b ≡ true
+value-digit b e = grind (arith, nat_tests, e)
 
-inner-number : {ds : List ℕ} → IsNumber ds → Inner ds
-inner-number {ds} n = inner-list ds n.digits
+value-number : {ds : List ℕ} → IsNumber ds → Value ds
+value-number h = digits-lack ends_value value-digit h
 
--- the parts of a command
-inner-column : (o : Option (List ℕ)) → IsColumn o → Inner (column_property o)
-unfolding column_property
-inner-column None h = word [] refl
-inner-column (Some c) h = also (word (codes ",col=") refl) (inner-number h)
+-- a command, and that it is in one line
+pub record IsWhole (line : List ℕ) : Type 0 where
+  pub command : IsCommand line
+  pub in_one : Inner line
 
-inner-properties : (o : Option PlaceView) → IsNumbered o → Inner (properties o)
-unfolding properties place_properties
-inner-properties None h = word [] refl
-inner-properties (Some p) h =
-    let numbers = also (word (codes ",line=") refl) (also (inner-number h.0) (also (inner-column p.column h.1) (word (codes ",") refl))) in
-    also (word (codes "file=") refl) (also (inner-property (shown_name p.file)) numbers)
+-- the command of a failed test
+abbrev failed_line : Option PlaceView → List ℕ → List ℕ → List ℕ
+failed_line place named said = codes "::error " ++ (properties place ++ (named ++ (codes "::" ++ said)))
 
-inner-title : (t : TestNoteView) → Inner (title_property t)
+abbrev Properties : List (List ℕ) → Type 0
+Properties ps = All IsProperty ps
+
+one-property : (p : List ℕ) → IsProperty p → Properties (p ∷ [])
+one-property p h = All-cons IsProperty p [] h (All-nil IsProperty)
+
+file-property : (file : List ℕ) → IsProperty (codes "file=" ++ property (shown_name file))
+file-property file = record {
+  name = codes "file";
+  value = property (shown_name file);
+  is = refl;
+  is_name = (0, omega arith, refl);
+  is_value = (value-property (shown_name file)).is;
+}
+
+line-property : (line : List ℕ) → IsNumber line → IsProperty (codes "line=" ++ line)
+line-property line h = record { name = codes "line"; value = line; is = refl; is_name = (1, omega arith, refl); is_value = (value-number h).is }
+
+column-property : (column : List ℕ) → IsNumber column → IsProperty (codes "col=" ++ column)
+column-property column h = record { name = codes "col"; value = column; is = refl; is_name = (2, omega arith, refl); is_value = (value-number h).is }
+
+title-property : (t : TestNoteView) → IsProperty (title_property t)
 unfolding title_property
-inner-title t = also (word (codes "title=") refl) (inner-property (title t))
+title-property t =
+    record { name = codes "title"; value = property (title t); is = refl; is_name = (3, omega arith, refl); is_value = (value-property (title t)).is }
 
-inner-three : (n : ℕ) → Inner (three_digits n)
-inner-three n = also (inner-replicate 48 (3 - length (decimal n)) refl) (inner-decimal n)
+-- the parts of commands
+place-parts : (h a f k v l c n s : List ℕ)
+    → h ++ ((a ++ (f ++ ((k ++ v) ++ (l ++ (c ++ k))))) ++ (n ++ s)) ≡ h ++ (((a ++ f) ++ (k ++ ((v ++ l) ++ (c ++ (k ++ n))))) ++ s)
+place-parts h a f k v l c n s = simp append_assoc
 
-inner-bracket : (time : Option ℕ) → Inner (bracket time)
-unfolding bracket
-inner-bracket None = word [] refl
-inner-bracket (Some micros) =
-    let whole = decimal (micros / 1000000) in
-    let padding = also (inner-replicate 32 (4 - length whole) refl) (inner-decimal (micros / 1000000)) in
-    also (word (codes "[") refl) (also padding (also (word (codes ".") refl) (also (inner-three (micros / 1000 % 1000)) (word (codes "s] ") refl))))
+end-last : (h p n w m e : List ℕ) → h ++ (p ++ (n ++ (w ++ (m ++ e)))) ≡ (h ++ (p ++ (n ++ (w ++ m)))) ++ e
+end-last h p n w m e = simp append_assoc
 
-inner-summary : (e : RunEnd) → Inner (summary_line e)
-unfolding summary_line run_numbers passed_numbers failed_numbers other_numbers
-inner-summary e =
-    let passed =
-    also (inner-decimal e.stats.finished_count) (also (word (codes " tests run: ") refl) (also (inner-decimal e.stats.passed)
-    (also (word (codes " passed (") refl) (also (inner-decimal e.stats.flaky) (word (codes " flaky), ") refl))))) in
-    let failed =
-    also (inner-decimal (e.stats.finished_count - e.stats.passed)) (also (word (codes " failed (") refl) (also (inner-decimal e.stats.failed_timed_out)
-    (also (word (codes " timed out, ") refl) (also (inner-decimal e.crashed) (word (codes " crashed), ") refl))))) in
-    let others = also (inner-decimal e.skipped) (also (word (codes " skipped, ") refl) (also (inner-decimal e.not_run) (word (codes " not run") refl))) in
-    also (inner-bracket e.time) (also passed (also failed others))
+notice-parts : (h s w o e : List ℕ) → h ++ (s ++ (w ++ (o ++ e))) ≡ (h ++ (s ++ (w ++ o))) ++ e
+notice-parts h s w o e = simp append_assoc
 
-inner-outcome : (o : RunOutcome) → Inner (outcome_word o)
-inner-outcome outcome.Success = word (codes "success") refl
-inner-outcome outcome.NoTestsRun = word (codes "no-tests-run") refl
-inner-outcome (outcome.Cancelled step) = word (codes "cancelled") refl
-inner-outcome (outcome.Failed step) = word (codes "failed") refl
+module _ (named said : List ℕ) (is_named : IsProperty named) (inner_named : Inner named) (inner_said : Inner said) where
+  inner-end : Inner (named ++ (codes "::" ++ said))
+  inner-end = both inner_named (both (plain (codes "::") refl) inner_said)
 
--- the lines of a text
-abbrev Good : List ℕ → Type 0
-Good text = AllPass is_log_line (slice_split is_line_end text)
+  whole-command : (line p : List ℕ) (ps : List (List ℕ)) → Properties (p ∷ ps)
+      → line ≡ codes "::error " ++ (join_with_byte 44 (p ∷ ps) ++ (codes "::" ++ said)) → IsCommand line
+  whole-command line p ps h is =
+      record { name = codes "error"; properties = p ∷ ps; message = said; is = is; is_name = (0, omega arith, refl); are_properties = h }
 
-no-end : (bs : List ℕ) → list_all inner bs ≡ true → All (λ b. is_line_end b ≡ false) bs
-no-end [] h = All-nil (λ b. is_line_end b ≡ false)
-no-end (x ∷ xs) h =
-    elim (is_line_end x) as (λ b. is_line_end x ≡ b → (not b && list_all inner xs) ≡ true → All (λ y. is_line_end y ≡ false) (x ∷ xs)) [
-      | true ↦ λ e i. absurd (true≢false (sym i))
-      | false ↦ λ e i. All-cons (λ y. is_line_end y ≡ false) x xs e (no-end xs i)
-    ] refl h
+  placed : (file line : List ℕ) (column : Option (List ℕ)) → IsNumber line → IsColumn column
+      → IsWhole (failed_line (Some (record { file = file; line = line; column = column })) named said)
+  unfolding properties place_properties column_property
+  placed file line column h i =
+      let path = property (shown_name file) in
+      let a = codes "file=" ++ path in
+      let b = codes "line=" ++ line in
+      let parts = λ (c : List ℕ). place-parts (codes "::error ") (codes "file=") path (codes ",") (codes "line=") line c named (codes "::" ++ said) in
+      let front = λ (c : List ℕ) (within_c : Inner c). both (plain (codes "file=") refl) (both (within (value-property (shown_name file)))
+      (both (plain (codes ",line=") refl) (both (within (value-number h)) (both within_c (plain (codes ",") refl))))) in
+      let lead = plain (codes "::error ") refl in
+      let are = λ (ps : List (List ℕ)) (each : Properties ps).
+      All-cons IsProperty a (b ∷ ps) (file-property file) (All-cons IsProperty b ps (line-property line h) each) in
+      elim column as (λ o. IsColumn o → IsWhole (failed_line (Some (record { file = file; line = line; column = o })) named said)) [
+        | None ↦ λ none_given. record {
+          command = whole-command _ a (b ∷ named ∷ []) (are (named ∷ []) (one-property named is_named)) (parts []);
+          in_one = both lead (both (front [] (none is_line_end)) inner-end);
+        }
+        | Some c ↦ λ number.
+            let p = codes "col=" ++ c in record {
+              command =
+                  whole-command _ a (b ∷ p ∷ named ∷ [])
+                  (are (p ∷ named ∷ []) (All-cons IsProperty p (named ∷ []) (column-property c number) (one-property named is_named)))
+                  (parts (codes ",col=" ++ c));
+              in_one = both lead (both (front (codes ",col=" ++ c) (both (plain (codes ",col=") refl) (within (value-number number)))) inner-end);
+            }
+      ] i
 
-good-line : (line rest : List ℕ) → Inner line → is_log_line line ≡ true → Good rest → Good (line ++ 10 ∷ rest)
-good-line line rest i is h =
-    subst (AllPass is_log_line) (sym (slice_split_at is_line_end line 10 rest (no-end line i.all) refl))
-    (All-cons (λ l. is_log_line l ≡ true) line (slice_split is_line_end rest) is h)
+  whole-failed : (place : Option PlaceView) → IsNumbered place → IsWhole (failed_line place named said)
+  unfolding properties
+  whole-failed None h = record {
+    command = whole-command _ named [] (one-property named is_named) refl;
+    in_one = both (plain (codes "::error ") refl) inner-end;
+  }
+  whole-failed (Some p) h = placed p.file p.line p.column h.0 h.1
 
-good-failed : (limit : ℕ) (t : TestNoteView) (w : WhyView) (rest : List ℕ) → IsNumbered w.place → Good rest → Good (failed_command limit t w ++ rest)
+-- a command without properties
+whole-plain : (name said : List ℕ) → Contains command_names name → Inner name → Inner said → IsWhole (codes "::" ++ (name ++ (codes "::" ++ said)))
+whole-plain name said is h more = record {
+  command = record { name = name; properties = []; message = said; is = refl; is_name = is; are_properties = All-nil IsProperty };
+  in_one = both (plain (codes "::") refl) (both h (both (plain (codes "::") refl) more));
+}
+
+whole-error : (text : List ℕ) → IsWhole (codes "::error::" ++ message text)
+whole-error text = whole-plain (codes "error") (message text) (0, omega arith, refl) (plain (codes "error") refl) (inner-message text)
+
+whole-notice : (end : RunEnd) → IsWhole (notice end)
+whole-notice end =
+    let said = both (inner (clean-summary end)) (both (plain (codes ", outcome ") refl) (inner (clean-outcome end.outcome))) in
+    whole-plain (codes "notice") (summary_line end ++ (codes ", outcome " ++ outcome_word end.outcome)) (1, omega arith, refl)
+    (plain (codes "notice") refl) said
+
+-- what is written of an entry is a whole command, or nothing
+abbrev IsOne : List ℕ → Option Block → Type 0
+IsOne text None = text ≡ []
+IsOne text (Some b) = (text ≡ b.line ++ (codes "\n" ++ b.below)) × IsWhole b.line × (b.below ≡ [])
+
+within-title : (t : TestNoteView) → Inner (title_property t)
+unfolding title_property
+within-title t = both (plain (codes "title=") refl) (within (value-property (title t)))
+
+one-failed : (limit : ℕ) (t : TestNoteView) (w : WhyView) → IsNumbered w.place → IsOne (failed_command limit t w) (Some (record {
+  line = failed_line w.place (title_property t) (message (limited w.text limit));
+  below = [];
+}))
 unfolding failed_command why_message
-good-failed limit t w rest p h =
-    let said = also (word (codes "::") refl) (inner-message (limited w.text limit)) in
-    let parts = also (word (codes "::error ") refl) (also (inner-properties w.place p) (also (inner-title t) said)) in
-    let line = codes "::error " ++ (properties w.place ++ (title_property t ++ (codes "::" ++ message (limited w.text limit)))) in
-    let same : line ++ (10 ∷ rest) ≡ failed_command limit t w ++ rest = simp append_assoc in
-    subst Good same (good-line line rest parts refl h)
+one-failed limit t w h = (
+  end-last (codes "::error ") (properties w.place) (title_property t) (codes "::") (message (limited w.text limit)) (codes "\n"),
+  whole-failed (title_property t) (message (limited w.text limit)) (title-property t) (within-title t) (inner-message (limited w.text limit)) w.place h,
+  refl,
+)
 
-good-error : (text rest : List ℕ) → Good rest → Good (error_command text ++ rest)
+one-error : (text : List ℕ) → IsOne (error_command text) (Some (record { line = codes "::error::" ++ message text; below = [] }))
 unfolding error_command
-good-error text rest h =
-    let line = codes "::error::" ++ message text in
-    let same : line ++ (10 ∷ rest) ≡ error_command text ++ rest = simp append_assoc in
-    subst Good same (good-line line rest (also (word (codes "::error::") refl) (inner-message text)) refl h)
+one-error text = (sym (append_assoc (codes "::error::") (message text) (codes "\n")), whole-error text, refl)
 
-good-last : (end : RunEnd) → Good (github_last end)
-unfolding github_last
-good-last end =
-    let line = codes "::notice::" ++ (summary_line end ++ (codes ", outcome " ++ outcome_word end.outcome)) in
-    let parts = also (word (codes "::notice::") refl) (also (inner-summary end) (also (word (codes ", outcome ") refl) (inner-outcome end.outcome))) in
-    let same : line ++ (10 ∷ []) ≡ github_last end = simp append_assoc in
-    subst Good same (good-line line [] parts refl (All-cons (λ l. is_log_line l ≡ true) [] [] refl (All-nil (λ l. is_log_line l ≡ true))))
+one-entry : (limit : ℕ) (e : EntryView) → HasNumbers e → IsOne (github_line limit e) (github_block limit e)
+one-entry limit (TestFailed t f w) h = one-failed limit t w h
+one-entry limit (LinesDisagree d) h = one-error (disagreement_line d)
+one-entry limit (SuiteNotRun suite n of) h = one-error (not_run_line suite n of)
+one-entry limit (TestPassed t) h = refl
+one-entry limit (TestSkipped t) h = refl
+one-entry limit (SuiteOver s) h = refl
 
-good-entry : (limit : ℕ) (e : EntryView) (rest : List ℕ) → HasNumbers e → Good rest → Good (github_line limit e ++ rest)
-good-entry limit (TestFailed t f w) rest i h = good-failed limit t w rest i h
-good-entry limit (LinesDisagree d) rest i h = good-error (disagreement_line d) rest h
-good-entry limit (SuiteNotRun suite n of) rest i h = good-error (not_run_line suite n of) rest h
-good-entry limit (TestPassed t) rest i h = h
-good-entry limit (TestSkipped t) rest i h = h
-good-entry limit (SuiteOver s) rest i h = h
+-- the lines of a text are commands
+record AreCommands (text : List ℕ) : Type 0 where
+  pub lines : List (List ℕ)
+  pub are : All IsCommand lines
+  pub before : (rest : List ℕ) → slice_split is_line_end (text ++ rest) ≡ lines ++ slice_split is_line_end rest
 
-good-entries : (limit : ℕ) (entries : List EntryView) (last : List ℕ) → All (λ e. (n : NoteView) × IsEntryOf n e) entries → Good last
-    → Good (flat_map (github_line limit) entries ++ last)
-good-entries limit [] last are h = h
-good-entries limit (e ∷ es) last are h =
+no-commands : AreCommands []
+no-commands = record { lines = []; are = All-nil IsCommand; before = λ rest. refl }
+
+commands-both : (xs ys : List ℕ) → AreCommands xs → AreCommands ys → AreCommands (xs ++ ys)
+commands-both xs ys a b = record {
+  lines = a.lines ++ b.lines;
+  are = All-append IsCommand a.lines b.lines a.are b.are;
+  before = λ rest. ap (slice_split is_line_end) (append_assoc xs ys rest)
+      ∙ (a.before (ys ++ rest) ∙ (ap (λ l. a.lines ++ l) (b.before rest) ∙ sym (append_assoc a.lines b.lines (slice_split is_line_end rest))));
+}
+
+low-end : (b : ℕ) → is_line_end b ≡ true → b < 128
+low-end b e = grind (arith, nat_tests, e)
+
+one-command : (line : List ℕ) → IsWhole line → AreCommands (line ++ codes "\n")
+one-command line h = record {
+  lines = line ∷ [];
+  are = All-cons IsCommand line [] h.command (All-nil IsCommand);
+  before = λ rest. ap (slice_split is_line_end) (append_assoc line (codes "\n") rest)
+      ∙ slice_split_at is_line_end line 10 rest (bytes-lack is_line_end low-end line h.in_one) refl;
+}
+
+entry-commands : (text : List ℕ) (o : Option Block) → IsOne text o → AreCommands text
+entry-commands text None h = subst AreCommands (sym h) no-commands
+entry-commands text (Some b) h =
+    subst AreCommands (sym (h.0 ∙ ap (λ l. b.line ++ (codes "\n" ++ l)) h.2)) (one-command b.line h.1)
+
+abbrev OfNotes : List EntryView → Type 0
+OfNotes entries = All (λ e. (n : NoteView) × IsEntryOf n e) entries
+
+all-commands : (limit : ℕ) (entries : List EntryView) → OfNotes entries → AreCommands (flat_map (github_line limit) entries)
+all-commands limit [] are = no-commands
+all-commands limit (e ∷ es) are =
     let is = All-head (λ e. (n : NoteView) × IsEntryOf n e) e es are in
-    let more = good-entries limit es last (All-tail (λ e. (n : NoteView) × IsEntryOf n e) e es are) h in
-    subst Good (sym (append_assoc (github_line limit e) (flat_map (github_line limit) es) last))
-    (good-entry limit e (flat_map (github_line limit) es ++ last) (entry-numbers is.0 e is.1) more)
+    commands-both (github_line limit e) (flat_map (github_line limit) es)
+    (entry-commands (github_line limit e) (github_block limit e) (one-entry limit e (entry-numbers is.0 e is.1)))
+    (all-commands limit es (All-tail (λ e. (n : NoteView) × IsEntryOf n e) e es are))
+
+last-is : (end : RunEnd) → github_last end ≡ notice end ++ codes "\n"
+unfolding github_last
+last-is end = notice-parts (codes "::notice::") (summary_line end) (codes ", outcome ") (outcome_word end.outcome) (codes "\n")
 
 pub only-commands : OnlyCommands
-only-commands limit entries end are = good-entries limit entries (github_last end) are (good-last end)
+only-commands limit entries end are =
+    let last = subst AreCommands (sym (last-is end)) (one-command (notice end) (whole-notice end)) in
+    let text = flat_map (github_line limit) entries ++ github_last end in
+    let all = commands-both (flat_map (github_line limit) entries) (github_last end) (all-commands limit entries are) last in
+    (all.lines, all.are, ap (slice_split is_line_end) (sym (append-nil text)) ∙ all.before [])
+
+-- the lines, in order
+one-written : (text : List ℕ) (o : Option Block) → IsOne text o → IsWritten text o
+one-written text None h = h
+one-written text (Some b) h = (h.0, in-line h.1.in_one, inl h.2)
+
+pub github-names-causes : GithubNamesCauses
+github-names-causes limit entries end are =
+    let written = All-weaker (λ e. (n : NoteView) × IsEntryOf n e) (λ e. IsWritten (github_line limit e) (github_block limit e))
+    (λ e is. one-written (github_line limit e) (github_block limit e) (one-entry limit e (entry-numbers is.0 e is.1))) entries are in
+    record {
+      causes = has-blocks (github_line limit) (github_block limit) entries (github_last end) written;
+      outcome = record {
+        before = flat_map (github_line limit) entries;
+        is = ap (λ l. flat_map (github_line limit) entries ++ l) (last-is end);
+        begins = blocks-lines (github_line limit) (github_block limit) entries written;
+        one_line = in-line (whole-notice end).in_one;
+      };
+    }

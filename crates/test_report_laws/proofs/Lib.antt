@@ -2,9 +2,10 @@ pub mod Announced
 pub mod Books
 pub mod CleanEnds
 pub mod CleanForms
+pub mod CleanLines
 pub mod CleanWords
+pub mod ColouredText
 pub mod Commands
-pub mod Controls
 pub mod Counters
 pub mod Damage
 pub mod EndSums
@@ -15,7 +16,9 @@ pub mod InOrder
 pub mod JunitLaws
 pub mod JunitNamed
 pub mod JunitCauses
+pub mod KeyedLines
 pub mod LineParts
+pub mod Lines
 pub mod MarkdownLaws
 pub mod NotRun
 pub mod Numerals
@@ -28,12 +31,13 @@ pub mod ReportValues
 pub mod RunCauses
 pub mod RunReasons
 pub mod SameRun
+pub mod ShortLines
 pub mod Shown
 pub mod ShownValues
 pub mod Sound
 pub mod Sums
 pub mod Tallies
-pub mod TextCauses
+pub mod TextLines
 pub mod ToldFailures
 pub mod Types
 pub mod Verdicts

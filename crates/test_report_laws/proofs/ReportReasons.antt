@@ -1,17 +1,19 @@
 -- Why the run of a report does not succeed.
-use Rattle.std.proofs.Common.{◌≡◌, ◌∙◌, ◌++◌, ◌<◌, ℕ, zero, suc, List, [], ◌∷◌, Option, Some, None, IfSome, ap, arith, inl, inr, length, option_map, refl, true, subst, sym}
-use Rattle.std.specs.List.{All, AllZip, flat_map, slice_index_or}
+use Rattle.std.proofs.Common.{◌≡◌, ◌∙◌, ◌++◌, ◌<◌, ℕ, zero, suc, List, [], ◌∷◌, Option, Some, None, IfSome, ap, arith, codes, inl, inr, length, option_map, refl, true, subst, sym}
+use Rattle.std.specs.List.{All, AllZip, filter_map, flat_map, slice_index_or}
 use Rattle.std.specs.Prelude.{◌⊎◌, Contains, IsTrue}
 use Rattle.std.proofs.lemmas.Bool.{false_from_ne_true}
-use Rattle.std.proofs.lemmas.List.Elements.{Contains-append_right}
+use Rattle.std.proofs.lemmas.List.Elements.{All-cons, All-nil, Contains-append_right}
 use Rattle.test_report_forms.specs.Model.{cause_line, no_tests_ran}
 use Rattle.test_report_forms.specs.Entry.{EntryView, IsEntryOf, IsTestEntry, LinesDisagree, SuiteNotRun, SuiteOver, TestFailed, TestPassed, TestSkipped}
 use Rattle.test_report_forms.specs.Files.{html_last, junit_last, markdown_last}
-use Rattle.test_report_forms.specs.Github.{github_last, github_line, message, property}
+use Rattle.test_report_forms.specs.Github.{github_last, github_line}
 use Rattle.test_report_forms.specs.Html.{html_of}
 use Rattle.test_report_forms.specs.Junit.{junit_of}
 use Rattle.template.specs.Tree.{TreeView}
-use Rattle.test_report_laws.specs.Forms.{GithubNamesCauses, HtmlNamesCauses, MarkdownNamesCauses, NamesCauses, TextNamesCauses, failed_name}
+use Rattle.test_report_laws.proofs.Lines.{all-blocks}
+use Rattle.test_report_laws.proofs.ShownValues.{unfiltered}
+use Rattle.test_report_laws.specs.Forms.{HtmlNamesCauses, MarkdownNamesCauses, NamesCauses, failed_name}
 use Rattle.test_report_laws.specs.Junit.{HasJunitCase, HasJunitCases, IsXml, JunitCause, JunitNamesCauses, junit_cause, no_test_cause}
 use Rattle.template.specs.Hole.{hole_text}
 use Rattle.template.specs.Shows.{HasPart}
@@ -27,6 +29,7 @@ use Rattle.test_report_forms.specs.declared.markdown.MarkdownForm.{MarkdownForm}
 use Rattle.test_report_forms.specs.declared.options.Options.{Options}
 use Rattle.test_report_run.specs.Note.{Disagrees, Fails, IsNotRun, IsSkipped, NoteView, OutcomeView, Passes, SuiteIs, TestIs, TestNoteView, text_view}
 use Rattle.test_report_run.specs.Run.{end_of, has_failed}
+use Rattle.test_report_laws.specs.Lines.{Block, EndsWith, GithubNamesCauses, GithubSays, HasBlock, HasBlocks, SaysReason, TextNamesCauses, TextSays, github_block, notice, text_block}
 use Rattle.test_report_laws.specs.Status as status
 use Rattle.test_report_laws.specs.Status.{RanNoTests, Succeeds}
 use Rattle.test_report_laws.specs.Whole.{all_notes}
@@ -125,6 +128,41 @@ module _ (name line : List ℕ → List ℕ) (entries : List EntryView) (end : R
   names-reason (inl found) = names-entry found.0 found.1 found.2
   names-reason (inr none) = inr (inr record { is = none; said = subst (λ o. HasPart text (line (outcome_word o))) none causes.outcome })
 
+-- a text that has the block of each cause says a reason
+module _ (block : EntryView → Option Block) (last : List ℕ) (entries : List EntryView) (end : RunEnd) (text : List ℕ)
+    (own : (e : EntryView) → IsTrue (is_reason e) → (b : Block) × (block e ≡ Some b)) where
+  says-reason : HasBlocks text (filter_map block entries) → (RanNoTests end → EndsWith text last)
+      → ((e : EntryView) × Contains entries e × IsTrue (is_reason e)) ⊎ RanNoTests end → SaysReason block last entries end text
+  says-reason blocks ends (inl found) =
+      let b = own found.0 found.2 in
+      let each = unfiltered (HasBlock text) block entries (all-blocks text (filter_map block entries) blocks) in
+      let has = at-entry entries (λ e. IfSome (block e) (HasBlock text)) found.0 found.1 each in
+      inl record { entry = found.0; own = b.0; is_one = found.1; is_own = b.1; has_block = subst (λ o. IfSome o (HasBlock text)) b.1 has }
+  says-reason blocks ends (inr none) = inr (none, ends none)
+
+text-own : (o : Options) (e : EntryView) → IsTrue (is_reason e) → (b : Block) × (text_block o e ≡ Some b)
+text-own o (TestPassed t) reason = absurd (cc)
+text-own o (TestSkipped t) reason = absurd (cc)
+text-own o (TestFailed t f w) reason = (_, refl)
+text-own o (LinesDisagree d) reason = (_, refl)
+text-own o (SuiteNotRun suite n of) reason = (_, refl)
+text-own o (SuiteOver s) reason = absurd (cc)
+
+github-own : (limit : ℕ) (e : EntryView) → IsTrue (is_reason e) → (b : Block) × (github_block limit e ≡ Some b)
+github-own limit (TestPassed t) reason = absurd (cc)
+github-own limit (TestSkipped t) reason = absurd (cc)
+github-own limit (TestFailed t f w) reason = (_, refl)
+github-own limit (LinesDisagree d) reason = (_, refl)
+github-own limit (SuiteNotRun suite n of) reason = (_, refl)
+github-own limit (SuiteOver s) reason = absurd (cc)
+
+-- entries are of notes
+of-notes : (notes : List NoteView) (entries : List EntryView) → AllZip IsEntryOf notes entries → All (λ e. (n : NoteView) × IsEntryOf n e) entries
+of-notes [] [] zip = All-nil (λ e. (n : NoteView) × IsEntryOf n e)
+of-notes [] (e ∷ es) zip = absurd zip
+of-notes (n ∷ ns) [] zip = absurd zip
+of-notes (n ∷ ns) (e ∷ es) zip = All-cons (λ e. (n : NoteView) × IsEntryOf n e) e es (n, zip.0) (of-notes ns es zip.1)
+
 -- the cause of an entry that is a reason
 cause-of : (limit : ℕ) (e : EntryView) → IsTrue (is_reason e) → (c : JunitCause) × (junit_cause limit e ≡ Some c)
 cause-of limit (TestPassed t) reason = absurd (cc)
@@ -195,14 +233,19 @@ module _ (has_reason : FailureHasReason) where
       names-reason name written report.entries end text causes (reason-of line last inputs text end report fails)
 
   pub text-names : TextNamesCauses → TextNamesReason
-  text-names causes o inputs text end report =
-      report-names (λ name. name) (λ line. line) (text_line o) (text_last o) inputs text end report
-      (subst (NamesCauses (λ name. name) (λ line. line) report.entries end) (sym report.is) (causes o report.entries end))
+  text-names causes o inputs text end report fails =
+      let says = subst (TextSays o report.entries end) (sym report.is) (causes o report.entries end) in
+      says-reason (text_block o) (codes "outcome no-tests-run") report.entries end text (text-own o) says.causes
+      (λ none. subst (λ out. EndsWith text (codes "outcome " ++ outcome_word out)) none says.outcome)
+      (reason-of (text_line o) (text_last o) inputs text end report fails)
 
   pub github-names : GithubNamesCauses → GithubNamesReason
-  github-names causes limit inputs text end report =
-      report-names property message (github_line limit) (λ entries end. github_last end) inputs text end report
-      (subst (NamesCauses property message report.entries end) (sym report.is) (causes limit report.entries end))
+  github-names causes limit inputs text end report fails =
+      let files = one-run inputs report.entries report.run report.are in
+      let notes = of-notes (all_notes files.0) report.entries files.1.are in
+      let says = subst (GithubSays limit report.entries end) (sym report.is) (causes limit report.entries end notes) in
+      says-reason (github_block limit) (notice end) report.entries end text (github-own limit) says.causes (λ none. says.outcome)
+      (reason-of (github_line limit) (λ entries end. github_last end) inputs text end report fails)
 
   pub html-names : HtmlNamesCauses → HtmlNamesReason
   html-names causes limit inputs text end report =

@@ -36,7 +36,7 @@ kept-head : {Y : Type 0} (P : Y → Type 0) (o : Option Y) (ys : List Y) → All
 kept-head P None ys h = (tt, h)
 kept-head P (Some y) ys h = (All-head P y ys h, All-tail P y ys h)
 
-unfiltered : {X Y : Type 0} (P : Y → Type 0) (f : X → Option Y) (xs : List X) → All P (filter_map f xs) → All (λ x. IfSome (f x) P) xs
+pub unfiltered : {X Y : Type 0} (P : Y → Type 0) (f : X → Option Y) (xs : List X) → All P (filter_map f xs) → All (λ x. IfSome (f x) P) xs
 unfiltered P f [] h = All-nil (λ x. IfSome (f x) P)
 unfiltered P f (x ∷ xs) h =
     let both = kept-head P (f x) (filter_map f xs) h in All-cons (λ y. IfSome (f y) P) x xs both.0 (unfiltered P f xs both.1)

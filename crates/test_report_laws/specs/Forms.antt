@@ -1,7 +1,7 @@
 -- Laws of what the forms write.
-use Rattle.std.specs.Prelude.{◌≡◌, ◌==◌, ◌&&◌, ◌||◌, ◌++◌, ◌⊎◌, ℕ, Bool, true, false, List, [], ◌∷◌, Some, None, Option, ⊤, codes, length, nat_eq}
+use Rattle.std.specs.Prelude.{◌≡◌, ◌||◌, ◌++◌, ◌⊎◌, ℕ, Bool, false, List, [], Some, None, Option, codes}
 use Rattle.std.specs.Char.{is_control}
-use Rattle.std.specs.List.{All, AllPass, flat_map, slice_split, starts_with}
+use Rattle.std.specs.List.{All, flat_map}
 use Rattle.std.specs.Option.{IfSome}
 use Rattle.std.specs.Str.{NoCharPasses}
 use Rattle.template.specs.Document.{filled_tree}
@@ -14,7 +14,7 @@ use Rattle.template.specs.Template.{Values, parts_text, text_of}
 use Rattle.template.specs.Tree.{TreeView}
 use Rattle.template.specs.declared.hole.Hole.TheVariants as hole
 use Rattle.test_report_forms.specs.Entry.{EntryView, IsEntryOf, LinesDisagree, SuiteNotRun, SuiteOver, TestFailed, TestPassed, TestSkipped}
-use Rattle.test_report_forms.specs.Github.{github_last, github_line, message, property}
+use Rattle.test_report_forms.specs.Github.{github_last, github_line}
 use Rattle.test_report_forms.specs.Holes.{HoleView, PhraseView}
 use Rattle.test_report_forms.specs.Html.{failed_text, html_of, page_heading, page_holes, page_parts, page_phrases, problem_text, suite_text, title_text}
 use Rattle.test_report_forms.specs.Markdown.{details_text, markdown_heading, markdown_holes, markdown_of, markdown_parts, markdown_phrases, row_text}
@@ -29,19 +29,6 @@ use Rattle.test_report_forms.specs.Words.{outcome_word, run_numbers}
 use Rattle.test_report_forms.specs.declared.options.Options.{Options}
 use Rattle.test_report_run.specs.Note.{NoteView}
 use Rattle.test_report_run.specs.declared.note.RunEnd.{RunEnd}
-
--- the end of a line in a log: a line feed or a carriage return
-abbrev pub is_line_end : ℕ → Bool
-is_line_end b = b == 10 || b == 13
-
--- a line that is a command for an error or a notice, or that is empty
-abbrev pub is_log_line : List ℕ → Bool
-is_log_line line = starts_with nat_eq line (codes "::error") || (starts_with nat_eq line (codes "::notice") || length line == 0)
-
--- Every line that the form for GitHub writes of entries and at the end is a command for an error or a notice, or empty.
-abbrev pub OnlyCommands : Type 0
-OnlyCommands = (limit : ℕ) (entries : List EntryView) (end : RunEnd) → All (λ e. (n : NoteView) × IsEntryOf n e) entries
-    → AllPass is_log_line (slice_split is_line_end (flat_map (github_line limit) entries ++ github_last end))
 
 -- a control character, or a character that changes the direction of writing
 abbrev pub is_unseen : ℕ → Bool
@@ -93,17 +80,7 @@ pub record NamesCauses (name line : List ℕ → List ℕ) (entries : List Entry
   pub lines : All (λ e. IfSome (cause_line e) (λ l. HasPart text (line l))) entries
   pub outcome : HasPart text (line (outcome_word end.outcome))
 
--- What the form for people writes names each cause of a run that does not succeed.
-abbrev pub TextNamesCauses : Type 0
-TextNamesCauses = (o : Options) (entries : List EntryView) (end : RunEnd)
-    → NamesCauses (λ name. name) (λ line. line) entries end (flat_map (text_line o) entries ++ text_last o entries end)
-
--- What the form for GitHub writes names each such cause.
-abbrev pub GithubNamesCauses : Type 0
-GithubNamesCauses = (limit : ℕ) (entries : List EntryView) (end : RunEnd)
-    → NamesCauses property message entries end (flat_map (github_line limit) entries ++ github_last end)
-
--- What the form for a browser writes names each such cause.
+-- What the form for a browser writes names each cause of a run that does not succeed.
 abbrev pub HtmlNamesCauses : Type 0
 HtmlNamesCauses = (limit : ℕ) (entries : List EntryView) (end : RunEnd)
     → NamesCauses (hole_text hole.Text) (hole_text hole.Text) entries end (html_of limit entries end)

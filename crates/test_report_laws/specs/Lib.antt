@@ -1,5 +1,8 @@
+pub mod Colours
+pub mod Commands
 pub mod Forms
 pub mod Junit
+pub mod Lines
 pub mod Report
 pub mod Run
 pub mod Status

@@ -6,10 +6,11 @@ use Rattle.template.specs.Shows.{HasPart}
 use Rattle.template.specs.declared.hole.Hole.TheVariants as hole
 use Rattle.test_report_events.specs.Event.{EventView}
 use Rattle.test_report_forms.specs.Entry.{EntryView, IsEntryOf, LinesDisagree, SuiteNotRun, SuiteOver, TestFailed, TestPassed, TestSkipped}
-use Rattle.test_report_forms.specs.Github.{github_last, github_line, message, property}
+use Rattle.test_report_forms.specs.Github.{github_last, github_line}
 use Rattle.test_report_forms.specs.Html.{html_of}
 use Rattle.test_report_forms.specs.Junit.{junit_of}
 use Rattle.test_report_laws.specs.Forms.{failed_name}
+use Rattle.test_report_laws.specs.Lines.{SaysReason, github_block, notice, text_block}
 use Rattle.test_report_laws.specs.Junit.{HasJunitCase, IsXml, JunitCause, junit_cause, no_test_cause}
 use Rattle.test_report_forms.specs.Markdown.{markdown_of}
 use Rattle.test_report_forms.specs.Model.{cause_line}
@@ -98,17 +99,17 @@ pub record SaysNoTests (line : List ℕ → List ℕ) (end : RunEnd) (text : Lis
 abbrev pub NamesReason : (name line : List ℕ → List ℕ) → List EntryView → RunEnd → List ℕ → Type 0
 NamesReason name line entries end text = NamesTest name entries text ⊎ (HasLine line entries text ⊎ SaysNoTests line end text)
 
--- The report for people of a run that does not succeed names a reason.
+-- The report for people of a run that does not succeed names a reason in whole lines.
 abbrev pub TextNamesReason : Type 0
 TextNamesReason = (o : Options) → (inputs : List (List ℕ)) → (text : List ℕ) → (end : RunEnd)
     → (report : IsReport (text_line o) (text_last o) inputs text end) → ¬ (Succeeds end)
-    → NamesReason (λ name. name) (λ line. line) report.entries end text
+    → SaysReason (text_block o) (codes "outcome no-tests-run") report.entries end text
 
 -- The report for GitHub of such a run names a reason.
 abbrev pub GithubNamesReason : Type 0
 GithubNamesReason = (limit : ℕ) → (inputs : List (List ℕ)) → (text : List ℕ) → (end : RunEnd)
     → (report : IsReport (github_line limit) (λ entries end. github_last end) inputs text end) → ¬ (Succeeds end)
-    → NamesReason property message report.entries end text
+    → SaysReason (github_block limit) (notice end) report.entries end text
 
 -- JUnit's XML reads back as a tree that has the test case of a reason why a run does not succeed: the cause of an entry, or that no test ran
 pub record HasReasonCase (o : Options) (entries : List EntryView) (end : RunEnd) (text : List ℕ) : Type 0 where

@@ -1,21 +1,27 @@
 //! Laws of what the forms write.
 
-ghost use Rattle.test_report_laws.specs.Forms.{GithubHasNoControls, GithubNamesCauses, HtmlHasNoControls, HtmlNamesCauses, HtmlReadsBack, HtmlSaysEnd, HtmlShowsItems, HtmlShowsPhrases, HtmlShowsValues, MarkdownHasNoControls, MarkdownKeepsMarks, MarkdownNamesCauses, MarkdownSaysEnd, MarkdownShowsPhrases, MarkdownShowsTests, MarkdownShowsValues, NamesAreLines, OnlyCommands, TextHasNoControls, TextNamesCauses};
+ghost use Rattle.test_report_laws.specs.Colours.{TextIsColoured};
+ghost use Rattle.test_report_laws.specs.Commands.{OnlyCommands};
+ghost use Rattle.test_report_laws.specs.Forms.{GithubHasNoControls, HtmlHasNoControls, HtmlNamesCauses, HtmlReadsBack, HtmlSaysEnd, HtmlShowsItems, HtmlShowsPhrases, HtmlShowsValues, MarkdownHasNoControls, MarkdownKeepsMarks, MarkdownNamesCauses, MarkdownSaysEnd, MarkdownShowsPhrases, MarkdownShowsTests, MarkdownShowsValues, NamesAreLines, TextHasNoControls};
 ghost use Rattle.test_report_laws.specs.Junit.{JunitHasCases, JunitHasNoControls, JunitNamesCauses, JunitReadsBack, JunitSaysNoTests};
+ghost use Rattle.test_report_laws.specs.Lines.{GithubNamesCauses, NamesNamesTests, ShortIsInLine, TextNamesCauses};
 
 /// Every line that the form for GitHub writes of entries of notes (`IsEntryOf`) is a command for an error or a
-/// notice, or empty.
+/// notice: `::`, the name of the command, properties or none, `::` and a message. The value of a property has no
+/// comma, no colon and no end of a line. A carriage return ends a line, too.
 pub fn only_commands()
     ensures { OnlyCommands }
 {}
 
 /// Whatever the input has, no form writes control characters, except tabs and line feeds, and none writes
 /// characters that change the direction of writing. For `text` this holds if `raw` and `color` are false: `raw`
-/// keeps these characters of the input, and colours use the control character ESC. `names` writes each name on a
-/// line of its own, without tabs and line feeds in it. For `github` the entries must be those of notes
-/// (`IsEntryOf`), since the form writes the line number of a failure without escapes.
+/// keeps these characters of the input, and colours use the control character ESC. If only `raw` is false, `text`
+/// writes no others than three fixed sequences for colours (`colours`). Without these the text is the one without
+/// colours. `names` writes each name on a line of its own, without tabs and line feeds in it. For `github` the
+/// entries must be those of notes (`IsEntryOf`), since the form writes the line number of a failure without escapes.
 pub fn no_controls()
     ensures text { TextHasNoControls }
+    ensures colours { TextIsColoured }
     ensures names { NamesAreLines }
     ensures github { GithubHasNoControls }
     ensures junit { JunitHasNoControls }
@@ -28,9 +34,17 @@ pub fn no_controls()
     test_report_forms::laws::page_is_sound();
 }
 
-/// Every form but `names` names each reason why a run does not succeed. The text has the name of each failed
-/// test, the line of each disagreement, the line of each suite whose tests were not all run, and the outcome, which
-/// says if no test ran.
+/// Every form but `names` names each reason why a run does not succeed.
+///
+/// What `text` writes has, in the order of the entries, a line for each failed test, with its status, its time, its
+/// name and its attempts, and under it why it failed. It has a line for each disagreement, and for each suite whose
+/// tests were not all run. The last line is the outcome, which says if no test ran. The summary is the line after
+/// the last line of dashes, if each short reason is shown in one line, as those of notes are (`short`). `github`
+/// writes a command for each of these entries, and as the last line the one with the summary and the outcome.
+/// `names` writes the name of each failed test. These are whole lines.
+///
+/// What `html` and `markdown` write has the name of each failed test, the line of each disagreement, the line of each
+/// suite whose tests were not all run, and the outcome.
 ///
 /// What `junit` writes reads back as a tree in which each failed test and each of these lines is a test case in the
 /// element of its suite. The test case has the name of the test, or the line. Inside is a `failure` for a failed test,
@@ -38,7 +52,9 @@ pub fn no_controls()
 /// test case that says so, unless `no_tests_pass` is true, and the text has `no test ran` (`no_tests`).
 pub fn names_causes()
     ensures text { TextNamesCauses }
+    ensures short { ShortIsInLine }
     ensures github { GithubNamesCauses }
+    ensures names { NamesNamesTests }
     ensures junit { JunitNamesCauses }
     ensures no_tests { JunitSaysNoTests }
     ensures html { HtmlNamesCauses }

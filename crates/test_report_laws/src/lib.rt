@@ -3,7 +3,7 @@
 //!
 //! - what a success and a failure mean;
 //! - the report has exactly one failed test for each line that says that a test failed;
-//! - only `TextForm` with `raw` or `color` writes control characters other than tab and line feed.
+//! - only `TextForm` with `raw` writes control characters other than tab, line feed and fixed sequences for colours.
 //!
 //! A law is a function that does nothing. Its contract is the fact. A function whose proof needs the fact
 //! calls the law. This is the end of such a function, `succeeds_in_order` in `CALLING.md`. Its clause says

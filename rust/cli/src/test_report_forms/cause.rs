@@ -72,7 +72,7 @@ fn result_word(result_of: TestResult) -> &'static str {
 }
 
 /// Appends the line of a disagreement, without its line feed.
-pub(crate) fn push_disagreement(text: &mut String, disagreement: &Disagreement) {
+fn push_disagreement(text: &mut String, disagreement: &Disagreement) {
     match disagreement {
         Disagreement::EndedEarly { suite } => {
             push_name(text, suite.as_str());
@@ -150,7 +150,7 @@ fn push_key_and_verdict(text: &mut String, key: &Option<String>, failed_verdict:
 }
 
 /// Appends the line of the tests of a suite that were not run, without its line feed.
-pub(crate) fn push_not_run(text: &mut String, not_run: &NotRun) {
+fn push_not_run(text: &mut String, not_run: &NotRun) {
     push_name(text, not_run.suite.as_str());
     let (count, initial) = (not_run.not_run, not_run.initial_run_count);
     text.push_str(&format!(": {count} of {initial} tests were not run"));

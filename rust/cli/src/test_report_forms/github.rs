@@ -1,7 +1,7 @@
 // Made by tools/erase from crates/test_report_forms/src/github.rt. Do not edit.
 //! The form for the log of a workflow on GitHub.
 
-use crate::test_report_forms::cause::{push_disagreement, push_not_run};
+use crate::test_report_forms::cause::cause_of;
 use crate::test_report_forms::entry::Entry;
 use crate::test_report_forms::form::Form;
 use crate::test_report_forms::options::Options;
@@ -37,6 +37,13 @@ impl GithubForm {
     }
 }
 
+/// Appends the annotation of the cause of an entry. Appends nothing if it has none.
+fn push_cause(entry: &Entry<'_>, text: &mut String) {
+    if let Some(cause) = cause_of(entry) {
+        push_error(text, cause.line.as_str())
+    }
+}
+
 /// Appends an annotation without a place.
 fn push_error(text: &mut String, message: &str) {
     text.push_str("::error::");
@@ -63,18 +70,13 @@ fn push_message(text: &mut String, why: &str, limit: usize) {
 
 impl Form for GithubForm {
     fn on_entry(&mut self, entry: &Entry<'_>, text: &mut String) {
-        let mut line = String::new();
         match entry {
-            Entry::Passed(_) | Entry::Skipped(_) | Entry::Suite(_) => {}
             Entry::Failed { test, why, .. } => self.push_failed(test, why, text),
-            Entry::Disagreement(disagreement) => {
-                push_disagreement(&mut line, disagreement);
-                push_error(text, line.as_str());
-            }
-            Entry::NotRun(not_run) => {
-                push_not_run(&mut line, not_run);
-                push_error(text, line.as_str());
-            }
+            Entry::Passed(_)
+            | Entry::Skipped(_)
+            | Entry::Disagreement(_)
+            | Entry::NotRun(_)
+            | Entry::Suite(_) => push_cause(entry, text),
         }
     }
 

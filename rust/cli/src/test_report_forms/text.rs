@@ -1,7 +1,7 @@
 // Made by tools/erase from crates/test_report_forms/src/text.rt. Do not edit.
 //! The form for people who read a terminal.
 
-use crate::test_report_forms::cause::{push_disagreement, push_not_run};
+use crate::test_report_forms::cause::cause_of;
 use crate::test_report_forms::entry::Entry;
 use crate::test_report_forms::form::Form;
 use crate::test_report_forms::list::ShortList;
@@ -31,19 +31,25 @@ impl TextForm {
     /// Appends the text of an entry.
     fn push_entry(&self, entry: &Entry<'_>, text: &mut String) {
         match entry {
-            Entry::Passed(_) | Entry::Skipped(_) | Entry::Suite(_) => {}
             Entry::Failed { test, failure, why } => {
                 let status = failed_status(&failure.kind);
                 push_failed(text, test, status, why.text.as_str(), self.options);
             }
-            Entry::Disagreement(disagreement) => {
-                push_disagreement(text, disagreement);
-                text.push('\n');
-            }
-            Entry::NotRun(not_run) => {
-                push_not_run(text, not_run);
-                text.push('\n');
-            }
+            Entry::Passed(_)
+            | Entry::Skipped(_)
+            | Entry::Disagreement(_)
+            | Entry::NotRun(_)
+            | Entry::Suite(_) => push_cause(entry, text),
+        }
+    }
+}
+
+/// Appends the line of the cause of an entry. Appends nothing if it has none.
+fn push_cause(entry: &Entry<'_>, text: &mut String) {
+    if let Some(cause) = cause_of(entry) {
+        {
+            text.push_str(cause.line.as_str());
+            text.push('\n');
         }
     }
 }

@@ -1,4 +1,6 @@
-use Rattle.test_report_laws.proofs.TextCauses.{github-names-causes, text-names-causes}
+use Rattle.test_report_laws.proofs.Commands.{github-names-causes}
+use Rattle.test_report_laws.proofs.ShortLines.{short-is-in-line}
+use Rattle.test_report_laws.proofs.TextLines.{names-names-tests, text-names-causes}
 use Rattle.test_report_laws.proofs.HtmlLaws.{html-names-causes}
 use Rattle.test_report_laws.proofs.JunitCauses.{junit-names-causes, junit-says-no-tests}
 use Rattle.test_report_laws.proofs.MarkdownLaws.{markdown-names-causes}
@@ -7,8 +9,14 @@ use Rattle.test_report_laws.proofs.forms.names_causes.Goals as goal
 pub returns-clause-text : goal.returns-clause-text
 returns-clause-text c = text-names-causes
 
+pub returns-clause-short : goal.returns-clause-short
+returns-clause-short c = short-is-in-line
+
 pub returns-clause-github : goal.returns-clause-github
 returns-clause-github c = github-names-causes
+
+pub returns-clause-names : goal.returns-clause-names
+returns-clause-names c = names-names-tests
 
 pub returns-clause-junit : goal.returns-clause-junit
 returns-clause-junit c = junit-names-causes c.documents_read_back.ensures.junit

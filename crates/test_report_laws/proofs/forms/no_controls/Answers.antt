@@ -1,4 +1,5 @@
-use Rattle.test_report_laws.proofs.CleanForms.{github-has-no-controls, names-are-lines, text-has-no-controls}
+use Rattle.test_report_laws.proofs.CleanForms.{github-has-no-controls, names-are-lines}
+use Rattle.test_report_laws.proofs.ColouredText.{text-has-no-controls, text-is-coloured}
 use Rattle.test_report_laws.proofs.HtmlLaws.{html-has-no-controls}
 use Rattle.test_report_laws.proofs.JunitLaws.{junit-has-no-controls}
 use Rattle.test_report_laws.proofs.MarkdownLaws.{markdown-has-no-controls}
@@ -6,6 +7,9 @@ use Rattle.test_report_laws.proofs.forms.no_controls.Goals as goal
 
 pub returns-clause-text : goal.returns-clause-text
 returns-clause-text c = text-has-no-controls
+
+pub returns-clause-colours : goal.returns-clause-colours
+returns-clause-colours c = text-is-coloured
 
 pub returns-clause-names : goal.returns-clause-names
 returns-clause-names c = names-are-lines
