@@ -27,8 +27,8 @@ class Row:
     `stdout` and `stderr` are what it must write: a text, or some parts. The program that cargo builds may add the
     system's error to a message in `stderr`. `after` has what files must be there at the end: a text, some parts, or
     `None` for no file. `output` says what standard output is: `pipe`, `terminal`, `closed`, or the path of a file.
-    `error` says the same of standard error. `source` is the name of the file that is standard input, if it is none of
-    `text`.
+    `error` says the same of standard error. Standard input is a pipe with `text`; or, if `source` is given, the file of
+    this name; or `closed`.
     """
 
     name: str
@@ -252,6 +252,10 @@ def streams():
         for option in ("--help", "--version"):
             yield Row(f"{option}, {output}", [option], "", 3, "", NOT_WRITTEN, output=output)
         yield Row(f"an invalid argument, {output}", ["--none"], "", 2, "", Parts(["error: "]), output=output)
+    for option in (["--no-tests", "pass"], ["--format", "names", "-"]):
+        yield Row(f"standard input closed, {option}", option, "", 3, "", NOT_READ, source="closed")
+    yield Row("standard input closed and a file", ["red.jsonl"], "", 1, RED_TEXT, files={"red.jsonl": RED},
+              source="closed")
     yield Row("standard error closed", [], RED, 1, RED_TEXT, error="closed")
     yield Row("nobody wants the report", [], RED, 1, output="/dev/null")
 

@@ -26,7 +26,7 @@ pub mod run_digest_engine;
 #[doc(hidden)]
 pub mod same_file;
 #[doc(hidden)]
-pub mod standard_output;
+pub mod standard_streams;
 #[doc(hidden)]
 pub mod template;
 #[doc(hidden)]

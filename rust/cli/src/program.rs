@@ -3,7 +3,8 @@
 
 use crate::program_io::fault::DeviceFault;
 use crate::program_io::std_device::{StdSink, StdSource};
-use crate::{run_digest_engine, standard_output, test_report_engine};
+use crate::standard_streams::check_output;
+use crate::{run_digest_engine, test_report_engine};
 use std::fmt;
 use std::io::{self, ErrorKind, Read, Write};
 use std::process::ExitCode;
@@ -155,7 +156,7 @@ pub fn print_clap(message: &clap::Error) -> Result<ExitCode, Failure> {
     let (status, is_open) = if message.use_stderr() {
         (BAD_ARGUMENT, Ok(()))
     } else {
-        (0, standard_output::check())
+        (0, check_output())
     };
     match is_open.and_then(|()| message.print()) {
         Ok(()) => Ok(ExitCode::from(status)),

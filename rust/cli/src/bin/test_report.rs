@@ -12,7 +12,7 @@ use deodarsieve_cli::program_io::std_device::{StdSink, StdSource};
 use deodarsieve_cli::progress_line::{LONGEST_PAUSE, Output, ProgressLine};
 use deodarsieve_cli::reading::Reading;
 use deodarsieve_cli::replaced_file::{append, replace};
-use deodarsieve_cli::standard_output::{self, StandardOutput};
+use deodarsieve_cli::standard_streams::{StandardInput, StandardOutput, check_output};
 use deodarsieve_cli::test_report_engine::fault::Fault;
 use deodarsieve_cli::test_report_engine::pieces::Pieces;
 use deodarsieve_cli::test_report_engine::report::Report;
@@ -198,7 +198,8 @@ fn report_files<F: Form, W: Write>(
 ) -> Result<(RunEnd, FileTexts), Failure> {
     for &path in files {
         if path == STANDARD_INPUT {
-            read_file(&mut report, io::stdin(), &mut pieces, output, waiting)?;
+            let stdin = StandardInput::get();
+            read_file(&mut report, stdin, &mut pieces, output, waiting)?;
             continue;
         }
         match File::open(path) {
@@ -264,7 +265,7 @@ fn report_in<F: Form>(
 fn prepare(matches: &ArgMatches) -> Result<(), Failure> {
     refuse_conflicts(matches)?;
     remove_old_files(matches)?;
-    standard_output::check().map_err(|error| Failure::from(Fault::Write).caused_by(Some(error)))
+    check_output().map_err(|error| Failure::from(Fault::Write).caused_by(Some(error)))
 }
 
 /// Writes the report that the arguments ask for, and returns the exit status.
