@@ -44,8 +44,12 @@ class Row:
     error: str = "pipe"
     source: str = ""
     variables: dict = field(default_factory=dict)
-    # If this is given, the text after the line that ends with it is written when it is on the terminal.
+    # If this is given, the last two lines of `text` come when it is on the terminal.
     pause: str = ""
+    # Hard links that are made before the input comes, when the old files of these names are gone.
+    late_links: dict = field(default_factory=dict)
+    # If this is false, the program cannot write a byte to any file.
+    has_space: bool = True
 
 
 def started(count):
@@ -282,6 +286,12 @@ def files():
     yield Row("old files and a folder as input", [*OPTIONS, "."], "", 3, "", NOT_READ, OLD, after=GONE)
     yield Row("old files and an invalid argument", [*OPTIONS, "--limit", "x"], "", 2, "", Parts(["error: "]), OLD,
               after=OLD)
+    for option, text in [("--junit", XML), ("--html", PAGE)]:
+        # A program that writes into the file at the place also changes the other name of that file.
+        yield Row(f"{option} in one piece", [option, "a"], RED, 1, RED_TEXT, files={"a": "old", "b": "other"},
+                  late_links={"a": "b"}, after={"a": text, "b": "other"})
+        yield Row(f"{option} and no space", [option, "a"], RED, 3, RED_TEXT, "test-report: a cannot be written\n",
+                  {"a": "old"}, after={"a": None}, has_space=False)
     yield Row("an old file that cannot be removed", ["--junit", "/proc/version"], RED, 3, "",
               "test-report: /proc/version cannot be written\n")
     for option in ("--junit", "--html", "--markdown"):
