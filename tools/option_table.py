@@ -361,6 +361,8 @@ def conflicts():
                               links={"link": "a", "folder": "sub"}, after={"a": None, "sub/b": None, **old})
     yield refused(["--junit", "a", "--html", "b", "--markdown", "a"], "--junit a and --markdown a are one file",
                   after={"a": None, "b": None})
+    yield refused(["--junit", "b", "--html", "a", "--markdown", "a"], "--html a and --markdown a are one file",
+                  after={"a": None, "b": None})
     yield Row("two files of one name in two folders", ["--junit", "a/x", "--html", "b/x"], RED, 1, RED_TEXT,
               files={"a/x": "old", "b/y": ""}, after={"a/x": XML, "b/x": PAGE})
 
