@@ -121,7 +121,7 @@ def failing_devices():
     report = [("test-report", ["--format", form]) for form in FORMS] + [("test-report", ["-"])]
     digest = [("run-digest", ["count"]), ("run-digest", ["extract"])]
     for program, arguments in report + digest:
-        for devices in ({"stdin": "folder"}, {"stdout": "full"}, {"stdout": "closed"}):
+        for devices in ({"stdin": "folder"}, {"stdout": "full"}, {"stdout": "closed"}, {"stdout": "none"}):
             origin = ", ".join(f"{name} {state}" for name, state in devices.items())
             yield Case(program, arguments, b"run 0 0 -\n", origin, rule="system", devices=devices)
     for path in ("no/such/file", "", "/"):
@@ -132,7 +132,10 @@ def failing_devices():
             yield Case("test-report", [option, path], b"", "a file that cannot be written", rule="system")
         yield Case("test-report", [option, "/dev/null"], b"", "a device that is written")
     for program in ("run-digest", "test-report"):
-        yield Case(program, ["--help"], b"", "help on a full device", "system", {"stdout": "full"})
+        for state in ("full", "none"):
+            yield Case(program, ["--help"], b"", f"help, standard output {state}", "system", {"stdout": state})
+    for arguments in (["--junit", "/dev/stdout"], ["--html", "a", "--markdown", "./a"], ["--html", "a", "a"]):
+        yield Case("test-report", arguments, b"", "a file that is refused", files={"a": b"old"})
 
 
 def fixed_cases():

@@ -38,7 +38,10 @@ def standard_input(case, folder):
 
 
 def standard_output(case):
-    """Returns the descriptor for the standard output of a case, or the constant for a pipe."""
+    """Returns the descriptor for the standard output of a case, or the constant for a pipe.
+
+    `closed` is a pipe that nobody reads. If there is to be none, `command_of` closes it.
+    """
     state = case.devices.get("stdout")
     if state == "full":
         return os.open("/dev/full", os.O_WRONLY)
@@ -57,12 +60,18 @@ def run(program, case):
     return Result(ended.stdout or b"", ended.stderr, ended.returncode, files)
 
 
+def command_of(program, case):
+    """Returns the command of a case: the program, or a shell that closes standard output and becomes the program."""
+    command = [program, *case.arguments]
+    return ["sh", "-c", 'exec "$@" >&-', "sh", *command] if case.devices.get("stdout") == "none" else command
+
+
 def run_in(folder, program, case):
     """Runs a program on a case in a folder."""
     stdin, stdout = standard_input(case, folder), standard_output(case)
     try:
         return subprocess.run(
-            [program, *case.arguments], stdin=stdin, stdout=stdout, stderr=subprocess.PIPE, timeout=SECONDS,
+            command_of(program, case), stdin=stdin, stdout=stdout, stderr=subprocess.PIPE, timeout=SECONDS,
             check=False, close_fds=False, cwd=folder,
         )
     finally:

@@ -34,7 +34,8 @@ Exit status:
   0  the run succeeded; or no test ran, nothing else is wrong, and `--no-tests` is `pass`
   1  the run did not succeed: a test failed, some of the tests that a suite's first line announces neither ended
      nor were ignored, lines contradict each other, cargo reported a failure that no test explains, or no test ran
-  2  an argument is invalid
+  2  an argument is invalid, or `--junit`, `--html` or `--markdown` names standard output, a file that is read, or the
+     file of another of these options
   3  reading or writing failed, a file cannot be opened or written, a number is too large to count, or there was not
      enough memory";
 
@@ -59,8 +60,12 @@ pub(crate) fn command<'a>(alloc: Global) -> Result<Command<'a>, AllocError> {
         .about("Reports which tests of a run failed, and why, from the JSON output of the run")
         .arg(files)?
         .arg(choice(alloc, "format", "FORM", FORMS).help("Write the report in this form"))?
-        .arg(file(alloc, "junit").help("Also write JUnit's XML to FILE"))?
-        .arg(file(alloc, "html").help("Also write an HTML page to FILE"))?
+        .arg(file(alloc, "junit").help(
+            "Also write JUnit's XML to FILE. An old FILE is removed at the start",
+        ))?
+        .arg(file(alloc, "html").help(
+            "Also write an HTML page to FILE. An old FILE is removed at the start",
+        ))?
         .arg(file(alloc, "markdown").help(
             "Also append Markdown to FILE, such as $GITHUB_STEP_SUMMARY",
         ))?
@@ -68,7 +73,7 @@ pub(crate) fn command<'a>(alloc: Global) -> Result<Command<'a>, AllocError> {
             "Whether the exit status is 1 (`fail`) or 0 (`pass`) if no test ran and nothing else is wrong",
         ))?
         .arg(choice(alloc, "color", "WHEN", TIMES).help(
-            "Colour words such as FAIL; `auto` does so if standard output is a terminal and NO_COLOR is not set",
+            "Colour words such as FAIL; `auto` does so if standard output is a terminal and NO_COLOR is absent or empty",
         ))?
         .arg(choice(alloc, "progress", "WHEN", TIMES).help(
             "Show the progress in a line on standard error; `auto` does so if that is a terminal",

@@ -1,10 +1,18 @@
 //! The failures of the program.
 
+use crate::output_files::Conflict;
 use std::alloc::AllocError;
 use std::fmt;
+use std::io::{self, ErrorKind};
 use test_report_engine::fault::Fault;
 
-/// The reason why the program failed. It is displayed as the message of the program. The exit status is 3.
+/// The exit status after an invalid argument.
+pub(crate) const BAD_ARGUMENT: u8 = 2;
+
+/// The exit status after a failure.
+pub(crate) const FAILED: u8 = 3;
+
+/// The reason why the program failed. It is displayed as the message of the program.
 #[derive(Drop)]
 pub(crate) enum Failure<'a> {
     /// The report failed.
@@ -15,6 +23,28 @@ pub(crate) enum Failure<'a> {
 
     /// This file cannot be written.
     Write(&'a str),
+
+    /// The arguments name files that are not written.
+    Refused(Conflict<'a>),
+}
+
+impl<'a> Failure<'a> {
+    /// Returns the failure to write the file at `path`.
+    pub(crate) fn unwritten(path: &'a str, error: io::Error) -> Failure<'a> {
+        if error.kind() == ErrorKind::OutOfMemory {
+            Failure::Fault(Fault::OutOfMemory)
+        } else {
+            Failure::Write(path)
+        }
+    }
+
+    /// Returns the exit status.
+    pub(crate) fn status(&self) -> u8 {
+        match self {
+            Failure::Refused(_) => BAD_ARGUMENT,
+            _ => FAILED,
+        }
+    }
 }
 
 impl From<Fault> for Failure<'_> {
@@ -35,6 +65,7 @@ impl fmt::Display for Failure<'_> {
             Failure::Fault(fault) => write!(f, "{fault}"),
             Failure::Open(path) => write!(f, "{path} cannot be opened"),
             Failure::Write(path) => write!(f, "{path} cannot be written"),
+            Failure::Refused(conflict) => write!(f, "{conflict}"),
         }
     }
 }

@@ -6,12 +6,15 @@ mod arguments;
 mod failure;
 mod files;
 mod output;
+mod output_files;
 mod progress;
+mod same_file;
 
 use crate::arguments::{command, options_of, shows_progress};
-use crate::failure::Failure;
+use crate::failure::{BAD_ARGUMENT, FAILED, Failure};
 use crate::files::{append, replace};
 use crate::output::Output;
+use crate::output_files::{STANDARD_INPUT, Streams, conflict_of, inputs_of, remove_old_files};
 use crate::progress::ProgressLine;
 use clap::ArgMatches;
 use program_io::device::Source;
@@ -20,6 +23,7 @@ use std::alloc::{AllocError, Global};
 use std::env;
 use std::fs::File;
 use std::io::{self, ErrorKind, IsTerminal, Read, Write};
+use std::os::fd::AsFd;
 use std::process::ExitCode;
 use std::rt::{Env, Files};
 use test_report_engine::fault::Fault;
@@ -36,12 +40,6 @@ use test_report_forms::names::NamesForm;
 use test_report_forms::options::Options;
 use test_report_forms::text::TextForm;
 use test_report_run::note::RunEnd;
-
-/// The exit status after an invalid argument.
-const BAD_ARGUMENT: u8 = 2;
-
-/// The exit status after a failure.
-const FAILED: u8 = 3;
 
 /// The settings of the program.
 #[derive(Clone, Copy)]
@@ -92,13 +90,13 @@ fn write_files<'a, R: Files + AllocGlobal>(
     texts: &FileTexts,
 ) -> Result<(), Failure<'a>> {
     if let (Some(path), Some(text)) = (matches.get_str("junit"), &texts.junit) {
-        replace(rt, path, text.as_str()).map_err(|_| Failure::Write(path))?;
+        replace(rt, path, text.as_str()).map_err(|error| Failure::unwritten(path, error))?;
     }
     if let (Some(path), Some(text)) = (matches.get_str("html"), &texts.html) {
-        replace(rt, path, text.as_str()).map_err(|_| Failure::Write(path))?;
+        replace(rt, path, text.as_str()).map_err(|error| Failure::unwritten(path, error))?;
     }
     if let (Some(path), Some(text)) = (matches.get_str("markdown"), &texts.markdown) {
-        append(rt, path, text.as_str()).map_err(|_| Failure::Write(path))?;
+        append(rt, path, text.as_str()).map_err(|error| Failure::unwritten(path, error))?;
     }
     Ok(())
 }
@@ -111,7 +109,7 @@ fn read_file<'a, R: Files + AllocGlobal + Input, F: Form + Drop, W: Write>(
     pieces: &mut Pieces,
     output: &mut Output<W>,
 ) -> Result<(), Failure<'a>> {
-    if path == "-" {
+    if path == STANDARD_INPUT {
         read_from(rt, rt.reader(), report, pieces, output)?;
         return Ok(());
     }
@@ -164,13 +162,8 @@ fn report_to<'a, R: Files + AllocGlobal + Input, F: Form + Drop, W: Write>(
     mut pieces: Pieces,
     output: &mut Output<W>,
 ) -> Result<(RunEnd, FileTexts), Failure<'a>> {
-    match matches.get_strs("file") {
-        Some(paths) if !paths.is_empty() => {
-            for path in paths {
-                read_file(rt, path, &mut report, &mut pieces, output)?;
-            }
-        }
-        _ => read_file(rt, "-", &mut report, &mut pieces, output)?,
+    for path in inputs_of(rt.alloc(), matches)? {
+        read_file(rt, path, &mut report, &mut pieces, output)?;
     }
     let texts = report.file_texts(rt.alloc())?;
     let end = report.finish(rt.alloc(), &mut StdSink::new(output))?;
@@ -235,9 +228,41 @@ fn report_of<'a, R: Files + AllocGlobal + Input + Print>(
     }
 }
 
-/// Returns true if standard output is coloured by default.
-fn has_colors(rt: &HostRuntime) -> bool {
-    rt.stdout().is_terminal() && env::var(rt, "NO_COLOR") == Err(env::VarError::NotPresent)
+/// Returns true if standard output is coloured by default: it is a terminal, and `NO_COLOR` is absent or empty.
+fn has_colors(rt: &HostRuntime) -> Result<bool, Fault> {
+    if !rt.stdout().is_terminal() {
+        return Ok(false);
+    }
+    match env::var(rt, "NO_COLOR") {
+        Ok(value) => Ok(value.is_empty()),
+        Err(env::VarError::NotPresent) => Ok(true),
+        Err(env::VarError::OutOfMemory) => Err(Fault::OutOfMemory),
+        Err(_) => Ok(false),
+    }
+}
+
+/// Makes sure, before anything is read, that the report can be written to standard output, that it does not mix with
+/// the files, and that no old file is taken for a new one.
+fn prepare<'a>(rt: &HostRuntime, matches: &ArgMatches<'a>) -> Result<(), Failure<'a>> {
+    let streams = Streams::of(rt, matches, rt.stdin().is_terminal())?;
+    if let Some(conflict) = conflict_of(rt, matches, &streams)? {
+        return Err(Failure::Refused(conflict));
+    }
+    remove_old_files(rt, matches)?;
+    match rt.stdout().as_fd().try_clone_to_owned() {
+        Ok(_) => Ok(()),
+        Err(_) => Err(Failure::Fault(Fault::Write)),
+    }
+}
+
+/// Writes the report that parsed arguments ask for, and returns the exit status.
+fn run_parsed<'a>(rt: &HostRuntime, matches: &ArgMatches<'a>) -> Result<u8, Failure<'a>> {
+    prepare(rt, matches)?;
+    let settings = Settings {
+        options: options_of(matches, has_colors(rt)?),
+        shows_progress: shows_progress(matches, rt.stderr().is_terminal()),
+    };
+    report_of(rt, matches, settings, ProgressLine::new(rt.stderr()))
 }
 
 /// Does what the arguments ask for, and returns the exit status.
@@ -247,19 +272,13 @@ fn run(rt: &HostRuntime) -> Result<u8, Fault> {
         return Ok(BAD_ARGUMENT);
     };
     match command(rt.alloc())?.try_get_matches_from(words.as_slice()) {
-        Ok(matches) => {
-            let settings = Settings {
-                options: options_of(&matches, has_colors(rt)),
-                shows_progress: shows_progress(&matches, rt.stderr().is_terminal()),
-            };
-            match report_of(rt, &matches, settings, ProgressLine::new(rt.stderr())) {
-                Ok(status) => Ok(status),
-                Err(failure) => {
-                    let _ = eprintln!(rt; "test-report: {failure}");
-                    Ok(FAILED)
-                }
+        Ok(matches) => match run_parsed(rt, &matches) {
+            Ok(status) => Ok(status),
+            Err(failure) => {
+                let _ = eprintln!(rt; "test-report: {failure}");
+                Ok(failure.status())
             }
-        }
+        },
         Err(error) if error.kind() == clap::error::ErrorKind::OutOfMemory => Err(
             Fault::OutOfMemory,
         ),

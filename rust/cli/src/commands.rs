@@ -43,7 +43,8 @@ Exit status:
   0  the run succeeded; or no test ran, nothing else is wrong, and `--no-tests` is `pass`
   1  the run did not succeed: a test failed, some of the tests that a suite's first line announces neither ended
      nor were ignored, lines contradict each other, cargo reported a failure that no test explains, or no test ran
-  2  an argument is invalid
+  2  an argument is invalid, or `--junit`, `--html` or `--markdown` names standard output, a file that is read, or the
+     file of another of these options
   3  reading or writing failed, a file cannot be opened or written, or a number is too large to count";
 
 /// Returns the arguments that `run-digest` takes.
@@ -74,8 +75,8 @@ pub fn test_report() -> Command {
                 .help("The JSON lines of the run, in one file or several; standard input if absent or `-`"),
         )
         .arg(choice("format", "FORM", "text", FORMS).help("Write the report in this form"))
-        .arg(file("junit").help("Also write JUnit's XML to FILE"))
-        .arg(file("html").help("Also write an HTML page to FILE"))
+        .arg(file("junit").help("Also write JUnit's XML to FILE. An old FILE is removed at the start"))
+        .arg(file("html").help("Also write an HTML page to FILE. An old FILE is removed at the start"))
         .arg(file("markdown").help("Also append Markdown to FILE, such as $GITHUB_STEP_SUMMARY"))
         .arg(
             choice("no-tests", "ACTION", "fail", ["fail", "pass"])
@@ -83,7 +84,7 @@ pub fn test_report() -> Command {
         )
         .arg(
             choice("color", "WHEN", "auto", ["auto", "always", "never"])
-                .help("Colour words such as FAIL; `auto` does so if standard output is a terminal and NO_COLOR is not set"),
+                .help("Colour words such as FAIL; `auto` does so if standard output is a terminal and NO_COLOR is absent or empty"),
         )
         .arg(
             choice("progress", "WHEN", "auto", ["auto", "always", "never"])

@@ -3,12 +3,14 @@
 //! This library has no stable API: its modules are public only so that the two programs and the
 //! tests of this repository can use them. To count runs and to find why tests failed in a program of
 //! your own, depend on the crate `deodarsieve`.
-#![forbid(unsafe_code)]
+#![deny(unsafe_code)]
 
 #[doc(hidden)]
 pub mod commands;
 #[doc(hidden)]
 pub mod interrupt;
+#[doc(hidden)]
+pub mod output_files;
 #[doc(hidden)]
 pub mod program;
 #[doc(hidden)]
@@ -21,6 +23,10 @@ pub mod reading;
 pub mod replaced_file;
 #[doc(hidden)]
 pub mod run_digest_engine;
+#[doc(hidden)]
+pub mod same_file;
+#[doc(hidden)]
+pub mod standard_streams;
 #[doc(hidden)]
 pub mod template;
 #[doc(hidden)]

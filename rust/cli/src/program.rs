@@ -3,6 +3,7 @@
 
 use crate::program_io::fault::DeviceFault;
 use crate::program_io::std_device::{StdSink, StdSource};
+use crate::standard_streams::check_output;
 use crate::{run_digest_engine, test_report_engine};
 use std::fmt;
 use std::io::{self, ErrorKind, Read, Write};
@@ -86,6 +87,12 @@ impl Failure {
         }
     }
 
+    /// Returns the failure to write the file at `path`.
+    pub fn unwritten(path: &str, error: io::Error) -> Failure {
+        let message = format!("{path} cannot be written");
+        Failure::new(DEVICE_FAILED, message).caused_by(Some(error))
+    }
+
     /// Adds the text of the system's error to the message.
     pub fn caused_by(self, error: Option<io::Error>) -> Failure {
         Failure { error, ..self }
@@ -146,12 +153,13 @@ pub fn run_engine<R: Read, W: Write, E: Into<Failure>>(
 
 /// Prints a message of clap: the help, the version, or the error of an argument. Returns the exit status.
 pub fn print_clap(message: &clap::Error) -> Result<ExitCode, Failure> {
-    match message.print() {
-        Ok(()) => Ok(ExitCode::from(if message.use_stderr() {
-            BAD_ARGUMENT
-        } else {
-            0
-        })),
+    let (status, is_open) = if message.use_stderr() {
+        (BAD_ARGUMENT, Ok(()))
+    } else {
+        (0, check_output())
+    };
+    match is_open.and_then(|()| message.print()) {
+        Ok(()) => Ok(ExitCode::from(status)),
         Err(error) => {
             let message = DeviceFault::Write.to_string();
             Err(Failure::new(DEVICE_FAILED, message).caused_by(Some(error)))

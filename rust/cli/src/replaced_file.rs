@@ -1,7 +1,8 @@
 //! Writes files so that a reader never sees a partly written file.
 
+use crate::same_file::{FileId, named_by_links};
 use std::fs::{self, File, OpenOptions};
-use std::io::{self, Write};
+use std::io::{self, ErrorKind, Write};
 use std::path::{Path, PathBuf};
 use std::process;
 
@@ -26,17 +27,44 @@ fn write_and_rename(path: &Path, text: &str) -> io::Result<()> {
     written
 }
 
-/// Replaces the file at `path`, or creates it. A reader finds the old file or the whole new one, because the
-/// text is written to a new file that is then renamed. If `path` is a device or a pipe, it is written
-/// directly. If it is a symbolic link, the file that it names is replaced.
-pub fn replace(path: &str, text: &str) -> io::Result<()> {
+/// Returns the file that a text for `path` replaces: if `path` is a symbolic link, the file that it names. Returns
+/// `None` if `path` is a device, a pipe or standard error, because a text is added to these.
+fn replaced_by(path: &Path) -> io::Result<Option<PathBuf>> {
     match fs::metadata(path) {
-        Ok(found) if !found.is_file() => OpenOptions::new()
-            .write(true)
+        Ok(found) if !found.is_file() => Ok(None),
+        Ok(_) => {
+            let is_standard_error =
+                FileId::of_standard_error().is_some_and(|id| FileId::of_path(path) == Some(id));
+            if is_standard_error {
+                return Ok(None);
+            }
+            fs::canonicalize(path).map(Some)
+        }
+        Err(_) => named_by_links(path).map(Some),
+    }
+}
+
+/// Removes the file that [`replace`] would replace, if there is one.
+pub fn remove_old(path: &str) -> io::Result<()> {
+    let Some(file) = replaced_by(Path::new(path))? else {
+        return Ok(());
+    };
+    match fs::remove_file(file) {
+        Err(error) if error.kind() != ErrorKind::NotFound => Err(error),
+        _ => Ok(()),
+    }
+}
+
+/// Replaces the file at `path`, or creates it. A reader finds the old file or the whole new one, because the
+/// text is written to a new file that is then renamed. If `path` is a symbolic link, the file that it names is
+/// replaced. To a device, a pipe and standard error the text is added.
+pub fn replace(path: &str, text: &str) -> io::Result<()> {
+    match replaced_by(Path::new(path))? {
+        Some(file) => write_and_rename(&file, text),
+        None => OpenOptions::new()
+            .append(true)
             .open(path)?
             .write_all(text.as_bytes()),
-        Ok(_) => write_and_rename(&fs::canonicalize(path)?, text),
-        Err(_) => write_and_rename(Path::new(path), text),
     }
 }
 

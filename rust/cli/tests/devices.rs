@@ -2,11 +2,11 @@
 
 mod common;
 
-use common::{assert_output, command, run};
+use common::{assert_output, command, path_of, run};
 use deodarsieve_cli::program::{KeepError, run_engine};
 use deodarsieve_cli::run_digest_engine::count::count;
 use std::io::{self, ErrorKind, Read, Write};
-use std::process::ExitCode;
+use std::process::{Command, ExitCode};
 
 /// Asserts that a program wrote nothing, failed with status 3, and wrote one line to standard error
 /// that starts so and then has the text of a system's error.
@@ -58,6 +58,31 @@ fn standard_output_that_is_closed() {
         } else {
             assert_output(&output, b"", b"", 3, program);
         }
+    }
+}
+
+#[cfg(target_os = "linux")]
+#[test]
+fn no_standard_output() {
+    let cases: [(&str, &[&str], &str); 5] = [
+        ("test-report", &["-"], "test-report: write failed"),
+        (
+            "test-report",
+            &["--format", "names"],
+            "test-report: write failed",
+        ),
+        ("test-report", &["--help"], "test-report: write failed"),
+        ("run-digest", &["count"], "write failed"),
+        ("run-digest", &["--version"], "write failed"),
+    ];
+    for (program, arguments, message) in cases {
+        let output = Command::new("sh")
+            .args(["-c", "printf 'run 0 0 -\\n' | \"$0\" \"$@\" >&-"])
+            .arg(path_of(program))
+            .args(arguments)
+            .output()
+            .expect("a shell runs");
+        assert_failed(&output, message);
     }
 }
 

@@ -230,3 +230,51 @@ fn a_link_and_a_device_stay() {
             .is_file()
     );
 }
+
+#[test]
+fn an_old_file_is_removed_before_anything_is_read() {
+    let folder = Folder::new("old");
+    let (junit, html, markdown) = (
+        folder.file("a.xml"),
+        folder.file("b.html"),
+        folder.file("c.md"),
+    );
+    for file in [&junit, &html, &markdown] {
+        fs::write(file, "of an earlier run").expect("the file is written");
+    }
+    let files = ["--junit", &junit, "--html", &html, "--markdown", &markdown];
+    let output = run("test-report", &[&files, &["no/such"][..]].concat(), b"");
+    assert_eq!(output.status.code(), Some(3));
+    assert!(!Path::new(&junit).exists() && !Path::new(&html).exists());
+    let appended = fs::read_to_string(&markdown).expect("the file is there");
+    assert_eq!(appended, "of an earlier run");
+}
+
+#[test]
+fn a_file_that_two_options_name_or_that_is_read_is_refused() {
+    let folder = Folder::new("conflicts");
+    let (input, file) = (folder.file("run.jsonl"), folder.file("a"));
+    let again = folder.file("./a");
+    fs::write(&input, RUN).expect("the file is written");
+    let cases = [
+        (
+            ["--junit", &file, "--html", &again, "-"],
+            format!("--junit {file} and --html {again} are one file"),
+        ),
+        (
+            ["--markdown", &file, "--junit", &again, "-"],
+            format!("--junit {again} and --markdown {file} are one file"),
+        ),
+        (
+            ["--html", &input, "--format", "names", &input],
+            format!("--html {input} is also read"),
+        ),
+    ];
+    for (arguments, message) in cases {
+        let output = run("test-report", &arguments, RUN.as_bytes());
+        let message = format!("test-report: {message}\n");
+        common::assert_output(&output, b"", message.as_bytes(), 2, "conflict");
+        assert!(!Path::new(&file).exists());
+        assert_eq!(fs::read_to_string(&input).expect("the file is there"), RUN);
+    }
+}

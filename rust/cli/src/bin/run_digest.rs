@@ -6,12 +6,12 @@ use deodarsieve_cli::program::{Failure, print_clap, run_engine};
 use deodarsieve_cli::run_digest_engine::count::count;
 use deodarsieve_cli::run_digest_engine::extract::extract;
 use deodarsieve_cli::run_digest_engine::fault::Fault;
-use std::io;
+use deodarsieve_cli::standard_streams::{StandardInput, StandardOutput};
 use std::process::ExitCode;
 
 /// Does what the arguments ask for, and returns the exit status.
 fn run() -> Result<ExitCode, Failure> {
-    let (reader, writer) = (io::stdin().lock(), io::stdout().lock());
+    let (reader, writer) = (StandardInput::get(), StandardOutput::lock());
     match run_digest().try_get_matches() {
         Ok(matches) if matches.subcommand_name() == Some("extract") => {
             run_engine(reader, writer, |source, sink| extract(source, sink))

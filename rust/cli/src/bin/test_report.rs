@@ -4,11 +4,15 @@
 use clap::ArgMatches;
 use deodarsieve_cli::commands::test_report;
 use deodarsieve_cli::interrupt::Interrupt;
+use deodarsieve_cli::output_files::{
+    STANDARD_INPUT, inputs_of, refuse_conflicts, remove_old_files,
+};
 use deodarsieve_cli::program::{BAD_ARGUMENT, DEVICE_FAILED, Failure, KeepError, print_clap};
 use deodarsieve_cli::program_io::std_device::{StdSink, StdSource};
 use deodarsieve_cli::progress_line::{LONGEST_PAUSE, Output, ProgressLine};
 use deodarsieve_cli::reading::Reading;
 use deodarsieve_cli::replaced_file::{append, replace};
+use deodarsieve_cli::standard_streams::{StandardInput, StandardOutput, check_output};
 use deodarsieve_cli::test_report_engine::fault::Fault;
 use deodarsieve_cli::test_report_engine::pieces::Pieces;
 use deodarsieve_cli::test_report_engine::report::Report;
@@ -47,6 +51,11 @@ fn value<'a>(matches: &'a ArgMatches, name: &str) -> &'a str {
     matches.get_one::<String>(name).map_or("", String::as_str)
 }
 
+/// Returns true if a variable of the environment has a value that is not empty.
+fn is_set(variable: &str) -> bool {
+    env::var_os(variable).is_some_and(|value| !value.is_empty())
+}
+
 /// Returns the options of the report.
 fn options_of(matches: &ArgMatches) -> Options {
     Options {
@@ -55,7 +64,7 @@ fn options_of(matches: &ArgMatches) -> Options {
         color: match value(matches, "color") {
             "always" => true,
             "never" => false,
-            _ => io::stdout().is_terminal() && env::var_os("NO_COLOR").is_none(),
+            _ => io::stdout().is_terminal() && !is_set("NO_COLOR"),
         },
         no_tests_pass: value(matches, "no-tests") == "pass",
     }
@@ -102,10 +111,7 @@ fn write_files(matches: &ArgMatches, texts: &FileTexts) -> Result<(), Failure> {
     ];
     for (name, text, write) in files {
         if let (Some(path), Some(text)) = (matches.get_one::<String>(name), text) {
-            write(path, text).map_err(|error| {
-                let message = format!("{path} cannot be written");
-                Failure::new(DEVICE_FAILED, message).caused_by(Some(error))
-            })?;
+            write(path, text).map_err(|error| Failure::unwritten(path, error))?;
         }
     }
     Ok(())
@@ -191,8 +197,9 @@ fn report_files<F: Form, W: Write>(
     waiting: &mut Waiting,
 ) -> Result<(RunEnd, FileTexts), Failure> {
     for &path in files {
-        if path == "-" {
-            read_file(&mut report, io::stdin(), &mut pieces, output, waiting)?;
+        if path == STANDARD_INPUT {
+            let stdin = StandardInput::get();
+            read_file(&mut report, stdin, &mut pieces, output, waiting)?;
             continue;
         }
         match File::open(path) {
@@ -222,21 +229,20 @@ fn report_in<F: Form>(
     options: Options,
     form: F,
 ) -> Result<ExitCode, Failure> {
-    let mut files: Vec<&str> = match matches.get_many::<String>("file") {
-        Some(files) => files.map(String::as_str).collect(),
-        None => Vec::new(),
-    };
-    if files.is_empty() {
-        files.push("-");
-    }
     let report = Report::with_files(form, file_forms(matches, options));
     let pieces = pieces(matches);
     let mut waiting = Waiting {
         interrupt: catch_first_interrupt()?,
         is_unsaid: pieces.progress().is_some() || io::stderr().is_terminal(),
     };
-    let mut output = Output::new(KeepError::new(io::stdout().lock()));
-    let written = report_files(&files, report, pieces, &mut output, &mut waiting);
+    let mut output = Output::new(KeepError::new(StandardOutput::lock()));
+    let written = report_files(
+        &inputs_of(matches),
+        report,
+        pieces,
+        &mut output,
+        &mut waiting,
+    );
     output.line.hide();
     match (written, output.into_writer().into_error()) {
         (Ok((end, texts)), _) => {
@@ -254,8 +260,17 @@ fn report_in<F: Form>(
     }
 }
 
+/// Makes sure, before anything is read, that the report can be written to standard output, that it does not mix with
+/// the files, and that no old file is taken for a new one.
+fn prepare(matches: &ArgMatches) -> Result<(), Failure> {
+    refuse_conflicts(matches)?;
+    remove_old_files(matches)?;
+    check_output().map_err(|error| Failure::from(Fault::Write).caused_by(Some(error)))
+}
+
 /// Writes the report that the arguments ask for, and returns the exit status.
 fn report_of(matches: &ArgMatches) -> Result<ExitCode, Failure> {
+    prepare(matches)?;
     let options = options_of(matches);
     match value(matches, "format") {
         "github" => report_in(matches, options, GithubForm::new(options)),

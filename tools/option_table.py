@@ -1,0 +1,373 @@
+"""What `test-report` must do for its arguments, its input and its standard streams: one row for each case.
+
+The rows are written by hand from the description of the program, and not from what it prints. `tools/try-options`
+runs them.
+"""
+
+from dataclasses import dataclass, field
+
+FORMS = ["text", "github", "names", "junit", "html", "markdown"]
+
+# The forms that are written while the input is read, and those that are written at the end.
+AT_ONCE, AT_END = FORMS[:3], FORMS[3:]
+
+
+@dataclass
+class Parts:
+    """A text that has these parts, in this order, and none of the parts in `without`."""
+
+    parts: list
+    without: list = field(default_factory=list)
+
+
+@dataclass
+class Row:
+    """One run of the program. The folder in which it runs is empty but for `files` and `links`.
+
+    `stdout` and `stderr` are what it must write: a text, or some parts. The program that cargo builds may add the
+    system's error to a message in `stderr`. `after` has what files must be there at the end: a text, some parts, or
+    `None` for no file. `output` says what standard output is: `pipe`, `terminal`, `closed`, or the path of a file.
+    `error` says the same of standard error. Standard input is a pipe with `text`; or, if `source` is given, the file of
+    this name; or `closed`.
+    """
+
+    name: str
+    arguments: list
+    text: str = ""
+    status: int = 0
+    stdout: object = ""
+    stderr: object = ""
+    files: dict = field(default_factory=dict)
+    links: dict = field(default_factory=dict)
+    after: dict = field(default_factory=dict)
+    output: str = "pipe"
+    error: str = "pipe"
+    source: str = ""
+    variables: dict = field(default_factory=dict)
+    # If this is given, the last two lines of `text` come when it is on the terminal.
+    pause: str = ""
+    # Hard links that are made before the input comes, when the old files of these names are gone.
+    late_links: dict = field(default_factory=dict)
+    # If this is false, the program cannot write a byte to any file.
+    has_space: bool = True
+
+
+def started(count):
+    """Returns the first line of a suite of `count` tests."""
+    return f'{{"type":"suite","event":"started","test_count":{count}}}\n'
+
+
+def start(name):
+    """Returns the line of the start of a test."""
+    return f'{{"type":"test","event":"started","name":"{name}"}}\n'
+
+
+def passed(name):
+    """Returns the lines of a test that passes."""
+    return start(name) + f'{{"type":"test","event":"ok","name":"{name}"}}\n'
+
+
+def failed(name, output):
+    """Returns the lines of a test that fails with this output, which is a text of JSON."""
+    return start(name) + f'{{"type":"test","event":"failed","name":"{name}","stdout":"{output}"}}\n'
+
+
+def ended(verdict, ok, bad):
+    """Returns the last line of a suite."""
+    return f'{{"type":"suite","event":"{verdict}","passed":{ok},"failed":{bad},"ignored":0,"measured":0}}\n'
+
+
+GREEN = started(1) + passed("adds") + ended("ok", 1, 0)
+EMPTY = started(0) + ended("ok", 0, 0)
+RED = started(1) + failed("pays", "Error: no money") + ended("failed", 0, 1)
+OTHER_RED = started(1) + failed("rounds", "Error: a cent is lost") + ended("failed", 0, 1)
+COLOURED = started(1) + failed("pa\\u001b[2Jys", "Error: \\u001b[31mred") + ended("failed", 0, 1)
+LONG_TEXT = "Error: " + "x" * 80_000
+LONG = started(1) + failed("pays", LONG_TEXT) + ended("failed", 0, 1)
+
+GREEN_TEXT = """\
+------------
+     Summary 1 tests run: 1 passed (0 flaky), 0 failed (0 timed out, 0 crashed), 0 skipped, 0 not run
+outcome success
+"""
+RED_TEXT = """\
+FAIL suite 1 pays
+    Error: no money
+------------
+     Summary 1 tests run: 0 passed (0 flaky), 1 failed (0 timed out, 0 crashed), 0 skipped, 0 not run
+        FAIL suite 1 pays: Error: no money
+outcome failed
+"""
+
+# What the report of a run without tests has in each form, if `--no-tests` is `fail` and if it is `pass`.
+NO_TESTS = {
+    "text": (Parts(["\noutcome no-tests-run\n"]), Parts(["\noutcome no-tests-run\n"])),
+    "github": (Parts(["::notice::", "no-tests-run"]), Parts(["::notice::", "no-tests-run"])),
+    "names": ("", ""),
+    "junit": (
+        Parts(['tests="1" failures="0" errors="1"', '<error message="no test ran" type="no tests">']),
+        Parts(['tests="0" failures="0" errors="0"'], ["<testcase"]),
+    ),
+    "html": (Parts(["<h1>", "no-tests-run", "</h1>"]), Parts(["<h1>", "no-tests-run", "</h1>"])),
+    "markdown": (Parts(["## Test report: no&#45;tests&#45;run\n"]), Parts(["## Test report: no&#45;tests&#45;run\n"])),
+}
+
+# What the reports of a run with one failed test and of one without have in each form.
+RED_PARTS = {
+    "text": RED_TEXT,
+    "github": Parts(["::error title=suite 1 pays::", "Error: no money", "::notice::", "failed"]),
+    "names": "pays\n",
+    "junit": Parts(['tests="1" failures="1" errors="0"', '<failure message="Error: no money" type="test failure">']),
+    "html": Parts(["<h1>", "failed", "</h1>", "pays", "Error: no money"]),
+    "markdown": Parts(["## Test report: failed", "suite 1 pays", "Error&#58; no money"]),
+}
+GREEN_PARTS = {
+    "text": GREEN_TEXT,
+    "github": Parts(["::notice::", "success"], ["::error"]),
+    "names": "",
+    "junit": Parts(['tests="1" failures="0" errors="0"'], ["<failure"]),
+    "html": Parts(["<h1>", "success", "</h1>"]),
+    "markdown": Parts(["## Test report: success"], ["FAIL"]),
+}
+
+# What is written of a run whose second file cannot be read: of the forms at the end, nothing.
+RED_BEGINS = {
+    "text": "FAIL suite 1 pays\n    Error: no money\n",
+    "github": Parts(["::error title=suite 1 pays::", "Error: no money"], ["::notice"]),
+    "names": "pays\n",
+}
+
+
+# Messages, without the system's error.
+NO_INPUT, NOT_READ, NOT_WRITTEN = (
+    f"test-report: {message}\n" for message in ("none.jsonl cannot be opened", "read failed", "write failed")
+)
+
+
+def forms():
+    """Yields the rows for each form: outcomes, `--no-tests`, a second file that cannot be read, and `--raw`."""
+    for form in FORMS:
+        option = ["--format", form]
+        yield Row(f"{form} of a green run", option, GREEN, 0, GREEN_PARTS[form])
+        yield Row(f"{form} of a red run", [*option, "--no-tests", "pass"], RED, 1, RED_PARTS[form])
+        fail, may_pass = NO_TESTS[form]
+        yield Row(f"{form} of no tests", option, EMPTY, 1, fail)
+        yield Row(f"{form}, --no-tests fail", [*option, "--no-tests", "fail"], EMPTY, 1, fail)
+        yield Row(f"{form}, --no-tests pass", [*option, "--no-tests", "pass"], EMPTY, 0, may_pass)
+        begin, files = RED_BEGINS.get(form, ""), {"red.jsonl": RED}
+        yield Row(f"{form}, no second file", [*option, "red.jsonl", "none.jsonl"], "", 3, begin, NO_INPUT, files)
+        yield Row(f"{form}, a folder as second file", [*option, "red.jsonl", "."], "", 3, begin, NOT_READ, files)
+        if form != "text":
+            yield Row(f"{form}, --raw", [*option, "--raw"], COLOURED, 1, Parts(["u{1b}"], ["\x1b"]))
+    yield Row("text is the default", [], RED, 1, RED_TEXT)
+
+
+def several_files():
+    """Yields the rows of runs that come from several files."""
+    files = {"red.jsonl": RED, "other.jsonl": OTHER_RED}
+    for paths, wanted in [
+        (["red.jsonl", "other.jsonl"], "pays\nrounds\n"),
+        (["other.jsonl", "red.jsonl"], "rounds\npays\n"),
+        (["red.jsonl", "red.jsonl"], "pays\npays\n"),
+        # Standard input has the other run.
+        (["red.jsonl", "-", "red.jsonl"], "pays\nrounds\npays\n"),
+        (["-", "red.jsonl"], "rounds\npays\n"),
+        (["red.jsonl", "-"], "pays\nrounds\n"),
+        (["-"], "rounds\n"),
+        (["-", "-"], "rounds\n"),
+        (["--", "-"], "rounds\n"),
+        ([], "rounds\n"),
+        (["red.jsonl"], "pays\n"),
+    ]:
+        yield Row(f"files {paths}", ["--format", "names", *paths], OTHER_RED, 1, wanted, files=files)
+    numbers = Parts(["\n     Summary 2 tests run: 1 passed (0 flaky), 1 failed "])
+    yield Row("the numbers of two files", ["red.jsonl", "-"], GREEN, 1, numbers, files=files)
+
+
+def limits():
+    """Yields the rows of `--limit`."""
+    for limit, shown in [("0", 0), ("4096", 4_096), ("65536", 65_536), ("65537", 65_537), ("70000", 70_000)]:
+        text = LONG_TEXT[:shown]
+        parts = ["FAIL suite 1 pays\n", f"    {text}\n    ({80_007 - shown} more bytes)\n"]
+        wanted = Parts(parts, [text + "x"] if text else ["Error"])
+        for arguments in (["--limit", limit], [f"--limit={limit}"]):
+            yield Row(f"{arguments}", arguments, LONG, 1, wanted)
+    yield Row("the limit is 4096 by default", [], LONG, 1, Parts(["    (75911 more bytes)\n"]))
+    for limit in ("80007", "18446744073709551615"):
+        wanted = Parts([f"    {LONG_TEXT}\n"], ["more bytes"])
+        yield Row(f"the limit {limit}", ["--limit", limit], LONG, 1, wanted)
+
+
+def colours():
+    """Yields the rows of `--color`, `NO_COLOR` and `--raw`."""
+    plain, red = RED_TEXT, Parts(["\x1b[", "FAIL", "\x1b[", " suite 1 pays\n", "outcome "])
+    for value, wanted in [("auto", plain), ("never", plain), ("always", red)]:
+        yield Row(f"--color {value} in a pipe", ["--color", value], RED, 1, wanted)
+    yield Row("no option in a pipe", [], RED, 1, plain)
+    yield Row("no option on a terminal", [], RED, 1, red, output="terminal")
+    for value, without, given in [("auto", red, plain), ("never", plain, plain), ("always", red, red)]:
+        for variables, wanted in [
+            ({}, without), ({"NO_COLOR": ""}, without), ({"NO_COLOR": "1"}, given), ({"NO_COLOR": "0"}, given),
+        ]:
+            yield Row(f"--color {value} on a terminal, {variables}", ["--color", value], RED, 1, wanted,
+                      output="terminal", variables=variables)
+    # Names stay escaped.
+    escaped = Parts(["FAIL", " suite 1 pa\\u{1b}[2Jys\n    Error: \\u{1b}[31mred\n"], ["\x1b[31m", "\x1b[2J"])
+    kept = Parts(["FAIL", " suite 1 pa\\u{1b}[2Jys\n    Error: \x1b[31mred\n"], ["\\u{1b}[31m", "\x1b[2J"])
+    for value in ("auto", "never", "always"):
+        for output in ("pipe", "terminal"):
+            for raw, wanted in [([], escaped), (["--raw"], kept)]:
+                yield Row(f"{raw} --color {value}, {output}", [*raw, "--color", value], COLOURED, 1, wanted,
+                          output=output)
+
+
+# What shows the line of progress and what takes it away.
+SHOWN, HIDDEN = "\r\x1b[K\x1b[?7l", "\r\x1b[K"
+
+
+def progress():
+    """Yields the rows of `--progress`."""
+    line = Parts([SHOWN + "1 of 1 tests, 1 failed\x1b[?7h", HIDDEN])
+    for value, pipe, terminal in [("auto", "", line), ("always", line, line), ("never", "", "")]:
+        for error, wanted in [("pipe", pipe), ("terminal", terminal)]:
+            for form in FORMS:
+                yield Row(f"--progress {value}, {error}, {form}", ["--progress", value, "--format", form], RED, 1,
+                          RED_PARTS[form], wanted, error=error)
+    yield Row("no option for progress in a pipe", [], RED, 1, RED_TEXT)
+    yield Row("no option for progress on a terminal", [], RED, 1, RED_TEXT, line, error="terminal")
+    # Both streams are one terminal. The lines on the screen at the end are the report alone.
+    for arguments in ([], ["--progress", "auto"], ["--progress", "always"]):
+        yield Row(f"the screen, {arguments}", [*arguments, "--color", "never"], RED, 1, RED_TEXT,
+                  output="screen", error="screen", pause="0 of 1 tests, 0 failed")
+
+
+def streams():
+    """Yields the rows of a standard output that cannot be written."""
+    options = ["--junit", "old.xml", "--html", "old.html", "--markdown", "old.md"]
+    old = {"old.xml": "old", "old.html": "old", "old.md": "old\n"}
+    gone = {"old.xml": None, "old.html": None, "old.md": "old\n"}
+    for form in FORMS:
+        option = ["--format", form]
+        for name, text in [("green", GREEN), ("red", RED)]:
+            yield Row(f"{form} of a {name} run, closed", option, text, 3, "", NOT_WRITTEN, output="closed")
+        yield Row(f"{form}, full", option, RED, 3, "", NOT_WRITTEN, output="/dev/full")
+    for output in ("closed", "/dev/full"):
+        yield Row(f"no files, {output}", options, GREEN, 3, "", NOT_WRITTEN, old, after=gone, output=output)
+        for option in ("--help", "--version"):
+            yield Row(f"{option}, {output}", [option], "", 3, "", NOT_WRITTEN, output=output)
+        yield Row(f"an invalid argument, {output}", ["--none"], "", 2, "", Parts(["error: "]), output=output)
+    for option in (["--no-tests", "pass"], ["--format", "names", "-"]):
+        yield Row(f"standard input closed, {option}", option, "", 3, "", NOT_READ, source="closed")
+    yield Row("standard input closed and a file", ["red.jsonl"], "", 1, RED_TEXT, files={"red.jsonl": RED},
+              source="closed")
+    yield Row("standard error closed", [], RED, 1, RED_TEXT, error="closed")
+    yield Row("nobody wants the report", [], RED, 1, output="/dev/null")
+
+
+XML, PAGE = Parts(["<testsuites ", "</testsuites>\n"], ["old"]), Parts(["<!DOCTYPE html>", "</html>"], ["old"])
+MARKDOWN = Parts(["## Test report: failed"], ["old"])
+OPTIONS = ["--junit", "a.xml", "--html", "a.html", "--markdown", "a.md"]
+OLD = {"a.xml": "old " * 100_000, "a.html": "old " * 100_000, "a.md": "old\n"}
+# What these files are after a run, without and with old ones, and after a run that failed.
+WRITTEN = {"a.xml": XML, "a.html": PAGE, "a.md": MARKDOWN}
+REPLACED = {**WRITTEN, "a.md": Parts(["old\n\n## Test report: failed"])}
+GONE = {"a.xml": None, "a.html": None, "a.md": "old\n"}
+
+
+def files():
+    """Yields the rows of files that are written."""
+    for form in FORMS:
+        yield Row(f"files with {form}", [*OPTIONS, "--format", form], RED, 1, RED_PARTS[form], after=WRITTEN)
+    yield Row("old files", OPTIONS, RED, 1, RED_TEXT, files=OLD, after=REPLACED)
+    shared = {"SHARED/a.xml": XML, "SHARED/a.html": PAGE}
+    yield Row("files in another file system", ["--junit", "SHARED/a.xml", "--html", "SHARED/a.html"], RED, 1,
+              RED_TEXT, after=shared)
+    yield Row("old files and no input", [*OPTIONS, "none.jsonl"], "", 3, "", NO_INPUT, OLD, after=GONE)
+    yield Row("old files and a folder as input", [*OPTIONS, "."], "", 3, "", NOT_READ, OLD, after=GONE)
+    yield Row("old files and an invalid argument", [*OPTIONS, "--limit", "x"], "", 2, "", Parts(["error: "]), OLD,
+              after=OLD)
+    for option, text in [("--junit", XML), ("--html", PAGE)]:
+        # A program that writes into the file at the place also changes the other name of that file.
+        yield Row(f"{option} in one piece", [option, "a"], RED, 1, RED_TEXT, files={"a": "old", "b": "other"},
+                  late_links={"a": "b"}, after={"a": text, "b": "other"})
+        yield Row(f"{option} and no space", [option, "a"], RED, 3, RED_TEXT, "test-report: a cannot be written\n",
+                  {"a": "old"}, after={"a": None}, has_space=False)
+    yield Row("an old file that cannot be removed", ["--junit", "/proc/version"], RED, 3, "",
+              "test-report: /proc/version cannot be written\n")
+    for option in ("--junit", "--html", "--markdown"):
+        yield Row(f"{option} in no folder", [option, "none/a"], RED, 3, RED_TEXT,
+                  "test-report: none/a cannot be written\n")
+
+
+def links():
+    """Yields the rows of files that are symbolic links. The links stay."""
+    named = {"link.xml": "a.xml", "link.html": "a.html", "link.md": "a.md"}
+    stay = {name: f"-> {target}" for name, target in named.items()}
+    options = ["--junit", "link.xml", "--html", "link.html", "--markdown", "link.md"]
+    yield Row("links", options, RED, 1, RED_TEXT, "", OLD, named, {**REPLACED, **stay})
+    yield Row("links to no files", options, RED, 1, RED_TEXT, "", {}, named, {**WRITTEN, **stay})
+    yield Row("links and no input", [*options, "none.jsonl"], "", 3, "", NO_INPUT, OLD, named, {**GONE, **stay})
+    yield Row("a link to a link to no file", ["--html", "x"], RED, 1, RED_TEXT, files={"sub/b": ""},
+              links={"x": "sub/y", "sub/y": "z"}, after={"sub/z": PAGE, "x": "-> sub/y", "sub/y": "-> z"})
+    yield Row("links in a circle", ["--junit", "x"], RED, 3, "", "test-report: x cannot be written\n", {},
+              {"x": "y", "y": "x"}, {"x": "-> y", "y": "-> x"})
+
+
+def devices():
+    """Yields the rows of files that are devices, pipes or standard error, to which a text is added."""
+    for option in ("--junit", "--html", "--markdown"):
+        yield Row(f"{option} of the null device", [option, "/dev/null"], RED, 1, RED_TEXT)
+    yield Row("the null device thrice", ["--junit", "/dev/null", "--html", "/dev/null"], RED, 1, output="/dev/null")
+    for option, text in [("--junit", XML), ("--html", PAGE), ("--markdown", MARKDOWN)]:
+        yield Row(f"{option} to standard error, a pipe", [option, "/dev/stderr"], RED, 1, RED_TEXT, text)
+        yield Row(f"{option} to standard error, a file", [option, "/dev/stderr"], RED, 1, RED_TEXT, error="log.txt",
+                  after={"log.txt": text})
+        yield Row(f"{option} to standard error, a file, and no input", [option, "/dev/stderr", "none.jsonl"], "", 3,
+                  error="log.txt", after={"log.txt": NO_INPUT})
+        yield Row(f"{option} to a named pipe", [option, "PIPE/a"], RED, 1, RED_TEXT, after={"PIPE/a": text})
+        yield Row(f"{option} to a full device", [option, "/dev/full"], RED, 3, RED_TEXT,
+                  "test-report: /dev/full cannot be written\n")
+    shown = Parts([SHOWN, HIDDEN, "<testsuites "])
+    yield Row("standard error with progress", ["--junit", "/dev/stderr", "--progress", "always"], RED, 1, RED_TEXT,
+              error="log.txt", after={"log.txt": shown})
+
+
+def refused(arguments, message, **others):
+    """Returns the row of a file that is refused."""
+    line = f"test-report: {message}\n"
+    stdout = line if others.get("output") == "screen" else ""
+    return Row(f"refused: {message}, {others}", arguments, RED, 2, stdout, line, **others)
+
+
+def conflicts():
+    """Yields the rows of files that are refused before anything is read."""
+    for option in ("--junit", "--html", "--markdown"):
+        for output in ("pipe", "terminal", "out.txt", "/dev/full"):
+            yield refused([option, "/dev/stdout"], f"{option} /dev/stdout is standard output", output=output)
+        yield refused([option, "./out.txt"], f"{option} ./out.txt is standard output", output="out.txt")
+        yield refused([option, "/dev/stderr"], f"{option} /dev/stderr is standard output", output="screen",
+                      error="screen")
+        run, read = {"run.jsonl": RED}, f"{option} ./run.jsonl is also read"
+        for paths in (["run.jsonl"], ["run.jsonl", "-"], ["-", "none.jsonl", "run.jsonl"]):
+            yield refused([option, "./run.jsonl", *paths], read, files=run, after=run)
+        yield refused([option, "./run.jsonl"], read, files=run, after=run, source="run.jsonl")
+    for first, second in [("junit", "html"), ("junit", "markdown"), ("html", "markdown")]:
+        for one, two in [
+            ("a", "a"), ("./a", "a"), ("a", "sub/../a"), ("link", "a"), ("a", "link"), ("folder/b", "sub/b"),
+        ]:
+            message = f"--{first} {one} and --{second} {two} are one file"
+            for old in ({}, {"a": "old", "sub/b": "old"}):
+                yield refused([f"--{second}={two}", f"--{first}", one], message, files={"sub/c": "", **old},
+                              links={"link": "a", "folder": "sub"}, after={"a": None, "sub/b": None, **old})
+    yield refused(["--junit", "a", "--html", "b", "--markdown", "a"], "--junit a and --markdown a are one file",
+                  after={"a": None, "b": None})
+    yield refused(["--junit", "b", "--html", "a", "--markdown", "a"], "--html a and --markdown a are one file",
+                  after={"a": None, "b": None})
+    yield Row("two files of one name in two folders", ["--junit", "a/x", "--html", "b/x"], RED, 1, RED_TEXT,
+              files={"a/x": "old", "b/y": ""}, after={"a/x": XML, "b/x": PAGE})
+
+
+def rows():
+    """Returns all rows."""
+    kinds = (forms, several_files, limits, colours, progress, streams, files, links, devices, conflicts)
+    return [row for kind in kinds for row in kind()]
