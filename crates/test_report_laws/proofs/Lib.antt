@@ -10,6 +10,8 @@ pub mod EndSums
 pub mod FailedLines
 pub mod HtmlLaws
 pub mod InOrder
+pub mod JsonHidden
+pub mod JsonReads
 pub mod JunitLaws
 pub mod JunitNamed
 pub mod JunitCauses

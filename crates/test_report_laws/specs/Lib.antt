@@ -1,4 +1,5 @@
 pub mod Forms
+pub mod Json
 pub mod Junit
 pub mod Report
 pub mod Run

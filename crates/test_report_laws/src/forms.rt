@@ -1,6 +1,7 @@
 //! Laws of what the forms write.
 
 ghost use Rattle.test_report_laws.specs.Forms.{GithubHasNoControls, GithubNamesCauses, HtmlHasNoControls, HtmlNamesCauses, HtmlReadsBack, HtmlShowsItems, HtmlShowsValues, MarkdownHasNoControls, MarkdownKeepsMarks, MarkdownNamesCauses, MarkdownShowsTests, MarkdownShowsValues, NamesAreLines, OnlyCommands, TextHasNoControls, TextNamesCauses};
+ghost use Rattle.test_report_laws.specs.Json.{JsonHasNoCommands, JsonReadsBack};
 ghost use Rattle.test_report_laws.specs.Junit.{JunitHasCases, JunitHasNoControls, JunitNamesCauses, JunitReadsBack, JunitSaysNoTests};
 
 /// Every line that the form for GitHub writes of entries of notes (`IsEntryOf`) is a command for an error or a
@@ -9,8 +10,8 @@ pub fn only_commands()
     ensures { OnlyCommands }
 {}
 
-/// Whatever the input has, no form writes control characters, except tabs and line feeds, and none writes
-/// characters that change the direction of writing. For `text` this holds if `raw` and `color` are false: `raw`
+/// Whatever the input has, no form but `json` writes control characters, except tabs and line feeds, or characters
+/// that change the direction of writing. For `text` this holds if `raw` and `color` are false: `raw`
 /// keeps these characters of the input, and colours use the control character ESC. `names` writes each name on a
 /// line of its own, without tabs and line feeds in it. For `github` the entries must be those of notes
 /// (`IsEntryOf`), since the form writes the line number of a failure without escapes.
@@ -98,3 +99,16 @@ pub fn documents_read_back()
     test_report_forms::laws::junit_is_sound();
     test_report_forms::laws::page_is_sound();
 }
+
+/// What `json` writes has none of the texts that begin a command of a CI system: `##[`, `##vso[` and `##teamcity[`.
+pub fn json_has_no_commands()
+    ensures { JsonHasNoCommands }
+{}
+
+/// What `json` writes is a text and a line feed. The text reads back as the report (`json_of`) and as no other value,
+/// whatever the names, reasons and output of tests are: by the grammar of JSON, in which a number keeps its digits, and
+/// by `serde_json`, for which it is a number. This asks that each number of the report is a number of JSON, and that
+/// the report nests no deeper than `serde_json` reads.
+pub fn json_reads_back()
+    ensures { JsonReadsBack }
+{}
