@@ -1,6 +1,7 @@
 -- No command is left in a text of JSON in which they are hidden.
-use Rattle.std.proofs.Common.{◌≡◌, ◌∙◌, ◌==◌, ◌||◌, refl, sym, ap, arith, ℕ, Bool, true, false, List, [], ◌∷◌, ◌++◌, codes, ⊤}
+use Rattle.std.proofs.Common.{◌≡◌, ◌∙◌, ◌==◌, ◌||◌, refl, sym, ap, arith, ℕ, Bool, true, false, List, [], ◌∷◌, ◌++◌, codes}
 use Rattle.std.proofs.lemmas.Bool.{eqb-true}
+use Rattle.std.specs.Prelude.{⊤}
 use Rattle.template.specs.Shows.{HasPart}
 use Rattle.test_report_forms.specs.Json.{json_line, json_of, json_written}
 use Rattle.test_report_forms.specs.JsonText.{hidden, is_command, json_text}
@@ -67,7 +68,7 @@ skip (x ∷ p) z [] after none is = let first : x ≡ 35 = cc in
 skip (x ∷ p) z (f ∷ front) after none is = let rest : p ++ z ≡ front ++ (35 ∷ after) = cc in skip p z front after none.1 rest
 
 escape-quiet : HasNoHash (codes "\\u0023")
-escape-quiet = (refl, refl, refl, refl, refl, refl, tt)
+escape-quiet = (refl, (refl, (refl, (refl, (refl, (refl, tt))))))
 
 -- a command whose rest is `c` is at no place of what is written
 module _ (c : List ℕ) (plain : IsRest c) (known : (rest : List ℕ) → is_command (c ++ rest) ≡ true) where
@@ -104,7 +105,9 @@ module _ (c : List ℕ) (plain : IsRest c) (known : (rest : List ℕ) → is_com
   none-left (f ∷ front) back is = cc
 
   feed : (front back : List ℕ) → ¬ (10 ∷ [] ≡ front ++ (35 ∷ (c ++ back)))
-  feed [] back is = let first : 10 ≡ 35 = cc in omega arith
+  feed [] back is =
+      let first : 10 ≡ 35 = cc in
+      let both : true ≡ false = ap (λ z. z == 10) first in cc
   feed (f ∷ front) back is = let rest : [] ≡ front ++ (35 ∷ (c ++ back)) = cc in none-left front back rest
 
   lacks : (t : List ℕ) → Lacks t
@@ -127,13 +130,13 @@ unfolding is_command
 teamcity rest = refl
 
 plain-group : IsRest (codes "#[")
-plain-group = (refl, refl, tt)
+plain-group = (refl, (refl, tt))
 
 plain-azure : IsRest (codes "#vso[")
-plain-azure = (refl, refl, refl, refl, refl, tt)
+plain-azure = (refl, (refl, (refl, (refl, (refl, tt)))))
 
 plain-teamcity : IsRest (codes "#teamcity[")
-plain-teamcity = (refl, refl, refl, refl, refl, refl, refl, refl, refl, refl, tt)
+plain-teamcity = (refl, (refl, (refl, (refl, (refl, (refl, (refl, (refl, (refl, (refl, tt))))))))))
 
 pub no_commands : JsonHasNoCommands
 unfolding json_line json_written

@@ -1,6 +1,7 @@
 -- A text of JSON in which commands are hidden reads as the same value.
-use Rattle.std.proofs.Common.{◌≡◌, ◌∙◌, ◌==◌, ◌||◌, ◌&&◌, ◌+◌, ◌<◌, ◌≤◌, ◌⊎◌, inl, inr, refl, sym, ap, ap₂, subst, arith, ℕ, zero, suc, Bool, true, false, cond, List, [], ◌∷◌, ◌++◌, Some, option_and_then, append_assoc, append-nil, ⊤}
+use Rattle.std.proofs.Common.{◌≡◌, ◌∙◌, ◌==◌, ◌||◌, ◌&&◌, ◌+◌, ◌<◌, ◌≤◌, ◌⊎◌, inl, inr, refl, sym, ap, ap₂, subst, arith, ℕ, zero, suc, Bool, true, false, cond, List, [], ◌∷◌, ◌++◌, Some, option_and_then, append_assoc, append-nil}
 use Rattle.std.proofs.lemmas.Bool.{cases_eq, cases_lt, eqb-true, ne_eqb, le-ltb}
+use Rattle.std.specs.Prelude.{⊤}
 use lib.Utf8.{encode}
 use Rattle.json.specs.Json.{Items, Json, Members, array, boolean, document, if_last, item, max_depth, member, no_items, no_members, null, number, object, string, value}
 use Rattle.json.specs.Lex.{Lexeme, Mode, between, colon, comma, fresh, in_string, lex, lex_byte, operator, other as other_class, punctuate, space, string_token, token, tokens}
@@ -381,10 +382,10 @@ value-back j d w shallow = ap (value d) (hidden-tokens j w ∙ sym (append-nil (
 
 pub json-reads-back : JsonReadsBack
 unfolding json_written json_line
-json-reads-back limit entries end plain shallow =
+json-reads-back limit entries end values shallow =
     let j = json_of limit entries end in (
       hidden (json_text j),
       refl,
-      ap (option_and_then (λ p. if_last p.0 p.1)) (value-back j max_depth plain (omega arith)),
-      ap (λ v. option_and_then of_json (option_and_then (λ p. if_last p.0 p.1) v)) (value-back j read_depth plain shallow),
+      ap (option_and_then (λ p. if_last p.0 p.1)) (value-back j max_depth values (omega arith)),
+      ap (λ v. option_and_then of_json (option_and_then (λ p. if_last p.0 p.1) v)) (value-back j read_depth values shallow),
     )
