@@ -17,9 +17,9 @@ REFUSED = [
     ["--lim", "7"], ["--limit", "0x10"], ["--limit", " 7"], ["--", "--raw"], ["--format"], ["--format", "xml"],
     ["--format="], ["--format", "Text"], ["--format", "text", "--format", "text"], ["--no-tests", "warn"],
     ["--no-tests"], ["--color", "yes"], ["--progress", "yes"], ["--color=always", "--color=always"], ["--junit"], ["--html"],
-    ["--markdown"], ["--junit", "a", "--junit", "b"], ["--form", "text"],
+    ["--markdown"], ["--json"], ["--junit", "a", "--junit", "b"], ["--form", "text"],
 ]
-FORMS = ["text", "github", "names", "junit", "html", "markdown"]
+FORMS = ["text", "github", "names", "junit", "html", "markdown", "json"]
 LIMITS = [0, 1, 2, 10, 50, 68, 100, 1000, 4096, 2**64 - 1]
 
 # The choices of each option of `test-report`, and how often it is given. Files that it writes are compared.
@@ -27,6 +27,7 @@ OPTIONS = [
     (0.6, "format", FORMS), (0.5, "limit", LIMITS), (0.2, "no-tests", ["fail", "pass"]),
     (0.2, "color", ["auto", "always", "never"]), (0.2, "junit", ["run.xml", "old.txt"]),
     (0.1, "progress", ["auto", "never"]), (0.2, "html", ["run.html", "old.txt"]), (0.2, "markdown", ["run.md", "old.txt"]),
+    (0.2, "json", ["run.json", "old.txt"]),
 ]
 WORDS = [["frob"], ["count", "count"], ["extract", "count"], ["Count"], ["-"], [""], ["--nothing"], ["coun"],
          ["extract", ""], [b"caf\xe9"], ["count", b"\xff"]]
@@ -127,7 +128,7 @@ def failing_devices():
     for path in ("no/such/file", "", "/"):
         yield Case("test-report", [path], b"", "a file that cannot be read", rule="system")
         yield Case("test-report", ["-", path], b"", "a second file that cannot be read", rule="system")
-    for option in ("--junit", "--html", "--markdown"):
+    for option in ("--junit", "--html", "--markdown", "--json"):
         for path in ("no/such/file", "", "/", "/dev/full"):
             yield Case("test-report", [option, path], b"", "a file that cannot be written", rule="system")
         yield Case("test-report", [option, "/dev/null"], b"", "a device that is written")

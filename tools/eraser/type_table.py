@@ -30,6 +30,8 @@ ADDED_DERIVES = {
     "UnitAbortDescription": EQUAL,
     "UnitTerminateMethod": EQUAL,
     "UnitTerminateReason": EQUAL,
+    "OpenSuites": ("Clone",),
+    "Suite": ("Clone",),
 }
 
 # Derives that a type does not have: a source that is read must not be copied, and a description has 72 bytes.

@@ -8,7 +8,9 @@ use test_report_forms::options::Options;
 const LIMIT: &str = "4096";
 
 /// The values of `--format`.
-const FORMS: &[&str] = &["text", "github", "names", "junit", "html", "markdown"];
+const FORMS: &[&str] = &[
+    "text", "github", "names", "junit", "html", "markdown", "json",
+];
 
 /// The values of `--no-tests`.
 const ACTIONS: &[&str] = &["fail", "pass"];
@@ -28,6 +30,7 @@ Examples (with `set -o pipefail` a pipe also fails if the test command does):
   .. | test-report --junit junit.xml                    the text, and a file for a build server
   .. | test-report --html report.html                   the text, and a page for a browser
   .. | test-report --markdown \"$GITHUB_STEP_SUMMARY\"    the text, and a summary on GitHub
+  .. | test-report --json report.json                   the text, and a file for other programs
   test-report --format junit first.jsonl second.jsonl   two files, as one run
 
 Exit status:
@@ -69,6 +72,7 @@ pub(crate) fn command<'a>(alloc: Global) -> Result<Command<'a>, AllocError> {
         .arg(file(alloc, "markdown").help(
             "Also append Markdown to FILE, such as $GITHUB_STEP_SUMMARY",
         ))?
+        .arg(file(alloc, "json").help("Also write the report as JSON to FILE"))?
         .arg(choice(alloc, "no-tests", "ACTION", ACTIONS).help(
             "Whether the exit status is 1 (`fail`) or 0 (`pass`) if no test ran and nothing else is wrong",
         ))?

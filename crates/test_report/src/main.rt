@@ -34,6 +34,7 @@ use test_report_forms::files::{FileForms, FileTexts};
 use test_report_forms::form::Form;
 use test_report_forms::github::GithubForm;
 use test_report_forms::html::HtmlForm;
+use test_report_forms::json_form::JsonForm;
 use test_report_forms::junit::JunitForm;
 use test_report_forms::markdown::MarkdownForm;
 use test_report_forms::names::NamesForm;
@@ -80,6 +81,9 @@ fn file_forms(
     if matches.contains_id("markdown") {
         forms.markdown = Some(MarkdownForm::new(alloc, options));
     }
+    if matches.contains_id("json") {
+        forms.json = Some(JsonForm::new(alloc, options));
+    }
     Ok(forms)
 }
 
@@ -97,6 +101,9 @@ fn write_files<'a, R: Files + AllocGlobal>(
     }
     if let (Some(path), Some(text)) = (matches.get_str("markdown"), &texts.markdown) {
         append(rt, path, text.as_str()).map_err(|error| Failure::unwritten(path, error))?;
+    }
+    if let (Some(path), Some(text)) = (matches.get_str("json"), &texts.json) {
+        replace(rt, path, text.as_str()).map_err(|_| Failure::Write(path))?;
     }
     Ok(())
 }
@@ -224,6 +231,7 @@ fn report_of<'a, R: Files + AllocGlobal + Input + Print>(
             line,
             MarkdownForm::new(alloc, options),
         ),
+        Some("json") => report_in(rt, matches, settings, line, JsonForm::new(alloc, options)),
         _ => report_in(rt, matches, settings, line, TextForm::new(alloc, options)),
     }
 }

@@ -66,7 +66,12 @@ fn a_run_without_lines_has_no_tests(rt: HostRuntime) {
 fn files_that_are_absent_have_no_texts(rt: HostRuntime) -> Result<(), Fail> {
     let end = TestRun::new(rt.alloc()).end();
     let texts = FileForms::none().texts(rt.alloc(), &end)?;
-    assert!(rt; texts.junit.is_none() && texts.html.is_none() && texts.markdown.is_none());
+    assert!(rt;
+        texts.junit.is_none()
+            && texts.html.is_none()
+            && texts.markdown.is_none()
+            && texts.json.is_none()
+    );
     Ok(())
 }
 

@@ -11,6 +11,7 @@ use test_report_forms::files::FileForms;
 use test_report_forms::form::Form;
 use test_report_forms::github::GithubForm;
 use test_report_forms::html::HtmlForm;
+use test_report_forms::json_form::JsonForm;
 use test_report_forms::junit::JunitForm;
 use test_report_forms::markdown::MarkdownForm;
 use test_report_forms::names::NamesForm;
@@ -56,6 +57,18 @@ why</pre>
 
 "#;
 
+/// The report in JSON.
+const JSON: &str = "{\"outcome\":\"failed\",\
+     \"numbers\":{\"finished\":1,\"passed\":0,\"flaky\":0,\"failed\":1,\"timed_out\":0,\"crashed\":0,\
+     \"skipped\":0,\"not_run\":1},\
+     \"suites\":[{\"name\":\"suite 1\",\
+     \"numbers\":{\"finished\":1,\"passed\":0,\"flaky\":0,\"failed\":1,\"timed_out\":0,\"crashed\":0,\
+     \"skipped\":0,\"not_run\":1},\
+     \"tests\":[{\"name\":\"a\",\"written_name\":\"a\",\"result\":\"failed\",\"attempts\":1,\
+     \"short\":\"why\",\"why\":\"why\"}]}],\
+     \"problems\":[{\"kind\":\"not run\",\"suite\":\"suite 1\",\
+     \"line\":\"suite 1: 1 of 2 tests were not run\"}]}\n";
+
 /// How a page for a browser begins and ends.
 const PAGE: (&[u8], &[u8]) = (
     b"<!DOCTYPE html>\n<html lang=\"en\">\n",
@@ -94,6 +107,7 @@ fn each_form_has_its_report(rt: HostRuntime) -> Result<(), Fail> {
     assert!(rt; gives(alloc, GithubForm::new(OPTIONS), GITHUB));
     assert!(rt; gives(alloc, JunitForm::new(alloc, OPTIONS), JUNIT));
     assert!(rt; gives(alloc, MarkdownForm::new(alloc, OPTIONS), MARKDOWN));
+    assert!(rt; gives(alloc, JsonForm::new(alloc, OPTIONS), JSON));
     assert!(rt; is_within(alloc, HtmlForm::new(alloc, OPTIONS), PAGE));
     Ok(())
 }
@@ -104,6 +118,7 @@ fn all_files(alloc: Global) -> Result<FileForms, AllocError> {
         junit: Some(JunitForm::new(alloc, OPTIONS)),
         html: Some(HtmlForm::new(alloc, OPTIONS)),
         markdown: Some(MarkdownForm::new(alloc, OPTIONS)),
+        json: Some(JsonForm::new(alloc, OPTIONS)),
     })
 }
 
@@ -131,6 +146,10 @@ fn has_files(alloc: Global) -> Result<bool, Fault> {
                 .markdown
                 .as_ref()
                 .is_some_and(|text| text.as_str() == MARKDOWN)
+            && texts
+                .json
+                .as_ref()
+                .is_some_and(|text| text.as_str() == JSON)
             && page.starts_with(PAGE.0)
             && page.ends_with(PAGE.1),
     )

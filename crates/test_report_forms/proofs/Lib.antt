@@ -3,6 +3,8 @@ pub mod Ends
 pub mod Filtered
 pub mod Heads
 pub mod Joins
+pub mod JsonStates
+pub mod JsonTexts
 pub mod JunitParts
 pub mod JunitElements
 pub mod Kept

@@ -1,14 +1,15 @@
 -- JUnit's XML: the suites of the entries of a run, and what is written of them.
 use Rattle.std.specs.Prelude.{◌&&◌, ◌++◌, ◌∷◌, [], ℕ, Bool, not, List, codes, if◌then◌else◌, map, Option, Some, None}
-use Rattle.std.specs.List.{find, fold}
+use Rattle.std.specs.List.{fold}
 use Rattle.std.specs.Option.{option_map_or}
 use Rattle.template.specs.Parse.{template_parts}
 use Rattle.template.specs.Template.{Parts, Values, parts_text, values_of}
 use Rattle.test_report_forms.specs.Model.{CauseView, cause_of_entry, no_tests_ran}
 use Rattle.test_report_forms.specs.Entry.{EntryView, LinesDisagree, SuiteNotRun, SuiteOver, TestFailed, TestPassed, TestSkipped}
 use Rattle.test_report_forms.specs.JunitCase.{CaseView, case_view, failed_case, own_name, passed_case, problem_case, skipped_case}
-use Rattle.test_report_forms.specs.JunitSuite.{SuiteView, is_named, new_suite, suite_view, with_case}
+use Rattle.test_report_forms.specs.JunitSuite.{SuiteView, suite_view}
 use Rattle.test_report_forms.specs.JunitValues.{junit_values}
+use Rattle.test_report_forms.specs.Suites.{added_to, suite_over, without_first}
 use Rattle.test_report_forms.specs.declared.junit.JunitForm.{JunitForm}
 use Rattle.test_report_forms.specs.declared.junit_template.TheConstants.{JUNIT}
 use Rattle.test_report_forms.specs.declared.options.Options.{Options}
@@ -22,16 +23,11 @@ pub record JunitState : Type 0 where
 
 -- what the form keeps
 abbrev pub junit_view : JunitForm → JunitState
-junit_view f = record { suites = map suite_view f.suites.items; over = map suite_view f.over.items; own = map case_view f.own.items }
+junit_view f = record { suites = map suite_view f.suites.list.items; over = map suite_view f.over.items; own = map case_view f.own.items }
 
 -- what the form keeps before the first entry
 abbrev pub junit_start : JunitState
 junit_start = record { suites = []; over = []; own = [] }
-
--- a test case is added to the first open suite of its name, or else to a new one
-abbrev pub added_to : Option (List ℕ) → CaseView → List SuiteView → List SuiteView
-added_to name c [] = with_case (new_suite name) c ∷ []
-added_to name c (s ∷ suites) = if is_named name s then with_case s c ∷ suites else s ∷ added_to name c suites
 
 -- one more test case of the suite with this name
 abbrev pub add_case : JunitState → Option (List ℕ) → CaseView → JunitState
@@ -46,24 +42,9 @@ abbrev pub add_cause : JunitState → CauseView → JunitState
 add_cause j cause =
     option_map_or (λ suite. add_case j (Some suite) (problem_case cause.line cause.kind)) cause.suite (add_own j (problem_case cause.line cause.kind))
 
--- the open suites without the first one of this name
-abbrev pub without_first : Option (List ℕ) → List SuiteView → List SuiteView
-without_first name [] = []
-without_first name (s ∷ suites) = if is_named name s then suites else s ∷ without_first name suites
-
 -- what is kept, without that suite
 abbrev pub without_suite : JunitState → Option (List ℕ) → JunitState
 without_suite j name = record j { suites = without_first name j.suites }
-
--- the suite that was found, or else a new one of this name. The tests outside of a suite are left out if there are none
-abbrev pub or_new : Option (List ℕ) → Option SuiteView → Option SuiteView
-or_new name (Some s) = Some s
-or_new (Some name) None = Some (new_suite (Some name))
-or_new None None = None
-
--- the suite of this name that is over
-abbrev pub suite_over : Option (List ℕ) → List SuiteView → Option SuiteView
-suite_over name suites = or_new name (find (is_named name) suites)
 
 -- a suite is over, with this time
 abbrev pub close : JunitState → Option ℕ → SuiteView → JunitState

@@ -3,6 +3,9 @@ pub mod Files
 pub mod Github
 pub mod Holes
 pub mod Html
+pub mod Json
+pub mod JsonText
+pub mod JsonValues
 pub mod Junit
 pub mod JunitCase
 pub mod JunitSuite
@@ -15,6 +18,7 @@ pub mod Model
 pub mod Names
 pub mod Place
 pub mod Shown
+pub mod Suites
 pub mod Text
 pub mod Title
 pub mod Values

@@ -10,6 +10,7 @@ ghost use Rattle.test_report_forms.specs.declared.files.FileTexts.{FileTexts};
 use crate::entry::Entry;
 use crate::form::Form;
 use crate::html::HtmlForm;
+use crate::json_form::JsonForm;
 use crate::junit::JunitForm;
 use crate::markdown::MarkdownForm;
 use std::alloc::{AllocError, Global};
@@ -26,6 +27,9 @@ pub struct FileForms {
 
     /// The form for the summary of a workflow on GitHub.
     pub markdown: Option<MarkdownForm>,
+
+    /// The form for other programs.
+    pub json: Option<JsonForm>,
 }
 
 /// The texts of the files. A text is absent if its form is.
@@ -39,6 +43,9 @@ pub struct FileTexts {
 
     /// The text for the summary of a workflow on GitHub.
     pub markdown: Option<String>,
+
+    /// The text for other programs.
+    pub json: Option<String>,
 }
 
 impl FileForms {
@@ -50,6 +57,7 @@ impl FileForms {
             junit: None,
             html: None,
             markdown: None,
+            json: None,
         }
     }
 
@@ -62,7 +70,8 @@ impl FileForms {
     {
         take_entry(alloc, &mut self.junit, entry)?;
         take_entry(alloc, &mut self.html, entry)?;
-        take_entry(alloc, &mut self.markdown, entry)
+        take_entry(alloc, &mut self.markdown, entry)?;
+        take_entry(alloc, &mut self.json, entry)
     }
 
     /// Returns the text of each form at the end of the run. The only error is that memory runs out.
@@ -74,6 +83,7 @@ impl FileForms {
             junit: text_at_end(alloc, &mut self.junit, end)?,
             html: text_at_end(alloc, &mut self.html, end)?,
             markdown: text_at_end(alloc, &mut self.markdown, end)?,
+            json: text_at_end(alloc, &mut self.json, end)?,
         })
     }
 }

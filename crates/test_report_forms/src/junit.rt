@@ -1,15 +1,15 @@
 //! The form for build servers: JUnit's XML, as nextest writes it.
 
 ghost use Rattle.std.specs.Prelude.{◌≡◌, ◌++◌, ◌&&◌, ◌∷◌, [], IfOk, OnOk, map, not, option_map, string_bytes};
-ghost use Rattle.std.specs.List.{find, position};
 ghost use Rattle.std.specs.Option.{option_map_or};
 ghost use Rattle.template.specs.Template.{values_view};
 ghost use Rattle.test_report_forms.specs.Entry.{entry_view};
 ghost use Rattle.test_report_forms.specs.Junit as spec;
 ghost use Rattle.test_report_forms.specs.Junit.{junit_view};
 ghost use Rattle.test_report_forms.specs.JunitCase.{case_view};
-ghost use Rattle.test_report_forms.specs.JunitSuite.{is_named, suite_view};
+ghost use Rattle.test_report_forms.specs.JunitSuite.{suite_view};
 ghost use Rattle.test_report_forms.specs.Model.{cause_of_entry, cause_view, no_tests_ran};
+ghost use Rattle.test_report_forms.specs.Suites.{suite_over};
 ghost use Rattle.test_report_run.specs.Note.{text_view};
 
 use crate::cause::{Cause, cause_of};
@@ -17,10 +17,10 @@ use crate::document::push_document;
 use crate::entry::Entry;
 use crate::form::Form;
 use crate::junit_case::{Case, OWN_NAME, text_of};
-use crate::junit_suite::JunitSuite;
 use crate::junit_template::JUNIT;
 use crate::junit_values::junit_values;
 use crate::model::no_tests_ran;
+use crate::open_suites::{OpenSuites, Suite};
 use crate::options::Options;
 use std::alloc::{AllocError, Global};
 use template::Value;
@@ -33,8 +33,8 @@ const NO_TESTS: &str = "no test ran";
 #[derive(Drop)]
 pub struct JunitForm {
     options: Options,
-    suites: Vec<JunitSuite>,
-    over: Vec<JunitSuite>,
+    suites: OpenSuites<Case>,
+    over: Vec<Suite<Case>>,
     own: Vec<Case>,
 }
 
@@ -46,17 +46,10 @@ impl JunitForm {
     {
         JunitForm {
             options,
-            suites: Vec::new(alloc),
+            suites: OpenSuites::new(alloc),
             over: Vec::new(alloc),
             own: Vec::new(alloc),
         }
-    }
-
-    /// Returns the place of the first open suite of this name.
-    fn place_of(&self, suite: Option<&str>) -> Option<usize>
-        ensures { result ≡ position (λ s. is_named (option_map (λ n. n.now) suite.entry) (suite_view s)) self.now.suites.items }
-    {
-        self.suites.iter().position(|open| open.is_named(suite))
     }
 
     /// Adds a test case to a suite.
@@ -65,15 +58,7 @@ impl JunitForm {
             ≡ spec.add_case (junit_view self.old) (option_map (λ n. n.now) suite.entry) (case_view case)) }
         ensures options { self.new.options ≡ self.old.options }
     {
-        match self.place_of(suite) {
-            Some(at) => self.suites[at].add(case),
-            None => {
-                let mut open = JunitSuite::new(alloc, suite)?;
-                open.add(case)?;
-                self.suites.push(open)?;
-                Ok(())
-            }
-        }
+        self.suites.add(alloc, suite, case)
     }
 
     /// Takes an entry.
@@ -147,41 +132,23 @@ impl JunitForm {
         &mut self,
         alloc: Global,
         name: Option<&str>,
-    ) -> Result<Option<JunitSuite>, AllocError>
+    ) -> Result<Option<Suite<Case>>, AllocError>
         ensures over { IfOk result (λ over. option_map suite_view over
-            ≡ spec.suite_over (option_map (λ n. n.now) name.entry) (map suite_view self.old.suites.items)) }
+            ≡ suite_over (option_map (λ n. n.now) name.entry) (junit_view self.old).suites) }
         ensures rest { OnOk result (junit_view self.new
             ≡ spec.without_suite (junit_view self.old) (option_map (λ n. n.now) name.entry)) }
         ensures options { self.new.options ≡ self.old.options }
     {
-        match (self.take_open(name), name) {
-            (Some(over), _) => Ok(Some(over)),
-            (None, Some(_)) => Ok(Some(JunitSuite::new(alloc, name)?)),
-            (None, None) => Ok(None),
-        }
-    }
-
-    /// Takes the first open suite of this name out.
-    fn take_open(&mut self, name: Option<&str>) -> Option<JunitSuite>
-        ensures over { option_map suite_view result
-            ≡ find (is_named (option_map (λ n. n.now) name.entry)) (map suite_view self.old.suites.items) }
-        ensures rest { junit_view self.new
-            ≡ spec.without_suite (junit_view self.old) (option_map (λ n. n.now) name.entry) }
-        ensures options { self.new.options ≡ self.old.options }
-    {
-        match self.place_of(name) {
-            Some(at) => Some(self.suites.remove(at)),
-            None => None,
-        }
+        self.suites.end_suite(alloc, name)
     }
 
     /// Adds a suite to those that are over.
-    fn close(&mut self, suite: JunitSuite, time: Option<u64>) -> Result<(), AllocError>
+    fn close(&mut self, suite: Suite<Case>, time: Option<u64>) -> Result<(), AllocError>
         ensures state { OnOk result (junit_view self.new ≡ spec.close (junit_view self.old) time (suite_view suite)) }
         ensures options { self.new.options ≡ self.old.options }
     {
-        let JunitSuite { name, cases, .. } = suite;
-        self.over.push(JunitSuite { name, time, cases })?;
+        let Suite { name, cases, .. } = suite;
+        self.over.push(Suite { name, time, cases })?;
         Ok(())
     }
 
@@ -209,14 +176,14 @@ impl JunitForm {
 
     /// Takes all suites out: those that are over, those that no entry has ended, and the suite of causes that name
     /// no suite.
-    fn take_suites(&mut self, alloc: Global, no_tests: bool) -> Result<Vec<JunitSuite>, AllocError>
+    fn take_suites(&mut self, alloc: Global, no_tests: bool) -> Result<Vec<Suite<Case>>, AllocError>
         ensures { IfOk result (λ suites. map suite_view suites.items
             ≡ spec.all_suites (junit_view self.old) no_tests) }
     {
         let own = self.take_own(alloc, no_tests)?;
-        let open = std::mem::replace(&mut self.suites, Vec::new(alloc));
+        let open = std::mem::replace(&mut self.suites, OpenSuites::new(alloc));
         let mut suites = std::mem::replace(&mut self.over, Vec::new(alloc));
-        for suite in open {
+        for suite in open.list {
             suites.push(suite)?;
         }
         push_own(alloc, &mut suites, own)?;
@@ -235,14 +202,14 @@ fn with_no_tests(alloc: Global, mut own: Vec<Case>) -> Result<Vec<Case>, AllocEr
 }
 
 /// Adds the suite of causes that name no suite, unless it is empty.
-fn push_own(alloc: Global, suites: &mut Vec<JunitSuite>, own: Vec<Case>) -> Result<(), AllocError>
+fn push_own(alloc: Global, suites: &mut Vec<Suite<Case>>, own: Vec<Case>) -> Result<(), AllocError>
     ensures { OnOk result (map suite_view suites.new.items
         ≡ map suite_view suites.old.items ++ spec.own_suite (map case_view own.items)) }
 {
     if own.is_empty() {
         return Ok(());
     }
-    let mut suite = JunitSuite::new(alloc, Some(OWN_NAME))?;
+    let mut suite = Suite::new(alloc, Some(OWN_NAME))?;
     suite.cases = own;
     suites.push(suite)?;
     Ok(())

@@ -1,60 +1,12 @@
-//! The suites of JUnit's XML.
+//! The numbers of suites of JUnit's XML.
 
-ghost use Rattle.std.specs.Prelude.{◌≡◌, ◌++◌, ◌∷◌, [], IfOk, OnOk, map, option_map};
+ghost use Rattle.std.specs.Prelude.{◌≡◌, map};
 ghost use Rattle.test_report_forms.specs.JunitCase.{case_view};
 ghost use Rattle.test_report_forms.specs.JunitSuite as spec;
 ghost use Rattle.test_report_forms.specs.JunitSuite.{suite_view};
 
 use crate::junit_case::Case;
-use std::alloc::{AllocError, Global};
-
-/// A suite and its test cases.
-#[derive(Drop)]
-pub(crate) struct JunitSuite {
-    /// Its name, or `None` for the tests outside of a suite.
-    pub(crate) name: Option<String>,
-
-    /// The time that it took, in microseconds, if it is known.
-    pub(crate) time: Option<u64>,
-
-    /// Its test cases.
-    pub(crate) cases: Vec<Case>,
-}
-
-impl JunitSuite {
-    /// Returns a suite without test cases, or the tests outside of a suite if there is no name.
-    pub(crate) fn new(alloc: Global, name: Option<&str>) -> Result<JunitSuite, AllocError>
-        ensures { IfOk result (λ s. suite_view s ≡ spec.new_suite (option_map (λ n. n.now) name.entry)) }
-    {
-        Ok(JunitSuite {
-            name: match name {
-                Some(name) => Some(String::from_str(alloc, name)?),
-                None => None,
-            },
-            time: None,
-            cases: Vec::new(alloc),
-        })
-    }
-
-    /// Returns true if the suite has this name.
-    pub(crate) fn is_named(&self, name: Option<&str>) -> bool
-        ensures { result ≡ spec.is_named (option_map (λ n. n.now) name.entry) (suite_view self.now) }
-    {
-        match (&self.name, name) {
-            (Some(own), Some(name)) => own.as_str() == name,
-            (None, None) => true,
-            _ => false,
-        }
-    }
-
-    /// Adds a test case.
-    pub(crate) fn add(&mut self, case: Case) -> Result<(), AllocError>
-        ensures { OnOk result (suite_view self.new ≡ spec.with_case (suite_view self.old) (case_view case)) }
-    {
-        self.cases.push(case)?;
-        Ok(())
-    }
-}
+use crate::open_suites::Suite;
 
 /// How many test cases there are, by their kinds.
 #[derive(Clone, Copy, Default)]
@@ -91,7 +43,7 @@ impl JunitCounts {
     }
 
     /// Returns the sums of the numbers of suites.
-    pub(crate) fn of_suites(suites: &[JunitSuite]) -> JunitCounts
+    pub(crate) fn of_suites(suites: &[Suite<Case>]) -> JunitCounts
         ensures { result ≡ spec.sums_of (map suite_view suites.now) }
     {
         let mut sums = JunitCounts::default();

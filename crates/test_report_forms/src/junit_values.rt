@@ -19,8 +19,9 @@ ghost use Rattle.test_report_forms.specs.JunitValues as spec;
 ghost use Rattle.test_report_forms.specs.Values.{one_text};
 
 use crate::junit_case::{Case, CaseKind, Reason, text_of};
-use crate::junit_suite::{JunitCounts, JunitSuite};
+use crate::junit_suite::JunitCounts;
 use crate::model::suite_name;
+use crate::open_suites::Suite;
 use crate::values::{one_text, push_option, push_time};
 use std::alloc::{AllocError, Global};
 use template::{Value, push_item, push_section, push_text};
@@ -28,7 +29,7 @@ use template::{Value, push_item, push_section, push_text};
 /// Returns the values of a run with these suites.
 pub(crate) fn junit_values(
     alloc: Global,
-    suites: Vec<JunitSuite>,
+    suites: Vec<Suite<Case>>,
     time: Option<u64>,
 ) -> Result<Vec<Value>, AllocError>
     ensures { IfOk result (λ v. map value_view v.items
@@ -43,10 +44,10 @@ pub(crate) fn junit_values(
 }
 
 /// Returns the values of a suite.
-fn suite_values(alloc: Global, suite: JunitSuite) -> Result<Vec<Value>, AllocError>
+fn suite_values(alloc: Global, suite: Suite<Case>) -> Result<Vec<Value>, AllocError>
     ensures { IfOk result (λ v. map value_view v.items ≡ spec.suite_values (suite_view suite)) }
 {
-    let JunitSuite { name, time, cases } = suite;
+    let Suite { name, time, cases } = suite;
     let mut values = counts_values(alloc, JunitCounts::of_cases(cases.as_slice()))?;
     push_text(&mut values, "name", suite_name(alloc, text_of(&name))?)?;
     push_time(alloc, &mut values, time)?;

@@ -138,7 +138,7 @@ pub(crate) fn push_limited(text: &mut String, shown: &str, limit: usize) -> Resu
 }
 
 /// Appends the number of bytes that are not shown, on a line of its own. Appends nothing if there are none.
-fn push_more(text: &mut String, more: usize) -> Result<(), AllocError>
+pub(crate) fn push_more(text: &mut String, more: usize) -> Result<(), AllocError>
     ensures { OnOk result (string_bytes text.new ≡ string_bytes text.old ++ spec.more_note more) }
 {
     if more == 0 {

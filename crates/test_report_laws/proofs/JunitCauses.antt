@@ -21,9 +21,10 @@ use Rattle.template.specs.declared.hole.Hole.TheVariants as hole
 use Rattle.test_report_laws.proofs.Parts.{KeptHas, OneHas, all-weaker-named, in-left, in-right, one-last, some-weaker}
 use Rattle.test_report_forms.proofs.JunitElements.{item, run_item, run_suites, suite_cases, suite_item}
 use Rattle.test_report_forms.specs.Entry.{EntryView, LinesDisagree, SuiteNotRun, SuiteOver, TestFailed, TestPassed, TestSkipped}
-use Rattle.test_report_forms.specs.Junit.{JunitState, add_case, add_cause, add_own, added_to, all_suites, close, end_suite, junit_entry, junit_of, junit_parts, junit_start, junit_state, junit_suites, junit_text, no_tests_case, or_new, own_cases, own_suite, suite_over, without_first, without_suite, xml_header}
+use Rattle.test_report_forms.specs.Junit.{JunitState, add_case, add_cause, add_own, all_suites, close, end_suite, junit_entry, junit_of, junit_parts, junit_start, junit_state, junit_suites, junit_text, no_tests_case, own_cases, own_suite, without_suite, xml_header}
 use Rattle.test_report_forms.specs.JunitCase.{CaseView, failed_case, own_name, passed_case, problem_case, skipped_case}
-use Rattle.test_report_forms.specs.JunitSuite.{SuiteView, counts_of, is_named, new_suite, same_name, with_case}
+use Rattle.test_report_forms.specs.JunitSuite.{SuiteView, counts_of}
+use Rattle.test_report_forms.specs.Suites.{added_to, is_named, new_suite, or_new, same_name, suite_over, with_case, without_first}
 use Rattle.test_report_forms.specs.JunitTree.{IsCaseElement, IsRunElement, IsSuiteElement, sums_attributes, time_attribute}
 use Rattle.test_report_forms.specs.Model.{CauseView, cause_of_entry, no_tests_ran, suite_name}
 use Rattle.test_report_laws.specs.Junit.{HasElement, HasJunitCase, HasJunitCases, JunitCause, JunitNamesCauses, JunitReadsBack, JunitSaysNoTests, failed_cause, junit_cause, no_test_cause, other_cause}

@@ -13,6 +13,8 @@ pub mod FailedLines
 pub mod FileEvents
 pub mod HtmlLaws
 pub mod InOrder
+pub mod JsonHidden
+pub mod JsonReads
 pub mod JunitLaws
 pub mod JunitNamed
 pub mod JunitCauses

@@ -1,6 +1,7 @@
 pub mod Colours
 pub mod Commands
 pub mod Forms
+pub mod Json
 pub mod Junit
 pub mod Lines
 pub mod Report

@@ -3,6 +3,7 @@
 ghost use Rattle.test_report_laws.specs.Colours.{TextIsColoured};
 ghost use Rattle.test_report_laws.specs.Commands.{OnlyCommands};
 ghost use Rattle.test_report_laws.specs.Forms.{GithubHasNoControls, HtmlHasNoControls, HtmlNamesCauses, HtmlReadsBack, HtmlSaysEnd, HtmlShowsItems, HtmlShowsPhrases, HtmlShowsValues, MarkdownHasNoControls, MarkdownKeepsMarks, MarkdownNamesCauses, MarkdownSaysEnd, MarkdownShowsPhrases, MarkdownShowsTests, MarkdownShowsValues, NamesAreLines, TextHasNoControls};
+ghost use Rattle.test_report_laws.specs.Json.{JsonHasNoCommands, JsonReadsBack};
 ghost use Rattle.test_report_laws.specs.Junit.{JunitHasCases, JunitHasNoControls, JunitNamesCauses, JunitReadsBack, JunitSaysNoTests};
 ghost use Rattle.test_report_laws.specs.Lines.{GithubNamesCauses, NamesNamesTests, ShortIsInLine, TextNamesCauses};
 
@@ -13,8 +14,8 @@ pub fn only_commands()
     ensures { OnlyCommands }
 {}
 
-/// Whatever the input has, no form writes control characters, except tabs and line feeds, and none writes
-/// characters that change the direction of writing. For `text` this holds if `raw` and `color` are false: `raw`
+/// Whatever the input has, no form but `json` writes control characters, except tabs and line feeds, or characters
+/// that change the direction of writing. For `text` this holds if `raw` and `color` are false: `raw`
 /// keeps these characters of the input, and colours use the control character ESC. If only `raw` is false, `text`
 /// writes no others than three fixed sequences for colours (`colours`). Without these the text is the one without
 /// colours. `names` writes each name on a line of its own, without tabs and line feeds in it. For `github` the
@@ -125,3 +126,16 @@ pub fn documents_read_back()
     test_report_forms::laws::junit_is_sound();
     test_report_forms::laws::page_is_sound();
 }
+
+/// What `json` writes has none of the texts that begin a command of a CI system: `##[`, `##vso[` and `##teamcity[`.
+pub fn json_has_no_commands()
+    ensures { JsonHasNoCommands }
+{}
+
+/// What `json` writes is a text and a line feed. The text reads back as the report (`json_of`) and as no other value,
+/// whatever the names, reasons and output of tests are: by the grammar of JSON, in which a number keeps its digits, and
+/// by `serde_json`, for which it is a number. This asks that each number of the report is a number of JSON, and that
+/// the report nests no deeper than `serde_json` reads.
+pub fn json_reads_back()
+    ensures { JsonReadsBack }
+{}

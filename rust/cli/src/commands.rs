@@ -23,7 +23,9 @@ Exit status:
 const LIMIT: &str = "4096";
 
 /// The values of `--format`.
-const FORMS: [&str; 6] = ["text", "github", "names", "junit", "html", "markdown"];
+const FORMS: [&str; 7] = [
+    "text", "github", "names", "junit", "html", "markdown", "json",
+];
 
 /// The text of `test-report --help` after the options.
 const AFTER_REPORT_HELP: &str = "\
@@ -37,6 +39,7 @@ Examples (with `set -o pipefail` a pipe also fails if the test command does):
   .. | test-report --junit junit.xml                    the text, and a file for a build server
   .. | test-report --html report.html                   the text, and a page for a browser
   .. | test-report --markdown \"$GITHUB_STEP_SUMMARY\"    the text, and a summary on GitHub
+  .. | test-report --json report.json                   the text, and a file for other programs
   test-report --format junit first.jsonl second.jsonl   two files, as one run
 
 Exit status:
@@ -78,6 +81,7 @@ pub fn test_report() -> Command {
         .arg(file("junit").help("Also write JUnit's XML to FILE. An old FILE is removed at the start"))
         .arg(file("html").help("Also write an HTML page to FILE. An old FILE is removed at the start"))
         .arg(file("markdown").help("Also append Markdown to FILE, such as $GITHUB_STEP_SUMMARY"))
+        .arg(file("json").help("Also write the report as JSON to FILE"))
         .arg(
             choice("no-tests", "ACTION", "fail", ["fail", "pass"])
                 .help("Whether the exit status is 1 (`fail`) or 0 (`pass`) if no test ran and nothing else is wrong"),

@@ -179,10 +179,11 @@ fn help_names_all_arguments() {
         for part in [
             "Usage: test-report [OPTIONS] [FILE]...",
             "--format <FORM>",
-            "text, github, names, junit, html, markdown",
+            "text, github, names, junit, html, markdown, json",
             "--junit <FILE>",
             "--html <FILE>",
             "--markdown <FILE>",
+            "--json <FILE>",
             "--no-tests <ACTION>",
             "--color <WHEN>",
             "--progress <WHEN>",

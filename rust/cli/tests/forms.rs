@@ -170,14 +170,24 @@ fn html_of_empty_names() {
 #[test]
 fn files_are_written_as_well() {
     let folder = Folder::new("files");
-    let (junit, html, markdown) = (
+    let (junit, html, markdown, json) = (
         folder.file("a.xml"),
         folder.file("b.html"),
         folder.file("c.md"),
+        folder.file("d.json"),
     );
     fs::write(&junit, "an older file that is longer than nothing").expect("the file is written");
     fs::write(&markdown, "before\n").expect("the file is written");
-    let arguments = ["--junit", &junit, "--html", &html, "--markdown", &markdown];
+    let arguments = [
+        "--junit",
+        &junit,
+        "--html",
+        &html,
+        "--markdown",
+        &markdown,
+        "--json",
+        &json,
+    ];
     let text = report(&arguments, RUN, 1);
     assert_eq!(text, report(&[], RUN, 1));
     let read = |path: &str| fs::read_to_string(Path::new(path)).expect("the file is there");
@@ -185,18 +195,19 @@ fn files_are_written_as_well() {
     assert_eq!(read(&html), report(&["--format", "html"], RUN, 1));
     let appended = format!("before\n\n{}", with_characters(MARKDOWN));
     assert_eq!(read(&markdown), appended);
+    assert_eq!(read(&json), report(&["--format", "json"], RUN, 1));
     assert_eq!(
         fs::read_dir(&folder.0)
             .expect("the folder is there")
             .count(),
-        3
+        4
     );
 }
 
 #[test]
 fn a_file_that_cannot_be_written() {
     let folder = Folder::new("refused");
-    for option in ["--junit", "--html", "--markdown"] {
+    for option in ["--junit", "--html", "--markdown", "--json"] {
         let path = folder.file("no/such/file");
         let output = run("test-report", &[option, &path], RUN.as_bytes());
         assert_eq!(output.status.code(), Some(3), "{option}");

@@ -21,6 +21,7 @@ use deodarsieve_cli::test_report_forms::files::{FileForms, FileTexts};
 use deodarsieve_cli::test_report_forms::form::Form;
 use deodarsieve_cli::test_report_forms::github::GithubForm;
 use deodarsieve_cli::test_report_forms::html::HtmlForm;
+use deodarsieve_cli::test_report_forms::json_form::JsonForm;
 use deodarsieve_cli::test_report_forms::junit::JunitForm;
 use deodarsieve_cli::test_report_forms::markdown::MarkdownForm;
 use deodarsieve_cli::test_report_forms::names::NamesForm;
@@ -95,6 +96,7 @@ fn file_forms(matches: &ArgMatches, options: Options) -> FileForms {
         markdown: matches
             .contains_id("markdown")
             .then(|| MarkdownForm::new(options)),
+        json: matches.contains_id("json").then(|| JsonForm::new(options)),
     }
 }
 
@@ -108,6 +110,7 @@ fn write_files(matches: &ArgMatches, texts: &FileTexts) -> Result<(), Failure> {
         ),
         ("html", &texts.html, replace),
         ("markdown", &texts.markdown, append),
+        ("json", &texts.json, replace),
     ];
     for (name, text, write) in files {
         if let (Some(path), Some(text)) = (matches.get_one::<String>(name), text) {
@@ -278,6 +281,7 @@ fn report_of(matches: &ArgMatches) -> Result<ExitCode, Failure> {
         "junit" => report_in(matches, options, JunitForm::new(options)),
         "html" => report_in(matches, options, HtmlForm::new(options)),
         "markdown" => report_in(matches, options, MarkdownForm::new(options)),
+        "json" => report_in(matches, options, JsonForm::new(options)),
         _ => report_in(matches, options, TextForm::new(options)),
     }
 }

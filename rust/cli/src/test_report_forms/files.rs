@@ -4,6 +4,7 @@
 use crate::test_report_forms::entry::Entry;
 use crate::test_report_forms::form::Form;
 use crate::test_report_forms::html::HtmlForm;
+use crate::test_report_forms::json_form::JsonForm;
 use crate::test_report_forms::junit::JunitForm;
 use crate::test_report_forms::markdown::MarkdownForm;
 use crate::test_report_run::note::RunEnd;
@@ -19,6 +20,9 @@ pub struct FileForms {
 
     /// The form for the summary of a workflow on GitHub.
     pub markdown: Option<MarkdownForm>,
+
+    /// The form for other programs.
+    pub json: Option<JsonForm>,
 }
 
 /// The texts of the files. A text is absent if its form is.
@@ -32,6 +36,9 @@ pub struct FileTexts {
 
     /// The text for the summary of a workflow on GitHub.
     pub markdown: Option<String>,
+
+    /// The text for other programs.
+    pub json: Option<String>,
 }
 
 impl FileForms {
@@ -41,6 +48,7 @@ impl FileForms {
             junit: None,
             html: None,
             markdown: None,
+            json: None,
         }
     }
 
@@ -49,6 +57,7 @@ impl FileForms {
         take_entry(&mut self.junit, entry);
         take_entry(&mut self.html, entry);
         take_entry(&mut self.markdown, entry);
+        take_entry(&mut self.json, entry);
     }
 
     /// Returns the text of each form at the end of the run. The only error is that memory runs out.
@@ -57,6 +66,7 @@ impl FileForms {
             junit: text_at_end(&mut self.junit, end),
             html: text_at_end(&mut self.html, end),
             markdown: text_at_end(&mut self.markdown, end),
+            json: text_at_end(&mut self.json, end),
         }
     }
 }

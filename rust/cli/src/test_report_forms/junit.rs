@@ -7,10 +7,10 @@ use crate::test_report_forms::document::push_document;
 use crate::test_report_forms::entry::Entry;
 use crate::test_report_forms::form::Form;
 use crate::test_report_forms::junit_case::{Case, OWN_NAME, text_of};
-use crate::test_report_forms::junit_suite::JunitSuite;
 use crate::test_report_forms::junit_template::JUNIT;
 use crate::test_report_forms::junit_values::junit_values;
 use crate::test_report_forms::model::no_tests_ran;
+use crate::test_report_forms::open_suites::{OpenSuites, Suite};
 use crate::test_report_forms::options::Options;
 use crate::test_report_run::note::{RunEnd, SuiteNote};
 
@@ -21,8 +21,8 @@ const NO_TESTS: &str = "no test ran";
 #[derive(Clone)]
 pub struct JunitForm {
     options: Options,
-    suites: Vec<JunitSuite>,
-    over: Vec<JunitSuite>,
+    suites: OpenSuites<Case>,
+    over: Vec<Suite<Case>>,
     own: Vec<Case>,
 }
 
@@ -31,27 +31,15 @@ impl JunitForm {
     pub fn new(options: Options) -> JunitForm {
         JunitForm {
             options,
-            suites: Vec::new(),
+            suites: OpenSuites::new(),
             over: Vec::new(),
             own: Vec::new(),
         }
     }
 
-    /// Returns the place of the first open suite of this name.
-    fn place_of(&self, suite: Option<&str>) -> Option<usize> {
-        self.suites.iter().position(|open| open.is_named(suite))
-    }
-
     /// Adds a test case to a suite.
     fn add(&mut self, suite: Option<&str>, case: Case) {
-        match self.place_of(suite) {
-            Some(at) => self.suites[at].add(case),
-            None => {
-                let mut open = JunitSuite::new(suite);
-                open.add(case);
-                self.suites.push(open);
-            }
-        }
+        self.suites.add(suite, case);
     }
 
     /// Takes an entry.
@@ -98,23 +86,14 @@ impl JunitForm {
 
     /// Takes the first open suite of this name out, or returns a new one. Returns `None` if there are no tests
     /// outside of a suite.
-    fn take_suite(&mut self, name: Option<&str>) -> Option<JunitSuite> {
-        match (self.take_open(name), name) {
-            (Some(over), _) => Some(over),
-            (None, Some(_)) => Some(JunitSuite::new(name)),
-            (None, None) => None,
-        }
-    }
-
-    /// Takes the first open suite of this name out.
-    fn take_open(&mut self, name: Option<&str>) -> Option<JunitSuite> {
-        self.place_of(name).map(|at| self.suites.remove(at))
+    fn take_suite(&mut self, name: Option<&str>) -> Option<Suite<Case>> {
+        self.suites.end_suite(name)
     }
 
     /// Adds a suite to those that are over.
-    fn close(&mut self, suite: JunitSuite, time: Option<u64>) {
-        let JunitSuite { name, cases, .. } = suite;
-        self.over.push(JunitSuite { name, time, cases });
+    fn close(&mut self, suite: Suite<Case>, time: Option<u64>) {
+        let Suite { name, cases, .. } = suite;
+        self.over.push(Suite { name, time, cases });
     }
 
     /// Returns true if a test case says that no test ran.
@@ -130,11 +109,11 @@ impl JunitForm {
 
     /// Takes all suites out: those that are over, those that no entry has ended, and the suite of causes that name
     /// no suite.
-    fn take_suites(&mut self, no_tests: bool) -> Vec<JunitSuite> {
+    fn take_suites(&mut self, no_tests: bool) -> Vec<Suite<Case>> {
         let own = self.take_own(no_tests);
-        let open = std::mem::take(&mut self.suites);
+        let open = std::mem::replace(&mut self.suites, OpenSuites::new());
         let mut suites = std::mem::take(&mut self.over);
-        for suite in open {
+        for suite in open.list {
             suites.push(suite);
         }
         push_own(&mut suites, own);
@@ -150,11 +129,11 @@ fn with_no_tests(mut own: Vec<Case>) -> Vec<Case> {
 }
 
 /// Adds the suite of causes that name no suite, unless it is empty.
-fn push_own(suites: &mut Vec<JunitSuite>, own: Vec<Case>) {
+fn push_own(suites: &mut Vec<Suite<Case>>, own: Vec<Case>) {
     if own.is_empty() {
         return;
     }
-    let mut suite = JunitSuite::new(Some(OWN_NAME));
+    let mut suite = Suite::new(Some(OWN_NAME));
     suite.cases = own;
     suites.push(suite);
 }

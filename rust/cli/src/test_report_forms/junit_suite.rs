@@ -1,45 +1,8 @@
 // Made by tools/erase from crates/test_report_forms/src/junit_suite.rt. Do not edit.
-//! The suites of JUnit's XML.
+//! The numbers of suites of JUnit's XML.
 
 use crate::test_report_forms::junit_case::Case;
-
-/// A suite and its test cases.
-#[derive(Clone)]
-pub(crate) struct JunitSuite {
-    /// Its name, or `None` for the tests outside of a suite.
-    pub(crate) name: Option<String>,
-
-    /// The time that it took, in microseconds, if it is known.
-    pub(crate) time: Option<u64>,
-
-    /// Its test cases.
-    pub(crate) cases: Vec<Case>,
-}
-
-impl JunitSuite {
-    /// Returns a suite without test cases, or the tests outside of a suite if there is no name.
-    pub(crate) fn new(name: Option<&str>) -> JunitSuite {
-        JunitSuite {
-            name: name.map(String::from),
-            time: None,
-            cases: Vec::new(),
-        }
-    }
-
-    /// Returns true if the suite has this name.
-    pub(crate) fn is_named(&self, name: Option<&str>) -> bool {
-        match (&self.name, name) {
-            (Some(own), Some(name)) => own.as_str() == name,
-            (None, None) => true,
-            _ => false,
-        }
-    }
-
-    /// Adds a test case.
-    pub(crate) fn add(&mut self, case: Case) {
-        self.cases.push(case);
-    }
-}
+use crate::test_report_forms::open_suites::Suite;
 
 /// How many test cases there are, by their kinds.
 #[derive(Clone, Copy, Default)]
@@ -72,7 +35,7 @@ impl JunitCounts {
     }
 
     /// Returns the sums of the numbers of suites.
-    pub(crate) fn of_suites(suites: &[JunitSuite]) -> JunitCounts {
+    pub(crate) fn of_suites(suites: &[Suite<Case>]) -> JunitCounts {
         let mut sums = JunitCounts::default();
         for suite in suites {
             sums = sums.with_suite(JunitCounts::of_cases(suite.cases.as_slice()));

@@ -12,13 +12,13 @@
 //! | `failure` or `error` (`message`, `type`, `why`), `output` (its `text`) | each `case` that failed |
 
 use crate::template::{Value, push_item, push_section, push_text};
-use crate::test_report_forms::junit_case::{Case, CaseKind, Reason, text_of};
-use crate::test_report_forms::junit_suite::{JunitCounts, JunitSuite};
-use crate::test_report_forms::model::suite_name;
+use crate::test_report_forms::junit_case::{Case, CaseKind, Reason, suite_text, text_of};
+use crate::test_report_forms::junit_suite::JunitCounts;
+use crate::test_report_forms::open_suites::Suite;
 use crate::test_report_forms::values::{one_text, push_option, push_time};
 
 /// Returns the values of a run with these suites.
-pub(crate) fn junit_values(suites: Vec<JunitSuite>, time: Option<u64>) -> Vec<Value> {
+pub(crate) fn junit_values(suites: Vec<Suite<Case>>, time: Option<u64>) -> Vec<Value> {
     let mut values = counts_values(JunitCounts::of_suites(suites.as_slice()));
     push_time(&mut values, time);
     for suite in suites {
@@ -28,8 +28,8 @@ pub(crate) fn junit_values(suites: Vec<JunitSuite>, time: Option<u64>) -> Vec<Va
 }
 
 /// Returns the values of a suite.
-fn suite_values(suite: JunitSuite) -> Vec<Value> {
-    let JunitSuite { name, time, cases } = suite;
+fn suite_values(suite: Suite<Case>) -> Vec<Value> {
+    let Suite { name, time, cases } = suite;
     let mut values = counts_values(JunitCounts::of_cases(cases.as_slice()));
     push_text(&mut values, "name", suite_name(text_of(&name)));
     push_time(&mut values, time);

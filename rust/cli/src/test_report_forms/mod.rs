@@ -1,6 +1,6 @@
 // Made by tools/erase from crates/test_report_forms/src/lib.rt. Do not edit.
 //! Writes the report of a test run: as text for people, as names of failed tests, as commands for GitHub, as
-//! JUnit's XML, as an HTML page, or as Markdown.
+//! JUnit's XML, as an HTML page, as Markdown, or as JSON.
 //!
 //! Each of these is a `Form`, which takes the entries of a run one by one. An entry is a note of
 //! `test_report_run`, with the reason if a test failed. `TextForm`, `GithubForm` and `NamesForm` append the
@@ -8,8 +8,8 @@
 //!
 //! Control characters of the input, except tab and line feed in the captured output of tests, and
 //! characters that change the direction of writing become escapes such as `\u{1b}`. A test therefore
-//! cannot control the reader's terminal. The exception is `TextForm` with `raw`: its reasons of failures
-//! keep these characters.
+//! cannot control the reader's terminal. The exceptions are `TextForm` with `raw`, whose reasons of failures
+//! keep these characters, and `JsonForm`, which escapes only what JSON requires.
 //!
 //! This function returns the text that `TextForm` writes for one note:
 //!
@@ -41,6 +41,9 @@ pub mod files;
 pub mod form;
 pub mod github;
 pub mod html;
+pub mod json_form;
+mod json_object;
+mod json_values;
 pub mod junit;
 mod junit_case;
 mod junit_suite;
@@ -52,6 +55,7 @@ mod markdown_template;
 pub mod model;
 pub mod names;
 mod numbers;
+mod open_suites;
 pub mod options;
 mod page_template;
 pub mod place;

@@ -88,7 +88,7 @@ pub(crate) fn push_limited(text: &mut String, shown: &str, limit: usize) {
 }
 
 /// Appends the number of bytes that are not shown, on a line of its own. Appends nothing if there are none.
-fn push_more(text: &mut String, more: usize) {
+pub(crate) fn push_more(text: &mut String, more: usize) {
     if more == 0 {
         return;
     }

@@ -60,7 +60,12 @@ fn a_run_without_lines_has_no_tests() {
 fn files_that_are_absent_have_no_texts() -> Result<(), Box<dyn std::error::Error>> {
     let end = TestRun::new().end();
     let texts = FileForms::none().texts(&end);
-    assert!(texts.junit.is_none() && texts.html.is_none() && texts.markdown.is_none());
+    assert!(
+        texts.junit.is_none()
+            && texts.html.is_none()
+            && texts.markdown.is_none()
+            && texts.json.is_none()
+    );
     Ok(())
 }
 

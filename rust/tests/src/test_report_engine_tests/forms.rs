@@ -10,6 +10,7 @@ use deodarsieve_cli::test_report_forms::files::FileForms;
 use deodarsieve_cli::test_report_forms::form::Form;
 use deodarsieve_cli::test_report_forms::github::GithubForm;
 use deodarsieve_cli::test_report_forms::html::HtmlForm;
+use deodarsieve_cli::test_report_forms::json_form::JsonForm;
 use deodarsieve_cli::test_report_forms::junit::JunitForm;
 use deodarsieve_cli::test_report_forms::markdown::MarkdownForm;
 use deodarsieve_cli::test_report_forms::names::NamesForm;
@@ -55,6 +56,18 @@ why</pre>
 
 "#;
 
+/// The report in JSON.
+const JSON: &str = "{\"outcome\":\"failed\",\
+     \"numbers\":{\"finished\":1,\"passed\":0,\"flaky\":0,\"failed\":1,\"timed_out\":0,\"crashed\":0,\
+     \"skipped\":0,\"not_run\":1},\
+     \"suites\":[{\"name\":\"suite 1\",\
+     \"numbers\":{\"finished\":1,\"passed\":0,\"flaky\":0,\"failed\":1,\"timed_out\":0,\"crashed\":0,\
+     \"skipped\":0,\"not_run\":1},\
+     \"tests\":[{\"name\":\"a\",\"written_name\":\"a\",\"result\":\"failed\",\"attempts\":1,\
+     \"short\":\"why\",\"why\":\"why\"}]}],\
+     \"problems\":[{\"kind\":\"not run\",\"suite\":\"suite 1\",\
+     \"line\":\"suite 1: 1 of 2 tests were not run\"}]}\n";
+
 /// How a page for a browser begins and ends.
 const PAGE: (&[u8], &[u8]) = (
     b"<!DOCTYPE html>\n<html lang=\"en\">\n",
@@ -86,6 +99,7 @@ fn each_form_has_its_report() -> Result<(), Box<dyn std::error::Error>> {
     assert!(gives(GithubForm::new(OPTIONS), GITHUB));
     assert!(gives(JunitForm::new(OPTIONS), JUNIT));
     assert!(gives(MarkdownForm::new(OPTIONS), MARKDOWN));
+    assert!(gives(JsonForm::new(OPTIONS), JSON));
     assert!(is_within(HtmlForm::new(OPTIONS), PAGE));
     Ok(())
 }
@@ -96,6 +110,7 @@ fn all_files() -> FileForms {
         junit: Some(JunitForm::new(OPTIONS)),
         html: Some(HtmlForm::new(OPTIONS)),
         markdown: Some(MarkdownForm::new(OPTIONS)),
+        json: Some(JsonForm::new(OPTIONS)),
     }
 }
 
@@ -122,6 +137,10 @@ fn has_files() -> Result<bool, Fault> {
             .markdown
             .as_ref()
             .is_some_and(|text| text.as_str() == MARKDOWN)
+        && texts
+            .json
+            .as_ref()
+            .is_some_and(|text| text.as_str() == JSON)
         && page.starts_with(PAGE.0)
         && page.ends_with(PAGE.1))
 }
