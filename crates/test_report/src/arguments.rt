@@ -37,8 +37,8 @@ Exit status:
   0  the run succeeded; or no test ran, nothing else is wrong, and `--no-tests` is `pass`
   1  the run did not succeed: a test failed, some of the tests that a suite's first line announces neither ended
      nor were ignored, lines contradict each other, cargo reported a failure that no test explains, or no test ran
-  2  an argument is invalid, or `--junit`, `--html` or `--markdown` names standard output, a file that is read, or the
-     file of another of these options
+  2  an argument is invalid, or `--junit`, `--html`, `--markdown` or `--json` names standard output, a file that is
+     read, or the file of another of these options
   3  reading or writing failed, a file cannot be opened or written, a number is too large to count, or there was not
      enough memory";
 
@@ -72,7 +72,9 @@ pub(crate) fn command<'a>(alloc: Global) -> Result<Command<'a>, AllocError> {
         .arg(file(alloc, "markdown").help(
             "Also append Markdown to FILE, such as $GITHUB_STEP_SUMMARY",
         ))?
-        .arg(file(alloc, "json").help("Also write the report as JSON to FILE"))?
+        .arg(file(alloc, "json").help(
+            "Also write the report as JSON to FILE. An old FILE is removed at the start",
+        ))?
         .arg(choice(alloc, "no-tests", "ACTION", ACTIONS).help(
             "Whether the exit status is 1 (`fail`) or 0 (`pass`) if no test ran and nothing else is wrong",
         ))?

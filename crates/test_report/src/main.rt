@@ -103,7 +103,7 @@ fn write_files<'a, R: Files + AllocGlobal>(
         append(rt, path, text.as_str()).map_err(|error| Failure::unwritten(path, error))?;
     }
     if let (Some(path), Some(text)) = (matches.get_str("json"), &texts.json) {
-        replace(rt, path, text.as_str()).map_err(|_| Failure::Write(path))?;
+        replace(rt, path, text.as_str()).map_err(|error| Failure::unwritten(path, error))?;
     }
     Ok(())
 }

@@ -10,10 +10,10 @@ use std::fmt;
 use std::rt::Files;
 
 /// The options that name a file that is replaced.
-const REPLACED: &[&str] = &["junit", "html"];
+const REPLACED: &[&str] = &["junit", "html", "json"];
 
 /// The options that name a file to write.
-const WRITTEN: &[&str] = &["junit", "html", "markdown"];
+const WRITTEN: &[&str] = &["junit", "html", "markdown", "json"];
 
 /// The name of standard input among the files of the run.
 pub(crate) const STANDARD_INPUT: &str = "-";

@@ -46,8 +46,8 @@ Exit status:
   0  the run succeeded; or no test ran, nothing else is wrong, and `--no-tests` is `pass`
   1  the run did not succeed: a test failed, some of the tests that a suite's first line announces neither ended
      nor were ignored, lines contradict each other, cargo reported a failure that no test explains, or no test ran
-  2  an argument is invalid, or `--junit`, `--html` or `--markdown` names standard output, a file that is read, or the
-     file of another of these options
+  2  an argument is invalid, or `--junit`, `--html`, `--markdown` or `--json` names standard output, a file that is
+     read, or the file of another of these options
   3  reading or writing failed, a file cannot be opened or written, or a number is too large to count";
 
 /// Returns the arguments that `run-digest` takes.
@@ -81,7 +81,7 @@ pub fn test_report() -> Command {
         .arg(file("junit").help("Also write JUnit's XML to FILE. An old FILE is removed at the start"))
         .arg(file("html").help("Also write an HTML page to FILE. An old FILE is removed at the start"))
         .arg(file("markdown").help("Also append Markdown to FILE, such as $GITHUB_STEP_SUMMARY"))
-        .arg(file("json").help("Also write the report as JSON to FILE"))
+        .arg(file("json").help("Also write the report as JSON to FILE. An old FILE is removed at the start"))
         .arg(
             choice("no-tests", "ACTION", "fail", ["fail", "pass"])
                 .help("Whether the exit status is 1 (`fail`) or 0 (`pass`) if no test ran and nothing else is wrong"),

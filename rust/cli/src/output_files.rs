@@ -9,10 +9,10 @@ use std::fmt;
 use std::path::Path;
 
 /// The options that name a file that is replaced.
-const REPLACED: [&str; 2] = ["junit", "html"];
+const REPLACED: [&str; 3] = ["junit", "html", "json"];
 
 /// The options that name a file to write.
-const WRITTEN: [&str; 3] = ["junit", "html", "markdown"];
+const WRITTEN: [&str; 4] = ["junit", "html", "markdown", "json"];
 
 /// The name of standard input among the files of the run.
 pub const STANDARD_INPUT: &str = "-";
