@@ -12,7 +12,7 @@ PACKAGES = {
         "program_io", "run_digest_engine", "template", "test_report_events", "test_report_run",
         "test_report_forms", "test_report_engine",
     ),
-    "deodarsieve-c": ("deodarsieve",),
+    "deodarsieve-c": ("c_values", "deodarsieve"),
     "deodarsieve-tests": (
         "fixtures", "run_digest_engine_tests", "output_slice_tests", "test_report_engine_tests",
     ),

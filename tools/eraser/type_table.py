@@ -59,7 +59,7 @@ MUST_USE_BY_THEMSELVES = ("ExecutionStatusesIter", "Iter", "Result")
 
 # The last arm of matches in other packages over types that may get more cases: file, function, and its value.
 OTHER_ARMS = {
-    "deodarsieve/src/codes.rt": (
+    "c_values/src/codes.rt": (
         ("level_code", 'unreachable!("there is no other level")'),
         ("final_level_code", 'unreachable!("there is no other level")'),
     ),

@@ -141,18 +141,36 @@ fn is_not_started(described: &ChildExecutionOutputDescription<LiveSpec>) -> bool
     }
 }
 
-pub(crate) fn from_output_without_errors(alloc: Global) -> Result<Outcome, AllocError> {
+/// Describes the output of a process that a signal ended, without errors.
+fn from_ended(alloc: Global) -> Result<Outcome, AllocError> {
     let end = ExecutionResultDescription::from_status(END, name(alloc)?);
-    let ended = left_with(alloc, None)?;
-    let not_started = ChildExecutionOutput::StartError(ChildStartError::Spawn(error(alloc, "s")?));
+    let output = left_with(alloc, None)?;
     let name = name(alloc)?;
-    let Ok(ended) = ChildExecutionOutputDescription::from_output(alloc, ended, name) else {
-        return Ok(Outcome::OutOfMemory);
-    };
-    let Ok(not_started) = ChildExecutionOutputDescription::from_output(alloc, not_started, None)
-    else {
-        return Ok(Outcome::OutOfMemory);
-    };
-    let is_right = is_described_without_errors(&ended, &end) && is_not_started(&not_started);
-    Ok(Outcome::of_answer(is_right, "another description"))
+    Ok(
+        match ChildExecutionOutputDescription::from_output(alloc, output, name) {
+            Ok(described) => Outcome::of_answer(
+                is_described_without_errors(&described, &end),
+                "another description",
+            ),
+            Err(_) => Outcome::OutOfMemory,
+        },
+    )
+}
+
+/// Describes that a process was not started.
+fn from_not_started(alloc: Global) -> Result<Outcome, AllocError> {
+    let output = ChildExecutionOutput::StartError(ChildStartError::Spawn(error(alloc, "s")?));
+    Ok(
+        match ChildExecutionOutputDescription::from_output(alloc, output, None) {
+            Ok(described) => Outcome::of_answer(is_not_started(&described), "another description"),
+            Err(_) => Outcome::OutOfMemory,
+        },
+    )
+}
+
+pub(crate) fn from_output_without_errors(alloc: Global) -> Result<Outcome, AllocError> {
+    match from_ended(alloc)? {
+        Outcome::RightAnswer => from_not_started(alloc),
+        outcome => Ok(outcome),
+    }
 }

@@ -80,15 +80,19 @@ fn are_in_order(alloc: Global, list: Option<ErrorList<UnitError<'_>>>) -> Result
     Ok(are_equal)
 }
 
+/// Makes the three lists of the errors of a unit, and compares them with those of [`described`].
+fn lists_of(alloc: Global, errors: UnitErrorDescription<'_>) -> Result<Outcome, AllocError> {
+    let all = are_in_order(alloc, errors.all_error_list(alloc)?)?;
+    let failed = are_in_order(alloc, errors.exec_fail_error_list(alloc)?)?;
+    let is_empty = errors.child_process_error_list(alloc)?.is_none();
+    Ok(Outcome::of_answer(all && failed && is_empty, "another list"))
+}
+
 /// Describes a test with many errors, and makes the three lists of them.
 pub(crate) fn many_errors(alloc: Global) -> Result<Outcome, AllocError> {
     let output = described(alloc)?;
     if !UnitErrorDescription::can_describe(UnitKind::Test, &output) {
         return Ok(Outcome::Wrong("it cannot be described"));
     }
-    let errors = UnitErrorDescription::new(UnitKind::Test, &output);
-    let are_right = are_in_order(alloc, errors.all_error_list(alloc)?)?
-        && are_in_order(alloc, errors.exec_fail_error_list(alloc)?)?
-        && errors.child_process_error_list(alloc)?.is_none();
-    Ok(Outcome::of_answer(are_right, "another list"))
+    lists_of(alloc, UnitErrorDescription::new(UnitKind::Test, &output))
 }

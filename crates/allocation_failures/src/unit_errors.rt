@@ -90,7 +90,11 @@ pub(crate) fn no_errors(alloc: Global) -> Outcome {
     if !UnitErrorDescription::can_describe(UnitKind::Test, &output) {
         return Outcome::Wrong("it cannot be described");
     }
-    let errors = UnitErrorDescription::new(UnitKind::Test, &output);
+    lists_are_empty(alloc, UnitErrorDescription::new(UnitKind::Test, &output))
+}
+
+/// Makes the three lists of the errors of a unit, which must be empty.
+fn lists_are_empty(alloc: Global, errors: UnitErrorDescription<'_>) -> Outcome {
     for kinds in [
         ErrorKinds::All,
         ErrorKinds::ExecFail,

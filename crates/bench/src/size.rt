@@ -5,7 +5,7 @@ ghost use Rattle.std.specs.Prelude.{◌≡◌, ◌≤◌, ◌*◌, ◌/◌, ◌�
 /// The size of the inputs: the number of bytes of the largest ones. All other inputs are in
 /// proportion.
 #[derive(Clone, Copy, Debug, PartialEq, Eq)]
-pub(crate) struct Size {
+pub struct Size {
     bytes: u64,
     ghost few: { bytes ≤ 1_024_000_000 },
 }
@@ -14,10 +14,18 @@ impl Size {
     ghost use Rattle.std.specs.Prelude.{◌≤◌};
 
     /// A size that is large enough to see whether the answers are right.
-    pub(crate) const SMALL: Size = Size { bytes: 64_000 };
+    pub const SMALL: Size = Size { bytes: 64_000 };
 
     /// The size for which [`Size::share`] returns the number itself.
     pub(crate) const FULL: Size = Size { bytes: 64_000_000 };
+
+    /// Returns the size that a word names: `small`, or a number of megabytes from 1 to 1,024.
+    pub fn named(word: &str) -> Option<Size> {
+        if word == "small" {
+            return Some(Size::SMALL);
+        }
+        Size::from_megabytes(word.parse().ok()?)
+    }
 
     /// Returns the size of this many megabytes of a million bytes each, from 1 to 1,024.
     pub(crate) fn from_megabytes(megabytes: u64) -> Option<Size>

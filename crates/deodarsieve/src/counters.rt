@@ -1,14 +1,14 @@
 //! The counters of a run.
 
 ghost use Rattle.std.specs.Prelude.{◌≡◌, ◌≢◌, ◌↔◌, ◌||◌, IsNone, IsSomeAnd, Some, option_map};
-ghost use Rattle.deodarsieve.specs.Layout.{failures_of, script_counted, stats_in, test_counted};
-ghost use Rattle.deodarsieve.specs.Status.{status_of};
+ghost use Rattle.c_values.specs.Layout.{failures_of, script_counted, stats_in, test_counted};
+ghost use Rattle.c_values.specs.Status.{status_of};
 ghost use Rattle.run_events_stats.specs.Counters.{ScriptCountersFit, TestCountersFit};
 ghost use Rattle.run_events_stats.specs.Summary.{FailuresFit, any_script_failed, any_test_failed};
 
-use crate::layout::{FfiFailedCounts, FfiResult, FfiRunStats, FfiTestView};
-use crate::status::{BAD_CODE, COUNTER_FULL, OK};
-use crate::{codes, values};
+use c_values::layout::{FfiFailedCounts, FfiResult, FfiRunStats, FfiTestView};
+use c_values::status::{BAD_CODE, COUNTER_FULL, OK};
+use c_values::{codes, values};
 
 /// Counts a finished test: raises `finished_count` and each other counter whose rule holds for it
 /// by 1.

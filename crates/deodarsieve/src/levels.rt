@@ -1,16 +1,16 @@
 //! The levels of finished tests, and what a reporter shows of them.
 
 ghost use Rattle.std.specs.Prelude.{◌≡◌, ◌≢◌, Some, option_and_then, option_map, slice_get};
-ghost use Rattle.deodarsieve.specs.Codes.{final_levels, levels};
-ghost use Rattle.deodarsieve.specs.Layout.{output_in, result_in, view_in, visibility_in};
-ghost use Rattle.deodarsieve.specs.Status.{status_of};
+ghost use Rattle.c_values.specs.Codes.{final_levels, levels};
+ghost use Rattle.c_values.specs.Layout.{output_in, result_in, view_in, visibility_in};
+ghost use Rattle.c_values.specs.Status.{status_of};
 ghost use Rattle.run_events_levels.specs.Level.{final_level_of, level_of};
 ghost use Rattle.run_events_results.specs.Results.{is_termination_failure, succeeds};
 
-use crate::layout::{FfiFinishedTest, FfiOutput, FfiResult, FfiTestView};
-use crate::status::OK;
-use crate::{codes, values};
-use run_events_levels::levels::{OutputOnTestFinished, StatusLevels};
+use c_values::layout::{FfiFinishedTest, FfiOutput, FfiResult, FfiTestView};
+use c_values::levels::{output_of, written_output};
+use c_values::status::OK;
+use c_values::{codes, values};
 
 /// Writes the code of a finished test's status level.
 #[unsafe(no_mangle)]
@@ -50,33 +50,6 @@ pub extern "C" fn deodarsieve_finished_test_compute_output(
     ensures untouched { result ≢ OK → answer.new ≡ answer.old }
 {
     values::give(answer, output_of(test).map(written_output))
-}
-
-/// Returns what is displayed and stored, or `None` if a code is not in its table.
-fn output_of(test: &FfiFinishedTest) -> Option<OutputOnTestFinished>
-    ensures { result ≡ visibility_in test.now }
-{
-    let own = StatusLevels {
-        status_level: codes::level(test.status_level)?,
-        final_status_level: codes::final_level(test.final_status_level)?,
-    };
-    let display = codes::display(test.display)?;
-    let level = codes::level(test.test_status_level)?;
-    let final_level = codes::final_level(test.test_final_status_level)?;
-    let ended = codes::described(test.result)?;
-    let reason = codes::reason(test.cancel_reason)?;
-    Some(own.compute_output_on_test_finished(display, reason, level, final_level, &ended))
-}
-
-/// Returns the struct of C with what is displayed and stored.
-fn written_output(output: OutputOnTestFinished) -> FfiOutput
-    ensures { output_in result ≡ Some output }
-{
-    FfiOutput {
-        write_status_line: output.write_status_line,
-        show_immediate: output.show_immediate,
-        store_final: codes::store_code(output.store_final),
-    }
 }
 
 /// Writes whether an attempt succeeded.

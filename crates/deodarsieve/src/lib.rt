@@ -4,17 +4,14 @@
 //! The header `deodarsieve.h` declares every function, with its result and its preconditions. An
 //! enumeration is passed as a number, its code. Each function checks the codes and numbers in its
 //! arguments, calls the library that does the work, and writes the result through a pointer. Its
-//! return value is one of the constants in [`status`]. If this is not `OK`, it writes nothing. The
-//! functions of [`version`] call no library and return no status.
+//! return value is one of the constants in `c_values::status`. If this is not `OK`, it writes nothing.
+//! The functions of [`version`] call no library and return no status. The structs and the conversions
+//! are in `c_values`.
 #![tactic(auto)]
 
-mod codes;
 pub mod counters;
-pub mod layout;
 pub mod levels;
 pub mod outcomes;
 pub mod slices;
-pub mod status;
 pub mod stress;
-mod values;
 pub mod version;

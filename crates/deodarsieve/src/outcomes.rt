@@ -1,17 +1,18 @@
 //! Summaries of runs, and their outcomes.
 
-ghost use Rattle.std.specs.Prelude.{◌≡◌, ◌≢◌, ◌↔◌, All, IfSome, IsSome, IsSomeAnd, map, option_map, slice_get};
-ghost use Rattle.deodarsieve.specs.Codes.{outcomes, stress_finals};
-ghost use Rattle.deodarsieve.specs.Layout.{HasNoMore, combined_in, final_in, outcome_in, stats_in, stress_summary_in};
-ghost use Rattle.deodarsieve.specs.Status.{status_of};
+ghost use Rattle.std.specs.Prelude.{◌≡◌, ◌≢◌, ◌↔◌, All, IsSome, IsSomeAnd, map, option_map, slice_get};
+ghost use Rattle.c_values.specs.Codes.{outcomes, stress_finals};
+ghost use Rattle.c_values.specs.Layout.{HasNoMore, combined_in, final_in, outcome_in, stats_in, stress_summary_in};
+ghost use Rattle.c_values.specs.Status.{status_of};
 ghost use Rattle.run_events_stats.specs.Outcome.{IsHighest};
 ghost use Rattle.run_events_stats.specs.Summary.{summary_of};
 
-use crate::layout::{FfiFinalStats, FfiRunStats};
-use crate::status::{BAD_CODE, OK};
-use crate::{codes, values};
+use c_values::layout::{FfiFinalStats, FfiRunStats};
+use c_values::outcomes::outcome_of;
+use c_values::status::{BAD_CODE, OK};
+use c_values::{codes, values};
 use run_events_settings::stress::StressIndex;
-use run_events_stats::outcome::{RunOutcome, StressRunStats};
+use run_events_stats::outcome::StressRunStats;
 
 /// Writes the summary of a finished run's counters, for any values of them.
 #[unsafe(no_mangle)]
@@ -42,19 +43,6 @@ pub extern "C" fn deodarsieve_outcome_of_sub_runs(
     ensures untouched { result ≢ OK → answer.new ≡ answer.old }
 {
     values::give(answer, outcome_of(sub_runs).map(codes::outcome_code))
-}
-
-/// Returns the highest outcome of all sub-runs, or `None` if a code is not in its table.
-fn outcome_of(sub_runs: &[FfiFinalStats]) -> Option<RunOutcome>
-    ensures named { IsSome result ↔ All (λ s. IsSome (final_in s)) sub_runs.now }
-    ensures highest { IfSome result (IsHighest (map outcome_in sub_runs.now)) }
-{
-    let mut highest = RunOutcome::NoTestsRun;
-    for sub_run in sub_runs {
-        let summary = values::final_stats(sub_run)?;
-        highest = highest.combine(RunOutcome::from_final_stats(summary));
-    }
-    Some(highest)
 }
 
 /// Writes the code of the higher of two outcomes.

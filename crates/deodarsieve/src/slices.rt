@@ -1,16 +1,15 @@
 //! The part of a test's output that explains its failure, and the last head of a panic message.
 
-ghost use Rattle.std.specs.Prelude.{◌≡◌, ◌≢◌, ◌≤◌, ◌<◌, ◌+◌, ◌*◌, ◌^◌, ◌↔◌, ℕ, List, length, Option, option_map, IsFalse, IsTrue};
-ghost use Rattle.std.specs.Option.{option_copied};
-ghost use Rattle.deodarsieve.specs.Layout.{LiesWithin, captured, head_in, reads_out, slice_out};
+ghost use Rattle.std.specs.Prelude.{◌≡◌, ◌≢◌, ◌≤◌, ◌<◌, ◌+◌, ◌*◌, ◌^◌, ◌↔◌, ℕ, List, length, Option, IsFalse, IsTrue};
+ghost use Rattle.c_values.specs.Layout.{LiesWithin, captured, head_in, reads_out, slice_out};
 ghost use Rattle.output_slice.specs.Extraction.{Extract, IsCappedExtract, IsExtract};
-ghost use Rattle.output_slice.specs.Shown.{extract_of};
 ghost use Rattle.output_slice.specs.Head.{IsHead};
 ghost use Rattle.output_slice.specs.Taken.{IsLastTaken, IsTaken, last_of};
 ghost use Rattle.output_slice.specs.declared.panic_head.HeadSpan.{HeadSpan};
 
-use crate::layout::{FfiHead, FfiSlice};
-use crate::status::{BAD_CODE, OK};
+use c_values::layout::{FfiHead, FfiSlice};
+use c_values::slices::{stream, written_slice};
+use c_values::status::{BAD_CODE, OK};
 use output_slice::{ByteSource, CountedBytes, TestOutputErrorSlice, last_panic_head};
 use std::num::NonZero;
 
@@ -74,36 +73,6 @@ pub extern "C" fn deodarsieve_slice_extract_capped(
     );
     *answer = written_slice(capped);
     OK
-}
-
-/// Returns a stream, or `None` if it was not captured.
-fn stream(is_captured: bool, bytes: &[u8]) -> Option<&[u8]>
-    ensures { option_copied result ≡ captured is_captured bytes.now }
-{
-    is_captured.then_some(bytes)
-}
-
-/// Returns the struct of C for a part that was found, or for none.
-fn written_slice(found: Option<TestOutputErrorSlice<'_>>) -> FfiSlice
-    ensures { result ≡ slice_out (option_map extract_of found.entry) }
-{
-    let (kind, part) = match found {
-        None => {
-            return FfiSlice {
-                kind: 0,
-                start: 0,
-                length: 0,
-            };
-        }
-        Some(TestOutputErrorSlice::PanicMessage { stderr_subslice }) => (1, stderr_subslice),
-        Some(TestOutputErrorSlice::ErrorStr { stderr_subslice }) => (2, stderr_subslice),
-        Some(TestOutputErrorSlice::ShouldPanic { stdout_subslice }) => (3, stdout_subslice),
-    };
-    FfiSlice {
-        kind,
-        start: part.start,
-        length: part.slice.len(),
-    }
 }
 
 /// Writes the last head of a panic message, and the number of reads of a byte that the search made.

@@ -33,6 +33,23 @@ pub(crate) const PANICKED: EndedAttempt<'static> = EndedAttempt {
     is_slow: false,
 };
 
+/// A test of the run: its name, its earlier attempts, its last one, and its setting.
+type Test = (
+    &'static str,
+    &'static [EndedAttempt<'static>],
+    EndedAttempt<'static>,
+    FlakyResult,
+);
+
+/// The tests of the run: one that passed, one that panicked, and two flaky ones, of which one counts as
+/// passed and one as failed.
+const TESTS: [Test; 4] = [
+    ("adds", &[], PASSED, FlakyResult::Pass),
+    ("divides", &[], PANICKED, FlakyResult::Pass),
+    ("retries", &[PANICKED], PASSED, FlakyResult::Pass),
+    ("insists", &[PANICKED], PASSED, FlakyResult::Fail),
+];
+
 /// The start of the run: four tests were to run, and one was skipped.
 pub(crate) const START: RunStart = RunStart {
     initial_run_count: 4,
@@ -64,14 +81,12 @@ fn event(
     test_finished(alloc, name, test, RunStats::default())
 }
 
-/// Returns the events of a run: a test that passed, one that panicked, and two flaky ones, of which
-/// one counts as passed and one as failed.
+/// Returns the events of the run, in which each test finished.
 pub(crate) fn run(alloc: Global) -> Result<Vec<ReporterEvent<'static>>, AllocError> {
     let mut events = Vec::new(alloc);
-    events.push(event(alloc, "adds", &[], PASSED, FlakyResult::Pass)?)?;
-    events.push(event(alloc, "divides", &[], PANICKED, FlakyResult::Pass)?)?;
-    events.push(event(alloc, "retries", &[PANICKED], PASSED, FlakyResult::Pass)?)?;
-    events.push(event(alloc, "insists", &[PANICKED], PASSED, FlakyResult::Fail)?)?;
+    for (name, earlier, last, setting) in TESTS {
+        events.push(event(alloc, name, earlier, last, setting)?)?;
+    }
     Ok(events)
 }
 
@@ -113,14 +128,23 @@ fn stored_text(stored: OutputStoreFinal) -> &'static str {
     }
 }
 
+/// Prints the line of a displayer for a test.
+fn display_line<R: AllocGlobal + Print>(
+    rt: &R,
+    name: &str,
+    test: &ExecutionStatuses<LiveSpec>,
+) -> io::Result<()> {
+    let line = DISPLAYER.finished_text(rt.alloc(), name, test)?;
+    print!(rt; "{line}")
+}
+
 /// Prints the output of a displayer for a test, before and after a signal.
 fn display_test<R: AllocGlobal + Print>(
     rt: &R,
     name: &str,
     test: &ExecutionStatuses<LiveSpec>,
 ) -> io::Result<()> {
-    let line = DISPLAYER.finished_text(rt.alloc(), name, test)?;
-    print!(rt; "{line}")?;
+    display_line(rt, name, test)?;
     let shown = DISPLAYER.on_cancel(test, None, Some(CancelReason::Signal));
     for (when, shown) in [("running", shown.before), ("signal", shown.after)] {
         let at_once = if shown.show_immediate {
@@ -155,16 +179,23 @@ pub(crate) fn write_junit<R: Print>(rt: &R, events: &[ReporterEvent<'_>]) -> io:
     println!(rt; "junit")?;
     for event in events {
         if let Some((name, test)) = test_of(event) {
-            match test_case(test) {
-                TestCase::Success => println!(rt; "  {name}: success")?,
-                TestCase::Flaky => println!(rt; "  {name}: success, flaky")?,
-                TestCase::FlakyFailure => println!(rt; "  {name}: failure, flaky")?,
-                TestCase::Failure { message: None } => println!(rt; "  {name}: failure")?,
-                TestCase::Failure {
-                    message: Some(message),
-                } => println!(rt; "  {name}: failure\n{message}")?,
-            }
+            write_case(rt, name, test_case(test))?;
         }
+    }
+    Ok(())
+}
+
+/// Prints the entry of a test in a JUnit report.
+fn write_case<R: Print>(rt: &R, name: &str, case: TestCase<'_>) -> io::Result<()> {
+    let (words, message) = match case {
+        TestCase::Success => ("success", None),
+        TestCase::Flaky => ("success, flaky", None),
+        TestCase::FlakyFailure => ("failure, flaky", None),
+        TestCase::Failure { message } => ("failure", message),
+    };
+    println!(rt; "  {name}: {words}")?;
+    if let Some(message) = message {
+        println!(rt; "{message}")?;
     }
     Ok(())
 }
@@ -178,25 +209,36 @@ fn error(alloc: Global) -> Result<SerializableError, AllocError> {
     SerializableError::from_message_and_causes(alloc, message, causes)
 }
 
+/// Prints an error with its causes.
+fn write_error<R: Print>(rt: &R, error: &SerializableError) -> io::Result<()> {
+    print!(rt; "  {error}")?;
+    for cause in error.sources() {
+        print!(rt; ", caused by {cause}")?;
+    }
+    println!(rt)
+}
+
 /// Prints an error in JSON, the error that is read from that, and the refusal of a text that is not
 /// an error.
 pub(crate) fn record<R: AllocGlobal + Print>(rt: &R) -> io::Result<()> {
     println!(rt; "recorder")?;
     let error = error(rt.alloc())?;
-    if let Ok(text) = store(rt.alloc(), &error) {
+    record_error(rt, &error)?;
+    match load(rt.alloc(), "{\"message\":\"m\",\"causes\":[\"a\",1]}") {
+        Ok(_) => Ok(()),
+        Err(refusal) => println!(rt; "  {refusal:?}"),
+    }
+}
+
+/// Prints an error in JSON, and the error that is read from that.
+fn record_error<R: AllocGlobal + Print>(rt: &R, error: &SerializableError) -> io::Result<()> {
+    if let Ok(text) = store(rt.alloc(), error) {
         println!(rt; "  {text}")?;
     }
-    if let Ok(back) = through_text(rt.alloc(), &error) {
-        print!(rt; "  {back}")?;
-        for cause in back.sources() {
-            print!(rt; ", caused by {cause}")?;
-        }
-        println!(rt)?;
+    match through_text(rt.alloc(), error) {
+        Ok(back) => write_error(rt, &back),
+        Err(_) => Ok(()),
     }
-    if let Err(refusal) = load(rt.alloc(), "{\"message\":\"m\",\"causes\":[\"a\",1]}") {
-        println!(rt; "  {refusal:?}")?;
-    }
-    Ok(())
 }
 
 /// Prints the exit status of the run, and of repeated runs.

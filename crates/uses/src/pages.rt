@@ -9,7 +9,8 @@ use crate::of_run_events::{ends_well, finished_at_first, finished_script, stats_
 use program_io::memory_device::{MemorySink, MemorySource};
 use run_events::config::TestOutputDisplay;
 use run_events::progress::StressProgress;
-use run_events::stats::FinishedUnit;
+use run_events::stats::{FinishedUnit, RunStats};
+use std::alloc::{AllocError, Global};
 use std::io;
 use std::time::Duration;
 
@@ -23,23 +24,37 @@ pub(crate) fn show<R: AllocGlobal + Print>(
     units: &[FinishedUnit<'_>],
 ) -> io::Result<()> {
     println!(rt; "callers")?;
-    let panicked = has_panicked(output);
-    println!(rt; "  panicked: {panicked}")?;
-    if let Some(failure) = failure_in(output) {
-        println!(rt; "  failure:\n{failure}")?;
-    }
-    let test = finished_at_first(rt.alloc(), PASSED)?;
-    let script = finished_script(PASSED.outcome);
-    let stats = stats_of_both(&script, &test);
-    println!(rt;
-        "  a setup script and a test: {} and {} passed",
-        stats.setup_scripts_passed, stats.passed
-    )?;
-    let well = ends_well(units, START);
-    println!(rt; "  the run ends well: {well}")?;
+    show_output(rt, output)?;
+    show_counts(rt, units)?;
     show_first_pages(rt)?;
     show_bad_line(rt)?;
     show_copy(rt)
+}
+
+/// Prints what a test's output says of its failure.
+fn show_output<R: Print>(rt: &R, output: &[u8]) -> io::Result<()> {
+    let panicked = has_panicked(output);
+    println!(rt; "  panicked: {panicked}")?;
+    match failure_in(output) {
+        Some(failure) => println!(rt; "  failure:\n{failure}"),
+        None => Ok(()),
+    }
+}
+
+/// Returns the counters of a setup script and a test that passed.
+fn stats_of_two(alloc: Global) -> Result<RunStats, AllocError> {
+    let test = finished_at_first(alloc, PASSED)?;
+    let script = finished_script(PASSED.outcome);
+    Ok(stats_of_both(&script, &test))
+}
+
+/// Prints the counters of a setup script and a test, and how the run of these units ends.
+fn show_counts<R: AllocGlobal + Print>(rt: &R, units: &[FinishedUnit<'_>]) -> io::Result<()> {
+    let stats = stats_of_two(rt.alloc())?;
+    let (scripts, tests) = (stats.setup_scripts_passed, stats.passed);
+    println!(rt; "  a setup script and a test: {scripts} and {tests} passed")?;
+    let well = ends_well(units, START);
+    println!(rt; "  the run ends well: {well}")
 }
 
 /// Prints the results of the callers of first pages, for two results of attempts, one display and

@@ -1,6 +1,6 @@
 //! The values of each enumeration, in the order of their codes.
 
-use crate::exports;
+use crate::c_values;
 use deodarsieve::{
     AbortDescription, CancelReason, ExecutionResultDescription, FailureDescription,
     FinalStatusLevel, FlakyResult, LeakTimeoutResult, OutputStoreFinal, RunFailureStep, RunOutcome,
@@ -9,7 +9,7 @@ use deodarsieve::{
 
 pub const FLAKY_RESULTS: [FlakyResult; 2] = [FlakyResult::Pass, FlakyResult::Fail];
 
-pub const REASONS: &[Option<CancelReason>] = &exports::codes::REASONS;
+pub const REASONS: &[Option<CancelReason>] = &c_values::codes::REASONS;
 
 pub const LEVELS: [StatusLevel; 8] = [
     StatusLevel::None,

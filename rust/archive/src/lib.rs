@@ -5,6 +5,6 @@
 //! results are compared as the structs of C.
 
 pub mod codes;
-mod exports;
+mod c_values;
 pub mod sys;
 pub mod values;

@@ -4,13 +4,13 @@
 //! compare them with the header. A function that takes references only is safe to call. A function
 //! that takes a pointer and a length has a safe one next to it that takes a slice.
 
-pub use crate::exports::layout::{
+pub use crate::c_values::layout::{
     FfiDuration as Duration, FfiFailedCounts as FailedCounts, FfiFinalStats as FinalStats,
     FfiFinishedTest as FinishedTest, FfiHead as Head, FfiOutput as Output, FfiResult as UnitResult,
     FfiRunStats as RunStats, FfiSlice as Slice, FfiStressProgress as StressProgress,
     FfiStressRemaining as StressRemaining, FfiTestView as TestView,
 };
-pub use crate::exports::status::{COUNTER_FULL, OK};
+pub use crate::c_values::status::{COUNTER_FULL, OK};
 
 // SAFETY: the header declares these functions with these parameters. It requires that a pointer to
 // a struct points to a whole struct, to which nobody else writes, and references do.

@@ -5,7 +5,7 @@
 //!
 //! deodarsieve_layouts_1, the version of these layouts, has the sum 4f9d78cb173c6168.
 
-use crate::exports::layout::{
+use crate::c_values::layout::{
     FfiDuration, FfiFailedCounts, FfiFinalStats, FfiFinishedTest, FfiHead, FfiOutput, FfiResult,
     FfiRunStats, FfiSlice, FfiStressProgress, FfiStressRemaining, FfiTestView,
 };

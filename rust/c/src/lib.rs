@@ -4,8 +4,8 @@
 //! `include/deodarsieve.h` declares their functions and documents the conditions of each call. The
 //! README shows how to install the library and how to link it.
 //!
-//! The module [`exports`] has the functions. Each of them converts its arguments, calls the
-//! crate `deodarsieve`, and converts the result. From Rust, use that crate instead: this one has no
+//! The module [`exports`] has the functions. Each of them converts its arguments by [`c_values`], calls
+//! the crate `deodarsieve`, and converts the result. From Rust, use that crate instead: this one has no
 //! stable Rust API, and its functions are public for its tests.
 //!
 //! # Panics
@@ -16,6 +16,7 @@
 #![deny(unsafe_op_in_unsafe_fn)]
 #![deny(missing_docs)]
 
+pub mod c_values;
 pub mod exports;
 #[cfg(target_pointer_width = "64")]
 mod layout_checks;

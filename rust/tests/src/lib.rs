@@ -6,7 +6,7 @@
 
 #![forbid(unsafe_code)]
 
-mod exports;
+mod c_values;
 pub mod fixtures;
 pub mod named;
 pub mod output_slice_tests;

@@ -1,6 +1,6 @@
 //! The counters of a run and the reasons to cancel one, by their names in the source.
 
-use crate::exports::codes;
+use crate::c_values::codes;
 use deodarsieve::{CancelReason, RunStats};
 use serde::Deserialize;
 use serde::de::value::{Error, MapDeserializer};

@@ -1,9 +1,9 @@
 // Made by tools/erase from crates/deodarsieve/src/counters.rt. Do not edit.
 //! The counters of a run.
 
-use crate::exports::layout::{FfiFailedCounts, FfiResult, FfiRunStats, FfiTestView};
-use crate::exports::status::{BAD_CODE, COUNTER_FULL, OK};
-use crate::exports::{codes, values};
+use crate::c_values::layout::{FfiFailedCounts, FfiResult, FfiRunStats, FfiTestView};
+use crate::c_values::status::{BAD_CODE, COUNTER_FULL, OK};
+use crate::c_values::{codes, values};
 
 /// Counts a finished test: raises `finished_count` and each other counter whose rule holds for it
 /// by 1.

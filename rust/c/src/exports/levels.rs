@@ -1,9 +1,9 @@
 // Made by tools/erase from crates/deodarsieve/src/levels.rt. Do not edit.
 //! The levels of finished tests, and what a reporter shows of them.
 
-use crate::exports::layout::{FfiFinishedTest, FfiOutput, FfiResult, FfiTestView};
-use crate::exports::{codes, values};
-use deodarsieve::{OutputOnTestFinished, StatusLevels};
+use crate::c_values::layout::{FfiFinishedTest, FfiOutput, FfiResult, FfiTestView};
+use crate::c_values::levels::{output_of, written_output};
+use crate::c_values::{codes, values};
 
 /// Writes the code of a finished test's status level.
 #[unsafe(no_mangle)]
@@ -29,29 +29,6 @@ pub extern "C" fn deodarsieve_finished_test_compute_output(
     answer: &mut FfiOutput,
 ) -> u32 {
     values::give(answer, output_of(test).map(written_output))
-}
-
-/// Returns what is displayed and stored, or `None` if a code is not in its table.
-fn output_of(test: &FfiFinishedTest) -> Option<OutputOnTestFinished> {
-    let own = StatusLevels {
-        status_level: codes::level(test.status_level)?,
-        final_status_level: codes::final_level(test.final_status_level)?,
-    };
-    let display = codes::display(test.display)?;
-    let level = codes::level(test.test_status_level)?;
-    let final_level = codes::final_level(test.test_final_status_level)?;
-    let ended = codes::described(test.result)?;
-    let reason = codes::reason(test.cancel_reason)?;
-    Some(own.compute_output_on_test_finished(display, reason, level, final_level, &ended))
-}
-
-/// Returns the struct of C with what is displayed and stored.
-fn written_output(output: OutputOnTestFinished) -> FfiOutput {
-    FfiOutput {
-        write_status_line: output.write_status_line,
-        show_immediate: output.show_immediate,
-        store_final: codes::store_code(output.store_final),
-    }
 }
 
 /// Writes whether an attempt succeeded.

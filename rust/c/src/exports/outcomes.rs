@@ -1,9 +1,10 @@
 // Made by tools/erase from crates/deodarsieve/src/outcomes.rt. Do not edit.
 //! Summaries of runs, and their outcomes.
 
-use crate::exports::layout::{FfiFinalStats, FfiRunStats};
-use crate::exports::{codes, values};
-use deodarsieve::{RunOutcome, StressIndex, StressRunStats};
+use crate::c_values::layout::{FfiFinalStats, FfiRunStats};
+use crate::c_values::outcomes::outcome_of;
+use crate::c_values::{codes, values};
+use deodarsieve::{StressIndex, StressRunStats};
 
 /// Writes the summary of a finished run's counters, for any values of them.
 #[unsafe(no_mangle)]
@@ -31,16 +32,6 @@ pub unsafe extern "C" fn deodarsieve_outcome_of_sub_runs(
 ) -> u32 {
     let sub_runs = unsafe { crate::slice_of(sub_runs, sub_runs_length) };
     values::give(answer, outcome_of(sub_runs).map(codes::outcome_code))
-}
-
-/// Returns the highest outcome of all sub-runs, or `None` if a code is not in its table.
-fn outcome_of(sub_runs: &[FfiFinalStats]) -> Option<RunOutcome> {
-    let mut highest = RunOutcome::NoTestsRun;
-    for sub_run in sub_runs {
-        let summary = values::final_stats(sub_run)?;
-        highest = highest.combine(RunOutcome::from_final_stats(summary));
-    }
-    Some(highest)
 }
 
 /// Writes the code of the higher of two outcomes.

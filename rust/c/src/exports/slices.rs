@@ -1,8 +1,9 @@
 // Made by tools/erase from crates/deodarsieve/src/slices.rt. Do not edit.
 //! The part of a test's output that explains its failure, and the last head of a panic message.
 
-use crate::exports::layout::{FfiHead, FfiSlice};
-use crate::exports::status::{BAD_CODE, OK};
+use crate::c_values::layout::{FfiHead, FfiSlice};
+use crate::c_values::slices::{stream, written_slice};
+use crate::c_values::status::{BAD_CODE, OK};
 use deodarsieve::TestOutputErrorSlice;
 use deodarsieve::counted::{ByteSource, CountedBytes, last_panic_head};
 use std::num::NonZero;
@@ -70,32 +71,6 @@ pub unsafe extern "C" fn deodarsieve_slice_extract_capped(
     );
     *answer = written_slice(capped);
     OK
-}
-
-/// Returns a stream, or `None` if it was not captured.
-fn stream(is_captured: bool, bytes: &[u8]) -> Option<&[u8]> {
-    is_captured.then_some(bytes)
-}
-
-/// Returns the struct of C for a part that was found, or for none.
-fn written_slice(found: Option<TestOutputErrorSlice<'_>>) -> FfiSlice {
-    let (kind, part) = match found {
-        None => {
-            return FfiSlice {
-                kind: 0,
-                start: 0,
-                length: 0,
-            };
-        }
-        Some(TestOutputErrorSlice::PanicMessage { stderr_subslice }) => (1, stderr_subslice),
-        Some(TestOutputErrorSlice::ErrorStr { stderr_subslice }) => (2, stderr_subslice),
-        Some(TestOutputErrorSlice::ShouldPanic { stdout_subslice }) => (3, stdout_subslice),
-    };
-    FfiSlice {
-        kind,
-        start: part.start,
-        length: part.slice.len(),
-    }
 }
 
 /// Writes the last head of a panic message, and the number of reads of a byte that the search made.

@@ -4,12 +4,12 @@ use crate::counters::views;
 use crate::displays::{NO_OUTPUT, finished_test};
 use crate::outcomes::NOTHING;
 use crate::stress::{NO_TIME, progress};
+use deodarsieve_c::c_values::layout::{
+    FfiFailedCounts, FfiFinalStats, FfiHead, FfiResult, FfiRunStats, FfiSlice, FfiStressRemaining,
+};
 use deodarsieve_c::exports::counters::{
     deodarsieve_run_stats_count_script, deodarsieve_run_stats_count_test,
     deodarsieve_run_stats_failed_counts, deodarsieve_run_stats_has_failures,
-};
-use deodarsieve_c::exports::layout::{
-    FfiFailedCounts, FfiFinalStats, FfiHead, FfiResult, FfiRunStats, FfiSlice, FfiStressRemaining,
 };
 use deodarsieve_c::exports::levels::{
     deodarsieve_finished_test_compute_output, deodarsieve_result_is_success,

@@ -4,15 +4,15 @@ use crate::tables::{
     FINAL_LEVELS, FLAKY_RESULTS, LEVELS, REASONS, code_of, expect_codes, results, variant_of,
 };
 use deodarsieve::{RunStats, TestView};
+use deodarsieve_c::c_values::layout::{FfiResult, FfiRunStats, FfiTestView};
+use deodarsieve_c::c_values::status::OK;
 use deodarsieve_c::exports::counters::{
     deodarsieve_run_stats_count_script, deodarsieve_run_stats_count_test,
 };
-use deodarsieve_c::exports::layout::{FfiResult, FfiRunStats, FfiTestView};
 use deodarsieve_c::exports::levels::{
     deodarsieve_result_is_success, deodarsieve_result_is_termination_failure,
     deodarsieve_test_view_final_status_level, deodarsieve_test_view_status_level,
 };
-use deodarsieve_c::exports::status::OK;
 use std::fmt::Debug;
 
 /// Returns the names and the values of the counters of a struct of C or of the layer.

@@ -4,9 +4,9 @@ use crate::tables::{
     DISPLAYS, FINAL_LEVELS, LEVELS, REASONS, STORES, code_of, expect_codes, results, variant_of,
 };
 use deodarsieve::{ExecutionResultDescription, OutputOnTestFinished, StatusLevels};
-use deodarsieve_c::exports::layout::{FfiFinishedTest, FfiOutput, FfiResult};
+use deodarsieve_c::c_values::layout::{FfiFinishedTest, FfiOutput, FfiResult};
+use deodarsieve_c::c_values::status::OK;
 use deodarsieve_c::exports::levels::deodarsieve_finished_test_compute_output;
-use deodarsieve_c::exports::status::OK;
 
 pub const NO_OUTPUT: FfiOutput = FfiOutput {
     write_status_line: false,

@@ -1,12 +1,13 @@
 //! Compares the header with the exports, as text: structs, functions, sizes, offsets and versions.
 
 use crate::header_text::{HEADER, number};
-use deodarsieve_c::exports::{status, version};
+use deodarsieve_c::c_values::status;
+use deodarsieve_c::exports::version;
 use std::collections::BTreeMap;
 use std::fs;
 use std::path::Path;
 
-const LAYOUT: &str = include_str!("../../src/exports/layout.rs");
+const LAYOUT: &str = include_str!("../../src/c_values/layout.rs");
 const CHECKS: &str = include_str!("../../src/layout_checks.rs");
 
 /// The names of the structs in Rust and in C.

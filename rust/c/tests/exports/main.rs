@@ -3,16 +3,8 @@
 //! name in the header. The first code past the end of each table is refused. No export allocates.
 
 mod allocations;
-/// The tables that the library reads.
-#[path = "../../src/exports/codes.rs"]
-#[allow(dead_code, reason = "the tests use the table of reasons alone")]
-mod codes;
 mod counters;
 mod displays;
-/// The modules that the tables use.
-mod exports {
-    pub use deodarsieve_c::exports::layout;
-}
 mod header;
 mod header_text;
 mod outcomes;

@@ -5,12 +5,12 @@ use deodarsieve::{
     FinalRunStats, RunFailureStep, RunOutcome, RunStats, RunStatsFailureKind, StressFinalRunStats,
     StressIndex, StressRunStats,
 };
-use deodarsieve_c::exports::layout::{FfiFinalStats, FfiRunStats};
+use deodarsieve_c::c_values::layout::{FfiFinalStats, FfiRunStats};
+use deodarsieve_c::c_values::status::OK;
 use deodarsieve_c::exports::outcomes::{
     deodarsieve_final_stats_summarize_stress, deodarsieve_outcome_combine,
     deodarsieve_outcome_of_sub_runs, deodarsieve_run_stats_summarize,
 };
-use deodarsieve_c::exports::status::OK;
 use std::collections::BTreeSet;
 
 pub const NOTHING: FfiFinalStats = FfiFinalStats {

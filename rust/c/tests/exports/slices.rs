@@ -2,12 +2,12 @@
 
 use crate::tables::SLICES;
 use deodarsieve::TestOutputErrorSlice;
-use deodarsieve_c::exports::layout::{FfiHead, FfiSlice};
+use deodarsieve_c::c_values::layout::{FfiHead, FfiSlice};
+use deodarsieve_c::c_values::status::OK;
 use deodarsieve_c::exports::outcomes::deodarsieve_outcome_of_sub_runs;
 use deodarsieve_c::exports::slices::{
     deodarsieve_head_find_last, deodarsieve_slice_extract, deodarsieve_slice_extract_capped,
 };
-use deodarsieve_c::exports::status::OK;
 
 /// Returns the slice of the export, as the name of its kind, its offset and its length.
 fn found(out: &[u8], err: &[u8]) -> (&'static str, usize, usize) {

@@ -2,8 +2,8 @@
 
 use crate::tables::{STRESS, expect_codes};
 use deodarsieve::{StressCount, StressProgress, StressRemaining};
-use deodarsieve_c::exports::layout::{FfiDuration, FfiStressProgress, FfiStressRemaining};
-use deodarsieve_c::exports::status::OK;
+use deodarsieve_c::c_values::layout::{FfiDuration, FfiStressProgress, FfiStressRemaining};
+use deodarsieve_c::c_values::status::OK;
 use deodarsieve_c::exports::stress::deodarsieve_stress_progress_remaining;
 use std::num::NonZero;
 use std::time::Duration;

@@ -1,13 +1,13 @@
 //! The variants of each enumeration with their names in the header, in the order of their codes.
 
-use crate::codes;
 use crate::header_text::numbers;
 use deodarsieve::{
     AbortDescription, CancelReason, ExecutionResultDescription, FailureDescription,
     FinalStatusLevel, FlakyResult, LeakTimeoutResult, OutputStoreFinal, RunFailureStep, RunOutcome,
     SlowTimeoutResult, StatusLevel, StressFinalRunStats, TestOutputDisplay,
 };
-use deodarsieve_c::exports::status::{BAD_CODE, OK};
+use deodarsieve_c::c_values::codes;
+use deodarsieve_c::c_values::status::{BAD_CODE, OK};
 use std::sync::LazyLock;
 
 pub const FLAKY_RESULTS: [(&str, FlakyResult); 2] =

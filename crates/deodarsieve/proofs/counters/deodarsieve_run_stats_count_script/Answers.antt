@@ -1,5 +1,5 @@
 use Rattle.std.proofs.Common.{rules, ◌≡◌, Some, refl}
-use Rattle.deodarsieve.specs.Layout.{script_counted}
+use Rattle.c_values.specs.Layout.{script_counted}
 use Rattle.run_events_stats.specs.Counters.{ScriptCountersFit, with_script}
 use Rattle.deodarsieve.proofs.counters.deodarsieve_run_stats_count_script.Goals as goal
 

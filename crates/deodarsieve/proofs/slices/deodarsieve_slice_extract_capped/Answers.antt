@@ -1,7 +1,7 @@
 use Rattle.std.proofs.Common.{◌≡◌, ◌∙◌, MatchOption, ap, subst, sym}
 use Rattle.std.specs.Option.{option_copied}
 use Rattle.std.specs.Int.NonZero.{non_zero_usize_get}
-use Rattle.deodarsieve.specs.Layout.{captured, slice_out}
+use Rattle.c_values.specs.Layout.{captured, slice_out}
 use Rattle.output_slice.specs.Extraction.{IsCappedExtract}
 use Rattle.deodarsieve.proofs.slices.deodarsieve_slice_extract_capped.Goals as goal
 

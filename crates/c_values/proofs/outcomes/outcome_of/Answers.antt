@@ -2,12 +2,12 @@ use Rattle.std.proofs.Common.{◌∙◌, All, IsSome, ap, refl, subst, sym, opti
 use Rattle.std.specs.Option.{unwrap_or}
 use Rattle.std.proofs.lemmas.List.{take_more}
 use Rattle.std.proofs.lemmas.List.Elements.{All-push}
-use Rattle.deodarsieve.specs.Layout.{final_in, outcome_in}
-use Rattle.deodarsieve.specs.declared.layout.FfiFinalStats.{FfiFinalStats}
+use Rattle.c_values.specs.Layout.{final_in, outcome_in}
+use Rattle.c_values.specs.declared.layout.FfiFinalStats.{FfiFinalStats}
 use Rattle.run_events_stats.proofs.SubRuns.{highest-sub_run}
 use Rattle.run_events_stats.specs.Outcome.{outcome_of}
 use Rattle.run_events_stats.specs.declared.outcome.run_outcome.RunOutcome.TheVariants as outcome
-use Rattle.deodarsieve.proofs.outcomes.outcome_of.Goals as goal
+use Rattle.c_values.proofs.outcomes.outcome_of.Goals as goal
 
 -- one more sub-run: it has a summary, and its outcome is combined with the highest so far
 pub loop-sub_run-preserved : goal.loop-sub_run-preserved

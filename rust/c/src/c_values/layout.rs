@@ -1,4 +1,4 @@
-// Made by tools/erase from crates/deodarsieve/src/layout.rt. Do not edit.
+// Made by tools/erase from crates/c_values/src/layout.rt. Do not edit.
 //! The structs of the C interface, in the layout of C.
 
 /// A part of captured output.

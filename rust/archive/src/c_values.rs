@@ -2,11 +2,11 @@
 //! the crate's values to both.
 #![allow(dead_code, reason = "the comparison converts nothing back")]
 
-#[path = "../../c/src/exports/codes.rs"]
+#[path = "../../c/src/c_values/codes.rs"]
 pub mod codes;
-#[path = "../../c/src/exports/layout.rs"]
+#[path = "../../c/src/c_values/layout.rs"]
 pub mod layout;
-#[path = "../../c/src/exports/status.rs"]
+#[path = "../../c/src/c_values/status.rs"]
 pub mod status;
-#[path = "../../c/src/exports/values.rs"]
+#[path = "../../c/src/c_values/values.rs"]
 pub mod values;

@@ -1,23 +1,18 @@
+// Made by tools/erase from crates/c_values/src/codes.rt. Do not edit.
 //! The codes of enumerations, converted to values and back.
 
-ghost use Rattle.std.specs.Prelude.{◌≡◌, Some, false, slice_get};
-ghost use Rattle.deodarsieve.specs.Codes.{displays, final_levels, flaky_results, levels, outcomes, reasons, results, stores, stress_finals};
-
-use crate::layout::FfiResult;
-use run_events_levels::levels::{FinalStatusLevel, OutputStoreFinal, StatusLevel};
-use run_events_results::results::{
+use crate::c_values::layout::FfiResult;
+use deodarsieve::{
     AbortDescription, CancelReason, ExecutionResultDescription, FailureDescription,
+    FinalStatusLevel, FlakyResult, LeakTimeoutResult, OutputStoreFinal, RunFailureStep, RunOutcome,
+    SlowTimeoutResult, StatusLevel, StressFinalRunStats, TestOutputDisplay,
 };
-use run_events_settings::config::{
-    FlakyResult, LeakTimeoutResult, SlowTimeoutResult, TestOutputDisplay,
-};
-use run_events_stats::outcome::{RunFailureStep, RunOutcome, StressFinalRunStats};
 
 const FLAKY_RESULTS: [FlakyResult; 2] = [FlakyResult::Pass, FlakyResult::Fail];
 
 /// No reason to cancel a run, and the reasons. A code is a position in this table, so a new reason
 /// comes last.
-pub(crate) const REASONS: [Option<CancelReason>; 10] = [
+pub const REASONS: [Option<CancelReason>; 10] = [
     None,
     Some(CancelReason::SetupScriptFailure),
     Some(CancelReason::TestFailure),
@@ -77,52 +72,38 @@ const OUTCOMES: [RunOutcome; 6] = [
 ];
 
 /// Returns how a flaky test counts, or `None` if the code is not in the table.
-pub(crate) fn flaky_result(code: u32) -> Option<FlakyResult>
-    ensures { result ≡ slice_get flaky_results code }
-{
+pub fn flaky_result(code: u32) -> Option<FlakyResult> {
     FLAKY_RESULTS.get(code as usize).copied()
 }
 
 /// Returns why a run is cancelled, if it is, or `None` if the code is not in the table.
-pub(crate) fn reason(code: u32) -> Option<Option<CancelReason>>
-    ensures { result ≡ slice_get reasons code }
-{
+pub fn reason(code: u32) -> Option<Option<CancelReason>> {
     REASONS.get(code as usize).copied()
 }
 
 /// Returns the status level of a code, or `None` if the code is not in the table.
-pub(crate) fn level(code: u32) -> Option<StatusLevel>
-    ensures { result ≡ slice_get levels code }
-{
+pub fn level(code: u32) -> Option<StatusLevel> {
     LEVELS.get(code as usize).copied()
 }
 
 /// Returns the final level of a code, or `None` if the code is not in the table.
-pub(crate) fn final_level(code: u32) -> Option<FinalStatusLevel>
-    ensures { result ≡ slice_get final_levels code }
-{
+pub fn final_level(code: u32) -> Option<FinalStatusLevel> {
     FINAL_LEVELS.get(code as usize).copied()
 }
 
 /// Returns when output is displayed, or `None` if the code is not in the table.
-pub(crate) fn display(code: u32) -> Option<TestOutputDisplay>
-    ensures { result ≡ slice_get displays code }
-{
+pub fn display(code: u32) -> Option<TestOutputDisplay> {
     DISPLAYS.get(code as usize).copied()
 }
 
 /// Returns the outcome of a code, or `None` if the code is not in the table.
-pub(crate) fn outcome(code: u32) -> Option<RunOutcome>
-    ensures { result ≡ slice_get outcomes code }
-{
+pub fn outcome(code: u32) -> Option<RunOutcome> {
     OUTCOMES.get(code as usize).copied()
 }
 
 /// Returns the result of an attempt from its code and its number, or `None` if the code is not in
 /// the table.
-pub(crate) fn described(ended: FfiResult) -> Option<ExecutionResultDescription>
-    ensures { result ≡ slice_get (results ended.number) ended.kind }
-{
+pub fn described(ended: FfiResult) -> Option<ExecutionResultDescription> {
     match ended.kind {
         0 => Some(ExecutionResultDescription::Pass),
         1 => Some(ExecutionResultDescription::Leak {
@@ -159,9 +140,7 @@ pub(crate) fn described(ended: FfiResult) -> Option<ExecutionResultDescription>
 }
 
 /// Returns a failure without a leak.
-fn failed(failure: FailureDescription) -> ExecutionResultDescription
-    ensures { result ≡ ExecutionResultDescription.Fail failure false }
-{
+fn failed(failure: FailureDescription) -> ExecutionResultDescription {
     ExecutionResultDescription::Fail {
         failure,
         leaked: false,
@@ -169,9 +148,7 @@ fn failed(failure: FailureDescription) -> ExecutionResultDescription
 }
 
 /// Returns the code of a reason to cancel a run, or the code 0 for `None`.
-pub(crate) fn reason_code(reason: Option<CancelReason>) -> u32
-    ensures { slice_get reasons result ≡ Some reason }
-{
+pub fn reason_code(reason: Option<CancelReason>) -> u32 {
     match reason {
         None => 0,
         Some(CancelReason::SetupScriptFailure) => 1,
@@ -187,9 +164,7 @@ pub(crate) fn reason_code(reason: Option<CancelReason>) -> u32
 }
 
 /// Returns the code of a status level.
-pub(crate) fn level_code(level: StatusLevel) -> u32
-    ensures { slice_get levels result ≡ Some level }
-{
+pub fn level_code(level: StatusLevel) -> u32 {
     match level {
         StatusLevel::None => 0,
         StatusLevel::Fail => 1,
@@ -199,13 +174,12 @@ pub(crate) fn level_code(level: StatusLevel) -> u32
         StatusLevel::Pass => 5,
         StatusLevel::Skip => 6,
         StatusLevel::All => 7,
+        _ => unreachable!("there is no other level"),
     }
 }
 
 /// Returns the code of a final level.
-pub(crate) fn final_level_code(level: FinalStatusLevel) -> u32
-    ensures { slice_get final_levels result ≡ Some level }
-{
+pub fn final_level_code(level: FinalStatusLevel) -> u32 {
     match level {
         FinalStatusLevel::None => 0,
         FinalStatusLevel::Fail => 1,
@@ -215,13 +189,12 @@ pub(crate) fn final_level_code(level: FinalStatusLevel) -> u32
         FinalStatusLevel::Leak => 5,
         FinalStatusLevel::Pass => 6,
         FinalStatusLevel::All => 7,
+        _ => unreachable!("there is no other level"),
     }
 }
 
 /// Returns the code of what is stored for the end of a run.
-pub(crate) fn store_code(stored: OutputStoreFinal) -> u32
-    ensures { slice_get stores result ≡ Some stored }
-{
+pub fn store_code(stored: OutputStoreFinal) -> u32 {
     match stored {
         OutputStoreFinal::No => 0,
         OutputStoreFinal::Yes {
@@ -234,9 +207,7 @@ pub(crate) fn store_code(stored: OutputStoreFinal) -> u32
 }
 
 /// Returns the code of an outcome.
-pub(crate) fn outcome_code(outcome: RunOutcome) -> u32
-    ensures { slice_get outcomes result ≡ Some outcome }
-{
+pub fn outcome_code(outcome: RunOutcome) -> u32 {
     match outcome {
         RunOutcome::NoTestsRun => 0,
         RunOutcome::Success => 1,
@@ -256,9 +227,7 @@ pub(crate) fn outcome_code(outcome: RunOutcome) -> u32
 }
 
 /// Returns the code of the summary of a repeated run.
-pub(crate) fn stress_final_code(stats: StressFinalRunStats) -> u32
-    ensures { slice_get stress_finals result ≡ Some stats }
-{
+pub fn stress_final_code(stats: StressFinalRunStats) -> u32 {
     match stats {
         StressFinalRunStats::NoTestsRun => 0,
         StressFinalRunStats::Success => 1,

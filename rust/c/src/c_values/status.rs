@@ -1,4 +1,4 @@
-// Made by tools/erase from crates/deodarsieve/src/status.rt. Do not edit.
+// Made by tools/erase from crates/c_values/src/status.rt. Do not edit.
 //! The statuses that the functions return.
 
 /// The function succeeded.

@@ -1,18 +1,18 @@
 -- The values in the structs of C. A struct has no value if one of its codes is not in its table.
 use Rattle.std.specs.Prelude.{◌≡◌, ◌≢◌, ◌≤◌, ◌⊎◌, ◌+◌, ◌*◌, ◌-◌, ◌<◌, ◌^◌, ℕ, Bool, if◌then◌else◌, nat_lt, ◌==◌, List, [], ◌∷◌, length, slice_get, Option, None, Some, IsSomeAnd, option_and_then, option_map, unwrap_or}
-use Rattle.deodarsieve.specs.Codes.{displays, final_levels, flaky_results, levels, outcomes, reasons, results, stores}
-use Rattle.deodarsieve.specs.declared.layout.FfiDuration.{FfiDuration}
-use Rattle.deodarsieve.specs.declared.layout.FfiFailedCounts.{FfiFailedCounts}
-use Rattle.deodarsieve.specs.declared.layout.FfiFinalStats.{FfiFinalStats}
-use Rattle.deodarsieve.specs.declared.layout.FfiFinishedTest.{FfiFinishedTest}
-use Rattle.deodarsieve.specs.declared.layout.FfiHead.{FfiHead}
-use Rattle.deodarsieve.specs.declared.layout.FfiOutput.{FfiOutput}
-use Rattle.deodarsieve.specs.declared.layout.FfiResult.{FfiResult}
-use Rattle.deodarsieve.specs.declared.layout.FfiRunStats.{FfiRunStats}
-use Rattle.deodarsieve.specs.declared.layout.FfiSlice.{FfiSlice}
-use Rattle.deodarsieve.specs.declared.layout.FfiStressProgress.{FfiStressProgress}
-use Rattle.deodarsieve.specs.declared.layout.FfiStressRemaining.{FfiStressRemaining}
-use Rattle.deodarsieve.specs.declared.layout.FfiTestView.{FfiTestView}
+use Rattle.c_values.specs.Codes.{displays, final_levels, flaky_results, levels, outcomes, reasons, results, stores}
+use Rattle.c_values.specs.declared.layout.FfiDuration.{FfiDuration}
+use Rattle.c_values.specs.declared.layout.FfiFailedCounts.{FfiFailedCounts}
+use Rattle.c_values.specs.declared.layout.FfiFinalStats.{FfiFinalStats}
+use Rattle.c_values.specs.declared.layout.FfiFinishedTest.{FfiFinishedTest}
+use Rattle.c_values.specs.declared.layout.FfiHead.{FfiHead}
+use Rattle.c_values.specs.declared.layout.FfiOutput.{FfiOutput}
+use Rattle.c_values.specs.declared.layout.FfiResult.{FfiResult}
+use Rattle.c_values.specs.declared.layout.FfiRunStats.{FfiRunStats}
+use Rattle.c_values.specs.declared.layout.FfiSlice.{FfiSlice}
+use Rattle.c_values.specs.declared.layout.FfiStressProgress.{FfiStressProgress}
+use Rattle.c_values.specs.declared.layout.FfiStressRemaining.{FfiStressRemaining}
+use Rattle.c_values.specs.declared.layout.FfiTestView.{FfiTestView}
 use Rattle.output_slice.specs.Extraction.{Extract, error_slice, note_line, panic_slice}
 use Rattle.output_slice.specs.declared.panic_head.HeadSpan.{HeadSpan}
 use Rattle.run_events_levels.specs.TestView.{TestView}

@@ -1,13 +1,13 @@
-// Made by tools/erase from crates/deodarsieve/src/values.rt. Do not edit.
+// Made by tools/erase from crates/c_values/src/values.rt. Do not edit.
 //! Conversions of structs of C to values of the layer and back.
 
-use crate::exports::codes;
-use crate::exports::layout::{FfiFinalStats, FfiRunStats, FfiTestView};
-use crate::exports::status::{BAD_CODE, OK};
+use crate::c_values::codes;
+use crate::c_values::layout::{FfiFinalStats, FfiRunStats, FfiTestView};
+use crate::c_values::status::{BAD_CODE, OK};
 use deodarsieve::{FinalRunStats, FinishedTest, RunStats, RunStatsFailureKind};
 
 /// Writes the value if there is one, and returns the status: `OK` or `BAD_CODE`.
-pub(crate) fn give<T: Copy>(answer: &mut T, value: Option<T>) -> u32 {
+pub fn give<T: Copy>(answer: &mut T, value: Option<T>) -> u32 {
     match value {
         Some(given) => {
             *answer = given;
@@ -18,7 +18,7 @@ pub(crate) fn give<T: Copy>(answer: &mut T, value: Option<T>) -> u32 {
 }
 
 /// Returns the finished test, or `None` if a code is not in its table.
-pub(crate) fn finished_test(test: &FfiTestView) -> Option<FinishedTest> {
+pub fn finished_test(test: &FfiTestView) -> Option<FinishedTest> {
     Some(FinishedTest {
         result: codes::described(test.result)?,
         attempts: test.attempts,
@@ -28,7 +28,7 @@ pub(crate) fn finished_test(test: &FfiTestView) -> Option<FinishedTest> {
 }
 
 /// Returns the counters of a run, or `None` if the code of the reason is not in its table.
-pub(crate) fn run_stats(stats: &FfiRunStats) -> Option<RunStats> {
+pub fn run_stats(stats: &FfiRunStats) -> Option<RunStats> {
     Some(RunStats {
         initial_run_count: stats.initial_run_count,
         finished_count: stats.finished_count,
@@ -54,7 +54,7 @@ pub(crate) fn run_stats(stats: &FfiRunStats) -> Option<RunStats> {
 }
 
 /// Returns the struct of C with the counters of a run.
-pub(crate) fn written_stats(stats: RunStats) -> FfiRunStats {
+pub fn written_stats(stats: RunStats) -> FfiRunStats {
     FfiRunStats {
         initial_run_count: stats.initial_run_count,
         finished_count: stats.finished_count,
@@ -93,7 +93,7 @@ fn failure_kind(stats: &FfiFinalStats) -> Option<RunStatsFailureKind> {
 }
 
 /// Returns the summary of a finished run, or `None` if a code is not in its table.
-pub(crate) fn final_stats(stats: &FfiFinalStats) -> Option<FinalRunStats> {
+pub fn final_stats(stats: &FfiFinalStats) -> Option<FinalRunStats> {
     match stats.kind {
         0 => Some(FinalRunStats::NoTestsRun),
         1 => Some(FinalRunStats::Success),
@@ -109,7 +109,7 @@ pub(crate) fn final_stats(stats: &FfiFinalStats) -> Option<FinalRunStats> {
 }
 
 /// Returns the struct of C with the summary of a finished run.
-pub(crate) fn written_final(stats: FinalRunStats) -> FfiFinalStats {
+pub fn written_final(stats: FinalRunStats) -> FfiFinalStats {
     let nothing = FfiFinalStats {
         kind: 0,
         reason: 0,

@@ -1,7 +1,7 @@
 //! Conversions of structs of C to values of the layer and back.
 
 ghost use Rattle.std.specs.Prelude.{◌≡◌, MatchOption, Some, option_map};
-ghost use Rattle.deodarsieve.specs.Layout.{HasNoMore, IsStepAlone, final_in, kind_in, stats_in, view_in};
+ghost use Rattle.c_values.specs.Layout.{HasNoMore, IsStepAlone, final_in, kind_in, stats_in, view_in};
 ghost use Rattle.run_events_levels.specs.TestView.{finished_view};
 
 use crate::codes;
@@ -12,7 +12,7 @@ use run_events_stats::outcome::{FinalRunStats, RunStatsFailureKind};
 use run_events_stats::stats::RunStats;
 
 /// Writes the value if there is one, and returns the status: `OK` or `BAD_CODE`.
-pub(crate) fn give<T: Copy>(answer: &mut T, value: Option<T>) -> u32
+pub fn give<T: Copy>(answer: &mut T, value: Option<T>) -> u32
     ensures { MatchOption value ((result ≡ BAD_CODE) × (answer.new ≡ answer.old))
         (λ given. (result ≡ OK) × (answer.new ≡ given)) }
 {
@@ -26,7 +26,7 @@ pub(crate) fn give<T: Copy>(answer: &mut T, value: Option<T>) -> u32
 }
 
 /// Returns the finished test, or `None` if a code is not in its table.
-pub(crate) fn finished_test(test: &FfiTestView) -> Option<FinishedTest>
+pub fn finished_test(test: &FfiTestView) -> Option<FinishedTest>
     ensures { option_map finished_view result ≡ view_in test.now }
 {
     Some(FinishedTest {
@@ -38,7 +38,7 @@ pub(crate) fn finished_test(test: &FfiTestView) -> Option<FinishedTest>
 }
 
 /// Returns the counters of a run, or `None` if the code of the reason is not in its table.
-pub(crate) fn run_stats(stats: &FfiRunStats) -> Option<RunStats>
+pub fn run_stats(stats: &FfiRunStats) -> Option<RunStats>
     ensures { result ≡ stats_in stats.now }
 {
     Some(RunStats {
@@ -66,7 +66,7 @@ pub(crate) fn run_stats(stats: &FfiRunStats) -> Option<RunStats>
 }
 
 /// Returns the struct of C with the counters of a run.
-pub(crate) fn written_stats(stats: RunStats) -> FfiRunStats
+pub fn written_stats(stats: RunStats) -> FfiRunStats
     ensures { stats_in result ≡ Some stats }
 {
     FfiRunStats {
@@ -109,7 +109,7 @@ fn failure_kind(stats: &FfiFinalStats) -> Option<RunStatsFailureKind>
 }
 
 /// Returns the summary of a finished run, or `None` if a code is not in its table.
-pub(crate) fn final_stats(stats: &FfiFinalStats) -> Option<FinalRunStats>
+pub fn final_stats(stats: &FfiFinalStats) -> Option<FinalRunStats>
     ensures { result ≡ final_in stats.now }
 {
     match stats.kind {
@@ -127,7 +127,7 @@ pub(crate) fn final_stats(stats: &FfiFinalStats) -> Option<FinalRunStats>
 }
 
 /// Returns the struct of C with the summary of a finished run.
-pub(crate) fn written_final(stats: FinalRunStats) -> FfiFinalStats
+pub fn written_final(stats: FinalRunStats) -> FfiFinalStats
     ensures value { final_in result ≡ Some stats }
     ensures no_more { HasNoMore result }
 {

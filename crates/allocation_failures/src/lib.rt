@@ -1,24 +1,23 @@
-//! Makes calls that allocate, and prints what they returned. `./allocation-failures` runs it with a
-//! small library loaded before it, which makes one allocation fail.
+//! Makes calls that allocate, and prints what they returned. `./allocation-failures` runs the program
+//! `callers`, which makes one of them, with a small library loaded before it that makes one allocation
+//! fail.
 //!
-//! `allocation_failures all` makes each call once, and prints a line for each. `allocation_failures
-//! NAME` allocates its argument, then the values that it passes to the call, and then makes the
-//! call. It prints one line. After a call with the right result it allocates nothing, so the
-//! allocation that failed is one of the call or one before it. Only `long-error` and `many-errors`,
-//! which pass large values, allocate after the call. No allocation is made to fail for these two: they
-//! test that a call with large values succeeds. A line has the name of the call and its result:
+//! [`make`] allocates the values that it passes to a call, and then makes the call. After a call with
+//! the right result it allocates nothing, so the allocation that failed is one of the call or one
+//! before it. Only `long-error` and `many-errors`, which pass large values, allocate after the call.
+//! No allocation is made to fail for these two: they test that a call with large values succeeds. It
+//! prints a line with the name of the call and its result:
 //!
 //! - `not reached`: an allocation failed before the call;
 //! - `out of memory`: the call returned this error, and what it borrowed is unchanged;
 //! - `right answer`: the call returned the right result;
-//! - `wrong answer: WHAT`: anything else. The exit status is then 1.
+//! - `wrong answer: WHAT`: anything else.
 #![tactic(auto)]
 
 use crate::outcome::Outcome;
 use crate::unit_errors::{ErrorKinds, errors, no_errors};
 use std::alloc::{AllocError, Global};
-use std::process::ExitCode;
-use std::{env, io};
+use std::io;
 
 mod chain;
 mod child;
@@ -68,29 +67,20 @@ fn outcome_of(alloc: Global, word: &str) -> Outcome {
     }
 }
 
-/// Makes each of the named calls and prints its result. Returns the exit status.
-fn make<R: AllocGlobal + Print>(rt: &R, words: &[&str]) -> io::Result<ExitCode> {
-    let mut status = ExitCode::SUCCESS;
-    for word in words {
-        let outcome = outcome_of(rt.alloc(), word);
-        println!(rt; "{word}: {outcome}")?;
-        if matches!(outcome, Outcome::Wrong(_)) {
-            status = ExitCode::FAILURE;
-        }
-    }
-    Ok(status)
+/// Makes the named call, and prints its name and its result. Returns false if the result is a wrong
+/// answer.
+pub fn make<R: AllocGlobal + Print>(rt: &R, word: &str) -> io::Result<bool> {
+    let outcome = outcome_of(rt.alloc(), word);
+    println!(rt; "{word}: {outcome}")?;
+    Ok(!matches!(outcome, Outcome::Wrong(_)))
 }
 
-fn main(rt: HostRuntime) -> io::Result<ExitCode> {
-    let word = match env::args(&rt) {
-        Ok(mut args) => args.nth(1),
-        Err(_) => {
-            println!(rt; "{}", Outcome::NotReached)?;
-            return Ok(ExitCode::SUCCESS);
-        }
-    };
-    match word.as_ref().map_or("", |word| word.as_str()) {
-        "all" => make(&rt, &WORDS),
-        word => make(&rt, &[word]),
+/// Makes each call once, as [`make`] does. Returns false if one gives a wrong answer.
+pub fn make_all<R: AllocGlobal + Print>(rt: &R) -> io::Result<bool> {
+    let mut are_right = true;
+    for word in WORDS {
+        let is_right = make(rt, word)?;
+        are_right = are_right && is_right;
     }
+    Ok(are_right)
 }

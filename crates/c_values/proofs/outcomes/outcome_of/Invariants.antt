@@ -1,7 +1,7 @@
 use Rattle.std.proofs.Common.{All, IsSome, map, take}
-use Rattle.deodarsieve.specs.Layout.{final_in, outcome_in}
+use Rattle.c_values.specs.Layout.{final_in, outcome_in}
 use Rattle.run_events_stats.specs.Outcome.{IsHighest}
-use Rattle.deodarsieve.proofs.outcomes.outcome_of.Given as goal
+use Rattle.c_values.proofs.outcomes.outcome_of.Given as goal
 
 -- all sub-runs so far have a summary, and the highest of their outcomes is known
 abbrev pub invariant-loop-sub_run : goal.invariant-loop-sub_run
