@@ -12,8 +12,9 @@
 //! | `failure` or `error` (`message`, `type`, `why`), `output` (its `text`) | each `case` that failed |
 
 use crate::template::{Value, push_item, push_section, push_text};
-use crate::test_report_forms::junit_case::{Case, CaseKind, Reason, suite_text, text_of};
+use crate::test_report_forms::junit_case::{Case, CaseKind, Reason, text_of};
 use crate::test_report_forms::junit_suite::JunitCounts;
+use crate::test_report_forms::model::suite_name;
 use crate::test_report_forms::open_suites::Suite;
 use crate::test_report_forms::values::{one_text, push_option, push_time};
 
