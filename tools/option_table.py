@@ -6,7 +6,7 @@ runs them.
 
 from dataclasses import dataclass, field
 
-FORMS = ["text", "github", "names", "junit", "html", "markdown"]
+FORMS = ["text", "github", "names", "junit", "html", "markdown", "json"]
 
 # The forms that are written while the input is read, and those that are written at the end.
 AT_ONCE, AT_END = FORMS[:3], FORMS[3:]
@@ -110,6 +110,7 @@ NO_TESTS = {
     ),
     "html": (Parts(["<h1>", "no-tests-run", "</h1>"]), Parts(["<h1>", "no-tests-run", "</h1>"])),
     "markdown": (Parts(["## Test report: no&#45;tests&#45;run\n"]), Parts(["## Test report: no&#45;tests&#45;run\n"])),
+    "json": (Parts(['{"outcome":"no-tests-run",']), Parts(['{"outcome":"no-tests-run",'])),
 }
 
 # What the reports of a run with one failed test and of one without have in each form.
@@ -120,6 +121,7 @@ RED_PARTS = {
     "junit": Parts(['tests="1" failures="1" errors="0"', '<failure message="Error: no money" type="test failure">']),
     "html": Parts(["<h1>", "failed", "</h1>", "pays", "Error: no money"]),
     "markdown": Parts(["## Test report: failed", "suite 1 pays", "Error&#58; no money"]),
+    "json": Parts(['{"outcome":"failed",', '"failed":1,', '"written_name":"pays","result":"failed",', '"Error: no money"']),
 }
 GREEN_PARTS = {
     "text": GREEN_TEXT,
@@ -128,6 +130,7 @@ GREEN_PARTS = {
     "junit": Parts(['tests="1" failures="0" errors="0"'], ["<failure"]),
     "html": Parts(["<h1>", "success", "</h1>"]),
     "markdown": Parts(["## Test report: success"], ["FAIL"]),
+    "json": Parts(['{"outcome":"success",', '"passed":1,', '"written_name":"adds","result":"passed",'], ['"result":"failed"']),
 }
 
 # What is written of a run whose second file cannot be read: of the forms at the end, nothing.
@@ -158,7 +161,8 @@ def forms():
         yield Row(f"{form}, no second file", [*option, "red.jsonl", "none.jsonl"], "", 3, begin, NO_INPUT, files)
         yield Row(f"{form}, a folder as second file", [*option, "red.jsonl", "."], "", 3, begin, NOT_READ, files)
         if form != "text":
-            yield Row(f"{form}, --raw", [*option, "--raw"], COLOURED, 1, Parts(["u{1b}"], ["\x1b"]))
+            shown = "\\u001b" if form == "json" else "u{1b}"
+            yield Row(f"{form}, --raw", [*option, "--raw"], COLOURED, 1, Parts([shown], ["\x1b"]))
     yield Row("text is the default", [], RED, 1, RED_TEXT)
 
 
@@ -243,9 +247,9 @@ def progress():
 
 def streams():
     """Yields the rows of a standard output that cannot be written."""
-    options = ["--junit", "old.xml", "--html", "old.html", "--markdown", "old.md"]
-    old = {"old.xml": "old", "old.html": "old", "old.md": "old\n"}
-    gone = {"old.xml": None, "old.html": None, "old.md": "old\n"}
+    options = ["--junit", "old.xml", "--html", "old.html", "--markdown", "old.md", "--json", "old.json"]
+    old = {"old.xml": "old", "old.html": "old", "old.md": "old\n", "old.json": "old"}
+    gone = {"old.xml": None, "old.html": None, "old.md": "old\n", "old.json": None}
     for form in FORMS:
         option = ["--format", form]
         for name, text in [("green", GREEN), ("red", RED)]:
@@ -265,13 +269,13 @@ def streams():
 
 
 XML, PAGE = Parts(["<testsuites ", "</testsuites>\n"], ["old"]), Parts(["<!DOCTYPE html>", "</html>"], ["old"])
-MARKDOWN = Parts(["## Test report: failed"], ["old"])
-OPTIONS = ["--junit", "a.xml", "--html", "a.html", "--markdown", "a.md"]
-OLD = {"a.xml": "old " * 100_000, "a.html": "old " * 100_000, "a.md": "old\n"}
+MARKDOWN, OBJECT = Parts(["## Test report: failed"], ["old"]), Parts(['{"outcome":"failed",', "}\n"], ["old"])
+OPTIONS = ["--junit", "a.xml", "--html", "a.html", "--markdown", "a.md", "--json", "a.json"]
+OLD = {"a.xml": "old " * 100_000, "a.html": "old " * 100_000, "a.md": "old\n", "a.json": "old " * 100_000}
 # What these files are after a run, without and with old ones, and after a run that failed.
-WRITTEN = {"a.xml": XML, "a.html": PAGE, "a.md": MARKDOWN}
+WRITTEN = {"a.xml": XML, "a.html": PAGE, "a.md": MARKDOWN, "a.json": OBJECT}
 REPLACED = {**WRITTEN, "a.md": Parts(["old\n\n## Test report: failed"])}
-GONE = {"a.xml": None, "a.html": None, "a.md": "old\n"}
+GONE = {"a.xml": None, "a.html": None, "a.md": "old\n", "a.json": None}
 
 
 def files():
@@ -294,16 +298,16 @@ def files():
                   {"a": "old"}, after={"a": None}, has_space=False)
     yield Row("an old file that cannot be removed", ["--junit", "/proc/version"], RED, 3, "",
               "test-report: /proc/version cannot be written\n")
-    for option in ("--junit", "--html", "--markdown"):
+    for option in ("--junit", "--html", "--markdown", "--json"):
         yield Row(f"{option} in no folder", [option, "none/a"], RED, 3, RED_TEXT,
                   "test-report: none/a cannot be written\n")
 
 
 def links():
     """Yields the rows of files that are symbolic links. The links stay."""
-    named = {"link.xml": "a.xml", "link.html": "a.html", "link.md": "a.md"}
+    named = {"link.xml": "a.xml", "link.html": "a.html", "link.md": "a.md", "link.json": "a.json"}
     stay = {name: f"-> {target}" for name, target in named.items()}
-    options = ["--junit", "link.xml", "--html", "link.html", "--markdown", "link.md"]
+    options = ["--junit", "link.xml", "--html", "link.html", "--markdown", "link.md", "--json", "link.json"]
     yield Row("links", options, RED, 1, RED_TEXT, "", OLD, named, {**REPLACED, **stay})
     yield Row("links to no files", options, RED, 1, RED_TEXT, "", {}, named, {**WRITTEN, **stay})
     yield Row("links and no input", [*options, "none.jsonl"], "", 3, "", NO_INPUT, OLD, named, {**GONE, **stay})
@@ -315,10 +319,10 @@ def links():
 
 def devices():
     """Yields the rows of files that are devices, pipes or standard error, to which a text is added."""
-    for option in ("--junit", "--html", "--markdown"):
+    for option in ("--junit", "--html", "--markdown", "--json"):
         yield Row(f"{option} of the null device", [option, "/dev/null"], RED, 1, RED_TEXT)
     yield Row("the null device thrice", ["--junit", "/dev/null", "--html", "/dev/null"], RED, 1, output="/dev/null")
-    for option, text in [("--junit", XML), ("--html", PAGE), ("--markdown", MARKDOWN)]:
+    for option, text in [("--junit", XML), ("--html", PAGE), ("--markdown", MARKDOWN), ("--json", OBJECT)]:
         yield Row(f"{option} to standard error, a pipe", [option, "/dev/stderr"], RED, 1, RED_TEXT, text)
         yield Row(f"{option} to standard error, a file", [option, "/dev/stderr"], RED, 1, RED_TEXT, error="log.txt",
                   after={"log.txt": text})
@@ -341,7 +345,7 @@ def refused(arguments, message, **others):
 
 def conflicts():
     """Yields the rows of files that are refused before anything is read."""
-    for option in ("--junit", "--html", "--markdown"):
+    for option in ("--junit", "--html", "--markdown", "--json"):
         for output in ("pipe", "terminal", "out.txt", "/dev/full"):
             yield refused([option, "/dev/stdout"], f"{option} /dev/stdout is standard output", output=output)
         yield refused([option, "./out.txt"], f"{option} ./out.txt is standard output", output="out.txt")
