@@ -1,26 +1,27 @@
 -- The headings of cargo.
-use Rattle.std.proofs.Common.{◌≡◌, ◌≢◌, ◌∙◌, ◌==◌, ◌||◌, not, refl, ℕ, ◌+◌, ◌-◌, ◌<◌, ◌≤◌, Bool, true, Option, Some, None, Result, Ok, Err, List, [], ◌∷◌, ◌++◌, length, length-drop, get_or, get_or-drop, take, drop, drop-drop, take-append-drop, inl, inr, arith, sym, ap, subst, codes, MatchOption, IfOk}
+use Rattle.std.proofs.Common.{◌≡◌, ◌≢◌, ◌∙◌, ◌==◌, ◌||◌, not, refl, ℕ, ◌+◌, ◌-◌, ◌<◌, ◌≤◌, Bool, true, Option, Some, None, suc, drop-cons, append_assoc, length-append, Bor, MatchOption, List, [], ◌∷◌, ◌++◌, length, length-drop, get_or, get_or-drop, take, drop, drop-drop, take-append-drop, inl, inr, arith, sym, ap, subst, codes}
 use Rattle.std.proofs.Math.Logic.{⊎_elim}
+use Rattle.std.proofs.Math.Seq.{get_or-append_seam}
 use Rattle.std.proofs.lemmas.Bool.{cases_Bool, false≢true}
 use Rattle.std.proofs.lemmas.Bool.Decides.{nat_tests}
-use Rattle.std.proofs.lemmas.List.Elements.{All-from_get_or}
+use Rattle.std.proofs.lemmas.List.Elements.{All-from_get_or, All-head, All-tail}
 use Rattle.std.proofs.lemmas.List.{append_cancel_left, append_cancel_right}
 use Rattle.std.proofs.lemmas.List.Prefix.{front_fits, front_rest}
 use Rattle.std.proofs.lemmas.List.Sums.{suffix_len_is}
 use Rattle.std.proofs.lemmas.Str.{NoCharPasses-byte, len_utf8_ascii}
 use Rattle.std.proofs.lemmas.Str.Pattern.{NoCharPasses-char, drop_at_char}
 use Rattle.std.specs.Char.{char_set_contains, is_ascii_hexdigit}
-use Rattle.std.specs.List.{All, AllPass}
+use Rattle.std.specs.List.{All, AllPass, slice_split}
 use Rattle.std.specs.Str.{NoCharPasses}
 use Rattle.std.specs.Str.Pattern.{RFindsBy, RFindsChar, RFindsText, SplitsAroundMatch}
-use Rattle.std.specs.String.{string_bytes}
-use Rattle.std.specs.declared.string.String.{String}
 use Rattle.test_report_events.proofs.LastCut.{Lacks, cut-same, lacks-later}
-use Rattle.test_report_events.specs.Cargo.{IsBinary, IsHashed, IsHeading, IsTarget, file_name}
+use Rattle.test_report_events.specs.Cargo.{CargoSays, IsBinary, IsCommand, IsFirstProgram, IsHashed, IsHeading, IsProgram, IsRunning, IsTarget, failure_of, file_name}
+use Rattle.test_report_events.specs.Event.{CargoFails, EventView, HeadingLine}
+use Rattle.test_report_events.specs.declared.event.CargoFailure.{CargoFailure}
 
 -- a text without a character has no byte of it
-pub no_space : (name : List ℕ) → NoCharPasses (λ d. d == 32) name → All (λ b. b ≢ 32) name
-no_space name none = All-from_get_or (λ b. b ≢ 32) name 0 (λ k inside. NoCharPasses-char 32 name k none (omega arith) inside)
+pub lacks_char : (c : ℕ) (name : List ℕ) → c < 128 → NoCharPasses (λ d. d == c) name → All (λ b. b ≢ c) name
+lacks_char c name ascii none = All-from_get_or (λ b. b ≢ c) name 0 (λ k inside. NoCharPasses-char c name k none ascii inside)
 
 -- the file name of a path
 abbrev is_separator : ℕ → Bool
@@ -73,12 +74,6 @@ hashed_other file front back h other name k =
     let same = cut-same 45 front name back k.hash (sym cut ∙ k.is) none (hash-lacks k.hash k.digits) in
     other (rw same.1 (k.size, k.digits))
 
--- what is read of the text after `Running `
-abbrev pub Announces : {Z : Type 0} → List ℕ → Option (String Z) → Type 0
-Announces text found = MatchOption found ((target path name : List ℕ) → IsTarget text target path → ¬ IsBinary path name)
-    (λ s. (target : List ℕ) × (path : List ℕ) × (name : List ℕ) × IsTarget text target path × IsBinary path name
-    × (string_bytes s ≡ name ++ (codes " (" ++ (target ++ codes ")"))))
-
 -- a line does not begin in both ways
 doc-or-running : (line name text : List ℕ) → line ≡ codes "Doc-tests " ++ name → line ≡ codes "Running " ++ text → ⊥
 doc-or-running line name text h k = let e : ◌≡◌ {A = ℕ} 68 82 = ap (λ xs. get_or xs 0 0) (sym h ∙ k) in omega (arith, e)
@@ -122,8 +117,8 @@ module _ (text front back : List ℕ) (split : IsSplit text front back) where
   pub front_empty : length front ≡ 0 → (target path : List ℕ) → ¬ IsTarget text target path
   front_empty empty target path h = omega (arith, h.some, ap length (target-is target path h).0)
 
-  pub target_found : (path : List ℕ) → 0 < length front → back ≡ path ++ codes ")" → IsTarget text front path
-  target_found path some e = record {
+  pub cut_found : (path : List ℕ) → 0 < length front → back ≡ path ++ codes ")" → IsTarget text front path
+  cut_found path some e = record {
     some = some;
     is = split.is ∙ ap (λ b. front ++ (codes " (" ++ b)) e;
     last = λ x y later. split.bare x y (e ∙ later);
@@ -134,46 +129,157 @@ one-target text a b p q h k =
     let same = target-is text a (p ++ codes ")") (record { is = h.is; bare = h.last }) b q k in
     (same.0, append_cancel_right p q (codes ")") same.1)
 
--- what a heading announces, after its target is cut
-module _ {E Z : Type 0} where
-  pub running_of : (text target path : List ℕ) → IsTarget text target path → (r : Result (Option (String Z)) E)
-      → IfOk r (λ found. MatchOption found ((name : List ℕ) → ¬ IsBinary path name)
-      (λ s. (name : List ℕ) × IsBinary path name × (string_bytes s ≡ name ++ (codes " (" ++ (target ++ codes ")")))))
-      → IfOk r (Announces text)
-  running_of text target path cut (Err e) h = tt
-  running_of text target path cut (Ok None) h = λ t p name k b. h name (subst (λ q. IsBinary q name) (one-target text t target p path k cut).1 b)
-  running_of text target path cut (Ok (Some s)) h = (target, path, h.0, cut, h.1, h.2)
+-- what comes after `Running `, as a target
+module _ (text : List ℕ) where
+  abbrev Line : List ℕ
+  Line = codes "Running " ++ text
 
-  pub running_heading : (line text : List ℕ) → line ≡ codes "Running " ++ text → (r : Result (Option (String Z)) E) → IfOk r (Announces text)
-      → IfOk r (λ found. MatchOption found ((suite : List ℕ) → ¬ IsHeading line suite) (λ s. IsHeading line (string_bytes s)))
-  running_heading line text is (Err e) h = tt
-  running_heading line text is (Ok None) h = λ suite. ⊎_elim (λ k. doc-or-running line k.name text k.is is) (λ k.
-      let same : k.text ≡ text = append_cancel_left (codes "Running ") k.text text (sym k.is ∙ is) in
-      h k.target k.path k.name (subst (λ t. IsTarget t k.target k.path) same k.cut) k.binary)
-  running_heading line text is (Ok (Some s)) h = inr record {
-    text = text;
-    target = h.0;
-    path = h.1;
-    name = h.2;
-    is = is;
-    cut = h.3;
-    binary = h.4;
-    announces = h.5;
-  }
+  cut-of : (suite path : List ℕ) (h : IsRunning Line suite path) → IsTarget text h.target path
+  cut-of suite path h = subst (λ t. IsTarget t h.target path) (append_cancel_left (codes "Running ") h.text text (sym h.is)) h.cut
 
--- a heading announces one name
-pub one-heading : (line a b : List ℕ) → IsHeading line a → IsHeading line b → a ≡ b
-one-heading line a b (inl h) (inl k) =
-    let same : h.name ≡ k.name = append_cancel_left (codes "Doc-tests ") h.name k.name (sym h.is ∙ k.is) in
-    h.announces ∙ (ap (λ n. n ++ codes " (doc tests)") same ∙ sym k.announces)
-one-heading line a b (inl h) (inr k) = absurd (doc-or-running line h.name k.text h.is k.is)
-one-heading line a b (inr h) (inl k) = absurd (doc-or-running line k.name h.text k.is h.is)
-one-heading line a b (inr h) (inr k) =
+  pub no_binary : (target path : List ℕ) → IsTarget text target path → ((name : List ℕ) → ¬ IsBinary path name)
+      → (suite other : List ℕ) → ¬ IsRunning Line suite other
+  no_binary target path cut none suite other h =
+      none h.name (subst (λ p. IsBinary p h.name) (one-target text h.target target other path (cut-of suite other h) cut).1 h.binary)
+
+  -- and as a command
+  words-of : (suite path : List ℕ) (h : IsCommand Line suite path) → text ≡ 96 ∷ (h.words ++ codes "`")
+  words-of suite path h = append_cancel_left (codes "Running ") text (96 ∷ (h.words ++ codes "`")) h.is
+
+  pub no_start : ((rest : List ℕ) → text ≢ 96 ∷ rest) → (suite path : List ℕ) → ¬ IsCommand Line suite path
+  no_start none suite path h = none (h.words ++ codes "`") (words-of suite path h)
+
+  pub no_end : (rest : List ℕ) → text ≡ 96 ∷ rest → ((front : List ℕ) → rest ≢ front ++ codes "`") → (suite path : List ℕ) → ¬ IsCommand Line suite path
+  no_end rest is none suite path h = let both = sym is ∙ words-of suite path h in none h.words cc
+
+  pub no_program : (words : List ℕ) → text ≡ 96 ∷ (words ++ codes "`") → ((path name : List ℕ) → ¬ IsFirstProgram words path name)
+      → (suite path : List ℕ) → ¬ IsCommand Line suite path
+  no_program words is none suite path h =
+      let both = sym is ∙ words-of suite path h in
+      let ends : words ++ codes "`" ≡ h.words ++ codes "`" = cc in
+      none path suite (subst (λ t. IsFirstProgram t path suite) (sym (append_cancel_right words h.words (codes "`") ends)) h.first)
+
+pub program_of : (word : List ℕ) (r : Option (Bor (List ℕ))) → All (λ b. b ≢ 61) word
+    → MatchOption r ((name : List ℕ) → ¬ IsBinary word name) (λ x. IsBinary word x.now)
+    → MatchOption r ((name : List ℕ) → ¬ IsProgram word name) (λ x. IsProgram word x.now)
+program_of word None all h = λ name program. h name program.1
+program_of word (Some x) all h = (all, h)
+
+-- the first program of words
+module _ (words : List ℕ) (n : ℕ) (path name : List ℕ) where
+  abbrev Words : List (List ℕ)
+  Words = slice_split (λ b. b == 32) words
+
+  pub first_here : (earlier : List (List ℕ)) → earlier ≡ take n Words → All (λ word. (other : List ℕ) → ¬ IsProgram word other) earlier
+      → n < length Words → path ≡ get_or Words n path → IsProgram path name → IsFirstProgram words path name
+  first_here earlier is none inside here program =
+      let divided : take n Words ++ drop n Words ≡ take n Words ++ path ∷ drop (suc n) Words =
+      ap (λ ws. take n Words ++ ws) (drop-cons Words n path inside ∙ ap (λ w. w ∷ drop (suc n) Words) (sym here)) in
+      record {
+        earlier = earlier;
+        later = drop (suc n) Words;
+        divided = sym (take-append-drop n Words) ∙ (divided ∙ ap (λ ws. ws ++ path ∷ drop (suc n) Words) (sym is));
+        others = none;
+        program = program;
+      }
+
+pub no_first : (words : List ℕ) → All (λ word. (other : List ℕ) → ¬ IsProgram word other) (slice_split (λ b. b == 32) words)
+    → (path name : List ℕ) → ¬ IsFirstProgram words path name
+no_first words none path name h =
+    let all = subst (All (λ word. (other : List ℕ) → ¬ IsProgram word other)) h.divided none in
+    All-head (λ word. (other : List ℕ) → ¬ IsProgram word other) path h.later
+    (All-drop-front h.earlier (path ∷ h.later) all) name h.program
+  where
+    All-drop-front : (xs ys : List (List ℕ)) → All (λ word. (other : List ℕ) → ¬ IsProgram word other) (xs ++ ys)
+        → All (λ word. (other : List ℕ) → ¬ IsProgram word other) ys
+    All-drop-front [] ys h = h
+    All-drop-front (x ∷ xs) ys h = All-drop-front xs ys (All-tail (λ word. (other : List ℕ) → ¬ IsProgram word other) x (xs ++ ys) h)
+
+first-same : (es fs ls ms : List (List ℕ)) (p q a b : List ℕ) → es ++ p ∷ ls ≡ fs ++ q ∷ ms
+    → All (λ word. (other : List ℕ) → ¬ IsProgram word other) es → All (λ word. (other : List ℕ) → ¬ IsProgram word other) fs
+    → IsProgram p a → IsProgram q b → p ≡ q
+first-same [] [] ls ms p q a b e h k m n = cc
+first-same [] (y ∷ fs) ls ms p q a b e h k m n =
+    let same : p ≡ y = cc in absurd (All-head (λ word. (other : List ℕ) → ¬ IsProgram word other) y fs k a (subst (λ w. IsProgram w a) same m))
+first-same (x ∷ es) [] ls ms p q a b e h k m n =
+    let same : q ≡ x = cc in absurd (All-head (λ word. (other : List ℕ) → ¬ IsProgram word other) x es h b (subst (λ w. IsProgram w b) same n))
+first-same (x ∷ es) (y ∷ fs) ls ms p q a b e h k m n =
+    let tails : es ++ p ∷ ls ≡ fs ++ q ∷ ms = cc in
+    first-same es fs ls ms p q a b tails (All-tail (λ word. (other : List ℕ) → ¬ IsProgram word other) x es h)
+    (All-tail (λ word. (other : List ℕ) → ¬ IsProgram word other) y fs k) m n
+
+one-first : (words p q a b : List ℕ) → IsFirstProgram words p a → IsFirstProgram words q b → (a ≡ b) × (p ≡ q)
+one-first words p q a b h k =
+    let same = first-same h.earlier k.earlier h.later k.later p q a b (sym h.divided ∙ k.divided) h.others k.others h.program k.program in
+    (one-hashed _ a b h.program.1 (subst (λ w. IsBinary w b) (sym same) k.program.1), same)
+
+-- a line is not both
+last-same : (a b : List ℕ) (x y : ℕ) → a ++ x ∷ [] ≡ b ++ y ∷ [] → x ≡ y
+last-same a b x y e =
+    let size : length a ≡ length b = omega (arith, ap length e, length-append a (x ∷ []), length-append b (y ∷ [])) in
+    sym (get_or-append_seam a x [] 0) ∙ (ap (λ l. get_or l (length a) 0) e ∙ (ap (λ n. get_or (b ++ y ∷ []) n 0) size ∙ get_or-append_seam b y [] 0))
+
+target-or-command : (line s t p q : List ℕ) → IsRunning line s p → IsCommand line t q → ⊥
+target-or-command line s t p q h k =
+    let same : h.text ≡ 96 ∷ (k.words ++ codes "`") = append_cancel_left (codes "Running ") h.text (96 ∷ (k.words ++ codes "`")) (sym h.is ∙ k.is) in
+    let front : h.text ≡ (h.target ++ (codes " (" ++ p)) ++ 41 ∷ [] = h.cut.is ∙ sym (append_assoc h.target (codes " (" ++ p) (codes ")")) in
+    let e : ◌≡◌ {A = ℕ} 41 96 = last-same (h.target ++ (codes " (" ++ p)) (96 ∷ k.words) 41 96 (sym front ∙ same) in omega (arith, e)
+
+one-running : (line a b p q : List ℕ) → IsRunning line a p → IsRunning line b q → (a ≡ b) × (p ≡ q)
+one-running line a b p q h k =
     let text : k.text ≡ h.text = append_cancel_left (codes "Running ") k.text h.text (sym k.is ∙ h.is) in
-    let same = one-target h.text h.target k.target h.path k.path h.cut (subst (λ t. IsTarget t k.target k.path) text k.cut) in
-    let name = one-hashed _ h.name k.name h.binary (subst (λ p. IsBinary p k.name) (sym same.1) k.binary) in
-    h.announces ∙ (ap (λ n. n ++ (codes " (" ++ (h.target ++ codes ")"))) name
-    ∙ (ap (λ t. k.name ++ (codes " (" ++ (t ++ codes ")"))) same.0 ∙ sym k.announces))
+    let same = one-target h.text h.target k.target p q h.cut (subst (λ t. IsTarget t k.target q) text k.cut) in
+    let name = one-hashed _ h.name k.name h.binary (subst (λ w. IsBinary w k.name) (sym same.1) k.binary) in (
+      h.announces ∙ (ap (λ n. n ++ (codes " (" ++ (h.target ++ codes ")"))) name
+          ∙ (ap (λ t. k.name ++ (codes " (" ++ (t ++ codes ")"))) same.0 ∙ sym k.announces)),
+      same.1,
+    )
+
+one-command : (line a b p q : List ℕ) → IsCommand line a p → IsCommand line b q → (a ≡ b) × (p ≡ q)
+one-command line a b p q h k =
+    let both : h.words ++ codes "`" ≡ k.words ++ codes "`" =
+    append_cancel_left (codes "Running `") (h.words ++ codes "`") (k.words ++ codes "`") (sym h.is ∙ k.is) in
+    one-first h.words p q a b h.first (subst (λ t. IsFirstProgram t q b) (sym (append_cancel_right h.words k.words (codes "`") both)) k.first)
+
+-- a heading announces one name, and has one path
+pub one-heading : (line a b : List ℕ) (p q : Option (List ℕ)) → IsHeading line a p → IsHeading line b q → (a ≡ b) × (p ≡ q)
+one-heading line a b None None h k =
+    let same : h.name ≡ k.name = append_cancel_left (codes "Doc-tests ") h.name k.name (sym h.is ∙ k.is) in
+    (h.announces ∙ (ap (λ n. n ++ codes " (doc tests)") same ∙ sym k.announces), refl)
+one-heading line a b None (Some q) h k =
+    absurd (⊎_elim (λ r. doc-or-running line h.name r.text h.is r.is) (λ r. doc-or-running line h.name (96 ∷ (r.words ++ codes "`")) h.is r.is) k)
+one-heading line a b (Some p) None h k =
+    absurd (⊎_elim (λ r. doc-or-running line k.name r.text k.is r.is) (λ r. doc-or-running line k.name (96 ∷ (r.words ++ codes "`")) k.is r.is) h)
+one-heading line a b (Some p) (Some q) (inl h) (inl k) = let one = one-running line a b p q h k in (one.0, ap (λ x. Some x) one.1)
+one-heading line a b (Some p) (Some q) (inl h) (inr k) = absurd (target-or-command line a b p q h k)
+one-heading line a b (Some p) (Some q) (inr h) (inl k) = absurd (target-or-command line b a q p k h)
+one-heading line a b (Some p) (Some q) (inr h) (inr k) = let one = one-command line a b p q h k in (one.0, ap (λ x. Some x) one.1)
+
+-- a heading is no failure
+doc-tests-fail : (rest : List ℕ) → failure_of (codes "Doc-tests " ++ rest) ≡ None
+unfolding failure_of
+doc-tests-fail rest = refl
+
+running-fails : (rest : List ℕ) → failure_of (codes "Running " ++ rest) ≡ None
+unfolding failure_of
+running-fails rest = refl
+
+heading-or-failure : (line suite : List ℕ) (path : Option (List ℕ)) (failure : CargoFailure) → IsHeading line suite path → failure_of line ≡ Some failure → ⊥
+heading-or-failure line suite None failure h is = let both = sym (doc-tests-fail h.name) ∙ (ap failure_of (sym h.is) ∙ is) in cc
+heading-or-failure line suite (Some path) failure (inl h) is = let both = sym (running-fails h.text) ∙ (ap failure_of (sym h.is) ∙ is) in cc
+heading-or-failure line suite (Some path) failure (inr h) is =
+    let both = sym (running-fails (96 ∷ (h.words ++ codes "`"))) ∙ (ap failure_of (sym h.is) ∙ is) in cc
+
+pub same-failure : (text : List ℕ) (f g : CargoFailure) → failure_of text ≡ Some f → failure_of text ≡ Some g → f ≡ g
+same-failure text f g h k = let both = sym h ∙ k in cc
+
+-- a text of cargo says one event
+pub one-cargo : (shown text : List ℕ) (a b : EventView) → CargoSays shown text a → CargoSays shown text b → a ≡ b
+one-cargo shown text a b (inl h) (inl k) =
+    let one = one-heading text h.0 k.0 h.1 k.1 h.2 k.2 in h.3 ∙ ((λ i. HeadingLine (one.0 i) (one.1 i)) ∙ sym k.3)
+one-cargo shown text a b (inl h) (inr k) = absurd (heading-or-failure text h.0 h.1 k.0 h.2 k.1)
+one-cargo shown text a b (inr h) (inl k) = absurd (heading-or-failure text k.0 k.1 h.0 k.2 h.1)
+one-cargo shown text a b (inr h) (inr k) = h.2 ∙ (ap (λ f. CargoFails f shown text) (same-failure text h.0 k.0 h.1 k.1) ∙ sym k.2)
 
 pub separators : (c : ℕ) → char_set_contains (47 ∷ 92 ∷ []) c ≡ is_separator c
 separators c = grind (arith, nat_tests)

@@ -1,10 +1,12 @@
-mod Colours
+mod FoundMembers
+mod Endings
+mod Escapes
 mod Events
 mod Headings
 mod Keys
+mod LastAt
 pub mod LastCut
 mod MemberLists
-mod Objects
 mod Readings
 mod StartLines
 mod Times

@@ -1,109 +1,195 @@
 -- What is read of a line.
-use Rattle.std.proofs.Common.{◌≡◌, ◌∙◌, ◌∷◌, [], refl, sym, ap, ℕ, List, Option, Some, None, Result, Ok, Err, inl, inr, subst, MatchOption, IfOk, IfSome}
-use Rattle.std.proofs.Math.Logic.{◌⊎◌, ⊎_elim}
-use Rattle.std.proofs.lemmas.List.{take_rest}
-use Rattle.std.specs.Prelude.{◌-◌, drop, length, take}
+use Rattle.std.proofs.Common.{◌≡◌, ◌∙◌, ◌∷◌, ◌++◌, ◌<◌, [], refl, sym, ap, arith, ℕ, List, Option, Some, None, inl, inr, subst, take_all, MatchOption, IfSome}
+use Rattle.std.proofs.Math.Logic.{⊎_elim}
+use Rattle.std.specs.Prelude.{drop, length, option_to_list, take}
 use Rattle.serde_json.specs.Data.{Data}
 use Rattle.serde_json.specs.View.{view}
 use Rattle.serde_json.specs.declared.value.Value.{Value}
-use Rattle.test_report_events.proofs.Colours.{one-plain}
+use Rattle.test_report_events.proofs.Escapes.{one-plain}
 use Rattle.test_report_events.proofs.Events.{object-only, object-says, one-object}
+use Rattle.test_report_events.proofs.Headings.{one-cargo, one-heading, same-failure}
+use Rattle.test_report_events.proofs.LastAt.{one-last}
 use Rattle.test_report_events.proofs.Times.{one-time}
-use Rattle.test_report_events.proofs.Headings.{one-heading}
-use Rattle.test_report_events.proofs.Objects.{one-last}
 use Rattle.test_report_events.specs.Cargo.{IsHeading, failure_of}
-use Rattle.test_report_events.specs.Event.{EventView, HeadingLine, Prints}
-use Rattle.test_report_events.specs.Line.{EventSays, Holds, IsJson, IsPrint, LineSays, ValueSays, other_text}
+use Rattle.test_report_events.specs.Damage.{IsDamage}
+use Rattle.test_report_events.specs.Event.{CargoFails, EventView, HeadingLine, Prints}
+use Rattle.test_report_events.specs.Line.{EndSays, EndsWithFailure, EndsWithHeading, EventSays, HeadingBegins, Holds, HoldsEvent, IsJson, IsLastAt, IsPrint, LineSays, ObjectBegins, RestOf, TextSays}
 use Rattle.test_report_events.specs.Plain.{IsPlain, line_text}
-use Rattle.test_report_events.specs.Said.{IsTime, Says}
-use Rattle.test_report_events.specs.Table.{FindsLastObject, IsValueOf, object_said}
-use Rattle.test_report_events.specs.declared.event.CargoFailure.{CargoFailure}
+use Rattle.test_report_events.specs.Said.{IsTime, ObjectSays, Says}
+use Rattle.test_report_events.specs.Table.{object_said}
+use Rattle.test_report_events.specs.Time.{without_spaces}
 
--- this was read of a line: the value that it holds, if it holds one
-abbrev pub Reads : List ℕ → Option Value → Type 0
-Reads line found = MatchOption found ((d : Data) → ¬ Holds line d) (λ v. Holds line (view v))
+-- this was read of a line: the value that it holds and where it begins, if it holds one
+abbrev pub Reads : List ℕ → Option (ℕ × Value) → Type 0
+Reads line found = MatchOption found ((at : ℕ) (d : Data) → ¬ Holds line at d) (λ f. Holds line f.0 (view f.1))
 
 -- no object begins in it
-pub holds_none : (line : List ℕ) → IsValueOf line None → FindsLastObject line None → Reads line None
-holds_none line whole found d = ⊎_elim (whole d) (λ h. found h.1.0 h.1.1.begins)
+pub holds_none : (line : List ℕ) → ((d : Data) → ¬ IsJson line d) → ((k : ℕ) → ¬ ObjectBegins line k) → (at : ℕ) (d : Data) → ¬ Holds line at d
+holds_none line whole none at d = ⊎_elim (λ h. whole d h.1) (λ h. none at h.1.holds)
 
 -- its end is the value, from the last object on, or no value is there
-holds-end : (line : List ℕ) (at : ℕ) (found : Option Value) → IsValueOf line None → FindsLastObject line (Some at)
-    → IsValueOf (drop at line) found → Reads line found
-holds-end line at None whole last ends = λ d. ⊎_elim (whole d)
-    (λ h. ends d (subst (λ k. IsJson (drop k line) d) (one-last line _ _ h.1.1 last) h.1.2))
-holds-end line at (Some v) whole last ends = inr (whole, (at, last, ends))
+abbrev pub IsValueAt : List ℕ → ℕ → Option (ℕ × Value) → Type 0
+IsValueAt line at found = MatchOption found ((d : Data) → ¬ IsJson (drop at line) d) (λ f. (f.0 ≡ at) × IsJson (drop at line) (view f.1))
 
-pub holds_later : {E : Type 0} (line : List ℕ) (at : ℕ) (r : Result (Option Value) E) → IsValueOf line None → FindsLastObject line (Some at)
-    → IfOk r (λ found. IsValueOf (take (length line - at) (drop at line)) found) → IfOk r (Reads line)
-holds_later line at (Err e) whole last ends = tt
-holds_later line at (Ok found) whole last ends = holds-end line at found whole last (subst (λ bytes. IsValueOf bytes found) (take_rest line at) ends)
-
--- the event of an object, or a print
-pub object_is : (line : List ℕ) (d : Data) (time : Option ℕ) (e : EventView) → Holds line d → IsTime line d time → object_said time d ≡ Some e
-    → EventSays line e
-object_is line d time e holds timed is = inl (d, holds, inl (time, timed, subst (λ o. IfSome o (Says time d)) is (object-says d time)))
-
-pub object_none : (line : List ℕ) (d : Data) (time : Option ℕ) (e : EventView) → Holds line d → IsTime line d time → object_said time d ≡ None
-    → IsPrint line e → EventSays line e
-object_none line d time e holds timed none prints = inl (
-  d,
-  holds,
-  inr (
-    (λ other h.
-        let says = object-only d time other (subst (λ t. Says t d other) (one-time line d h.0 time h.1 timed) h.2) in
-        let both = sym none ∙ says in cc),
-    prints,
-  ),
-)
-
--- a heading, or another text
-pub heading_is : (line plain suite : List ℕ) → ((d : Data) → ¬ Holds line d) → IsPlain line plain → IsHeading plain suite → EventSays line (HeadingLine suite None)
-heading_is line plain suite none plainly h = inr (none, (plain, plainly, inl (suite, h, refl)))
-
-pub text_is : (line plain text : List ℕ) (failure : Option CargoFailure) → ((d : Data) → ¬ Holds line d) → IsPlain line plain
-    → ((suite : List ℕ) → ¬ IsHeading plain suite) → failure ≡ failure_of plain → text ≡ line_text line → EventSays line (other_text text plain failure)
-text_is line plain text failure none plainly h is same =
-    inr (none, (plain, plainly, inr (h, ap (λ f. other_text text plain f) is ∙ ap (λ t. other_text t plain (failure_of plain)) same)))
+pub holds_later : (line : List ℕ) (at : ℕ) (found : Option (ℕ × Value)) → ((d : Data) → ¬ IsJson line d) → IsLastAt (ObjectBegins line) at
+    → IsValueAt line at found → Reads line found
+holds_later line at None whole last ends = λ k d. ⊎_elim (λ h. whole d h.1)
+    (λ h. ends d (subst (λ i. IsJson (drop i line) d) (one-last (ObjectBegins line) _ _ h.1 last) h.2))
+holds_later line at (Some f) whole last ends =
+    subst (λ k. Holds line k (view f.1)) (sym ends.0) (inr (whole, last, ends.1))
 
 -- a line holds one value
 value-one : (bytes : List ℕ) (d e : Data) → IsJson bytes d → IsJson bytes e → d ≡ e
 value-one bytes d e h k = let both = sym h.1 ∙ k.1 in cc
 
-holds-one : (line : List ℕ) (d e : Data) → Holds line d → Holds line e → d ≡ e
-holds-one line d e (inl h) (inl k) = value-one line d e h k
-holds-one line d e (inl h) (inr k) = absurd (k.0 d h)
-holds-one line d e (inr h) (inl k) = absurd (h.0 e k)
-holds-one line d e (inr h) (inr k) =
-    value-one (drop k.1.0 line) d e (subst (λ at. IsJson (drop at line) d) (one-last line _ _ h.1.1 k.1.1) h.1.2) k.1.2
+holds-one : (line : List ℕ) (a b : ℕ) (d e : Data) → Holds line a d → Holds line b e → (a ≡ b) × (d ≡ e)
+holds-one line a b d e (inl h) (inl k) = (h.0 ∙ sym k.0, value-one line d e h.1 k.1)
+holds-one line a b d e (inl h) (inr k) = absurd (k.0 d h.1)
+holds-one line a b d e (inr h) (inl k) = absurd (h.0 e k.1)
+holds-one line a b d e (inr h) (inr k) =
+    let same = one-last (ObjectBegins line) a b h.1 k.1 in
+    (same, value-one (drop b line) d e (subst (λ at. IsJson (drop at line) d) same h.2) k.2)
 
+one-event-held : (line : List ℕ) (a b : ℕ) (e f : EventView) → HoldsEvent line a e → HoldsEvent line b f → (a ≡ b) × (e ≡ f)
+one-event-held line a b e f h k =
+    let one = holds-one line a b h.0 k.0 h.1 k.1 in
+    (one.0, one-object line k.0 e f (subst (λ d. ObjectSays line d e) one.1 h.2) k.2)
+
+-- the event of an object, or none
+pub object_is : (line : List ℕ) (at : ℕ) (d : Data) (time : Option ℕ) (e : EventView) → Holds line at d → IsTime line d time → object_said time d ≡ Some e
+    → HoldsEvent line at e
+object_is line at d time e holds timed is = (d, holds, (time, timed, subst (λ o. IfSome o (Says time d)) is (object-says d time)))
+
+pub object_none : (line : List ℕ) (at : ℕ) (d : Data) (time : Option ℕ) → Holds line at d → IsTime line d time → object_said time d ≡ None
+    → (k : ℕ) (e : EventView) → ¬ HoldsEvent line k e
+object_none line at d time holds timed none k e h =
+    let one = holds-one line k at h.0 d h.1 holds in
+    let said = subst (λ x. ObjectSays line x e) one.1 h.2 in
+    let says = object-only d time e (subst (λ t. Says t d e) (one-time line d said.0 time said.1 timed) said.2) in
+    let both = sym none ∙ says in cc
+
+pub value_print : (line : List ℕ) (at : ℕ) (d : Data) (e : EventView) → Holds line at d → ((k : ℕ) (other : EventView) → ¬ HoldsEvent line k other)
+    → IsPrint line e → EventSays line None e
+value_print line at d e holds none prints = inr (none, inl (refl, (at, d, holds), prints))
+
+pub no_value : (line : List ℕ) → ((at : ℕ) (d : Data) → ¬ Holds line at d) → (at : ℕ) (e : EventView) → ¬ HoldsEvent line at e
+no_value line none at e h = none at h.0 h.1
+
+pub text_says : (line : List ℕ) (before : Option EventView) (e : EventView) → ((at : ℕ) (d : Data) → ¬ Holds line at d)
+    → (plain : List ℕ) × IsPlain line plain × TextSays line plain before e → EventSays line before e
+text_says line before e none says = inr (no_value line none, inr (none, says))
+
+-- the events of a line
+pub whole_line : (line : List ℕ) (events : List EventView) (e : EventView) → HoldsEvent line 0 e → events ≡ e ∷ [] → LineSays line events
+whole_line line events e holds are = record {
+  before = None;
+  event = e;
+  rest = None;
+  damage = None;
+  says = inl (refl, (0, holds));
+  is_rest = (e, holds);
+  damaged = refl;
+  are = are;
+}
+
+pub front_line : (line : List ℕ) (events : List EventView) (at : ℕ) (e : EventView) (damage : Option EventView) → 0 < at → HoldsEvent line at e
+    → IsDamage (take at line) damage → events ≡ e ∷ option_to_list damage → LineSays line events
+front_line line events at e damage later holds damaged are = record {
+  before = None;
+  event = e;
+  rest = Some at;
+  damage = damage;
+  says = inl (refl, (at, holds));
+  is_rest = inl (later, (e, holds));
+  damaged = damaged;
+  are = are;
+}
+
+pub other_line : (line : List ℕ) (events : List EventView) (before damage : Option EventView) (e : EventView)
+    → ((at : ℕ) (other : EventView) → ¬ HoldsEvent line at other) → EventSays line before e → IsDamage line damage
+    → events ≡ option_to_list before ++ e ∷ option_to_list damage → LineSays line events
+other_line line events before damage e none says damaged are = record {
+  before = before;
+  event = e;
+  rest = Some (length line);
+  damage = damage;
+  says = says;
+  is_rest = inr (none, refl);
+  damaged = subst (λ text. IsDamage text damage) (sym (take_all (length line) line (omega arith))) damaged;
+  are = are;
+}
+
+-- they are determined by the line
 one-print : (line : List ℕ) (a b : EventView) → IsPrint line a → IsPrint line b → a ≡ b
 one-print line a b h k = h.2 ∙ (ap (Prints (line_text line)) (one-plain line h.0 k.0 h.1 k.1) ∙ sym k.2)
 
-one-of-value : (line : List ℕ) (d : Data) (a b : EventView) → ValueSays line d a → ValueSays line d b → a ≡ b
-one-of-value line d a b (inl h) (inl k) = one-object line d a b h k
-one-of-value line d a b (inl h) (inr k) = absurd (k.0 a h)
-one-of-value line d a b (inr h) (inl k) = absurd (h.0 b k)
-one-of-value line d a b (inr h) (inr k) = one-print line a b h.1 k.1
+one-heading-end : (plain : List ℕ) (i j : ℕ) (a b : EventView) → EndsWithHeading plain i a → EndsWithHeading plain j b → (i ≡ j) × (a ≡ b)
+one-heading-end plain i j a b h k =
+    let at = one-last (HeadingBegins plain) i j h.0 k.0 in
+    let one = one-heading (without_spaces (drop j plain)) h.1.0 k.1.0 h.1.1 k.1.1
+    (subst (λ n. IsHeading (without_spaces (drop n plain)) h.1.0 h.1.1) at h.1.2) k.1.2 in
+    (at, h.1.3 ∙ ((λ x. HeadingLine (one.0 x) (one.1 x)) ∙ sym k.1.3))
 
--- what a plain text is
-abbrev PlainSays : List ℕ → List ℕ → EventView → Type 0
-PlainSays line plain e = ((suite : List ℕ) × IsHeading plain suite × (e ≡ HeadingLine suite None))
-    ⊎ (((suite : List ℕ) → ¬ IsHeading plain suite) × (e ≡ other_text (line_text line) plain (failure_of plain)))
+one-failure-end : (plain : List ℕ) (i j : ℕ) (a b : EventView) → EndsWithFailure plain i a → EndsWithFailure plain j b → (i ≡ j) × (a ≡ b)
+one-failure-end plain i j a b h k =
+    let at = one-last _ i j h.0 k.0 in
+    let same = same-failure (drop j plain) h.1.0 k.1.0 (subst (λ n. failure_of (drop n plain) ≡ Some h.1.0) at h.1.1) k.1.1 in
+    (at, h.1.2 ∙ ((λ x. CargoFails (same x) (drop (at x) plain) (drop (at x) plain)) ∙ sym k.1.2))
 
-one-of-plain : (line plain : List ℕ) (a b : EventView) → PlainSays line plain a → PlainSays line plain b → a ≡ b
-one-of-plain line plain a b (inl h) (inl k) = h.2 ∙ (ap (λ s. HeadingLine s None) (one-heading plain h.0 k.0 h.1 k.1) ∙ sym k.2)
-one-of-plain line plain a b (inl h) (inr k) = absurd (k.0 h.0 h.1)
-one-of-plain line plain a b (inr h) (inl k) = absurd (h.0 k.0 k.1)
-one-of-plain line plain a b (inr h) (inr k) = h.1 ∙ sym k.1
+one-end : (plain : List ℕ) (i j : ℕ) (a b : EventView) → EndSays plain i a → EndSays plain j b → (i ≡ j) × (a ≡ b)
+one-end plain i j a b (inl h) (inl k) = one-heading-end plain i j a b h k
+one-end plain i j a b (inl h) (inr k) = absurd (k.0 i a h)
+one-end plain i j a b (inr h) (inl k) = absurd (h.0 j b k)
+one-end plain i j a b (inr h) (inr k) = one-failure-end plain i j a b h.1 k.1
 
-one-event-of-line : (line : List ℕ) (a b : EventView) → EventSays line a → EventSays line b → a ≡ b
-one-event-of-line line a b (inl h) (inl k) =
-    one-of-value line k.0 a b (subst (λ d. ValueSays line d a) (holds-one line h.0 k.0 h.1 k.1) h.2) k.2
-one-event-of-line line a b (inl h) (inr k) = absurd (k.0 h.0 h.1)
-one-event-of-line line a b (inr h) (inl k) = absurd (h.0 k.0 k.1)
-one-event-of-line line a b (inr h) (inr k) =
-    one-of-plain line k.1.0 a b (subst (λ p. PlainSays line p a) (one-plain line h.1.0 k.1.0 h.1.1 k.1.1) h.1.2) k.1.2
+one-text : (line plain : List ℕ) (x y : Option EventView) (a b : EventView) → TextSays line plain x a → TextSays line plain y b → (x ≡ y) × (a ≡ b)
+one-text line plain x y a b (inl h) (inl k) = (h.0 ∙ sym k.0, one-cargo (line_text line) (without_spaces plain) a b h.1 k.1)
+one-text line plain x y a b (inl h) (inr k) = absurd (k.0 a h.1)
+one-text line plain x y a b (inr h) (inl k) = absurd (h.0 b k.1)
+one-text line plain x y a b (inr (n, inl h)) (inr (m, inl k)) =
+    let one = one-end plain h.0 k.0 a b h.1 k.1 in
+    (h.2 ∙ (ap (λ i. Some (Prints (take i plain) (take i plain))) one.0 ∙ sym k.2), one.1)
+one-text line plain x y a b (inr (n, inl h)) (inr (m, inr k)) = absurd (k.0 h.0 a h.1)
+one-text line plain x y a b (inr (n, inr h)) (inr (m, inl k)) = absurd (h.0 k.0 b k.1)
+one-text line plain x y a b (inr (n, inr h)) (inr (m, inr k)) = (h.1 ∙ sym k.1, h.2 ∙ sym k.2)
+
+one-event : (line : List ℕ) (x y : Option EventView) (a b : EventView) → EventSays line x a → EventSays line y b → (x ≡ y) × (a ≡ b)
+one-event line x y a b (inl h) (inl k) = (h.0 ∙ sym k.0, (one-event-held line h.1.0 k.1.0 a b h.1.1 k.1.1).1)
+one-event line x y a b (inl h) (inr k) = absurd (k.0 h.1.0 a h.1.1)
+one-event line x y a b (inr h) (inl k) = absurd (h.0 k.1.0 b k.1.1)
+one-event line x y a b (inr (n, inl h)) (inr (m, inl k)) = (h.0 ∙ sym k.0, one-print line a b h.2 k.2)
+one-event line x y a b (inr (n, inl h)) (inr (m, inr k)) = absurd (k.0 h.1.0 h.1.1 h.1.2)
+one-event line x y a b (inr (n, inr h)) (inr (m, inl k)) = absurd (h.0 k.1.0 k.1.1 k.1.2)
+one-event line x y a b (inr (n, inr h)) (inr (m, inr k)) =
+    one-text line k.1.0 x y a b (subst (λ p. TextSays line p x a) (one-plain line h.1.0 k.1.0 h.1.1 k.1.1) h.1.2) k.1.2
+
+pub one-rest : (line : List ℕ) (a b : Option ℕ) → RestOf line a → RestOf line b → a ≡ b
+one-rest line None None h k = refl
+one-rest line None (Some n) h (inl k) = absurd (let one = one-event-held line 0 n h.0 k.1.0 h.1 k.1.1 in omega (arith, one.0, k.0))
+one-rest line None (Some n) h (inr k) = absurd (k.0 0 h.0 h.1)
+one-rest line (Some m) None (inl h) k = absurd (let one = one-event-held line m 0 h.1.0 k.0 h.1.1 k.1 in omega (arith, one.0, h.0))
+one-rest line (Some m) None (inr h) k = absurd (h.0 0 k.0 k.1)
+one-rest line (Some m) (Some n) (inl h) (inl k) = ap (λ x. Some x) (one-event-held line m n h.1.0 k.1.0 h.1.1 k.1.1).0
+one-rest line (Some m) (Some n) (inl h) (inr k) = absurd (k.0 m h.1.0 h.1.1)
+one-rest line (Some m) (Some n) (inr h) (inl k) = absurd (h.0 n k.1.0 k.1.1)
+one-rest line (Some m) (Some n) (inr h) (inr k) = ap (λ x. Some x) (h.1 ∙ sym k.1)
+
+one-damage : (text : List ℕ) (a b : Option EventView) → IsDamage text a → IsDamage text b → a ≡ b
+one-damage text None None h k = refl
+one-damage text None (Some b) h k = absurd (h k.0)
+one-damage text (Some a) None h k = absurd (k h.0)
+one-damage text (Some a) (Some b) h k = ap (λ x. Some x) (h.1 ∙ sym k.1)
+
+abbrev Damaged : List ℕ → Option ℕ → Option EventView → Type 0
+Damaged line rest damage = MatchOption rest (damage ≡ None) (λ size. IsDamage (take size line) damage)
+
+one-damage-of-rest : (line : List ℕ) (rest : Option ℕ) (a b : Option EventView) → Damaged line rest a → Damaged line rest b → a ≡ b
+one-damage-of-rest line None a b h k = h ∙ sym k
+one-damage-of-rest line (Some size) a b h k = one-damage (take size line) a b h k
 
 pub one-reading-of-line : (line : List ℕ) (a b : List EventView) → LineSays line a → LineSays line b → a ≡ b
-one-reading-of-line line a b h k = h.2 ∙ (ap (λ e. e ∷ []) (one-event-of-line line h.0 k.0 h.1 k.1) ∙ sym k.2)
+one-reading-of-line line a b h k =
+    let event = one-event line h.before k.before h.event k.event h.says k.says in
+    let damage = one-damage-of-rest line k.rest h.damage k.damage
+    (subst (λ r. Damaged line r h.damage) (one-rest line h.rest k.rest h.is_rest k.is_rest) h.damaged) k.damaged in
+    h.are ∙ ((λ i. option_to_list (event.0 i) ++ event.1 i ∷ option_to_list (damage i)) ∙ sym k.are)

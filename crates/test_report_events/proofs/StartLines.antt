@@ -20,7 +20,7 @@ use Rattle.serde_json.proofs.OnLiterals.{serde_json_on_literals}
 use Rattle.serde_json.specs.Data.{Data, no_members, object, put, string}
 use Rattle.serde_json.specs.Read.{max_depth, of_json, read}
 use Rattle.test_report_events.specs.Event.{TestStarts}
-use Rattle.test_report_events.specs.Line.{EventSays}
+use Rattle.test_report_events.specs.Line.{HoldsEvent}
 use Rattle.test_report_events.specs.Started.{IsStartOf, harness_line, is_plain, nextest_line}
 
 -- a line with this start, and this end after it
@@ -81,9 +81,9 @@ unfolding lex
 nextest-read name h = read-lexemes (nextest_line name) name (lexed-nextest name ∙ lexemes-plain name (codes "}") h)
 
 -- the object says that the test starts
-object-says : (line name : List ℕ) → IsUtf8 line → read line ≡ Some (started name) → EventSays line (TestStarts name)
+object-says : (line name : List ℕ) → IsUtf8 line → read line ≡ Some (started name) → HoldsEvent line 0 (TestStarts name)
 unfolding serde_json_on_literals
-object-says line name utf8 is = inl (started name, inl (utf8, is), inl (None, (λ micros has. false≢true has.0), (refl, refl, refl)))
+object-says line name utf8 is = (started name, inl (refl, (utf8, is)), (None, (λ micros has. false≢true has.0), (refl, refl, refl)))
 
 -- a text of ASCII bytes, on both sides of a name
 abbrev is_ascii : ℕ → Bool
@@ -103,8 +103,8 @@ harness-utf8 name utf8 = between-utf8 (codes "{ \"type\": \"test\", \"event\": \
 nextest-utf8 : (name : List ℕ) → IsUtf8 name → IsUtf8 (nextest_line name)
 nextest-utf8 name utf8 = between-utf8 (codes "{\"type\":\"test\",\"event\":\"started\",\"name\":\"") name (codes "\"}") refl utf8 refl
 
-pub start-says : (line name : List ℕ) → IsStartOf line name → AllPass is_plain name → IsUtf8 name → EventSays line (TestStarts name)
+pub start-says : (line name : List ℕ) → IsStartOf line name → AllPass is_plain name → IsUtf8 name → HoldsEvent line 0 (TestStarts name)
 start-says line name (inl is) h utf8 =
-    subst (λ text. EventSays text (TestStarts name)) (sym is) (object-says (harness_line name) name (harness-utf8 name utf8) (harness-read name h))
+    subst (λ text. HoldsEvent text 0 (TestStarts name)) (sym is) (object-says (harness_line name) name (harness-utf8 name utf8) (harness-read name h))
 start-says line name (inr is) h utf8 =
-    subst (λ text. EventSays text (TestStarts name)) (sym is) (object-says (nextest_line name) name (nextest-utf8 name utf8) (nextest-read name h))
+    subst (λ text. HoldsEvent text 0 (TestStarts name)) (sym is) (object-says (nextest_line name) name (nextest-utf8 name utf8) (nextest-read name h))

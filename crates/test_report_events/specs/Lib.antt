@@ -1,5 +1,6 @@
 pub mod Cargo
 pub mod Content
+pub mod Damage
 pub mod Event
 pub mod Laws
 pub mod Line

@@ -1,5 +1,5 @@
 -- What the members of a JSON object say of a test run.
-use Rattle.std.specs.Prelude.{◌≡◌, ◌≢◌, ◌⊎◌, ℕ, List, [], ◌∷◌, codes, Bool, true, false, Option, Some, None, IsSome, MatchOption, option_and_then}
+use Rattle.std.specs.Prelude.{◌≡◌, ◌≢◌, ◌⊎◌, ℕ, List, [], ◌∷◌, codes, Bool, true, false, Option, Some, None, IsSome, MatchOption, nat_le, option_and_then, if◌then◌else◌}
 use Rattle.serde_json.specs.Data.{Data}
 use Rattle.serde_json.specs.Find.{as_number, as_str, as_u64, get}
 use Rattle.test_report_events.specs.Event.{EventView, SuiteStarts, SuiteEnds, TestStarts, TestEnds, OtherLine, HeadingLine, CargoFails, Prints, DamagedLine, key_text}
@@ -23,6 +23,10 @@ words_of key d = option_and_then unless_empty (text_of key d)
 -- the number of a member
 abbrev pub number_of : List ℕ → Data → Option ℕ
 number_of key d = option_and_then as_u64 (option_and_then as_number (get key d))
+
+-- a number of tests, unless it needs more than 32 bits
+abbrev pub count_of : List ℕ → Data → Option ℕ
+count_of key d = option_and_then (λ n. if nat_le n 4294967295 then Some n else None) (number_of key d)
 
 -- the key in a `nextest` object, which needs both names
 abbrev pub key_in : Data → Option (List ℕ)
@@ -83,15 +87,15 @@ IsOther d =
 -- what an object with this time says: the table of its members
 abbrev pub Says : Option ℕ → Data → EventView → Type 0
 Says time d (SuiteStarts key count) =
-    HasType d (codes "suite") × HasEvent d (codes "started") × (key ≡ key_of d) × (count ≡ number_of (codes "test_count") d)
+    HasType d (codes "suite") × HasEvent d (codes "started") × (key ≡ key_of d) × (count ≡ count_of (codes "test_count") d)
 Says time d (SuiteEnds e) =
     HasType d (codes "suite")
     × HasVerdict d e.failed_verdict
     × (e.key ≡ key_of d)
-    × (e.passed ≡ number_of (codes "passed") d)
-    × (e.failed ≡ number_of (codes "failed") d)
-    × (e.ignored ≡ number_of (codes "ignored") d)
-    × (e.measured ≡ number_of (codes "measured") d)
+    × (e.passed ≡ count_of (codes "passed") d)
+    × (e.failed ≡ count_of (codes "failed") d)
+    × (e.ignored ≡ count_of (codes "ignored") d)
+    × (e.measured ≡ count_of (codes "measured") d)
     × (e.time ≡ time)
 Says time d (TestStarts name) = HasType d (codes "test") × HasEvent d (codes "started") × HasName d name
 Says time d (TestEnds e) =

@@ -1,31 +1,35 @@
 -- The table as functions on values: what the private steps return. What an object says is defined apart from it, in Said.
-use Rattle.std.specs.Prelude.{ℕ, List, codes, Bool, true, false, MatchOption, Option, Some, None, option_and_then, if◌then◌else◌}
+use Rattle.std.specs.Prelude.{◌≡◌, ℕ, List, codes, Bool, true, false, MatchOption, Option, Some, None, drop, option_and_then, take, if◌then◌else◌}
 use Rattle.std.specs.Str.{bytes_eq}
 use Rattle.serde_json.specs.Data.{Data}
 use Rattle.serde_json.specs.View.{view}
 use Rattle.serde_json.specs.declared.value.Value.{Value}
-use Rattle.test_report_events.specs.Event.{EventView, SuiteEndView, TestEndView, SuiteStarts, SuiteEnds, TestStarts, TestEnds, OtherLine}
-use Rattle.test_report_events.specs.Line.{IsJson, IsLastObject, ObjectBegins}
-use Rattle.test_report_events.specs.Said.{key_of, number_of, text_of, words_of}
+use Rattle.test_report_events.specs.Cargo.{CargoSays}
+use Rattle.test_report_events.specs.Content.{cargo_event}
+use Rattle.test_report_events.specs.Event.{EventView, Prints, SuiteEndView, TestEndView, SuiteStarts, SuiteEnds, TestStarts, TestEnds, OtherLine}
+use Rattle.test_report_events.specs.Line.{EndSays, IsJson, IsLastAt, ObjectBegins}
+use Rattle.test_report_events.specs.Said.{count_of, key_of, text_of, words_of}
+use Rattle.test_report_events.specs.Time.{without_spaces}
 use Rattle.test_report_events.specs.declared.event.TestResult.{TestResult}
 use Rattle.test_report_events.specs.declared.event.TestResult.TheVariants.{Ok, Failed, Ignored}
+use Rattle.test_report_events.specs.declared.text.CargoEnd.{CargoEnd}
 
 -- the end of a suite with this time and verdict
 abbrev pub suite_end_said : Option ℕ → Data → Bool → SuiteEndView
 suite_end_said time d verdict = record {
   key = key_of d;
   failed_verdict = verdict;
-  passed = number_of (codes "passed") d;
-  failed = number_of (codes "failed") d;
-  ignored = number_of (codes "ignored") d;
-  measured = number_of (codes "measured") d;
+  passed = count_of (codes "passed") d;
+  failed = count_of (codes "failed") d;
+  ignored = count_of (codes "ignored") d;
+  measured = count_of (codes "measured") d;
   time = time;
 }
 
 -- what the object of a suite says, of this event
 unfoldable pub suite_said : Option ℕ → Data → List ℕ → Option EventView
 suite_said time d event =
-    if bytes_eq event (codes "started") then Some (SuiteStarts (key_of d) (number_of (codes "test_count") d))
+    if bytes_eq event (codes "started") then Some (SuiteStarts (key_of d) (count_of (codes "test_count") d))
     else if bytes_eq event (codes "ok") then Some (SuiteEnds (suite_end_said time d false))
     else if bytes_eq event (codes "failed") then Some (SuiteEnds (suite_end_said time d true))
     else Some OtherLine
@@ -78,6 +82,25 @@ object_said time d = option_and_then (typed_said time d) (text_of (codes "type")
 abbrev pub IsValueOf : List ℕ → Option Value → Type 0
 IsValueOf bytes found = MatchOption found ((d : Data) → ¬ IsJson bytes d) (λ v. IsJson bytes (view v))
 
+-- the last offset with a property, if there is one
+abbrev pub IsLastFound : (ℕ → Type 0) → Option ℕ → Type 0
+IsLastFound Property found = MatchOption found ((k : ℕ) → ¬ Property k) (λ at. IsLastAt Property at)
+
 -- the last object, if there is one
 abbrev pub FindsLastObject : List ℕ → Option ℕ → Type 0
-FindsLastObject line found = MatchOption found ((k : ℕ) → ¬ ObjectBegins line k) (λ at. IsLastObject line at)
+FindsLastObject line found = IsLastFound (ObjectBegins line) found
+
+-- a heading or a failure at the end of a text that says so, if there is one
+abbrev pub FindsEnd : (ℕ → EventView → Type 0) → List ℕ → Option CargoEnd → Type 0
+FindsEnd Says plain found = MatchOption found
+    ((at : ℕ) (e : EventView) → ¬ Says at e)
+    (λ end. (at : ℕ) × (end.front.now ≡ take at plain) × (end.text.now ≡ drop at plain) × Says at (cargo_event end.text.now end.text.now end.says))
+
+-- what a line with these texts is, if it is a heading or a failure or ends with one: a print before it, and its event
+abbrev pub CargoContents : List ℕ → List ℕ → Option (Option EventView × EventView) → Type 0
+CargoContents shown plain None =
+    ((e : EventView) → ¬ CargoSays shown (without_spaces plain) e) × ((at : ℕ) (e : EventView) → ¬ EndSays plain at e)
+CargoContents shown plain (Some (None, e)) = CargoSays shown (without_spaces plain) e
+CargoContents shown plain (Some (Some before, e)) =
+    ((other : EventView) → ¬ CargoSays shown (without_spaces plain) other)
+    × ((at : ℕ) × EndSays plain at e × (before ≡ Prints (take at plain) (take at plain)))

@@ -1,10 +1,12 @@
 //! Recognizes the lines of cargo and nextest that are not JSON.
 
-ghost use Rattle.std.specs.Prelude.{◌≡◌, ◌↔◌, ◌++◌, ℕ, List, IfOk, IsTrue, MatchOption, codes, drop, length, ◌&&◌};
+ghost use Rattle.std.specs.Prelude.{◌≡◌, ◌↔◌, ◌++◌, ◌&&◌, ℕ, List, IfOk, IsTrue, MatchOption, Option, None, codes, drop, length, option_map};
 ghost use Rattle.std.specs.Char.{is_ascii_hexdigit};
 ghost use Rattle.std.specs.List.{AllPass};
 ghost use Rattle.std.specs.String.{string_bytes};
 ghost use Rattle.test_report_events.specs.Cargo as spec;
+ghost use Rattle.test_report_events.specs.Content as kept;
+ghost use Rattle.test_report_events.specs.Event.{EventView};
 
 use crate::event::CargoFailure;
 use crate::time::are_digits;
@@ -13,46 +15,131 @@ use std::alloc::{AllocError, Global};
 /// The number of hexadecimal digits at the end of the name of a test binary.
 const HASH_DIGITS: usize = 16;
 
-/// Returns the name of the suites that a heading announces, or `None` if the line is not a heading. For
-/// `Running X (PATH)` the name is `F (X)`. F is the file name of PATH, without `.exe` and the hash at its
-/// end. For `Doc-tests NAME` the name is `NAME (doc tests)`.
-pub(crate) fn heading(alloc: Global, line: &str) -> Result<Option<String>, AllocError>
-    ensures { IfOk result (λ found. MatchOption found
-        ((suite : List ℕ) → ¬ spec.IsHeading line.now suite)
-        (λ s. spec.IsHeading line.now (string_bytes s))) }
+/// A heading of cargo: it names what runs next.
+#[derive(Clone, Copy)]
+pub(crate) enum Heading<'a> {
+    /// The documentation tests of a crate: `Doc-tests NAME`.
+    DocTests {
+        crate_name: &'a str,
+    },
+
+    /// A test binary: `Running TARGET (PATH)`.
+    Target {
+        binary: &'a str,
+        target: &'a str,
+        path: &'a str,
+    },
+
+    /// A test binary, as `cargo test -v` writes it: ``Running `WORDS` ``.
+    Command {
+        binary: &'a str,
+        path: &'a str,
+    },
+}
+
+impl<'a> Heading<'a> {
+    /// Returns the name of the suites that follow: `NAME (doc tests)`, `BINARY (TARGET)` or `BINARY`.
+    pub(crate) fn suite(&self, alloc: Global) -> Result<String, AllocError>
+        ensures { IfOk result (λ suite. string_bytes suite ≡ kept.suite_of self.now) }
+    {
+        match *self {
+            Heading::DocTests { crate_name } => format!(in alloc; "{crate_name} (doc tests)"),
+            Heading::Target { binary, target, .. } => format!(in alloc; "{binary} ({target})"),
+            Heading::Command { binary, .. } => String::from_str(alloc, binary),
+        }
+    }
+
+    /// Returns the path of the binary, or `None` for documentation tests.
+    pub(crate) fn path(&self) -> Option<&'a str>
+        ensures { option_map (λ path. path.now) result ≡ kept.path_of self.now }
+    {
+        match *self {
+            Heading::DocTests { .. } => None,
+            Heading::Target { path, .. } => Some(path),
+            Heading::Command { path, .. } => Some(path),
+        }
+    }
+}
+
+/// A line of cargo or nextest that a report needs.
+#[derive(Clone, Copy)]
+pub(crate) enum CargoLine<'a> {
+    Heading(Heading<'a>),
+    Failure(CargoFailure),
+}
+
+/// Returns the heading or the failure that a text is, or `None` if it is neither. Spaces in front of it have to be
+/// taken off before.
+pub(crate) fn cargo_line(text: &str) -> Option<CargoLine<'_>>
+    ensures { MatchOption result
+        ((shown : List ℕ) (e : EventView) → ¬ spec.CargoSays shown text.now e)
+        (λ found. (shown : List ℕ) → spec.CargoSays shown text.now (kept.cargo_event shown text.now found)) }
 {
-    match line.strip_prefix("Doc-tests ") {
-        Some(name) => doc_tests(alloc, name),
-        None => match line.strip_prefix("Running ") {
-            Some(text) => running(alloc, text),
-            None => Ok(None),
+    match heading_of(text) {
+        Some(found) => Some(CargoLine::Heading(found)),
+        None => match cargo_failure(text) {
+            Some(failure) => Some(CargoLine::Failure(failure)),
+            None => None,
         },
     }
 }
 
-/// Returns the name of the suites of a crate's documentation tests, or `None` if the crate's name has a
-/// space or is empty.
-fn doc_tests(alloc: Global, name: &str) -> Result<Option<String>, AllocError>
-    ensures { IfOk result (λ found. MatchOption found
-        (¬ spec.IsCrate name.now)
-        (λ s. spec.IsCrate name.now × (string_bytes s ≡ name.now ++ codes " (doc tests)"))) }
+/// Returns the heading that a text is, or `None` if it is none.
+pub(crate) fn heading_of(text: &str) -> Option<Heading<'_>>
+    ensures { MatchOption result
+        ((suite : List ℕ) (path : Option (List ℕ)) → ¬ spec.IsHeading text.now suite path)
+        (λ found. spec.IsHeading text.now (kept.suite_of found) (kept.path_of found)) }
 {
-    if name.is_empty() || name.contains(' ') {
-        return Ok(None);
+    match text.strip_prefix("Doc-tests ") {
+        Some(crate_name) => doc_tests(crate_name),
+        None => match text.strip_prefix("Running ") {
+            Some(running) => binary_heading(running),
+            None => None,
+        },
     }
-    Ok(Some(format!(in alloc; "{name} (doc tests)")?))
 }
 
-/// Returns the name of the suites that `X (PATH)` announces, or `None` if the text has another form.
-fn running(alloc: Global, text: &str) -> Result<Option<String>, AllocError>
-    ensures { IfOk result (λ found. MatchOption found
-        ((target path name : List ℕ) → spec.IsTarget text.now target path → ¬ spec.IsBinary path name)
-        (λ s. (target : List ℕ) × (path : List ℕ) × (name : List ℕ) × spec.IsTarget text.now target path × spec.IsBinary path name
-        × (string_bytes s ≡ name ++ (codes " (" ++ (target ++ codes ")"))))) }
+/// Returns the heading of a crate's documentation tests, or `None` if the crate's name has a space or is empty.
+fn doc_tests(crate_name: &str) -> Option<Heading<'_>>
+    ensures { MatchOption result
+        (¬ spec.IsCrate crate_name.now)
+        (λ found. spec.IsCrate crate_name.now × (kept.suite_of found ≡ crate_name.now ++ codes " (doc tests)")
+        × (kept.path_of found ≡ None)) }
+{
+    if crate_name.is_empty() || crate_name.contains(' ') {
+        return None;
+    }
+    Some(Heading::DocTests { crate_name })
+}
+
+/// Returns the heading of a test binary from the text after `Running `, or `None` if it is none.
+fn binary_heading(text: &str) -> Option<Heading<'_>>
+    ensures { MatchOption result
+        ((suite : List ℕ) (path : Option (List ℕ)) → ¬ spec.IsHeading (codes "Running " ++ text.now) suite path)
+        (λ found. spec.IsHeading (codes "Running " ++ text.now) (kept.suite_of found) (kept.path_of found)) }
+{
+    match target_heading(text) {
+        Some(found) => Some(found),
+        None => command_heading(text),
+    }
+}
+
+/// Returns the heading that `TARGET (PATH)` makes, or `None` if the text has another form.
+fn target_heading(text: &str) -> Option<Heading<'_>>
+    ensures { MatchOption result
+        ((suite path : List ℕ) → ¬ spec.IsRunning (codes "Running " ++ text.now) suite path)
+        (λ found. spec.IsHeading (codes "Running " ++ text.now) (kept.suite_of found) (kept.path_of found)) }
 {
     match target_and_path(text) {
-        Some((target, path)) => binary_tests(alloc, target, path),
-        None => Ok(None),
+        Some((target, path)) => match binary_at(path) {
+            Some(binary) => Some(Heading::Target {
+                binary,
+                target,
+                path,
+            }),
+            None => None,
+        },
+        None => None,
     }
 }
 
@@ -71,17 +158,52 @@ fn target_and_path(text: &str) -> Option<(&str, &str)>
     }
 }
 
-/// Returns the name of the suites of a test binary, or `None` if its file name has no hash.
-fn binary_tests(alloc: Global, target: &str, path: &str) -> Result<Option<String>, AllocError>
-    ensures { IfOk result (λ found. MatchOption found
-        ((name : List ℕ) → ¬ spec.IsBinary path.now name)
-        (λ s. (name : List ℕ) × spec.IsBinary path.now name
-        × (string_bytes s ≡ name ++ (codes " (" ++ (target.now ++ codes ")"))))) }
+/// Returns the heading that `` `WORDS` `` makes, or `None` if the text has another form.
+fn command_heading(text: &str) -> Option<Heading<'_>>
+    ensures { MatchOption result
+        ((suite path : List ℕ) → ¬ spec.IsCommand (codes "Running " ++ text.now) suite path)
+        (λ found. spec.IsHeading (codes "Running " ++ text.now) (kept.suite_of found) (kept.path_of found)) }
 {
-    match without_hash(without_exe(file_name(path))) {
-        Some(name) => Ok(Some(format!(in alloc; "{name} ({target})")?)),
-        None => Ok(None),
+    let words = text.strip_prefix('`')?.strip_suffix('`')?;
+    let (path, binary) = first_program(words)?;
+    Some(Heading::Command { binary, path })
+}
+
+/// Returns the first word that is the path of a test binary, and the binary's name. Words are divided at spaces.
+fn first_program(words: &str) -> Option<(&str, &str)>
+    ensures { MatchOption result
+        ((path name : List ℕ) → ¬ spec.IsFirstProgram words.now path name)
+        (λ x. spec.IsFirstProgram words.now x.0.now x.1.now) }
+{
+    for word in words.split(' ') {
+        if let Some(name) = program(word) {
+            return Some((word, name));
+        }
     }
+    None
+}
+
+/// Returns the name of the test binary whose path a word of a command is, or `None` if the word is no such path.
+/// A word with `=` sets a variable.
+fn program(word: &str) -> Option<&str>
+    ensures { MatchOption result
+        ((name : List ℕ) → ¬ spec.IsProgram word.now name)
+        (λ x. spec.IsProgram word.now x.now) }
+{
+    if word.contains('=') {
+        None
+    } else {
+        binary_at(word)
+    }
+}
+
+/// Returns the name of the test binary at a path, or `None` if its file name has no hash.
+fn binary_at(path: &str) -> Option<&str>
+    ensures { MatchOption result
+        ((name : List ℕ) → ¬ spec.IsBinary path.now name)
+        (λ x. spec.IsBinary path.now x.now) }
+{
+    without_hash(without_exe(file_name(path)))
 }
 
 /// Returns the file name of a path.
@@ -140,12 +262,16 @@ pub(crate) fn cargo_failure(line: &str) -> Option<CargoFailure>
 {
     if begins(line, "error: could not compile ")
         || begins(line, "error: failed to run custom build command for ")
+        || begins(line, "error: build script logged errors")
     {
         return Some(CargoFailure::Build);
     }
     if begins(line, "error: test failed")
         || begins(line, "error: doctest failed")
         || begins(line, "error: bench failed")
+        || begins(line, "error: no test target named ")
+        || begins(line, "error: creating test list failed")
+        || begins(line, "error: setup script failed")
     {
         return Some(CargoFailure::Tests);
     }

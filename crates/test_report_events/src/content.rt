@@ -2,9 +2,9 @@
 
 ghost use Rattle.std.specs.Prelude.{◌≡◌, IfOk, option_map, string_bytes};
 ghost use Rattle.test_report_events.specs.Content as kept;
-ghost use Rattle.test_report_events.specs.Event.{TestEnds, event_view, suite_end_view, test_end_view, text_of_key};
-ghost use Rattle.test_report_events.specs.Line.{other_text};
+ghost use Rattle.test_report_events.specs.Event.{Prints, TestEnds, event_view, suite_end_view, test_end_view, text_of_key};
 
+use crate::cargo::CargoLine;
 use crate::event::{CargoFailure, Event, SuiteEnd, SuiteKey, TestDetails, TestResult};
 use std::alloc::{AllocError, Global};
 
@@ -37,9 +37,15 @@ pub(crate) enum Content {
         path: Option<String>,
     },
 
-    /// A line that is neither an event of a harness nor a heading. It is a print if `failure` is `None`.
-    Text {
-        failure: Option<CargoFailure>,
+    /// A failure that cargo or nextest reports.
+    Failure {
+        failure: CargoFailure,
+        line: String,
+        plain: String,
+    },
+
+    /// A print.
+    Print {
         line: String,
         plain: String,
     },
@@ -107,25 +113,48 @@ impl Content {
                 failure,
                 line,
                 plain,
-            } => Content::text(alloc, Some(failure), line, plain),
-            Event::Print { line, plain } => Content::text(alloc, None, line, plain),
+            } => Ok(Content::Failure {
+                failure,
+                line: String::from_str(alloc, line)?,
+                plain: String::from_str(alloc, plain)?,
+            }),
+            Event::Print { line, plain } => Ok(Content::Print {
+                line: String::from_str(alloc, line)?,
+                plain: String::from_str(alloc, plain)?,
+            }),
             Event::Damaged { text } => Ok(Content::Damaged(String::from_str(alloc, text)?)),
         }
     }
 
-    /// Returns the content of a line that is neither an event of a harness nor a heading.
-    fn text(
+    /// Returns the content of a line of cargo. `shown` is the text of the line, if it is a failure.
+    pub(crate) fn of_cargo(
         alloc: Global,
-        failure: Option<CargoFailure>,
-        line: &str,
-        plain: &str,
+        says: CargoLine<'_>,
+        shown: &str,
+        text: &str,
     ) -> Result<Content, AllocError>
-        ensures { IfOk result (λ content. kept.content_event content ≡ other_text line.now plain.now failure) }
+        ensures { IfOk result (λ content. kept.content_event content ≡ kept.cargo_event shown.now text.now says.entry) }
     {
-        Ok(Content::Text {
-            failure,
-            line: String::from_str(alloc, line)?,
-            plain: String::from_str(alloc, plain)?,
+        match says {
+            CargoLine::Heading(heading) => Ok(Content::Heading {
+                suite: heading.suite(alloc)?,
+                path: owned(alloc, heading.path())?,
+            }),
+            CargoLine::Failure(failure) => Ok(Content::Failure {
+                failure,
+                line: String::from_str(alloc, shown)?,
+                plain: String::from_str(alloc, text)?,
+            }),
+        }
+    }
+
+    /// Returns a print that is only a part of its line.
+    pub(crate) fn print(alloc: Global, text: &str) -> Result<Content, AllocError>
+        ensures { IfOk result (λ content. kept.content_event content ≡ Prints text.now text.now) }
+    {
+        Ok(Content::Print {
+            line: String::from_str(alloc, text)?,
+            plain: String::from_str(alloc, text)?,
         })
     }
 
@@ -148,8 +177,8 @@ impl Content {
                 suite: suite.as_str(),
                 path: path.as_ref().map(String::as_str),
             },
-            Content::Text {
-                failure: Some(failure),
+            Content::Failure {
+                failure,
                 line,
                 plain,
             } => Event::CargoFailed {
@@ -157,11 +186,7 @@ impl Content {
                 line: line.as_str(),
                 plain: plain.as_str(),
             },
-            Content::Text {
-                failure: None,
-                line,
-                plain,
-            } => Event::Print {
+            Content::Print { line, plain } => Event::Print {
                 line: line.as_str(),
                 plain: plain.as_str(),
             },

@@ -135,25 +135,31 @@ pub enum Event<'a> {
         /// What failed.
         failure: CargoFailure,
 
-        /// The text of the line, without the carriage return at its end. Bytes that are not UTF-8 are U+FFFD.
+        /// The text of the line, without the carriage return at its end. Bytes that are not UTF-8 are U+FFFD. If
+        /// a print is in front of the failure in the same line, this is `plain`.
         line: &'a str,
 
-        /// The same text without colours, and without spaces at its start.
+        /// The text of the failure as a terminal shows it, without escapes, and without spaces at its start.
         plain: &'a str,
     },
 
-    /// A print: any other line.
+    /// A print: any other line, or the text in front of a heading or a failure in the same line.
     Print {
-        /// The text of the line, without the carriage return at its end. Bytes that are not UTF-8 are U+FFFD.
+        /// The text of the line, without the carriage return at its end. Bytes that are not UTF-8 are U+FFFD. If
+        /// the print is only a part of its line, this is `plain`.
         line: &'a str,
 
-        /// The same text without colours, and without spaces at its start.
+        /// The text as a terminal shows it: without escapes, such as colours, and without the text that a
+        /// carriage return writes over. Spaces at its start are kept. Only headings and failures are
+        /// recognized without them.
         plain: &'a str,
     },
 
-    /// A damaged line says that a test or a suite failed.
+    /// A line, or the text in front of an event in a line, is no event, and says that a test or a suite failed.
+    /// Something damaged it: for example two events are in one line, or text follows an event.
     Damaged {
-        /// The text of the line, or the text in front of the event that was found at its end.
+        /// The text of the line, or the text in front of its event, without the carriage return at its end. Bytes
+        /// that are not UTF-8 are U+FFFD. The text may be of any length.
         text: &'a str,
     },
 }

@@ -1,20 +1,21 @@
 //! Parses a line of a test run.
 
-ghost use Rattle.std.specs.Prelude.{◌≡◌, IfOk, MatchOption, Some, None, option_map};
+ghost use Rattle.std.specs.Prelude.{◌≡◌, ◌≤◌, ℕ, IfOk, MatchOption, Some, None, drop, length, option_map};
 ghost use Rattle.serde_json.specs.Data.{Data};
 ghost use Rattle.serde_json.specs.Read.{read};
 ghost use Rattle.serde_json.specs.View.{view};
 ghost use Rattle.test_report_events.specs.Content as kept;
-ghost use Rattle.test_report_events.specs.Event.{event_view};
-ghost use Rattle.test_report_events.specs.Line.{EventSays, Holds, IsPrint, LineSays};
+ghost use Rattle.test_report_events.specs.Event.{EventView, event_view};
+ghost use Rattle.test_report_events.specs.Line.{EventSays, Holds, HoldsEvent, IsJson, IsPrint, LineSays, RestOf};
 ghost use Rattle.test_report_events.specs.Table.{FindsLastObject, IsValueOf};
 
-use crate::cargo::{cargo_failure, heading};
 use crate::content::Content;
+use crate::damage::damage_of;
 use crate::event::Event;
 use crate::members::Members;
 use crate::plain::{line_text, plain_text};
 use crate::started::started_test;
+use crate::text::text_contents;
 use bstr::ByteSlice;
 use serde_json::Value;
 use std::alloc::{AllocError, Global};
@@ -28,24 +29,30 @@ pub struct Line {
     /// The event of the line.
     content: Content,
 
-    /// A text of the line is damaged and says a failure.
+    /// The event that the rest of the line is damaged, if it is.
     damage: Option<Content>,
+
+    /// The number of bytes at the start of the line that are no event, unless it is wholly an event.
+    rest: Option<usize>,
 }
 
 impl Line {
     /// Parses a line. `bytes` is the line without its line feed. It may end with a carriage return.
     ///
     /// If the whole line is not JSON, the parser starts again at the last `{ "type"` or `{"type"` in it. So
-    /// it finds an event even if a test printed text at the start of the same line.
+    /// it finds an event even if a test printed text at the start of the same line. Headings and failures of
+    /// cargo are found in the same way at the end of a line.
     pub fn read(alloc: Global, bytes: &[u8]) -> Result<Line, AllocError>
         ensures says { IfOk result (λ line. LineSays bytes.now (kept.events_of line)) }
+        ensures rest { IfOk result (λ line. RestOf bytes.now (kept.rest_of line)) }
     {
-        let content = content_of(alloc, bytes)?;
-        Ok(Line {
-            before: None,
-            content,
-            damage: None,
-        })
+        if let Some(name) = started_test(bytes) {
+            return event_line(alloc, bytes, 0, Event::TestStarted { name });
+        }
+        match value_in(alloc, bytes)? {
+            Some((at, value)) => value_line(alloc, bytes, at, value),
+            None => text_line(alloc, bytes),
+        }
     }
 
     /// Returns the print that comes before the event of the line, if there is one. Text that a test or a program
@@ -56,33 +63,74 @@ impl Line {
         self.before.as_ref().map(Content::event)
     }
 
-    /// Returns the event that the line is damaged and says that a test or a suite failed, if it does. It comes
-    /// after the other events of the line.
-    pub fn damage(&self) -> Option<Event<'_>>
-        ensures { option_map event_view result ≡ kept.damage_of self.now }
-    {
-        self.damage.as_ref().map(Content::event)
-    }
-
     /// Returns the event of the line. It borrows its texts from the line.
     pub fn event(&self) -> Event<'_>
         ensures { event_view result ≡ kept.event_of self.now }
     {
         self.content.event()
     }
+
+    /// Returns `Event::Damaged` if the text of the line that is no event says that a test or a suite failed. This
+    /// event comes after the other events of the line.
+    pub fn damage(&self) -> Option<Event<'_>>
+        ensures { option_map event_view result ≡ kept.damage_of self.now }
+    {
+        self.damage.as_ref().map(Content::event)
+    }
+
+    /// Returns the number of bytes at the start of the line that are no event of a test harness: the length of the
+    /// text in front of the event, or the length of the whole line if it has no event. Returns `None` if the line
+    /// is wholly an event.
+    pub fn rest(&self) -> Option<usize>
+        ensures { result ≡ kept.rest_of self.now }
+    {
+        self.rest
+    }
 }
 
-/// Returns the content of a line.
-fn content_of(alloc: Global, bytes: &[u8]) -> Result<Content, AllocError>
-    ensures { IfOk result (λ content. EventSays bytes.now (kept.content_event content)) }
+/// Returns the line whose event begins at an offset.
+fn event_line(alloc: Global, bytes: &[u8], at: usize, event: Event<'_>) -> Result<Line, AllocError>
+    requires { HoldsEvent bytes.now at (event_view event) }
+    ensures says { IfOk result (λ line. LineSays bytes.now (kept.events_of line)) }
+    ensures rest { IfOk result (λ line. RestOf bytes.now (kept.rest_of line)) }
 {
-    if let Some(name) = started_test(bytes) {
-        return Content::of(alloc, Event::TestStarted { name });
+    let content = Content::of(alloc, event)?;
+    if at == 0 {
+        return Ok(Line {
+            before: None,
+            content,
+            damage: None,
+            rest: None,
+        });
     }
-    match value_in(alloc, bytes)? {
-        Some(value) => value_content(alloc, bytes, value),
-        None => text_content(alloc, bytes),
-    }
+    let damage = damage_of(alloc, &bytes[..at])?;
+    Ok(Line {
+        before: None,
+        content,
+        damage,
+        rest: Some(at),
+    })
+}
+
+/// Returns the line with this content, which is no event of a test harness.
+fn other_line(
+    alloc: Global,
+    bytes: &[u8],
+    before: Option<Content>,
+    content: Content,
+) -> Result<Line, AllocError>
+    requires none { (at : ℕ) (e : EventView) → ¬ HoldsEvent bytes.now at e }
+    requires says { EventSays bytes.now (option_map kept.content_event before) (kept.content_event content) }
+    ensures says { IfOk result (λ line. LineSays bytes.now (kept.events_of line)) }
+    ensures rest { IfOk result (λ line. RestOf bytes.now (kept.rest_of line)) }
+{
+    let damage = damage_of(alloc, bytes)?;
+    Ok(Line {
+        before,
+        content,
+        damage,
+        rest: Some(bytes.len()),
+    })
 }
 
 /// Parses bytes as JSON, and returns `None` if they are not JSON.
@@ -107,18 +155,32 @@ fn value_of_text(alloc: Global, text: &str) -> Result<Option<Value>, AllocError>
     }
 }
 
-/// Returns the JSON value of a line, or else of the part of it that starts at its last event.
-fn value_in(alloc: Global, bytes: &[u8]) -> Result<Option<Value>, AllocError>
+/// Returns the JSON value of a line, or else of the part of it that starts at its last event, and the offset at
+/// which the value begins.
+fn value_in(alloc: Global, bytes: &[u8]) -> Result<Option<(usize, Value)>, AllocError>
     ensures { IfOk result (λ found. MatchOption found
-        ((d : Data) → ¬ Holds bytes.now d)
-        (λ v. Holds bytes.now (view v))) }
+        ((at : ℕ) (d : Data) → ¬ Holds bytes.now at d)
+        (λ found. Holds bytes.now found.0 (view found.1))) }
 {
     match value_from(alloc, bytes)? {
-        Some(value) => Ok(Some(value)),
+        Some(value) => Ok(Some((0, value))),
         None => match last_object(bytes) {
-            Some(at) => value_from(alloc, &bytes[at..]),
+            Some(at) => value_at(alloc, bytes, at),
             None => Ok(None),
         },
+    }
+}
+
+/// Returns the JSON value that begins at an offset, and the offset.
+fn value_at(alloc: Global, bytes: &[u8], at: usize) -> Result<Option<(usize, Value)>, AllocError>
+    requires { at ≤ length bytes.now }
+    ensures { IfOk result (λ found. MatchOption found
+        ((d : Data) → ¬ IsJson (drop at bytes.now) d)
+        (λ found. (found.0 ≡ at) × IsJson (drop at bytes.now) (view found.1))) }
+{
+    match value_from(alloc, &bytes[at..])? {
+        Some(value) => Ok(Some((at, value))),
+        None => Ok(None),
     }
 }
 
@@ -134,16 +196,17 @@ fn last_object(line: &[u8]) -> Option<usize>
     }
 }
 
-/// Returns the content of a line that has a JSON value: an event, or a print if the value is no event.
-fn value_content(alloc: Global, bytes: &[u8], value: Value) -> Result<Content, AllocError>
-    requires { Holds bytes.now (view value) }
-    ensures { IfOk result (λ content. EventSays bytes.now (kept.content_event content)) }
+/// Returns the line that has a JSON value from an offset on: an event, or a print if the value is no event.
+fn value_line(alloc: Global, bytes: &[u8], at: usize, value: Value) -> Result<Line, AllocError>
+    requires { Holds bytes.now at (view value) }
+    ensures says { IfOk result (λ line. LineSays bytes.now (kept.events_of line)) }
+    ensures rest { IfOk result (λ line. RestOf bytes.now (kept.rest_of line)) }
 {
     let members = Members::of(&value);
     let time = members.time_in(bytes);
     match members.event(time) {
-        Some(event) => Content::of(alloc, event),
-        None => print_content(alloc, bytes),
+        Some(event) => event_line(alloc, bytes, at, event),
+        None => other_line(alloc, bytes, None, print_content(alloc, bytes)?),
     }
 }
 
@@ -153,29 +216,15 @@ fn print_content(alloc: Global, bytes: &[u8]) -> Result<Content, AllocError>
 {
     let plain = plain_text(alloc, bytes)?;
     let line = line_text(alloc, bytes)?;
-    Ok(Content::Text {
-        failure: None,
-        line,
-        plain,
-    })
+    Ok(Content::Print { line, plain })
 }
 
-/// Returns the content of a line without a JSON value.
-fn text_content(alloc: Global, bytes: &[u8]) -> Result<Content, AllocError>
-    requires { (d : Data) → ¬ Holds bytes.now d }
-    ensures { IfOk result (λ content. EventSays bytes.now (kept.content_event content)) }
+/// Returns the line that has no JSON value.
+fn text_line(alloc: Global, bytes: &[u8]) -> Result<Line, AllocError>
+    requires { (at : ℕ) (d : Data) → ¬ Holds bytes.now at d }
+    ensures says { IfOk result (λ line. LineSays bytes.now (kept.events_of line)) }
+    ensures rest { IfOk result (λ line. RestOf bytes.now (kept.rest_of line)) }
 {
-    let plain = plain_text(alloc, bytes)?;
-    match heading(alloc, plain.as_str())? {
-        Some(suite) => Ok(Content::Heading { suite, path: None }),
-        None => {
-            let failure = cargo_failure(plain.as_str());
-            let line = line_text(alloc, bytes)?;
-            Ok(Content::Text {
-                failure,
-                line,
-                plain,
-            })
-        }
-    }
+    let (before, content) = text_contents(alloc, bytes)?;
+    other_line(alloc, bytes, before, content)
 }

@@ -1,12 +1,13 @@
-//! Lines without colours.
+//! Lines without escapes.
 
-ghost use Rattle.std.specs.Prelude.{◌≡◌, ◌≢◌, ◌==◌, ◌<◌, ◌≤◌, ◌++◌, ℕ, List, IfOk, MatchOption, codes, length, not, slice_index, take};
-ghost use Rattle.std.specs.List.{AllPass, position};
+ghost use Rattle.std.specs.Prelude.{◌≡◌, ◌≢◌, ◌==◌, ◌<◌, ◌≤◌, ◌++◌, ◌∷◌, ℕ, List, IfOk, MatchOption, length, not, slice_index, take, true};
+ghost use Rattle.std.specs.List.{AllPass, after_last, position};
 ghost use Rattle.std.specs.String.{string_bytes};
 ghost use Rattle.bstr.specs.Text.{no_cr};
 ghost use Rattle.test_report_events.specs.Plain as plain;
 ghost use Rattle.test_report_events.specs.Time as time;
 
+use bstr::ByteSlice;
 use std::alloc::{AllocError, Global};
 
 /// Returns a line without the carriage return at its end.
@@ -45,39 +46,48 @@ pub(crate) fn without_spaces(text: &[u8]) -> &[u8]
     }
 }
 
-/// Returns true for a byte of a colour's parameters.
+/// Returns true for a byte of an escape's parameters.
 fn is_parameter(byte: u8) -> bool
     ensures { result ≡ plain.is_parameter byte }
 {
-    byte.is_ascii_digit() || byte == b';' || byte == b':'
+    (b'0'..=b'?').contains(&byte)
 }
 
-/// Returns the offset of the first byte that is not part of a colour's parameters.
+/// Returns true for the last byte of an escape.
+fn is_final(byte: u8) -> bool
+    ensures { result ≡ plain.is_final byte }
+{
+    (b'@'..=b'~').contains(&byte)
+}
+
+/// Returns the offset of the first byte that is not part of an escape's parameters.
 fn parameters_end(text: &[u8]) -> Option<usize>
     ensures { result ≡ position (λ b. not (plain.is_parameter b)) text.now }
 {
     text.iter().position(|byte| !is_parameter(*byte))
 }
 
-/// Returns the length of the parameters at the start of a text: digits, semicolons and colons. Returns
-/// `None` if no `m` follows them.
+/// Returns the length of the parameters at the start of a text. Returns `None` if the last byte of an escape
+/// does not follow them.
 fn parameters_size(text: &[u8]) -> Option<usize>
     ensures { MatchOption result
-        ((parameters rest : List ℕ) → AllPass plain.is_parameter parameters → text.now ≢ parameters ++ (codes "m" ++ rest))
-        (λ size. AllPass plain.is_parameter (take size text.now) × (size < length text.now) × (slice_index text.now size ≡ 109)) }
+        ((parameters rest : List ℕ) (last : ℕ) → AllPass plain.is_parameter parameters → plain.is_final last ≡ true
+        → text.now ≢ parameters ++ last ∷ rest)
+        (λ size. AllPass plain.is_parameter (take size text.now) × (size < length text.now)
+        × (plain.is_final (slice_index text.now size) ≡ true)) }
 {
     match parameters_end(text) {
-        Some(end) => { if text[end] == b'm' { Some(end) } else { None } }
+        Some(end) => { if is_final(text[end]) { Some(end) } else { None } }
         None => None,
     }
 }
 
-/// Returns the length of the colour at the start of a text: `ESC [`, then parameters, then `m`. Returns
-/// `None` if the text does not start with a colour.
-fn colour_size(text: &[u8]) -> Option<usize>
+/// Returns the length of the escape at the start of a text: `ESC [`, then parameters, then a last byte. Returns
+/// `None` if the text does not start with an escape.
+fn escape_size(text: &[u8]) -> Option<usize>
     ensures { MatchOption result
-        ((colour rest : List ℕ) → plain.IsColour colour → text.now ≢ colour ++ rest)
-        (λ size. plain.IsColour (take size text.now) × (0 < size) × (size ≤ length text.now)) }
+        ((escape rest : List ℕ) → plain.IsEscape escape → text.now ≢ escape ++ rest)
+        (λ size. plain.IsEscape (take size text.now) × (0 < size) × (size ≤ length text.now)) }
 {
     match text {
         [0x1b, b'[', parameters @ ..] => match parameters_size(parameters) {
@@ -88,14 +98,14 @@ fn colour_size(text: &[u8]) -> Option<usize>
     }
 }
 
-/// Returns a line without colours.
-fn without_colours(alloc: Global, line: &[u8]) -> Result<Vec<u8>, AllocError>
-    ensures { IfOk result (λ kept. plain.IsWithoutColours line.now kept.items) }
+/// Returns a line without escapes.
+fn without_escapes(alloc: Global, line: &[u8]) -> Result<Vec<u8>, AllocError>
+    ensures { IfOk result (λ kept. plain.IsWithoutEscapes line.now kept.items) }
 {
     let mut kept = Vec::new(alloc);
     let mut at = 0;
     while at < line.len() {
-        match colour_size(&line[at..]) {
+        match escape_size(&line[at..]) {
             Some(size) => at += size,
             None => {
                 kept.push(line[at])?;
@@ -106,11 +116,22 @@ fn without_colours(alloc: Global, line: &[u8]) -> Result<Vec<u8>, AllocError>
     Ok(kept)
 }
 
-/// Returns the text of a line without colours, without spaces at its start and without the carriage return
-/// at its end. Bytes that are not UTF-8 become U+FFFD. Lines of cargo are recognized in this form.
+/// Returns the text after the last carriage return. A terminal writes it over the text before.
+fn after_return(text: &[u8]) -> &[u8]
+    ensures { result.now ≡ after_last (λ b. b == 13) text.now }
+{
+    match text.rfind_byte(b'\r') {
+        Some(at) => &text[at + 1..],
+        None => text,
+    }
+}
+
+/// Returns the text of a line as a terminal shows it: without the carriage return at its end, without escapes,
+/// and without the text that a carriage return writes over. Bytes that are not UTF-8 become U+FFFD. Lines of
+/// cargo are recognized in this form.
 pub(crate) fn plain_text(alloc: Global, line: &[u8]) -> Result<String, AllocError>
     ensures { IfOk result (λ text. plain.IsPlain line.now (string_bytes text)) }
 {
-    let kept = without_colours(alloc, line)?;
-    line_text(alloc, without_spaces(kept.as_slice()))
+    let kept = without_escapes(alloc, without_return(line))?;
+    String::from_utf8_lossy(alloc, after_return(kept.as_slice()))
 }

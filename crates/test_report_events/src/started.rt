@@ -3,13 +3,13 @@
 ghost use Rattle.std.specs.Prelude.{◌≡◌, ◌↔◌, ◌++◌, IfSome, IsTrue};
 ghost use Rattle.std.specs.List.{AllPass};
 ghost use Rattle.test_report_events.specs.Event.{TestStarts};
-ghost use Rattle.test_report_events.specs.Line.{EventSays};
+ghost use Rattle.test_report_events.specs.Line.{HoldsEvent};
 ghost use Rattle.test_report_events.specs.Started as spec;
 
 /// Returns the name of the test that a line starts, if the line is spelt as Rust's harness or nextest spell
 /// it, and the name has no escapes. Any other line has to be parsed.
 pub(crate) fn started_test(line: &[u8]) -> Option<&str>
-    ensures { IfSome result (λ name. EventSays line.now (TestStarts name.now)) }
+    ensures { IfSome result (λ name. HoldsEvent line.now 0 (TestStarts name.now)) }
 {
     let name = quoted_name(line)?;
     if !are_plain(name) {

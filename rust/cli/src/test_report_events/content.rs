@@ -1,6 +1,7 @@
 // Made by tools/erase from crates/test_report_events/src/content.rt. Do not edit.
 //! The event of a line, with texts of its own.
 
+use crate::test_report_events::cargo::CargoLine;
 use crate::test_report_events::event::{
     CargoFailure, Event, SuiteEnd, SuiteKey, TestDetails, TestResult,
 };
@@ -29,12 +30,15 @@ pub(crate) enum Content {
     /// A heading of cargo.
     Heading { suite: String, path: Option<String> },
 
-    /// A line that is neither an event of a harness nor a heading. It is a print if `failure` is `None`.
-    Text {
-        failure: Option<CargoFailure>,
+    /// A failure that cargo or nextest reports.
+    Failure {
+        failure: CargoFailure,
         line: String,
         plain: String,
     },
+
+    /// A print.
+    Print { line: String, plain: String },
 
     /// A damaged line says that a test or a suite failed.
     Damaged(String),
@@ -97,18 +101,39 @@ impl Content {
                 failure,
                 line,
                 plain,
-            } => Content::text(Some(failure), line, plain),
-            Event::Print { line, plain } => Content::text(None, line, plain),
+            } => Content::Failure {
+                failure,
+                line: String::from(line),
+                plain: String::from(plain),
+            },
+            Event::Print { line, plain } => Content::Print {
+                line: String::from(line),
+                plain: String::from(plain),
+            },
             Event::Damaged { text } => Content::Damaged(String::from(text)),
         }
     }
 
-    /// Returns the content of a line that is neither an event of a harness nor a heading.
-    fn text(failure: Option<CargoFailure>, line: &str, plain: &str) -> Content {
-        Content::Text {
-            failure,
-            line: String::from(line),
-            plain: String::from(plain),
+    /// Returns the content of a line of cargo. `shown` is the text of the line, if it is a failure.
+    pub(crate) fn of_cargo(says: CargoLine<'_>, shown: &str, text: &str) -> Content {
+        match says {
+            CargoLine::Heading(heading) => Content::Heading {
+                suite: heading.suite(),
+                path: owned(heading.path()),
+            },
+            CargoLine::Failure(failure) => Content::Failure {
+                failure,
+                line: String::from(shown),
+                plain: String::from(text),
+            },
+        }
+    }
+
+    /// Returns a print that is only a part of its line.
+    pub(crate) fn print(text: &str) -> Content {
+        Content::Print {
+            line: String::from(text),
+            plain: String::from(text),
         }
     }
 
@@ -129,8 +154,8 @@ impl Content {
                 suite: suite.as_str(),
                 path: path.as_deref(),
             },
-            Content::Text {
-                failure: Some(failure),
+            Content::Failure {
+                failure,
                 line,
                 plain,
             } => Event::CargoFailed {
@@ -138,11 +163,7 @@ impl Content {
                 line: line.as_str(),
                 plain: plain.as_str(),
             },
-            Content::Text {
-                failure: None,
-                line,
-                plain,
-            } => Event::Print {
+            Content::Print { line, plain } => Event::Print {
                 line: line.as_str(),
                 plain: plain.as_str(),
             },

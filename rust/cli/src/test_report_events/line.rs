@@ -1,12 +1,13 @@
 // Made by tools/erase from crates/test_report_events/src/line.rt. Do not edit.
 //! Parses a line of a test run.
 
-use crate::test_report_events::cargo::{cargo_failure, heading};
 use crate::test_report_events::content::Content;
+use crate::test_report_events::damage::damage_of;
 use crate::test_report_events::event::Event;
 use crate::test_report_events::members::Members;
 use crate::test_report_events::plain::{line_text, plain_text};
 use crate::test_report_events::started::started_test;
+use crate::test_report_events::text::text_contents;
 use bstr::ByteSlice;
 use serde_json::Value;
 
@@ -19,21 +20,26 @@ pub struct Line {
     /// The event of the line.
     content: Content,
 
-    /// A text of the line is damaged and says a failure.
+    /// The event that the rest of the line is damaged, if it is.
     damage: Option<Content>,
+
+    /// The number of bytes at the start of the line that are no event, unless it is wholly an event.
+    rest: Option<usize>,
 }
 
 impl Line {
     /// Parses a line. `bytes` is the line without its line feed. It may end with a carriage return.
     ///
     /// If the whole line is not JSON, the parser starts again at the last `{ "type"` or `{"type"` in it. So
-    /// it finds an event even if a test printed text at the start of the same line.
+    /// it finds an event even if a test printed text at the start of the same line. Headings and failures of
+    /// cargo are found in the same way at the end of a line.
     pub fn read(bytes: &[u8]) -> Line {
-        let content = content_of(bytes);
-        Line {
-            before: None,
-            content,
-            damage: None,
+        if let Some(name) = started_test(bytes) {
+            return event_line(bytes, 0, Event::TestStarted { name });
+        }
+        match value_in(bytes) {
+            Some((at, value)) => value_line(bytes, at, value),
+            None => text_line(bytes),
         }
     }
 
@@ -43,26 +49,53 @@ impl Line {
         self.before.as_ref().map(Content::event)
     }
 
-    /// Returns the event that the line is damaged and says that a test or a suite failed, if it does. It comes
-    /// after the other events of the line.
-    pub fn damage(&self) -> Option<Event<'_>> {
-        self.damage.as_ref().map(Content::event)
-    }
-
     /// Returns the event of the line. It borrows its texts from the line.
     pub fn event(&self) -> Event<'_> {
         self.content.event()
     }
+
+    /// Returns `Event::Damaged` if the text of the line that is no event says that a test or a suite failed. This
+    /// event comes after the other events of the line.
+    pub fn damage(&self) -> Option<Event<'_>> {
+        self.damage.as_ref().map(Content::event)
+    }
+
+    /// Returns the number of bytes at the start of the line that are no event of a test harness: the length of the
+    /// text in front of the event, or the length of the whole line if it has no event. Returns `None` if the line
+    /// is wholly an event.
+    pub fn rest(&self) -> Option<usize> {
+        self.rest
+    }
 }
 
-/// Returns the content of a line.
-fn content_of(bytes: &[u8]) -> Content {
-    if let Some(name) = started_test(bytes) {
-        return Content::of(Event::TestStarted { name });
+/// Returns the line whose event begins at an offset.
+fn event_line(bytes: &[u8], at: usize, event: Event<'_>) -> Line {
+    let content = Content::of(event);
+    if at == 0 {
+        return Line {
+            before: None,
+            content,
+            damage: None,
+            rest: None,
+        };
     }
-    match value_in(bytes) {
-        Some(value) => value_content(bytes, value),
-        None => text_content(bytes),
+    let damage = damage_of(&bytes[..at]);
+    Line {
+        before: None,
+        content,
+        damage,
+        rest: Some(at),
+    }
+}
+
+/// Returns the line with this content, which is no event of a test harness.
+fn other_line(bytes: &[u8], before: Option<Content>, content: Content) -> Line {
+    let damage = damage_of(bytes);
+    Line {
+        before,
+        content,
+        damage,
+        rest: Some(bytes.len()),
     }
 }
 
@@ -80,15 +113,21 @@ fn value_of_text(text: &str) -> Option<Value> {
     serde_json::from_str::<Value>(text).ok()
 }
 
-/// Returns the JSON value of a line, or else of the part of it that starts at its last event.
-fn value_in(bytes: &[u8]) -> Option<Value> {
+/// Returns the JSON value of a line, or else of the part of it that starts at its last event, and the offset at
+/// which the value begins.
+fn value_in(bytes: &[u8]) -> Option<(usize, Value)> {
     match value_from(bytes) {
-        Some(value) => Some(value),
+        Some(value) => Some((0, value)),
         None => match last_object(bytes) {
-            Some(at) => value_from(&bytes[at..]),
+            Some(at) => value_at(bytes, at),
             None => None,
         },
     }
+}
+
+/// Returns the JSON value that begins at an offset, and the offset.
+fn value_at(bytes: &[u8], at: usize) -> Option<(usize, Value)> {
+    value_from(&bytes[at..]).map(|value| (at, value))
 }
 
 /// Returns the last offset at which an event starts. The harness writes a space after the brace of an
@@ -101,13 +140,13 @@ fn last_object(line: &[u8]) -> Option<usize> {
     }
 }
 
-/// Returns the content of a line that has a JSON value: an event, or a print if the value is no event.
-fn value_content(bytes: &[u8], value: Value) -> Content {
+/// Returns the line that has a JSON value from an offset on: an event, or a print if the value is no event.
+fn value_line(bytes: &[u8], at: usize, value: Value) -> Line {
     let members = Members::of(&value);
     let time = members.time_in(bytes);
     match members.event(time) {
-        Some(event) => Content::of(event),
-        None => print_content(bytes),
+        Some(event) => event_line(bytes, at, event),
+        None => other_line(bytes, None, print_content(bytes)),
     }
 }
 
@@ -115,26 +154,11 @@ fn value_content(bytes: &[u8], value: Value) -> Content {
 fn print_content(bytes: &[u8]) -> Content {
     let plain = plain_text(bytes);
     let line = line_text(bytes);
-    Content::Text {
-        failure: None,
-        line,
-        plain,
-    }
+    Content::Print { line, plain }
 }
 
-/// Returns the content of a line without a JSON value.
-fn text_content(bytes: &[u8]) -> Content {
-    let plain = plain_text(bytes);
-    match heading(plain.as_str()) {
-        Some(suite) => Content::Heading { suite, path: None },
-        None => {
-            let failure = cargo_failure(plain.as_str());
-            let line = line_text(bytes);
-            Content::Text {
-                failure,
-                line,
-                plain,
-            }
-        }
-    }
+/// Returns the line that has no JSON value.
+fn text_line(bytes: &[u8]) -> Line {
+    let (before, content) = text_contents(bytes);
+    other_line(bytes, before, content)
 }

@@ -5,6 +5,9 @@ use crate::test_report_events::event::{Event, SuiteEnd, SuiteKey, TestDetails, T
 use crate::test_report_events::time::exec_time;
 use serde_json::Value;
 
+/// The greatest number of tests that a line can have.
+const GREATEST_COUNT: u64 = 0xFFFF_FFFF;
+
 /// The members of an object that lines of tests have. One pass over the object finds all of them.
 #[derive(Clone, Copy)]
 pub(crate) struct Members<'a> {
@@ -33,6 +36,14 @@ fn text_of<'a>(value: &'a Value, key: &str) -> Option<&'a str> {
 /// Returns the number of a member.
 fn number_of(value: &Value, key: &str) -> Option<u64> {
     value.get(key).and_then(Value::as_u64)
+}
+
+/// Returns a number of tests, or `None` if it needs more than 32 bits. So no sum of such numbers overflows.
+fn count_of(value: &Value, key: &str) -> Option<u64> {
+    match number_of(value, key) {
+        Some(number) if number <= GREATEST_COUNT => Some(number),
+        _ => None,
+    }
 }
 
 /// Returns the text of a value that is a text.
@@ -177,10 +188,10 @@ fn suite_end_of(value: &Value, time: Option<u64>, failed_verdict: bool) -> Suite
     SuiteEnd {
         key: key_of(value),
         failed_verdict,
-        passed: number_of(value, "passed"),
-        failed: number_of(value, "failed"),
-        ignored: number_of(value, "ignored"),
-        measured: number_of(value, "measured"),
+        passed: count_of(value, "passed"),
+        failed: count_of(value, "failed"),
+        ignored: count_of(value, "ignored"),
+        measured: count_of(value, "measured"),
         time,
     }
 }
@@ -190,7 +201,7 @@ fn suite_event_of<'a>(value: &'a Value, time: Option<u64>, event: &str) -> Optio
     match event {
         "started" => Some(Event::SuiteStarted {
             key: key_of(value),
-            test_count: number_of(value, "test_count"),
+            test_count: count_of(value, "test_count"),
         }),
         "ok" => Some(Event::SuiteEnded(suite_end_of(value, time, false))),
         "failed" => Some(Event::SuiteEnded(suite_end_of(value, time, true))),

@@ -1,8 +1,9 @@
 // Made by tools/erase from crates/test_report_events/src/lib.rt. Do not edit.
-//! Parses the lines of a test run, and returns the event of each line: a suite starts or ends, a test starts
+//! Parses the lines of a test run, and returns the events of each line: a suite starts or ends, a test starts
 //! or ends, cargo announces a test binary or documentation tests, or cargo or nextest reports a failure.
 //! Other lines of a test harness give `Event::Other`. Every remaining line, such as what a test printed,
-//! gives `Event::Print`.
+//! gives `Event::Print`. Text that was printed without a line feed in front of a line of cargo is a print
+//! before its event. Text that is no event and says that a test or a suite failed gives `Event::Damaged`.
 //!
 //! The lines are those of Rust's test harness (`--format json`), of cargo nextest (`--message-format
 //! libtest-json`) and of cargo. Any bytes are accepted, and they need not be UTF-8.
@@ -27,9 +28,11 @@
 
 mod cargo;
 mod content;
+mod damage;
 pub mod event;
 pub mod line;
 mod members;
 mod plain;
 mod started;
+mod text;
 mod time;

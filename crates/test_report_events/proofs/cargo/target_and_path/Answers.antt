@@ -1,7 +1,7 @@
 use Rattle.std.proofs.Common.{None, Some, arith}
 use Rattle.std.proofs.lemmas.Bool.Decides.{nat_tests}
 use Rattle.std.proofs.lemmas.Str.Pattern.{strip_suffix_char}
-use Rattle.test_report_events.proofs.Headings.{front_empty, path_none, split_around, target_found, target_none}
+use Rattle.test_report_events.proofs.Headings.{cut_found, front_empty, path_none, split_around, target_none}
 use Rattle.test_report_events.proofs.cargo.target_and_path.Goals as goal
 
 pub returns-in_err-target : goal.returns-in_err-target
@@ -20,7 +20,7 @@ returns-then-is_empty c =
 
 pub returns-else-is_empty : goal.returns-else-is_empty
 returns-else-is_empty c =
-    target_found c.args.text.now _ _
+    cut_found c.args.text.now _ _
     (split_around c.args.text.now c.in_ok-target.target.now c.in_ok-target.rest.now c.in_ok-target.ensures.cases) _
     (grind (arith, nat_tests))
     (strip_suffix_char 41 c.in_ok-target.rest.now (Some c.in_ok-path.path) c.in_ok-path.ensures.cases (omega arith))

@@ -1,0 +1,37 @@
+-- The event of the object, or a print.
+use Rattle.std.proofs.Common.{◌≡◌, ◌∙◌, ap, option_map, subst, sym}
+use Rattle.serde_json.specs.View.{view}
+use Rattle.test_report_events.specs.Content.{content_event}
+use Rattle.test_report_events.specs.Event.{event_view}
+use Rattle.test_report_events.specs.Said.{IsTime}
+use Rattle.test_report_events.specs.Table.{object_said}
+use Rattle.test_report_events.proofs.Readings.{object_is, object_none, value_print}
+use Rattle.test_report_events.proofs.line.value_line.Goals as goal
+
+pub event_line-requires : goal.event_line-requires
+event_line-requires c =
+    let d = view c.args.value in
+    let same : view c.of-members.result.object.now ≡ d = ap view c.of-members.ensures.object in
+    let time = c.time_in-time.result in
+    let said : option_map event_view c.event.result ≡ object_said time d = c.event.ensures ∙ ap (object_said time) same in
+    object_is c.args.bytes.now c.args.at d time (event_view c.in-Some.event) c.requires
+    (subst (λ x. IsTime c.args.bytes.now x time) same c.time_in-time.ensures) (sym said ∙ ap (option_map event_view) c.in-Some.is)
+
+pub other_line-requires-clause-none : goal.other_line-requires-clause-none
+other_line-requires-clause-none c =
+    let d = view c.args.value in
+    let same : view c.of-members.result.object.now ≡ d = ap view c.of-members.ensures.object in
+    let time = c.time_in-time.result in
+    let said : option_map event_view c.event.result ≡ object_said time d = c.event.ensures ∙ ap (object_said time) same in
+    object_none c.args.bytes.now c.args.at d time c.requires
+    (subst (λ x. IsTime c.args.bytes.now x time) same c.time_in-time.ensures) (sym said ∙ ap (option_map event_view) c.in-None.is)
+
+pub other_line-requires-clause-says : goal.other_line-requires-clause-says
+other_line-requires-clause-says c =
+    let d = view c.args.value in
+    let same : view c.of-members.result.object.now ≡ d = ap view c.of-members.ensures.object in
+    let time = c.time_in-time.result in
+    let said : option_map event_view c.event.result ≡ object_said time d = c.event.ensures ∙ ap (object_said time) same in
+    let none = object_none c.args.bytes.now c.args.at d time c.requires
+    (subst (λ x. IsTime c.args.bytes.now x time) same c.time_in-time.ensures) (sym said ∙ ap (option_map event_view) c.in-None.is) in
+    value_print c.args.bytes.now c.args.at d (content_event c.in_ok-print_content-in-None.field-0) c.requires none c.in_ok-print_content-in-None.ensures
