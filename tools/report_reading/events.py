@@ -11,12 +11,27 @@ EVENT_HEADS = (b'{ "type"', b'{"type"')
 A_TYPE = re.compile(rb'"type" *: *"(?:test|suite|bench)"')
 A_FAILURE = re.compile(rb'"event" *: *"failed"')
 MOST_DAMAGED = 200
-COLOUR = re.compile("\x1b\\[[0-9;:]*m")
+MOST_COUNTED = 2**32 - 1
+ESCAPE = re.compile("\x1b\\[[0-?]*[@-~]")
 RUNNING = "Running "
 PROGRAM = re.compile(r"(.*)-[0-9a-fA-F]{16}(?:\.exe)?", re.DOTALL)
+COMMAND = re.compile(r"Running `(.*)`", re.DOTALL)
+HEADING_STARTS = ("     Running ", "   Doc-tests ")
+FAILURE_START = "error: "
 DOC_TESTS = re.compile(r"Doc-tests ([^ ]+)", re.DOTALL)
-BUILD_FAILURES = ("error: could not compile ", "error: failed to run custom build command for ")
-STEP_FAILURES = ("error: test failed", "error: doctest failed", "error: bench failed")
+BUILD_FAILURES = (
+    "error: could not compile ",
+    "error: failed to run custom build command for ",
+    "error: build script logged errors",
+)
+STEP_FAILURES = (
+    "error: test failed",
+    "error: doctest failed",
+    "error: bench failed",
+    "error: no test target named ",
+    "error: creating test list failed",
+    "error: setup script failed",
+)
 RUN_FAILURE = "error: test run failed"
 TARGETS_FAILED = re.compile(r"error: [0-9]+ targets? failed:")
 SECONDS = re.compile(r"([0-9]{1,9})(?:\.([0-9]+))?")
@@ -97,6 +112,12 @@ def whole_number(said, name):
     return value.whole() if value else None
 
 
+def number_of_tests(said, name):
+    """Returns a member that is a whole number of 32 bits, or else None."""
+    number = whole_number(said, name)
+    return None if number is None or number > MOST_COUNTED else number
+
+
 def microseconds(said):
     """Returns the time of an event, or None if it has none that can be read."""
     value = member(said, "exec_time", Number)
@@ -119,10 +140,10 @@ def key_of(said):
 def suite_event(said, event):
     """Returns the event of a suite line, or None."""
     if event == "started":
-        return SuiteStart(key_of(said), whole_number(said, "test_count"))
+        return SuiteStart(key_of(said), number_of_tests(said, "test_count"))
     if event not in ("ok", "failed"):
         return None if event is None else KnownLine()
-    numbers = {name: whole_number(said, name) for name in NUMBERS}
+    numbers = {name: number_of_tests(said, name) for name in NUMBERS}
     present = {name: count for name, count in numbers.items() if count is not None}
     return SuiteEnd(key_of(said), event, present, microseconds(said))
 
@@ -153,12 +174,29 @@ def event_of_object(said):
     return KnownLine() if kind == "report" else None
 
 
+def program_of(path):
+    """Returns the name of a test program by its path, or None."""
+    program = PROGRAM.fullmatch(re.split(r"[/\\]", path)[-1])
+    return program[1] if program else None
+
+
+def heading_of_command(words):
+    """Returns the heading that the words of a command give, or None: the first path of a test program."""
+    for word in words:
+        if "=" not in word and program_of(word) is not None:
+            return Heading(program_of(word), word)
+    return None
+
+
 def heading_of(line):
     """Returns the heading that a line is, or None."""
     if line.startswith(RUNNING) and line.endswith(")"):
         target, _, path = line[len(RUNNING) : -1].rpartition(" (")
-        program = PROGRAM.fullmatch(re.split(r"[/\\]", path)[-1])
-        return Heading(f"{program[1]} ({target})", path) if program and target else None
+        program = program_of(path)
+        return Heading(f"{program} ({target})", path) if program is not None and target else None
+    command = COMMAND.fullmatch(line)
+    if command:
+        return heading_of_command(command[1].split(" "))
     doc_tests = DOC_TESTS.fullmatch(line)
     return Heading(f"{doc_tests[1]} (doc tests)", None) if doc_tests else None
 
@@ -173,10 +211,17 @@ def failure_of(line):
 
 
 def event_of_print(line):
-    """Returns the heading or cargo's failure that a line is, or None."""
-    line = COLOUR.sub("", line).lstrip(" ")
-    line = line[:-1] if line.endswith("\r") else line
-    return heading_of(line) or failure_of(line)
+    """Returns the heading or cargo's failure that a line is, or that its end is, or None."""
+    line = ESCAPE.sub("", line.removesuffix("\r")).rpartition("\r")[2]
+    whole = line.lstrip(" ")
+    heading_at = max(line.rfind(start) for start in HEADING_STARTS)
+    failure_at = line.rfind(FAILURE_START)
+    return (
+        heading_of(whole)
+        or failure_of(whole)
+        or (heading_of(line[heading_at:].lstrip(" ")) if heading_at >= 0 else None)
+        or (failure_of(line[failure_at:]) if failure_at >= 0 else None)
+    )
 
 
 def json_of(line):

@@ -13,7 +13,7 @@ pub enum Note {
     /// A test passed, failed or was skipped.
     Test(TestNote),
 
-    /// Lines of the run contradict each other.
+    /// Lines of the run contradict each other, a damaged line says a failure, or a file has no event.
     Disagreement(Disagreement),
 
     /// Some tests of a suite did not run.
@@ -107,7 +107,8 @@ pub struct Crash {
     pub prints: Vec<String>,
 }
 
-/// A contradiction between lines of a run.
+/// A contradiction between lines of a run. A damaged line that says a failure, and a file without an event of a
+/// harness, count as contradictions, too.
 #[derive(Debug, Drop)]
 pub enum Disagreement {
     /// A suite has no last line, and none of its tests crashed.
@@ -167,7 +168,7 @@ pub enum Disagreement {
         text: String,
     },
 
-    /// No line of a file is of a test run, and nothing else in the file says what is wrong.
+    /// No line of a file is an event of a harness, and nothing failed or disagreed in it.
     NoEvent,
 }
 

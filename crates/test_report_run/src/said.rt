@@ -70,9 +70,11 @@ impl Said {
         })
     }
 
-    /// Returns the verdict, and how many tests passed and failed. Measured benchmarks count as passed.
+    /// Returns the verdict, and how many tests passed and failed. Measured benchmarks count as passed. Fails
+    /// only if the number of passed tests does not fit.
     pub(crate) fn numbers(self) -> Result<SaidNumbers, RunError>
-        ensures { IfOk result (λ said. said ≡ numbers_of self) }
+        ensures numbers { IfOk result (λ said. said ≡ numbers_of self) }
+        ensures fits { IsOk result ↔ (unwrap_or (numbers_of self).passed 0 < 2 ^ 128) }
     {
         let passed = match self.passed {
             Some(passed) => sum(Some(passed), self.measured)?,

@@ -1,6 +1,6 @@
 //! An open suite of a run.
 
-ghost use Rattle.std.specs.Prelude.{◌≡◌, ◌==◌, IfOk, OnOk, option_map};
+ghost use Rattle.std.specs.Prelude.{◌≡◌, ◌==◌, ◌<◌, ◌^◌, ◌↔◌, IfOk, IsOk, OnOk, option_map};
 ghost use Rattle.test_report_events.specs.Event.{suite_end_view};
 ghost use Rattle.test_report_run.specs.Note.{note_view, outcome_view, text_view};
 ghost use Rattle.test_report_run.specs.Prints.{after_line, printed_view};
@@ -207,9 +207,11 @@ impl Suite {
         }))
     }
 
-    /// Returns the numbers of tests of the suite. `left` is the number of running tests.
+    /// Returns the numbers of tests of the suite. `left` is the number of running tests. Fails only if the number
+    /// of passed tests does not fit.
     pub(crate) fn tally(&self, left: usize) -> Result<Tally, RunError>
-        ensures { IfOk result (λ tally. tally ≡ tally_of (state_of self.now) left) }
+        ensures tally { IfOk result (λ tally. tally ≡ tally_of (state_of self.now) left) }
+        ensures fits { IsOk result ↔ ((tally_of (state_of self.now) left).passed < 2 ^ 64) }
     {
         let flaky = self.flaky.len();
         let passed = self

@@ -57,7 +57,8 @@ impl Said {
         })
     }
 
-    /// Returns the verdict, and how many tests passed and failed. Measured benchmarks count as passed.
+    /// Returns the verdict, and how many tests passed and failed. Measured benchmarks count as passed. Fails
+    /// only if the number of passed tests does not fit.
     pub(crate) fn numbers(self) -> Result<SaidNumbers, RunError> {
         let passed = match self.passed {
             Some(passed) => sum(Some(passed), self.measured)?,

@@ -166,7 +166,8 @@ impl Suite {
         })
     }
 
-    /// Returns the numbers of tests of the suite. `left` is the number of running tests.
+    /// Returns the numbers of tests of the suite. `left` is the number of running tests. Fails only if the number
+    /// of passed tests does not fit.
     pub(crate) fn tally(&self, left: usize) -> Result<Tally, RunError> {
         let flaky = self.flaky.len();
         let passed = self

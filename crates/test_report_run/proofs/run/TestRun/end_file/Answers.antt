@@ -47,5 +47,12 @@ returns-clause-takes c =
     let over = c.in_ok-learn.ensures ∙ ap (λ (notes : List Note). learned (run_state c.end_early-2.new.self) (map note_view notes)) c.deref.ensures.value
     ∙ ap (λ (notes : List NoteView). learned (run_state c.end_early-2.new.self) notes) c.in_ok-push_no_event.ensures
     ∙ ap (λ (t : Step). learned t.run (t.notes ++ no_event_notes t.run)) end in
-    ap (λ (h : List HeadingView). record (run_state c.learn.new.self) { headings = h; heading = None; has_event = false; causes_at_file = c.learn.new.self.causes; causes_at_cargo = c.learn.new.self.causes }) c.new-2.ensures
+    let last = c.learn.new.self in
+    ap (λ (h : List HeadingView). record (run_state last) {
+      headings = h;
+      heading = None;
+      has_event = false;
+      causes_at_file = last.causes;
+      causes_at_cargo = last.causes;
+    }) c.new-2.ensures
     ∙ ap (λ (x : RunState). record x { headings = []; heading = None; has_event = false; causes_at_file = x.causes; causes_at_cargo = x.causes }) over
