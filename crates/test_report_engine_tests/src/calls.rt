@@ -110,7 +110,7 @@ fn lines_are_events(rt: HostRuntime) -> Result<(), Fail> {
             " a print\r",
             Event::Print {
                 line: " a print",
-                plain: "a print",
+                plain: " a print",
             },
         ),
     ];

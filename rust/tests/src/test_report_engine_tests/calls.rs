@@ -104,7 +104,7 @@ fn lines_are_events() -> Result<(), Box<dyn std::error::Error>> {
             " a print\r",
             Event::Print {
                 line: " a print",
-                plain: "a print",
+                plain: " a print",
             },
         ),
     ];
