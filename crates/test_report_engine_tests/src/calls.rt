@@ -37,7 +37,7 @@ fn report_by_calls(alloc: Global) -> Result<String, Fault> {
     let mut text = String::new(alloc);
     for bytes in RUN.lines() {
         let line = Line::read(alloc, bytes.as_bytes())?;
-        let notes = run.on_event(alloc, line.event())?;
+        let notes = run.on_line(alloc, &line)?;
         push_notes(alloc, notes.as_slice(), &mut form, &mut text)?;
     }
     let notes = run.end_file(alloc)?;
@@ -101,19 +101,21 @@ fn lines_are_events(rt: HostRuntime) -> Result<(), Fail> {
             "     Running unittests src/lib.rs (target/debug/deps/a-0123456789abcdef)",
             Event::Heading {
                 suite: "a (unittests src/lib.rs)",
+                path: Some("target/debug/deps/a-0123456789abcdef"),
             },
         ),
         (
             "   Doc-tests a",
             Event::Heading {
                 suite: "a (doc tests)",
+                path: None,
             },
         ),
         (
             " a print\r",
             Event::Print {
                 line: " a print",
-                plain: "a print",
+                plain: " a print",
             },
         ),
     ];
@@ -121,6 +123,27 @@ fn lines_are_events(rt: HostRuntime) -> Result<(), Fail> {
         let line = Line::read(rt.alloc(), bytes.as_bytes())?;
         assert!(rt; line.event() == wanted, "{bytes}");
     }
+    Ok(())
+}
+
+#[test]
+fn lines_have_several_events(rt: HostRuntime) -> Result<(), Fail> {
+    let printed = "printed     Running unittests src/lib.rs (target/debug/deps/a-0123456789abcdef)";
+    let heading = Line::read(rt.alloc(), printed.as_bytes())?;
+    let before = Event::Print {
+        line: "printed",
+        plain: "printed",
+    };
+    assert!(rt; heading.before() == Some(before) && heading.damage().is_none());
+    assert!(rt; matches!(heading.event(), Event::Heading { .. }));
+    let two =
+        r#"{"type":"test","event":"failed","name":"a"}{"type":"test","event":"started","name":"b"}"#;
+    let started = Line::read(rt.alloc(), two.as_bytes())?;
+    let damage = Event::Damaged {
+        text: r#"{"type":"test","event":"failed","name":"a"}"#,
+    };
+    assert!(rt; started.before().is_none() && started.damage() == Some(damage));
+    assert!(rt; started.event() == Event::TestStarted { name: "b" });
     Ok(())
 }
 

@@ -6,10 +6,10 @@ use std::alloc::{AllocError, Global};
 use std::test::Fail;
 use test_report_forms::text::TextForm;
 
-/// The report of no line.
-const NOTHING: &str = "------------\n     \
+/// The report of no event.
+const NOTHING: &str = "no line of the input is of a test run\n------------\n     \
      Summary 0 tests run: 0 passed (0 flaky), 0 failed (0 timed out, 0 crashed), 0 skipped, 0 not run\n\
-     outcome no-tests-run\n";
+     outcome failed\n";
 
 /// The report of the first line of [`RUN`]: no test runs, and nothing says that the suite ended.
 const STARTED: &str = "suite 1 ended early\nsuite 1: 2 of 2 tests were not run\n------------\n     \
@@ -24,21 +24,34 @@ const CRASHED: [&str; 2] = [
      CRASH suite 1 a: its process ended before it did\noutcome failed\n",
 ];
 
-/// The report of the first three lines of [`RUN`].
-const FAILED: &str = "FAIL suite 1 a\n    why\n\
-     suite 1 ended early\nsuite 1: 1 of 2 tests were not run\n------------\n     \
+/// The report of the first three lines of [`RUN`], before and after the next line.
+const FAILED: [&str; 2] = [
+    "FAIL suite 1 a\n    why\n",
+    "suite 1 ended early\nsuite 1: 1 of 2 tests were not run\n------------\n     \
      Summary 1 tests run: 0 passed (0 flaky), 1 failed (0 timed out, 0 crashed), 0 skipped, 1 not run\n        \
-     FAIL suite 1 a: why\noutcome failed\n";
+     FAIL suite 1 a: why\noutcome failed\n",
+];
 
 /// Returns the report of the first lines of [`RUN`], followed by a piece of the next line.
 fn report_of(alloc: Global, lines: usize, piece: &str) -> Result<String, AllocError> {
+    let damage = damage_of(alloc, piece)?;
     match lines {
         0 => String::from_str(alloc, NOTHING),
         1 => String::from_str(alloc, STARTED),
         2 if piece.is_empty() => format!(in alloc; "{}{}", CRASHED[0], CRASHED[1]),
-        2 => format!(in alloc; "{}    {piece}\n{}", CRASHED[0], CRASHED[1]),
-        3 => String::from_str(alloc, FAILED),
+        2 => format!(in alloc; "{damage}{}    {piece}\n{}", CRASHED[0], CRASHED[1]),
+        3 => format!(in alloc; "{}{damage}{}", FAILED[0], FAILED[1]),
         _ => report_of_run(alloc),
+    }
+}
+
+/// Returns the line of the report about a piece of a line of [`RUN`] that says that a test or a suite failed,
+/// or nothing if it does not.
+fn damage_of(alloc: Global, piece: &str) -> Result<String, AllocError> {
+    if piece.contains(r#""event":"failed""#) {
+        format!(in alloc; "a damaged line says that a test or a suite failed: {piece}\n")
+    } else {
+        Ok(String::new(alloc))
     }
 }
 

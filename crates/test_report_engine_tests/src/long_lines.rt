@@ -1,6 +1,7 @@
 //! Lines that cross the pieces in which an input is read, and lines that nest deeply.
 
 use crate::devices::{RUN, report_of_run, reports};
+use std::alloc::{AllocError, Global};
 use std::test::Fail;
 
 /// The number of bytes of an input that are read at once.
@@ -21,22 +22,37 @@ fn pieces_end_at_each_byte_of_a_run(rt: HostRuntime) -> Result<(), Fail> {
     Ok(())
 }
 
+/// Returns the run of a test with a message of this number of times 50,000 bytes.
+fn run_with_message(alloc: Global, times: usize) -> Result<String, AllocError> {
+    let mut run = String::from_str(
+        alloc,
+        r#"{"type":"suite","event":"started","test_count":1}
+{"type":"test","event":"started","name":"a"}
+{"type":"test","event":"failed","name":"a","message":""#,
+    )?;
+    let part = format!(in alloc; "{:y>50000}", "")?;
+    for _part in 0..times {
+        run.push_str(part.as_str())?;
+    }
+    run.push_str("\"}\n{\"type\":\"suite\",\"event\":\"failed\"}")?;
+    Ok(run)
+}
+
 #[test]
 fn a_line_of_many_pieces_is_shown_up_to_the_limit(rt: HostRuntime) -> Result<(), Fail> {
-    let input = format!(in rt.alloc();
-        r#"{{"type":"suite","event":"started","test_count":1}}
-{{"type":"test","event":"started","name":"a"}}
-{{"type":"test","event":"failed","name":"a","message":"{:y>50000}"}}
-{{"type":"suite","event":"failed"}}"#,
-        ""
-    )?;
-    let report = format!(in rt.alloc();
-        "FAIL suite 1 a\n    {:y>4096}\n    (45904 more bytes)\n------------\n     \
-         Summary 1 tests run: 0 passed (0 flaky), 1 failed (0 timed out, 0 crashed), 0 skipped, 0 not run\n        \
-         FAIL suite 1 a: {:y>4096}\noutcome failed\n",
-        "", ""
-    )?;
-    assert!(rt; reports(rt.alloc(), input.as_bytes(), report.as_str()));
+    for (times, more) in [(1, 45_904), (100, 4_995_904)] {
+        let input = run_with_message(rt.alloc(), times)?;
+        let report = format!(in rt.alloc();
+            "FAIL suite 1 a\n    {:y>4096}\n    ({more} more bytes)\n------------\n     \
+             Summary 1 tests run: 0 passed (0 flaky), 1 failed (0 timed out, 0 crashed), 0 skipped, 0 not run\n        \
+             FAIL suite 1 a: {:y>4096}\noutcome failed\n",
+            "", ""
+        )?;
+        assert!(rt;
+            reports(rt.alloc(), input.as_bytes(), report.as_str()),
+            "{times} times"
+        );
+    }
     Ok(())
 }
 
@@ -45,9 +61,9 @@ fn lines_nest_at_most_127_deep(rt: HostRuntime) -> Result<(), Fail> {
     let event = "suite 1 ended early\nsuite 1: 3 of 3 tests were not run\n------------\n     \
          Summary 0 tests run: 0 passed (0 flaky), 0 failed (0 timed out, 0 crashed), 0 skipped, 3 not run\n\
          outcome failed\n";
-    let print = "------------\n     \
+    let print = "no line of the input is of a test run\n------------\n     \
          Summary 0 tests run: 0 passed (0 flaky), 0 failed (0 timed out, 0 crashed), 0 skipped, 0 not run\n\
-         outcome no-tests-run\n";
+         outcome failed\n";
     // The object itself is one level.
     for (arrays, report) in [(1, event), (126, event), (127, print), (50_000, print)] {
         let input = format!(in rt.alloc();

@@ -1,21 +1,24 @@
 -- The run of a report is that of files, of which the laws of runs speak.
-use Rattle.std.proofs.Common.{◌≡◌, ◌∙◌, ◌++◌, List, [], ◌∷◌, ap, refl, subst}
-use Rattle.std.specs.List.{AllZip}
+use Rattle.std.proofs.Common.{◌≡◌, ◌∙◌, ◌++◌, ℕ, List, [], ◌∷◌, ap, map, refl, subst, sym}
+use Rattle.std.proofs.lemmas.List.Sums.{fold-append}
+use Rattle.std.specs.List.{AllZip, flat_map}
 use Rattle.test_report_events.specs.Event.{EventView}
 use Rattle.test_report_forms.specs.Entry.{IsEntryOf}
-use Rattle.test_report_run.specs.Run.{RunState, after, after_file, end_of, file_notes, notes_at, run_start}
+use Rattle.test_report_run.specs.Run.{RunState, after, after_file, end_of, file_notes, run_start}
+use Rattle.test_report_run.proofs.Lines.{notes-append}
 use Rattle.test_report_laws.specs.Whole as whole
-use Rattle.test_report_laws.specs.Report.{OneRun}
+use Rattle.test_report_laws.specs.Report.{HasEvents, OneRun}
+use Rattle.test_report_engine.specs.Lines.{AreEventsOf}
 use Rattle.test_report_engine.specs.Report.{after_end, after_line, end_notes, line_notes, notes_of, notes_of_input, notes_of_inputs, run_after, run_after_input, run_after_inputs}
 
 -- a line, and the end of an input
-same-line : (r : RunState) (e : EventView) → line_notes r e ≡ notes_at r e
+same-line : (r : RunState) (line : List EventView) → line_notes r line ≡ whole.notes_of r line
 unfolding line_notes
-same-line r e = refl
+same-line r line = refl
 
-same-after : (r : RunState) (e : EventView) → after_line r e ≡ after r e
+same-after : (r : RunState) (line : List EventView) → after_line r line ≡ whole.run_after r line
 unfolding after_line
-same-after r e = refl
+same-after r line = refl
 
 same-end : (r : RunState) → end_notes r ≡ file_notes r
 unfolding end_notes
@@ -25,44 +28,59 @@ same-after_end : (r : RunState) → after_end r ≡ after_file r
 unfolding after_end
 same-after_end r = refl
 
--- lines
-lines-run : (r : RunState) (events : List EventView) → run_after r events ≡ whole.run_after r events
-lines-run r [] = refl
-lines-run r (e ∷ events) = ap (λ s. run_after s events) (same-after r e) ∙ lines-run (after r e) events
+-- the events of lines, one after the other
+abbrev in-order : List (List EventView) → List EventView
+in-order lines = flat_map (λ line. line) lines
 
-lines-notes : (r : RunState) (events : List EventView) → notes_of r events ≡ whole.notes_of r events
+-- lines
+lines-run : (r : RunState) (lines : List (List EventView)) → run_after r lines ≡ whole.run_after r (in-order lines)
+lines-run r [] = refl
+lines-run r (line ∷ lines) =
+    ap (λ s. run_after s lines) (same-after r line) ∙ lines-run (whole.run_after r line) lines ∙ sym (fold-append after r line (in-order lines))
+
+lines-notes : (r : RunState) (lines : List (List EventView)) → notes_of r lines ≡ whole.notes_of r (in-order lines)
 lines-notes r [] = refl
-lines-notes r (e ∷ events) =
-    ap (λ ns. ns ++ notes_of (after_line r e) events) (same-line r e)
-    ∙ ap (λ s. notes_at r e ++ notes_of s events) (same-after r e)
-    ∙ ap (λ ns. notes_at r e ++ ns) (lines-notes (after r e) events)
+lines-notes r (line ∷ lines) =
+    ap (λ ns. ns ++ notes_of (after_line r line) lines) (same-line r line)
+    ∙ ap (λ s. whole.notes_of r line ++ notes_of s lines) (same-after r line)
+    ∙ ap (λ ns. whole.notes_of r line ++ ns) (lines-notes (whole.run_after r line) lines)
+    ∙ sym (notes-append r line (in-order lines))
 
 -- an input
-input-run : (r : RunState) (events : List EventView) → run_after_input r events ≡ whole.run_after_file r events
-input-run r events = same-after_end (run_after r events) ∙ ap after_file (lines-run r events)
+input-run : (r : RunState) (lines : List (List EventView)) → run_after_input r lines ≡ whole.run_after_file r (in-order lines)
+input-run r lines = same-after_end (run_after r lines) ∙ ap after_file (lines-run r lines)
 
-input-notes : (r : RunState) (events : List EventView) → notes_of_input r events ≡ whole.notes_of_file r events
-input-notes r events =
-    ap (λ ns. ns ++ end_notes (run_after r events)) (lines-notes r events)
-    ∙ ap (λ ns. whole.notes_of r events ++ ns) (same-end (run_after r events) ∙ ap file_notes (lines-run r events))
+input-notes : (r : RunState) (lines : List (List EventView)) → notes_of_input r lines ≡ whole.notes_of_file r (in-order lines)
+input-notes r lines =
+    ap (λ ns. ns ++ end_notes (run_after r lines)) (lines-notes r lines)
+    ∙ ap (λ ns. whole.notes_of r (in-order lines) ++ ns) (same-end (run_after r lines) ∙ ap file_notes (lines-run r lines))
 
 -- inputs
-inputs-run : (r : RunState) (files : List (List EventView)) → run_after_inputs r files ≡ whole.run_after_files r files
+inputs-run : (r : RunState) (inputs : List (List (List EventView))) → run_after_inputs r inputs ≡ whole.run_after_files r (map in-order inputs)
 inputs-run r [] = refl
-inputs-run r (file ∷ files) = ap (λ s. run_after_inputs s files) (input-run r file) ∙ inputs-run (whole.run_after_file r file) files
+inputs-run r (lines ∷ inputs) =
+    ap (λ s. run_after_inputs s inputs) (input-run r lines) ∙ inputs-run (whole.run_after_file r (in-order lines)) inputs
 
-inputs-notes : (r : RunState) (files : List (List EventView)) → notes_of_inputs r files ≡ whole.notes_of_files r files
+inputs-notes : (r : RunState) (inputs : List (List (List EventView))) → notes_of_inputs r inputs ≡ whole.notes_of_files r (map in-order inputs)
 inputs-notes r [] = refl
-inputs-notes r (file ∷ files) =
-    ap (λ ns. ns ++ notes_of_inputs (run_after_input r file) files) (input-notes r file)
-    ∙ ap (λ s. whole.notes_of_file r file ++ notes_of_inputs s files) (input-run r file)
-    ∙ ap (λ ns. whole.notes_of_file r file ++ ns) (inputs-notes (whole.run_after_file r file) files)
+inputs-notes r (lines ∷ inputs) =
+    let file = in-order lines in
+    ap (λ ns. ns ++ notes_of_inputs (run_after_input r lines) inputs) (input-notes r lines)
+    ∙ ap (λ s. whole.notes_of_file r file ++ notes_of_inputs s inputs) (input-run r lines)
+    ∙ ap (λ ns. whole.notes_of_file r file ++ ns) (inputs-notes (whole.run_after_file r file) inputs)
+
+have-events : (inputs : List (List ℕ)) (events : List (List (List EventView))) → AllZip AreEventsOf inputs events
+    → AllZip HasEvents inputs (map in-order events)
+have-events [] [] say = tt
+have-events [] (lines ∷ events) say = absurd say
+have-events (input ∷ inputs) [] say = absurd say
+have-events (input ∷ inputs) (lines ∷ events) say = (record { lines = lines; say = say.0; are = refl }, have-events inputs events say.1)
 
 pub one-run : OneRun
 one-run inputs entries run are = (
-  are.events,
+  map in-order are.events,
   record {
-    say = are.say;
+    say = have-events inputs are.events are.say;
     are = subst (λ ns. AllZip IsEntryOf ns entries) (inputs-notes run_start are.events) are.are;
     end_is = ap end_of (are.run_is ∙ inputs-run run_start are.events);
   },

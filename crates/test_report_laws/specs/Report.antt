@@ -1,6 +1,6 @@
 -- Laws of reports.
 use Rattle.std.specs.Prelude.{◌≡◌, ◌<◌, ◌⊎◌, [], ℕ, Bool, true, false, Contains, IfSome, IsTrue, List, Some, codes}
-use Rattle.std.specs.List.{AllZip}
+use Rattle.std.specs.List.{AllZip, flat_map}
 use Rattle.template.specs.Hole.{hole_text}
 use Rattle.template.specs.Shows.{HasPart}
 use Rattle.template.specs.declared.hole.Hole.TheVariants as hole
@@ -36,9 +36,15 @@ OneReport = (line : EntryView → List ℕ) → (last : List EntryView → RunEn
 
 -- The run of a report is a run of which the laws of the module `run` speak.
 
+-- an input has these events: those of its lines, one after the other
+pub record HasEvents (input : List ℕ) (events : List EventView) : Type 0 where
+  pub lines : List (List EventView)
+  pub say : AreEventsOf input lines
+  pub are : events ≡ flat_map (λ line. line) lines
+
 -- these files have the events of inputs, these entries are of what they make known, and this is their end
 pub record AreFilesOf (inputs : List (List ℕ)) (entries : List EntryView) (end : RunEnd) (files : List (List EventView)) : Type 0 where
-  pub say : AllZip AreEventsOf inputs files
+  pub say : AllZip HasEvents inputs files
   pub are : AllZip IsEntryOf (all_notes files) entries
   pub end_is : end ≡ whole_end files
 

@@ -6,7 +6,7 @@ ghost use Rattle.test_report_laws.specs.Report.{FailureHasReason, FilesNameReaso
 pub fn one_report()
     ensures { OneReport }
 {
-    test_report_events::laws::one_event_of_line();
+    test_report_events::laws::one_reading_of_line();
     test_report_forms::laws::one_entry();
 }
 

@@ -96,9 +96,14 @@ fn junit() {
     );
 }
 
+/// A suite without tests.
+const NO_TESTS: &str = r#"{ "type": "suite", "event": "started", "test_count": 0 }
+{ "type": "suite", "event": "ok", "passed": 0, "failed": 0 }
+"#;
+
 #[test]
 fn junit_of_no_tests() {
-    let text = report(&["--format", "junit"], "", 1);
+    let text = report(&["--format", "junit"], NO_TESTS, 1);
     assert!(
         text.contains(r#"<error message="no test ran" type="no tests">"#),
         "{text}"
@@ -107,7 +112,7 @@ fn junit_of_no_tests() {
         text.contains(r#"tests="1" failures="0" errors="1""#),
         "{text}"
     );
-    let text = report(&["--format", "junit", "--no-tests", "pass"], "", 0);
+    let text = report(&["--format", "junit", "--no-tests", "pass"], NO_TESTS, 0);
     assert!(
         text.contains(r#"tests="0" failures="0" errors="0""#),
         "{text}"

@@ -2,8 +2,8 @@
 
 ghost use Rattle.std.specs.Prelude.{◌≡◌, ◌↔◌, ◌∷◌, [], false, IfOk, IfSome, IsTrue, List};
 ghost use Rattle.std.specs.List.{AllZip};
-ghost use Rattle.test_report_engine.specs.Lines.{AreEventsOf};
 ghost use Rattle.test_report_events.specs.Event.{EventView};
+ghost use Rattle.test_report_laws.specs.Report.{HasEvents};
 ghost use Rattle.test_report_laws.specs.Status.{IsInOrder, Succeeds};
 ghost use Rattle.test_report_laws.specs.Whole.{whole_end};
 
@@ -28,7 +28,7 @@ pub fn succeeds_in_order<R: Source, W: Sink>(
     requires source_works { R.failed source.old ≡ false }
     requires sink_works { W.failed sink.old ≡ false }
     ensures in_order { IfOk result (λ success. IfSome (R.left source.old) (λ input.
-        (files : List (List EventView)) × AllZip AreEventsOf (input ∷ []) files
+        (files : List (List EventView)) × AllZip HasEvents (input ∷ []) files
         × (IsTrue success ↔ Succeeds (whole_end files)) × (IsTrue success → IsInOrder files))) }
 {
     success_means();

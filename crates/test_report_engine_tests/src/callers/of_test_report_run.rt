@@ -4,7 +4,7 @@ ghost use Rattle.std.specs.Prelude.{◌≡◌, IfOk, List, map};
 ghost use Rattle.std.specs.List.{AllZip, fold};
 ghost use Rattle.test_report_events.specs.Event.{EventView};
 ghost use Rattle.test_report_events.specs.Line.{LineSays};
-ghost use Rattle.test_report_run.specs.Run.{after, after_file, end_of, run_start};
+ghost use Rattle.test_report_run.specs.Run.{after_file, end_of, run_after, run_start};
 
 use std::alloc::Global;
 use test_report_events::line::Line;
@@ -14,14 +14,14 @@ use test_report_run::run::TestRun;
 
 /// Returns the sums and the outcome of a run that is one file with these lines.
 pub fn end_of_lines(alloc: Global, lines: &[&[u8]]) -> Result<RunEnd, RunError>
-    ensures { IfOk result (λ end. (events : List EventView)
+    ensures { IfOk result (λ end. (events : List (List EventView))
         × AllZip LineSays (map (λ line. line.now) lines.now) events
-        × (end ≡ end_of (after_file (fold after run_start events)))) }
+        × (end ≡ end_of (after_file (fold run_after run_start events)))) }
 {
     let mut run = TestRun::new(alloc);
     for bytes in lines {
         let line = Line::read(alloc, bytes)?;
-        run.on_event(alloc, line.event())?;
+        run.on_line(alloc, &line)?;
     }
     run.end_file(alloc)?;
     Ok(run.end())

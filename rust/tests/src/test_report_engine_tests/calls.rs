@@ -31,7 +31,7 @@ fn report_by_calls() -> Result<String, Fault> {
     let mut text = String::new();
     for bytes in RUN.lines() {
         let line = Line::read(bytes.as_bytes());
-        let notes = run.on_event(line.event())?;
+        let notes = run.on_line(&line)?;
         push_notes(notes.as_slice(), &mut form, &mut text)?;
     }
     let notes = run.end_file()?;
@@ -95,19 +95,21 @@ fn lines_are_events() -> Result<(), Box<dyn std::error::Error>> {
             "     Running unittests src/lib.rs (target/debug/deps/a-0123456789abcdef)",
             Event::Heading {
                 suite: "a (unittests src/lib.rs)",
+                path: Some("target/debug/deps/a-0123456789abcdef"),
             },
         ),
         (
             "   Doc-tests a",
             Event::Heading {
                 suite: "a (doc tests)",
+                path: None,
             },
         ),
         (
             " a print\r",
             Event::Print {
                 line: " a print",
-                plain: "a print",
+                plain: " a print",
             },
         ),
     ];
@@ -115,6 +117,26 @@ fn lines_are_events() -> Result<(), Box<dyn std::error::Error>> {
         let line = Line::read(bytes.as_bytes());
         assert!(line.event() == wanted, "{bytes}");
     }
+    Ok(())
+}
+
+#[test]
+fn lines_have_several_events() -> Result<(), Box<dyn std::error::Error>> {
+    let printed = "printed     Running unittests src/lib.rs (target/debug/deps/a-0123456789abcdef)";
+    let heading = Line::read(printed.as_bytes());
+    let before = Event::Print {
+        line: "printed",
+        plain: "printed",
+    };
+    assert!(heading.before() == Some(before) && heading.damage().is_none());
+    assert!(matches!(heading.event(), Event::Heading { .. }));
+    let two = r#"{"type":"test","event":"failed","name":"a"}{"type":"test","event":"started","name":"b"}"#;
+    let started = Line::read(two.as_bytes());
+    let damage = Event::Damaged {
+        text: r#"{"type":"test","event":"failed","name":"a"}"#,
+    };
+    assert!(started.before().is_none() && started.damage() == Some(damage));
+    assert!(started.event() == Event::TestStarted { name: "b" });
     Ok(())
 }
 

@@ -5,10 +5,10 @@ use crate::test_report_engine_tests::devices::{OPTIONS, RUN, report_of_run, repo
 use deodarsieve_cli::program_io::memory_device::{MemorySink, MemorySource};
 use deodarsieve_cli::test_report_forms::text::TextForm;
 
-/// The report of no line.
-const NOTHING: &str = "------------\n     \
+/// The report of no event.
+const NOTHING: &str = "no line of the input is of a test run\n------------\n     \
      Summary 0 tests run: 0 passed (0 flaky), 0 failed (0 timed out, 0 crashed), 0 skipped, 0 not run\n\
-     outcome no-tests-run\n";
+     outcome failed\n";
 
 /// The report of the first line of [`RUN`]: no test runs, and nothing says that the suite ended.
 const STARTED: &str = "suite 1 ended early\nsuite 1: 2 of 2 tests were not run\n------------\n     \
@@ -23,21 +23,34 @@ const CRASHED: [&str; 2] = [
      CRASH suite 1 a: its process ended before it did\noutcome failed\n",
 ];
 
-/// The report of the first three lines of [`RUN`].
-const FAILED: &str = "FAIL suite 1 a\n    why\n\
-     suite 1 ended early\nsuite 1: 1 of 2 tests were not run\n------------\n     \
+/// The report of the first three lines of [`RUN`], before and after the next line.
+const FAILED: [&str; 2] = [
+    "FAIL suite 1 a\n    why\n",
+    "suite 1 ended early\nsuite 1: 1 of 2 tests were not run\n------------\n     \
      Summary 1 tests run: 0 passed (0 flaky), 1 failed (0 timed out, 0 crashed), 0 skipped, 1 not run\n        \
-     FAIL suite 1 a: why\noutcome failed\n";
+     FAIL suite 1 a: why\noutcome failed\n",
+];
 
 /// Returns the report of the first lines of [`RUN`], followed by a piece of the next line.
 fn report_of(lines: usize, piece: &str) -> String {
+    let damage = damage_of(piece);
     match lines {
         0 => String::from(NOTHING),
         1 => String::from(STARTED),
         2 if piece.is_empty() => format!("{}{}", CRASHED[0], CRASHED[1]),
-        2 => format!("{}    {piece}\n{}", CRASHED[0], CRASHED[1]),
-        3 => String::from(FAILED),
+        2 => format!("{damage}{}    {piece}\n{}", CRASHED[0], CRASHED[1]),
+        3 => format!("{}{damage}{}", FAILED[0], FAILED[1]),
         _ => report_of_run(),
+    }
+}
+
+/// Returns the line of the report about a piece of a line of [`RUN`] that says that a test or a suite failed,
+/// or nothing if it does not.
+fn damage_of(piece: &str) -> String {
+    if piece.contains(r#""event":"failed""#) {
+        format!("a damaged line says that a test or a suite failed: {piece}\n")
+    } else {
+        String::new()
     }
 }
 

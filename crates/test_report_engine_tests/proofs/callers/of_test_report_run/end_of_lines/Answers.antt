@@ -1,9 +1,7 @@
-use Rattle.std.proofs.Common.{◌∙◌, ap}
-use Rattle.test_report_run.specs.Run.{after, run_state}
 use Rattle.test_report_engine_tests.proofs.EndOfLines.{run-more}
 use Rattle.test_report_engine_tests.proofs.callers.of_test_report_run.end_of_lines.Goals as goal
 
 pub loop-bytes-preserved : goal.loop-bytes-preserved
 loop-bytes-preserved c =
     run-more c.args.lines.now c.loop-bytes.bytes-index _ _ _ _ c.loop-bytes-test.true c.loop-bytes.invariant c.in_ok-line.ensures.says
-    (c.in_ok-on_event.ensures.takes ∙ ap (after (run_state c.loop-bytes.run)) c.event.ensures)
+    c.in_ok-on_line.ensures.takes
