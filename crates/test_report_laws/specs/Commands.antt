@@ -45,7 +45,8 @@ pub record IsCommand (line : List ℕ) : Type 0 where
   pub is_name : Contains command_names name
   pub are_properties : All IsProperty properties
 
--- Each line that the form for GitHub writes of the entries of notes and at the end is a command. After the end of the last line is nothing.
+-- Each line that the form for GitHub writes of the entries of notes and at the end is a command, and nothing is after the last one. The lines are
+-- divided at each end of a line, so no message has one.
 abbrev pub OnlyCommands : Type 0
 OnlyCommands = (limit : ℕ) (entries : List EntryView) (end : RunEnd) → All (λ e. (n : NoteView) × IsEntryOf n e) entries
     → (commands : List (List ℕ)) × All IsCommand commands
