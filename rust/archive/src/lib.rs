@@ -4,7 +4,7 @@
 //! [`values`] convert the types of the crate to codes and structs. Nothing is converted back: two
 //! results are compared as the structs of C.
 
-pub mod codes;
 mod c_values;
+pub mod codes;
 pub mod sys;
 pub mod values;

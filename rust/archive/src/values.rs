@@ -1,7 +1,7 @@
 //! The values of the crate as structs of C.
 
-use crate::codes::{FLAKY_RESULTS, STORES, code_of};
 use crate::c_values::values::{written_final, written_stats};
+use crate::codes::{FLAKY_RESULTS, STORES, code_of};
 use crate::sys;
 use deodarsieve::counted::HeadSpan;
 use deodarsieve::{

@@ -10,7 +10,7 @@ use std::path::{Path, PathBuf};
 /// Returns the stored runs of this package and, inside the repository, of its examples.
 fn stored_runs() -> Vec<PathBuf> {
     let package = Path::new(env!("CARGO_MANIFEST_DIR"));
-    ["tests/samples", "../../examples/test-report"]
+    ["tests/samples/test-report", "../../examples/test-report"]
         .iter()
         .filter_map(|folder| fs::read_dir(package.join(folder)).ok())
         .flatten()

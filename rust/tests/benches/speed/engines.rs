@@ -181,6 +181,7 @@ fn junit_and_html() -> FileForms {
         junit: Some(JunitForm::new(OPTIONS)),
         html: Some(HtmlForm::new(OPTIONS)),
         markdown: None,
+        json: None,
     }
 }
 

@@ -11,6 +11,6 @@ returns-in-SuiteStarted c = record {
     option_to_list (before_of c.in_ok-line.line),
     option_to_list (damage_of c.in_ok-line.line),
     subst (λ e. LineSays c.args.bytes.now (option_to_list (before_of c.in_ok-line.line) ++ e ∷ option_to_list (damage_of c.in_ok-line.line)))
-    (sym c.in-SuiteStarted.ensures) c.in_ok-line.ensures.says,
+        (sym c.in-SuiteStarted.ensures) c.in_ok-line.ensures.says,
   );
 }
