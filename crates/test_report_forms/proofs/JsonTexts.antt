@@ -1,11 +1,11 @@
 -- Objects and lists of JSON as text, and the marks of commands in it.
-use Rattle.std.proofs.Common.{◌≡◌, ◌∙◌, refl, sym, ap, ℕ, zero, suc, ◌+◌, ◌<◌, ◌==◌, ◌&&◌, ◌||◌, Bool, Bor, Option, Some, None, unwrap_or, true, false, cond, not, arith, List, [], ◌∷◌, ◌++◌, codes, map, length, take, drop, if◌then◌else◌, append_assoc, append-nil}
+use Rattle.std.proofs.Common.{◌≡◌, ◌∙◌, refl, sym, ap, ℕ, suc, ◌+◌, ◌<◌, ◌==◌, ◌||◌, Bool, Bor, Option, Some, None, unwrap_or, true, false, cond, not, arith, List, [], ◌∷◌, ◌++◌, map, length, take, drop, if◌then◌else◌, append_assoc, append-nil}
 use Rattle.std.proofs.lemmas.Bool.{eqb-true}
 use Rattle.std.proofs.lemmas.Bool.Decides.{nat_tests}
 use Rattle.std.specs.Option.{MatchOption}
 use Rattle.std.proofs.lemmas.Grind.{flat_map-append, fold-append}
 use Rattle.std.proofs.lemmas.Str.Pattern.{IsSplitOnceResult, split_once_first}
-use Rattle.std.specs.List.{flat_map, fold, position_or_len}
+use Rattle.std.specs.List.{fold, position_or_len}
 use Rattle.json.specs.Json.{Json, Items, Members, array, boolean, item, member, no_items, no_members, null, number, object, string}
 use Rattle.json.specs.Token.{Token}
 use Rattle.json.specs.Print.{ends, escape, escape_byte, print_from, quoted}

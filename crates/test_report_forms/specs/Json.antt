@@ -5,7 +5,7 @@ use Rattle.std.specs.Option.{option_map_or}
 use Rattle.json.specs.Json.{Json}
 use Rattle.test_report_forms.specs.Entry.{EntryView, LinesDisagree, SuiteNotRun, SuiteOver, TestFailed, TestPassed, TestSkipped}
 use Rattle.test_report_forms.specs.JsonText.{hidden, json_text}
-use Rattle.test_report_forms.specs.JsonValues.{failed_json, open_suite_json, problem_json, report_json, result_word, suite_json, test_json}
+use Rattle.test_report_forms.specs.JsonValues.{failed_json, open_suite_json, problem_json, report_json, suite_json, test_json}
 use Rattle.test_report_forms.specs.Model.{CauseView, cause_of_entry}
 use Rattle.test_report_forms.specs.Suites.{SuiteOf, added_to, map_cases, open_of, suite_over, without_first}
 use Rattle.test_report_forms.specs.declared.json_form.JsonForm.{JsonForm}

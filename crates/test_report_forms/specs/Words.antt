@@ -1,5 +1,5 @@
 -- The words for results, outcomes, causes and numbers.
-use Rattle.std.specs.Prelude.{ℕ, List, Bool, ◌++◌, ◌∷◌, [], ◌-◌, codes, if◌then◌else◌, None, Option, Some}
+use Rattle.std.specs.Prelude.{ℕ, List, Bool, ◌++◌, ◌∷◌, codes, if◌then◌else◌, None, Option, Some}
 use Rattle.std.specs.Fmt.{decimal}
 use Rattle.std.specs.Str.{bytes_eq}
 use Rattle.run_events_stats.specs.declared.outcome.run_outcome.RunOutcome.{RunOutcome}

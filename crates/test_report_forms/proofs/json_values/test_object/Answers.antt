@@ -1,4 +1,4 @@
-use Rattle.std.proofs.Common.{◌∙◌, ◌++◌, List, Option, ap, codes, string_bytes, ℕ}
+use Rattle.std.proofs.Common.{◌∙◌, ◌++◌, List, Option, ap, codes, ℕ}
 use Rattle.test_report_forms.specs.JsonText.{Member, more_members}
 use Rattle.test_report_forms.specs.JsonValues.{number_member, test_members, text_member, time_member}
 use Rattle.test_report_forms.specs.Title.{title_name}
