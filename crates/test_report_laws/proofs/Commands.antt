@@ -18,7 +18,7 @@ use Rattle.test_report_laws.proofs.CleanLines.{CleanLine, digits-lack, fewer}
 use Rattle.test_report_laws.proofs.CleanWords.{clean-outcome, clean-summary}
 use Rattle.test_report_laws.proofs.Lines.{IsWritten, blocks-lines, bytes-lack, has-blocks, in-one-line}
 use Rattle.test_report_laws.proofs.Numerals.{HasNumbers, IsColumn, IsNumber, IsNumbered, entry-numbers}
-use Rattle.test_report_laws.specs.Commands.{IsCommand, IsProperty, OnlyCommands, ends_value, command_names, is_line_end, written}
+use Rattle.test_report_laws.specs.Commands.{IsCommand, IsProperty, OnlyCommands, ends_value, command_names, is_line_end}
 use Rattle.test_report_laws.specs.Forms.{is_unseen}
 use Rattle.test_report_laws.specs.Lines.{Block, GithubNamesCauses, IsInLine, github_block, notice}
 use Rattle.test_report_run.specs.Note.{NoteView, TestNoteView}

@@ -1,8 +1,8 @@
 -- A file of a run in which nothing is wrong has an event of a harness.
-use Rattle.std.proofs.Common.{◌≡◌, ◌∙◌, ℕ, List, [], ◌∷◌, ◌++◌, ◌+◌, ◌<◌, Bool, true, false, ap, append_assoc, arith, cond, inl, inr, length, nat_lt, not, refl, sym}
+use Rattle.std.proofs.Common.{◌≡◌, ◌∙◌, ℕ, List, [], ◌∷◌, ◌++◌, ◌<◌, Bool, true, false, ap, append_assoc, arith, cond, inl, inr, nat_lt, not, refl, sym}
 use Rattle.std.specs.List.{All, count_by, fold, sum_by}
-use Rattle.std.specs.Prelude.{◌==◌, ◌&&◌, if◌then◌else◌}
-use Rattle.std.proofs.lemmas.Bool.{cases_lt, cond_both}
+use Rattle.std.specs.Prelude.{◌&&◌, if◌then◌else◌}
+use Rattle.std.proofs.lemmas.Bool.{cases_lt}
 use Rattle.std.proofs.lemmas.Bool.Decides.{nat_tests}
 use Rattle.std.proofs.lemmas.List.Elements.{All-cons, All-nil}
 use Rattle.std.proofs.lemmas.List.Sums.{sum_by-append, sum_by-cons}
@@ -16,7 +16,7 @@ use Rattle.test_report_laws.specs.Run.{IsClean, NoEventShows, events_in, is_even
 use Rattle.test_report_laws.specs.Status.{IsFileEndOf}
 use Rattle.test_report_run.specs.Note.{Disagrees, HasNoEvent}
 use Rattle.test_report_run.specs.Run.{RunState, Step, after, all_ended_early, ended_early, file_notes, is_cause, no_event_notes, run_start, step}
-use Rattle.test_report_run.specs.Suite.{SuiteState, outside_start}
+use Rattle.test_report_run.specs.Suite.{SuiteState}
 use Rattle.test_report_laws.specs.Whole.{all_notes, notes_of, run_after, run_after_file, run_after_files}
 
 -- lines that are no events of a harness

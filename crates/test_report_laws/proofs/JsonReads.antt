@@ -1,11 +1,11 @@
 -- A text of JSON in which commands are hidden reads as the same value.
-use Rattle.std.proofs.Common.{◌≡◌, ◌∙◌, ◌==◌, ◌||◌, ◌&&◌, ◌+◌, ◌<◌, ◌≤◌, ◌⊎◌, inl, inr, refl, sym, ap, ap₂, subst, arith, ℕ, zero, suc, Bool, true, false, cond, List, [], ◌∷◌, ◌++◌, Some, option_and_then, append_assoc, append-nil}
-use Rattle.std.proofs.lemmas.Bool.{cases_eq, cases_lt, eqb-true, ne_eqb, le-ltb}
+use Rattle.std.proofs.Common.{◌≡◌, ◌∙◌, ◌&&◌, ◌<◌, ◌≤◌, ◌⊎◌, inl, inr, refl, sym, ap, ap₂, subst, arith, ℕ, zero, suc, Bool, true, false, cond, List, [], ◌∷◌, ◌++◌, Some, option_and_then, append_assoc, append-nil}
+use Rattle.std.proofs.lemmas.Bool.{cases_eq, cases_lt, ne_eqb, le-ltb}
 use Rattle.std.specs.Prelude.{⊤}
 use lib.Utf8.{encode}
-use Rattle.json.specs.Json.{Items, Json, Members, array, boolean, document, if_last, item, max_depth, member, no_items, no_members, null, number, object, string, value}
+use Rattle.json.specs.Json.{Items, Json, Members, array, boolean, if_last, item, max_depth, member, no_items, no_members, null, number, object, string, value}
 use Rattle.json.specs.Lex.{Lexeme, Mode, between, colon, comma, fresh, in_string, lex, lex_byte, operator, other as other_class, punctuate, space, string_token, token, tokens}
-use Rattle.json.specs.Print.{ArePrintable, IsNumber, begins, ends, escape, escape_byte, print, print_from, quoted, separator, token_text}
+use Rattle.json.specs.Print.{IsNumber, begins, ends, escape, escape_byte, print_from, quoted, token_text}
 use Rattle.json.specs.Text.{code_unit, content, plain, prepend, short_escape}
 use Rattle.json.specs.Token.{Token}
 use Rattle.json.specs.Tree.{HasNumbers, ItemsHaveNumbers, MembersHaveNumbers, depth, items_tokens, json_tokens, members_tokens}
@@ -15,7 +15,7 @@ use Rattle.json.proofs.Printed.Strings.{content-escape, escape_byte_plain, lex-e
 use Rattle.json.proofs.Printed.Tokens.{tokens-print}
 use Rattle.json.proofs.Printed.Trees.{ArePrintable-json_tokens, value-json_tokens}
 use Rattle.test_report_forms.specs.JsonText.{hidden, is_command, json_text}
-use Rattle.serde_json.specs.Read.{max_depth as read_depth, of_json, read}
+use Rattle.serde_json.specs.Read.{max_depth as read_depth, of_json}
 use Rattle.test_report_forms.specs.Json.{json_line, json_of, json_written}
 use Rattle.test_report_laws.proofs.JsonHidden.{hash-hidden, hash-kept, other}
 use Rattle.test_report_laws.specs.Json.{HasNoHash, IsPlainValue, ItemsArePlain, JsonReadsBack, MembersArePlain}

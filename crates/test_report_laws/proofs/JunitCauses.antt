@@ -15,8 +15,8 @@ use Rattle.template.specs.Laws.{ShowsValues}
 use Rattle.template.specs.Parse.{parse}
 use Rattle.template.specs.Shown.{shown}
 use Rattle.template.specs.Shows.{HasPart, items_at, parts_show}
-use Rattle.template.specs.Template.{Values, items_of, parts_text, text_of, values_of}
-use Rattle.template.specs.Tree.{AttributeView, TreeView}
+use Rattle.template.specs.Template.{Values, parts_text, text_of}
+use Rattle.template.specs.Tree.{TreeView}
 use Rattle.template.specs.declared.hole.Hole.TheVariants as hole
 use Rattle.test_report_laws.proofs.Parts.{KeptHas, OneHas, all-weaker-named, in-left, in-right, one-last, some-weaker}
 use Rattle.test_report_forms.proofs.JunitElements.{item, run_item, run_suites, suite_cases, suite_item}
@@ -27,7 +27,7 @@ use Rattle.test_report_forms.specs.JunitSuite.{SuiteView, counts_of}
 use Rattle.test_report_forms.specs.Suites.{added_to, is_named, new_suite, or_new, same_name, suite_over, with_case, without_first}
 use Rattle.test_report_forms.specs.JunitTree.{IsCaseElement, IsRunElement, IsSuiteElement, sums_attributes, time_attribute}
 use Rattle.test_report_forms.specs.Model.{CauseView, cause_of_entry, no_tests_ran, suite_name}
-use Rattle.test_report_laws.specs.Junit.{HasElement, HasJunitCase, HasJunitCases, JunitCause, JunitNamesCauses, JunitReadsBack, JunitSaysNoTests, failed_cause, junit_cause, no_test_cause, other_cause}
+use Rattle.test_report_laws.specs.Junit.{HasElement, HasJunitCase, JunitCause, JunitNamesCauses, JunitReadsBack, JunitSaysNoTests, failed_cause, junit_cause, no_test_cause, other_cause}
 use Rattle.test_report_forms.specs.declared.options.Options.{Options}
 use Rattle.test_report_run.specs.declared.note.RunEnd.{RunEnd}
 

@@ -12,11 +12,10 @@ use Rattle.output_slice.specs.declared.panic_head.HeadSpan.{HeadSpan}
 use Rattle.template.proofs.Characters.{chars-encode}
 use Rattle.template.proofs.Lacks.{Lacks, both, lacks-escape, none, one-char, visible}
 use Rattle.template.specs.Shown.{escape, is_escaped}
-use Rattle.test_report_forms.specs.Entry.{EntryView, IsEntryOf, IsTestEntry, LinesDisagree, SuiteNotRun, SuiteOver, TestFailed, TestPassed, TestSkipped}
+use Rattle.test_report_forms.specs.Entry.{EntryView, IsEntryOf, IsTestEntry, TestFailed}
 use Rattle.test_report_forms.specs.Place.{first_line}
 use Rattle.test_report_forms.specs.Shown.{front, shown_text, text_char}
 use Rattle.test_report_forms.specs.Why.{IsShort, first_part, short_of, with_next}
-use Rattle.test_report_forms.specs.declared.entry.Entry.{Entry}
 use Rattle.test_report_forms.specs.declared.entry.Entry.TheVariants as entry
 use Rattle.test_report_laws.proofs.Lines.{in-one-line}
 use Rattle.test_report_laws.specs.Lines.{IsInLine, ShortIsInLine}
