@@ -1,11 +1,12 @@
 -- Lemmas on the caller of `test_report_run`.
-use Rattle.std.proofs.Common.{◌≡◌, ◌∙◌, ◌+◌, ◌<◌, ℕ, List, [], ◌∷◌, ◌++◌, Bor, ap, get_or, length, map, subst, sym, take}
-use Rattle.std.proofs.lemmas.List.{map-append, take_more}
+use Rattle.std.proofs.Common.{◌≡◌, ◌≤◌, ◌∙◌, ◌+◌, ◌<◌, ℕ, List, [], ◌∷◌, ◌++◌, Bor, ap, get_or, length, map, subst, sym, take}
+use Rattle.std.proofs.lemmas.List.{map-append, take_all, take_more}
 use Rattle.std.proofs.lemmas.List.Sums.{fold-append}
 use Rattle.std.specs.List.{AllZip, fold}
 use Rattle.test_report_events.specs.Event.{EventView}
 use Rattle.test_report_events.specs.Line.{LineSays}
-use Rattle.test_report_run.specs.Run.{RunState, run_after, run_start}
+use Rattle.test_report_run.specs.Run.{RunState, after_file, end_of, run_after, run_start}
+use Rattle.test_report_run.specs.declared.note.RunEnd.{RunEnd}
 
 -- these lines have events, and this is the run after these events
 pub record IsRunOf (lines : List (List ℕ)) (run : RunState) : Type 0 where
@@ -35,3 +36,13 @@ run-more lines i d own old new few run says step =
           (says-more (map (λ l. l.now) (take i lines)) run.events line.now own run.say says);
       is = step ∙ ap (λ r. run_after r own) run.is ∙ sym (fold-append run_after run_start run.events (own ∷ []));
     }
+
+-- the end of the run after all of these lines
+pub run-ends : (lines : List (Bor (List ℕ))) (i : ℕ) (run over : RunState) (end : RunEnd) → length lines ≤ i
+    → IsRunOf (map (λ l. l.now) (take i lines)) run → over ≡ after_file run → end ≡ end_of over
+    → (events : List (List EventView)) × AllZip LineSays (map (λ l. l.now) lines) events × (end ≡ end_of (after_file (fold run_after run_start events)))
+run-ends lines i run over end all of takes is = (
+  of.events,
+  subst (λ ls. AllZip LineSays (map (λ l. l.now) ls) of.events) (take_all i lines all) of.say,
+  is ∙ ap end_of (takes ∙ ap after_file of.is),
+)
