@@ -290,7 +290,7 @@ def files():
     yield Row("old files and a folder as input", [*OPTIONS, "."], "", 3, "", NOT_READ, OLD, after=GONE)
     yield Row("old files and an invalid argument", [*OPTIONS, "--limit", "x"], "", 2, "", Parts(["error: "]), OLD,
               after=OLD)
-    for option, text in [("--junit", XML), ("--html", PAGE)]:
+    for option, text in [("--junit", XML), ("--html", PAGE), ("--json", OBJECT)]:
         # A program that writes into the file at the place also changes the other name of that file.
         yield Row(f"{option} in one piece", [option, "a"], RED, 1, RED_TEXT, files={"a": "old", "b": "other"},
                   late_links={"a": "b"}, after={"a": text, "b": "other"})
@@ -355,7 +355,7 @@ def conflicts():
         for paths in (["run.jsonl"], ["run.jsonl", "-"], ["-", "none.jsonl", "run.jsonl"]):
             yield refused([option, "./run.jsonl", *paths], read, files=run, after=run)
         yield refused([option, "./run.jsonl"], read, files=run, after=run, source="run.jsonl")
-    for first, second in [("junit", "html"), ("junit", "markdown"), ("html", "markdown")]:
+    for first, second in [("junit", "html"), ("junit", "markdown"), ("html", "markdown"), ("html", "json")]:
         for one, two in [
             ("a", "a"), ("./a", "a"), ("a", "sub/../a"), ("link", "a"), ("a", "link"), ("folder/b", "sub/b"),
         ]:
