@@ -1,5 +1,5 @@
-use Rattle.std.proofs.Common.{◌++◌, map, true≢false, ap, sym, ◌∙◌}
-use Rattle.run_events.specs.UnitErrors.{child_process_errors, error_seen, exec_fail_errors}
+use Rattle.std.proofs.Common.{rules, true≢false, sym}
+use Rattle.run_events.specs.UnitErrors.{child_process_errors, exec_fail_errors}
 use Rattle.run_events.proofs.EmptyLists.{left_is_empty, listed, right_is_empty}
 use Rattle.run_events.proofs.unit_error.UnitErrorDescription.all_error_list.Goals as goal
 
@@ -12,7 +12,4 @@ returns-in_err-push_child_process-clause-empty c none = let d = c.args.self.now 
     absurd (true≢false (sym (c.in_err-push_child_process.ensures.empty (right_is_empty (exec_fail_errors d) (child_process_errors d) none))))
 
 pub returns-clause-list : goal.returns-clause-list
-returns-clause-list c = let d = c.args.self.now in
-    listed _ _ _ _ _ c.new.ensures.empty c.new.ensures.list c.executing_message.ensures
-    (c.in_ok-push_child_process.ensures.ok ∙ ap (λ es. es ++ child_process_errors d)
-    (c.in_ok-push_exec_fail.ensures.ok ∙ ap (λ es. map error_seen es ++ exec_fail_errors d) c.new-errors.ensures.items))
+returns-clause-list c = listed _ _ _ _ _ c.new.ensures.empty c.new.ensures.list c.executing_message.ensures (search rules)
