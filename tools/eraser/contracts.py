@@ -71,6 +71,8 @@ def _ghost_end(source, i):
     if source.at(source.after(i, 2)) not in (":", "=") or source.at(brace) != "{":
         source.refuse(i, "a ghost item of an unknown form")
     end = source.partner[brace]
+    if source.reads(source.after(end), "by", "{"):
+        end = source.partner[source.after(end, 2)]
     return source.after(end) if source.at(source.after(end)) in (";", ",") else end
 
 

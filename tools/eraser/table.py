@@ -39,9 +39,9 @@ HANDLES = ("AllocGlobal", "Input", "Print", "Abort")
 
 # Calls of std and of other crates that return a Result in Rattle, and a plain value in Rust.
 PLAIN_CALLS = (
-    "append", "push", "push_str", "insert", "replace", "split_off", "extend_from_slice", "to_vec", "to_string",
-    "String::from_str", "String::from_utf8_lossy", "reserve_exact", "Vec::with_capacity", "Vec::from_slice", "Box::new",
-    "Bytes::copy_from_slice", "BufReader::new", "hex::encode", "Value::try_from_str",
+    "append", "entry", "push", "push_back", "push_str", "insert", "replace", "split_off", "extend_from_slice", "to_vec",
+    "to_string", "String::from_str", "String::from_utf8_lossy", "reserve_exact", "Vec::with_capacity", "Vec::from_slice",
+    "Box::new", "Rc::new", "Bytes::copy_from_slice", "BufReader::new", "hex::encode", "Value::try_from_str",
 )
 
 # Calls that have another name in Rust. `(..)` is the place of the arguments.

@@ -1,7 +1,15 @@
 pub mod Attempts
-pub mod Cuts
+pub mod Boundaries
 pub mod Ends
 pub mod Finishes
+pub mod FirstTests
+pub mod Firsts
+pub mod HeadingViews
+pub mod LastPrints
 pub mod Lines
+pub mod LongestEnds
+pub mod OrderSteps
 pub mod Places
 pub mod Runs
+pub mod Takes
+pub mod Views

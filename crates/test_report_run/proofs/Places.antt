@@ -1,5 +1,5 @@
 -- Places in a list of views.
-use Rattle.std.proofs.Common.{◌≡◌, ℕ, zero, suc, List, [], ◌∷◌, ◌++◌, ◌+◌, ◌<◌, Bool, true, false, not, cond, filter, map, refl, ap, sym, arith, length, get_or, take, drop, string_bytes, unwrap_or}
+use Rattle.std.proofs.Common.{◌≡◌, ℕ, zero, suc, List, [], ◌∷◌, ◌++◌, ◌+◌, ◌<◌, Bool, not, cond, map, refl, ap, sym, arith, length, get_or, take, drop, string_bytes, unwrap_or}
 use Rattle.test_report_run.specs.Running.{names_of, running_view}
 use Rattle.test_report_run.specs.declared.running.RunningTest.{RunningTest}
 use Rattle.std.specs.List.{insert, position, position_or_len, prefix_len, remove}
@@ -36,16 +36,6 @@ map-remove f [] zero = refl
 map-remove f [] (suc i) = refl
 map-remove f (y ∷ ys) zero = refl
 map-remove f (y ∷ ys) (suc i) = ap (λ zs. f y ∷ zs) (map-remove f ys i)
-
--- as many views pass as elements whose views do
-length-if : {X Y : Type 0} (b : Bool) (x : X) (y : Y) (xs : List X) (ys : List Y) → length ys ≡ length xs
-    → length (cond b (y ∷ ys) ys) ≡ length (cond b (x ∷ xs) xs)
-length-if true x y xs ys same = ap suc same
-length-if false x y xs ys same = same
-
-pub length-filter-map : {X Y : Type 0} (p : Y → Bool) (f : X → Y) (xs : List X) → length (filter p (map f xs)) ≡ length (filter (λ x. p (f x)) xs)
-length-filter-map p f [] = refl
-length-filter-map p f (x ∷ xs) = length-if (p (f x)) x (f x) (filter (λ z. p (f z)) xs) (filter p (map f xs)) (length-filter-map p f xs)
 
 -- an element that is removed may change before
 pub remove-set : {X : Type 0} (xs : List X) (i : ℕ) (x : X) → remove (set xs i x) i ≡ remove xs i

@@ -1,22 +1,24 @@
 -- The steps of a run.
-use Rattle.std.proofs.Common.{Box, Global, ◌==◌, ◌≡◌, ◌∙◌, ◌++◌, ◌<◌, ◌+◌, [], ◌∷◌, Bool, List, ℕ, Option, None, Some, ap, arith, cond, false, nat_lt, not, option_and_then, get_or, length, map, option_map, refl, sym, true}
+use Rattle.std.proofs.Common.{Box, Global, String, is_some, ◌==◌, ◌≡◌, ◌∙◌, ◌++◌, ◌<◌, ◌+◌, [], ◌∷◌, Bool, List, ℕ, Option, None, Some, ap, arith, cond, false, nat_lt, not, option_and_then, get_or, length, map, option_map, refl, sym, true}
 use Rattle.std.specs.Box.{with_value}
 use Rattle.std.specs.List.{fold, position, remove}
 use Rattle.std.specs.Option.{option_map_or, option_or}
 use Rattle.std.proofs.Math.ListN.{set}
 use Rattle.std.proofs.lemmas.List.{get_or-map, get_or-set_same, map-set}
 use Rattle.test_report_events.specs.Event.{SuiteEndView, TestEndView}
-use Rattle.test_report_run.specs.Note.{NoteView}
+use Rattle.test_report_run.specs.Note.{NoteView, text_view}
+use Rattle.test_report_run.specs.Others.{event_place}
 use Rattle.test_report_run.specs.Over.{early_notes, last_notes}
 use Rattle.test_report_run.proofs.Places.{remove-set}
-use Rattle.test_report_run.specs.Run.{RunState, Step, all_ended_early, ended_at, ended_early, last_place, names_in, running_ends, step, stray_ends, suite_at, suite_place, test_over, with_suite_at, without_tests}
+use Rattle.test_report_run.specs.Run.{RunState, Step, all_ended_early, ended_at, ended_early, heard, last_place, names_in, opened, running_ends, started_again, step, stray_ends, suite_at, suite_place, test_over, with_suite_at, without_tests}
 use Rattle.test_report_run.specs.Running.{RunningView, ended_at as test_at}
 use Rattle.test_report_run.specs.Name.{before_dollar}
-use Rattle.test_report_run.specs.Suite.{SuiteState, has_key, outside_start, state_of, with_line}
+use Rattle.test_report_run.specs.Suite.{SuiteState, has_key, joined_by, outside_start, state_of, with_line}
+use Rattle.test_report_run.specs.declared.others.EventPlace.{EventPlace}
 use Rattle.test_report_run.specs.declared.suite.Suite.{Suite}
 
 pub ended-early : (old run : RunState) (s : SuiteState) (names : List (List ℕ)) (notes after : List NoteView) → names ≡ names_in old s
-    → run ≡ without_tests old s → after ≡ notes ++ early_notes s names → step run after ≡ ended_early (step old notes) s
+    → run ≡ without_tests old s → after ≡ notes ++ early_notes old.others s names → step run after ≡ ended_early (step old notes) s
 ended-early old run s names notes after name same told = rw (told, name, same)
 
 -- what a box of a suite keeps
@@ -29,12 +31,21 @@ pub suite-at : (r : RunState) (suites : List (Box Suite Global)) (at : ℕ) (pla
 suite-at r suites at place old same inside is found = rw (← is, same) (get_or-map boxed_state suites at old r.outside inside ∙ sym (ap boxed_state found))
 
 pub with_suite-at : (r run : RunState) (suites : List (Box Suite Global)) (at : ℕ) (place : Option ℕ) (old : Box Suite Global) (inside changed : Suite)
-    (f : SuiteState → SuiteState) → r.suites ≡ map boxed_state suites
-    → run ≡ record r { suites = map boxed_state (set suites at (with_value old changed)) } → at < length suites → Some at ≡ place
-    → old ≡ get_or suites at old → inside ≡ old.value → state_of changed ≡ f (state_of inside) → run ≡ with_suite_at r place (f (suite_at r place))
-with_suite-at r run suites at place old inside changed f same after within is found opened change =
-    let changes : boxed_state (with_value old changed) ≡ f (boxed_state old) = change ∙ ap (λ (s : Suite). f (state_of s)) opened in
-    rw (suite-at r suites at place old same within is found, ← is, ← changes, same, ← map-set boxed_state suites at (with_value old changed)) after
+    (event : EventPlace) (f : SuiteState → SuiteState) → r.suites ≡ map boxed_state suites
+    → run ≡ record r { suites = map boxed_state (set suites at (with_value old (record changed { last_event = event }))) } → at < length suites
+    → Some at ≡ place → old ≡ get_or suites at old → inside ≡ old.value → state_of changed ≡ f (state_of inside) → event ≡ event_place r.others
+    → run ≡ with_suite_at r place (f (suite_at r place))
+with_suite-at r run suites at place old inside changed event f same after within is found opened change last =
+    let changed_box : Box Suite Global = with_value old (record changed { last_event = event }) in
+    let changes : boxed_state changed_box ≡ heard r (f (boxed_state old)) =
+    ap (λ (s : SuiteState). record s { last_event = event }) (change ∙ ap (λ (s : Suite). f (state_of s)) opened)
+    ∙ ap (λ (e : EventPlace). record (f (boxed_state old)) { last_event = e }) last in
+    after
+    ∙ ap (λ (all : List SuiteState). record r { suites = all })
+    (map-set boxed_state suites at changed_box ∙ ap (λ (s : SuiteState). set (map boxed_state suites) at s) changes
+    ∙ ap (λ (all : List SuiteState). set all at (heard r (f (boxed_state old)))) (sym same))
+    ∙ ap (λ (s : SuiteState). with_suite_at r (Some at) (f s)) (sym (suite-at r suites at place old same within is found))
+    ∙ ap (λ (p : Option ℕ). with_suite_at r p (f (suite_at r place))) is
 
 -- a suite is over by its last line
 pub suite-over : (r r1 r2 : RunState) (e : SuiteEndView) (at : ℕ) (s : SuiteState) → at < length r.suites
@@ -42,10 +53,10 @@ pub suite-over : (r r1 r2 : RunState) (e : SuiteEndView) (at : ℕ) (s : SuiteSt
     → s ≡ suite_at r1 (Some at) → r2 ≡ record r1 { suites = remove r1.suites at } → ended_at r e at ≡ step (without_tests r2 s) (last_notes s (names_in r2 s))
 suite-over r r1 r2 e at s inside over line out left =
     let w : SuiteState = with_line (suite_at r (Some at)) e in
-    let is : s ≡ w = out ∙ ap (λ (x : RunState). suite_at x (Some at)) line ∙ get_or-set_same r.suites at w r.outside inside in
+    let is : s ≡ heard r w = out ∙ ap (λ (x : RunState). suite_at x (Some at)) line ∙ get_or-set_same r.suites at (heard r w) r.outside inside in
     let rest : r2 ≡ record r { suites = remove r.suites at } =
     left ∙ ap (λ (x : RunState). record x { suites = remove x.suites at }) line
-    ∙ ap (λ (suites : List SuiteState). record r { suites = suites }) (remove-set r.suites at w) in
+    ∙ ap (λ (suites : List SuiteState). record r { suites = suites }) (remove-set r.suites at (heard r w)) in
     let old : RunState = record r { suites = remove r.suites at } in
     ap (λ b. cond b (step (without_tests old w) (last_notes w (names_in old w))) (step (with_suite_at r (Some at) w) [])) over
     ∙ sym (ap (λ (x : RunState). step (without_tests x s) (last_notes s (names_in x s))) rest
@@ -63,6 +74,28 @@ file-end r r1 r2 n1 n2 s suites is end =
     end ∙ ap (λ x. ended_early (step (record r1 { outside = outside_start }) n1) x)
     (is ∙ ap (λ (t : Step). t.run.outside) suites ∙ outside-stays (step (record r { suites = [] }) []) r.suites)
     ∙ ap (λ (t : Step). ended_early (step (record (t.run) { outside = outside_start }) t.notes) r.outside) suites
+
+-- one more suite ends early
+pub suites-more : (t : Step) (suites : List (Box Suite Global)) (one : Box Suite Global)
+    → fold ended_early t (map boxed_state (suites ++ one ∷ [])) ≡ ended_early (fold ended_early t (map boxed_state suites)) (boxed_state one)
+suites-more t [] one = refl
+suites-more t (s ∷ suites) one = suites-more (ended_early t (boxed_state s)) suites one
+
+-- a suite without a key ends early when another one starts
+pub no-key : (key : Option (String Global)) → is_some key ≡ false → is_some (text_view key) ≡ false
+no-key None is = is
+no-key (Some key) is = is
+
+pub again-tells : (r r1 : RunState) (key : Option (List ℕ)) (count : Option ℕ) (at : ℕ) (s : SuiteState) (t : Step) (old : List NoteView) → is_some key ≡ false
+    → s ≡ suite_at r (Some at) → r1 ≡ record r { suites = remove r.suites at } → t ≡ ended_early (step r1 old) s
+    → t.notes ≡ old ++ (started_again r key count at).notes
+again-tells r r1 key count at s t old keyless suite left ended =
+    let rest : RunState = record r { suites = remove r.suites at } in
+    let over : Step = ended_early (step rest []) (suite_at r (Some at)) in
+    ap (λ (x : Step). x.notes) ended ∙ ap (λ (x : RunState). (ended_early (step x old) s).notes) left
+    ∙ ap (λ (x : SuiteState). (ended_early (step rest old) x).notes) suite
+    ∙ ap (λ (b : Bool). old ++ (cond b (step (with_suite_at r (Some at) (joined_by (suite_at r (Some at)) count)) [])
+    (step (opened over.run key count) over.notes)).notes) (sym keyless)
 
 -- a test that runs is taken out, and ends
 pub running-over : (r taken : RunState) (e : TestEndView) (place : Option (ℕ × ℕ)) (found : RunningView × ℕ)

@@ -1,52 +1,50 @@
 -- The names that headings give suites.
-use Rattle.std.specs.Prelude.{◌+◌, ◌++◌, ◌∷◌, [], ◌==◌, ◌&&◌, ℕ, List, Bool, codes, filter, if◌then◌else◌, length, map, string_bytes, take, Option}
+use Rattle.std.specs.Prelude.{◌+◌, ◌++◌, ◌==◌, [], ℕ, List, codes, if◌then◌else◌, length, map, string_bytes, Option}
+use Rattle.std.specs.BTreeMap.{insert_entry}
+use Rattle.std.specs.Cmp.Lexicographic.{slice_cmp}
 use Rattle.std.specs.Fmt.{decimal}
-use Rattle.std.specs.List.{position_or_len}
-use Rattle.std.specs.Option.{option_eq}
+use Rattle.std.specs.Map.{lookup}
+use Rattle.std.specs.Option.{option_cmp, option_eq, unwrap_or}
+use Rattle.std.specs.Ordering.{nat_cmp}
 use Rattle.std.specs.Str.{bytes_eq}
 use Rattle.test_report_run.specs.Note.{text_view}
-use Rattle.test_report_run.specs.declared.headings.Heading.{Heading}
 use Rattle.test_report_run.specs.declared.headings.Headings.{Headings}
+use Rattle.test_report_run.specs.declared.headings.Paths.{Paths}
 
--- a heading: the name that it gives, and the path of the binary. Headings of documentation tests have no path
-pub record HeadingView : Type 0 where
-  pub name : List ℕ
-  pub path : Option (List ℕ)
+-- the paths of binaries that headings with one name had, each with its number. Headings of documentation tests have no path
+abbrev pub PathNumbers : Type 0
+PathNumbers = List (Option (List ℕ) × ℕ)
 
--- the heading with this name and this path
-abbrev pub heading_by : List ℕ → Option (List ℕ) → HeadingView
-heading_by name path = record { name = name; path = path }
+-- the names of headings, each with its paths
+abbrev pub NamedPaths : Type 0
+NamedPaths = List (List ℕ × PathNumbers)
 
--- what is kept of a heading
-abbrev pub heading_view : Heading → HeadingView
-heading_view h = heading_by (string_bytes h.name) (text_view h.path)
+-- the paths of one name
+abbrev pub numbers_view : Paths → PathNumbers
+numbers_view p = map (λ e. (text_view e.0, e.1)) p.numbers.entries
 
--- the headings that are kept
-abbrev pub headings_of : Headings → List HeadingView
-headings_of h = map heading_view h.list.items
+-- what is kept of headings
+abbrev pub headings_of : Headings → NamedPaths
+headings_of h = map (λ e. (string_bytes e.0, numbers_view e.1)) h.names.entries
 
--- the headings have one name and one path
-abbrev pub is_heading : HeadingView → HeadingView → Bool
-is_heading h other = bytes_eq other.name h.name && option_eq bytes_eq other.path h.path
+-- the paths that headings with this name had
+abbrev pub paths_of : NamedPaths → List ℕ → PathNumbers
+paths_of headings name = unwrap_or (lookup (bytes_eq name) headings) []
 
--- the position of a heading among these, or their number if it is not among them
-abbrev pub place_of_heading : List HeadingView → HeadingView → ℕ
-place_of_heading headings h = position_or_len (is_heading h) headings
+-- the number of a path: the one that it has, or else the next one
+abbrev pub number_of : PathNumbers → Option (List ℕ) → ℕ
+number_of paths path = unwrap_or (lookup (option_eq bytes_eq path) paths) (length paths + 1)
 
--- the headings with one more, if it is not among them
-abbrev pub with_heading : List HeadingView → HeadingView → List HeadingView
-with_heading headings h = if place_of_heading headings h == length headings then headings ++ h ∷ [] else headings
+-- the paths with this one
+abbrev pub with_path : PathNumbers → Option (List ℕ) → PathNumbers
+with_path paths path = insert_entry (option_cmp (slice_cmp nat_cmp)) paths path (number_of paths path)
 
--- how many of the first headings have this name
-abbrev pub named_before : List HeadingView → ℕ → List ℕ → ℕ
-named_before headings at name = length (filter (λ h. bytes_eq h.name name) (take at headings))
-
--- how many other paths this name had before it had this path
-abbrev pub earlier_paths : List HeadingView → HeadingView → ℕ
-earlier_paths headings h = named_before headings (place_of_heading headings h) h.name
+-- the headings with one more
+abbrev pub with_heading : NamedPaths → List ℕ → Option (List ℕ) → NamedPaths
+with_heading headings name path = insert_entry (slice_cmp nat_cmp) headings name (with_path (paths_of headings name) path)
 
 -- the name that a heading shows: its name, and the number of its path from the second on
-abbrev pub shown_by : List HeadingView → HeadingView → List ℕ
-shown_by headings h =
-    let earlier = earlier_paths headings h in
-    if earlier == 0 then h.name else h.name ++ (codes " (" ++ (decimal (earlier + 1) ++ codes ")"))
+abbrev pub shown_by : NamedPaths → List ℕ → Option (List ℕ) → List ℕ
+shown_by headings name path =
+    let number = number_of (paths_of headings name) path in
+    if number == 1 then name else name ++ (codes " (" ++ (decimal number ++ codes ")"))

@@ -2,8 +2,11 @@ pub mod Counted
 pub mod Ended
 pub mod Headings
 pub mod LastLine
+pub mod LongestEnd
 pub mod Name
 pub mod Note
+pub mod Orders
+pub mod Others
 pub mod Over
 pub mod Prints
 pub mod Run

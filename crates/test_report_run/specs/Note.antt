@@ -17,11 +17,14 @@ use Rattle.test_report_run.specs.declared.note.TestNote.{TestNote}
 use Rattle.test_report_run.specs.declared.note.TestOutcome.{TestOutcome}
 use Rattle.test_report_run.specs.declared.note.TestOutcome.TheVariants as outcome
 
--- how a test crashed: how many tests ran, whether its suite has a key, and what may say why
+-- how a test crashed: how many tests ran, whether its suite has a key, and what may say why: the line in which cargo names the cause, the text of
+-- the prints, and the last three of these that are not blank
 pub record CrashView : Type 0 where
   pub running : ℕ
   pub has_key : Bool
-  pub prints : List (List ℕ)
+  pub cause : Option (List ℕ)
+  pub prints : List ℕ
+  pub last : List (List ℕ)
 
 -- the kind of a failure
 pub data KindView : Type 0 where
@@ -87,7 +90,13 @@ text_view text = option_map string_bytes text
 
 -- what a crash says
 abbrev pub crash_view : Crash → CrashView
-crash_view c = record { running = c.running; has_key = c.has_key; prints = map string_bytes c.prints.items }
+crash_view c = record {
+  running = c.running;
+  has_key = c.has_key;
+  cause = text_view c.cause;
+  prints = string_bytes c.prints.value;
+  last = map string_bytes c.last.items;
+}
 
 -- what the kind of a failure says
 abbrev pub kind_view : FailureKind → KindView

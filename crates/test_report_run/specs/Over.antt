@@ -7,6 +7,7 @@ use Rattle.run_events_stats.specs.declared.stats.RunStats.{RunStats}
 use Rattle.test_report_run.specs.Counted.{view_of_finish}
 use Rattle.test_report_run.specs.LastLine.{explanation_of, is_contradicted}
 use Rattle.test_report_run.specs.Note.{CrashView, Disagrees, EndsEarly, FailureView, Fails, HasCrashed, HasNoEnd, IsFlaky, IsNotRun, IsSkipped, KindView, NoteView, OutcomeView, Passes, SaysOther, StartsOutside, SuiteIs}
+use Rattle.test_report_run.specs.Others.{OthersView, cause_behind, last_prints_from, prints_from}
 use Rattle.test_report_run.specs.Said.{numbers_of}
 use Rattle.test_report_run.specs.Suite.{FlakyView, OverView, SuiteState, failed_of, suite_name, tally_of, test_note}
 use Rattle.test_report_run.specs.declared.counted.Finish.TheVariants as finish
@@ -29,9 +30,15 @@ failed_note s kind name = test_note s (over_of name) (Fails (bare_failure kind))
 abbrev pub failed_notes : SuiteState → KindView → List (List ℕ) → List NoteView
 failed_notes s kind names = map (failed_note s kind) names
 
--- how a test crashed while this number of tests of the suite ran
-abbrev pub crash_of : SuiteState → ℕ → CrashView
-crash_of s running = record { running = running; has_key = is_some s.key; prints = s.prints.lines }
+-- how a test crashed while this number of tests of the suite ran, after these lines that are no events
+abbrev pub crash_of : OthersView → SuiteState → ℕ → CrashView
+crash_of others s running = record {
+  running = running;
+  has_key = is_some s.key;
+  cause = cause_behind others s.last_event;
+  prints = prints_from others s.start;
+  last = last_prints_from others s.start;
+}
 
 -- the statistics with one more test that failed
 abbrev pub one_failed : RunStats → List ℕ → RunStats
@@ -93,10 +100,10 @@ early_state s names = record s {
   flaky = [];
 }
 
--- what becomes known when a suite ends early while tests of these names run
-abbrev pub early_notes : SuiteState → List (List ℕ) → List NoteView
-early_notes s names =
-    failed_notes s (HasCrashed (crash_of s (length names))) names
+-- what becomes known when a suite ends early while tests of these names run, after these lines that are no events
+abbrev pub early_notes : OthersView → SuiteState → List (List ℕ) → List NoteView
+early_notes others s names =
+    failed_notes s (HasCrashed (crash_of others s (length names))) names
     ++ (flaky_notes s false
     ++ (early_disagreements s (length names)
     ++ number_notes (early_state s names) record { skipped = s.skipped; left = 0; time = s.time }))

@@ -7,13 +7,14 @@ use Rattle.test_report_events.specs.declared.event.CargoFailure.{CargoFailure}
 use Rattle.test_report_events.specs.declared.event.CargoFailure.TheVariants.{Build, Tests, Run}
 use Rattle.test_report_events.specs.declared.event.TestResult.TheVariants.{Ok, Failed, Ignored}
 use Rattle.test_report_run.specs.Ended.{after_end, after_stray, end_notes, stray_notes}
-use Rattle.test_report_run.specs.Headings.{HeadingView, heading_by, headings_of, shown_by, with_heading}
+use Rattle.test_report_run.specs.Headings.{NamedPaths, headings_of, shown_by, with_heading}
 use Rattle.test_report_run.specs.Note.{CargoSays, Disagrees, Fails, HasNoEvent, IsDamaged, IsNotRun, IsSkipped, NoteView, OutcomeView, Passes, StrayEnds, StraySuiteEnds, SuiteIs, TestIs, text_view}
 use Rattle.test_report_run.specs.Over.{early_notes, last_notes}
-use Rattle.test_report_run.specs.Prints.{AFailure, AHeading, APrint, PrintedView, after_line, cut}
+use Rattle.test_report_run.specs.Others.{OthersView, after_failure, after_heading, after_print, event_place, no_others, others_view}
+use Rattle.test_report_run.specs.Prints.{cut}
 use Rattle.test_report_run.specs.Running.{RunningView, is_of, is_same, place_of_end, running_at, tests_of}
 use Rattle.test_report_run.specs.Name.{before_dollar}
-use Rattle.test_report_run.specs.Suite.{OverView, SuiteState, has_key, joined, outside_start, state_of, suite_start, with_line, with_start}
+use Rattle.test_report_run.specs.Suite.{OverView, SuiteState, has_key, joined_by, outside_start, state_of, suite_start, with_line, with_start}
 use Rattle.test_report_run.specs.Totals.{ending, no_suites, with_suite}
 use Rattle.test_report_run.specs.declared.note.RunEnd.{RunEnd}
 use Rattle.test_report_run.specs.declared.run.TestRun.{TestRun}
@@ -25,10 +26,12 @@ pub record RunState : Type 0 where
   pub suites : List SuiteState
   -- how many suites started
   pub suites_started : ℕ
-  -- the headings of the file, the name that the last one shows, and whether a line of the file was an event of a harness
-  pub headings : List HeadingView
+  -- the names and paths in the headings of the file, the name that the last one shows, and whether a line of the file was an event of a harness
+  pub headings : NamedPaths
   pub heading : Option (List ℕ)
   pub has_event : Bool
+  -- the lines of the file that are no events
+  pub others : OthersView
   -- the tests that run, how many tests started, and how many ended
   pub running : List RunningView
   pub tests_started : ℕ
@@ -50,6 +53,7 @@ run_state r = record {
   headings = headings_of r.headings;
   heading = text_view r.heading;
   has_event = r.has_event;
+  others = others_view r.others;
   running = tests_of r.running;
   tests_started = r.running.started;
   ended = r.ended;
@@ -69,6 +73,7 @@ run_start = record {
   headings = [];
   heading = None;
   has_event = false;
+  others = no_others;
   running = [];
   tests_started = 0;
   ended = 0;
@@ -107,10 +112,14 @@ abbrev pub suite_at : RunState → Option ℕ → SuiteState
 suite_at r None = r.outside
 suite_at r (Some at) = slice_index_or r.suites at r.outside
 
--- the run with this suite at a position, or with these tests outside of a suite
+-- a suite after one of its events
+abbrev pub heard : RunState → SuiteState → SuiteState
+heard r s = record s { last_event = event_place r.others }
+
+-- the run with this suite, after one of its events, at a position, or with these tests outside of a suite
 abbrev pub with_suite_at : RunState → Option ℕ → SuiteState → RunState
-with_suite_at r None s = record r { outside = s }
-with_suite_at r (Some at) s = record r { suites = slice_set r.suites at s }
+with_suite_at r None s = record r { outside = heard r s }
+with_suite_at r (Some at) s = record r { suites = slice_set r.suites at (heard r s) }
 
 -- the names of the running tests of a suite
 abbrev pub names_in : RunState → SuiteState → List (List ℕ)
@@ -122,12 +131,12 @@ without_tests r s = record r { running = filter (λ t. not (is_of s.number t)) r
 
 -- a suite that was open ends early
 abbrev pub ended_early : Step → SuiteState → Step
-ended_early t s = step (without_tests t.run s) (t.notes ++ early_notes s (names_in t.run s))
+ended_early t s = step (without_tests t.run s) (t.notes ++ early_notes t.run.others s (names_in t.run s))
 
 -- the run with one more open suite
 abbrev pub opened : RunState → Option (List ℕ) → Option ℕ → RunState
 opened r key count = record r {
-  suites = r.suites ++ suite_start (Some (r.suites_started + 1)) key r.heading count ∷ [];
+  suites = r.suites ++ suite_start (Some (r.suites_started + 1)) key r.heading count r.others ∷ [];
   suites_started = r.suites_started + 1;
 }
 
@@ -135,7 +144,7 @@ opened r key count = record r {
 abbrev pub started_again : RunState → Option (List ℕ) → Option ℕ → ℕ → Step
 started_again r key count at =
     let s = suite_at r (Some at) in
-    if is_some key then step (with_suite_at r (Some at) (joined s count)) []
+    if is_some key then step (with_suite_at r (Some at) (joined_by s count)) []
     else let over = ended_early (step (record r { suites = remove r.suites at }) []) s in step (opened over.run key count) over.notes
 
 -- the first line of a suite
@@ -221,19 +230,12 @@ stray_ends r e = elim e.result as (λ _. Step) [
 abbrev pub test_ends : RunState → TestEndView → Step
 test_ends r e = option_map_or (λ place. running_ends r e place.0 place.1) (place_of_end r.running e.name) (stray_ends r e)
 
--- a suite after a line that is no event of a harness
-abbrev pub suite_prints : PrintedView → SuiteState → SuiteState
-suite_prints line s = record s { prints = after_line s.prints line }
-
--- the run after such a line, which is for every suite
-abbrev pub printed_to : RunState → PrintedView → RunState
-printed_to r line = record r { outside = suite_prints line r.outside; suites = map (suite_prints line) r.suites }
-
 -- a heading
 abbrev pub headed : RunState → List ℕ → Option (List ℕ) → RunState
-headed r name path = record (printed_to r AHeading) {
-  headings = with_heading r.headings (heading_by name path);
-  heading = Some (shown_by r.headings (heading_by name path));
+headed r name path = record r {
+  others = after_heading r.others;
+  headings = with_heading r.headings name path;
+  heading = Some (shown_by r.headings name path);
 }
 
 -- a failed test or a disagreement before it explains a failure of cargo
@@ -254,8 +256,8 @@ told r (TestStarts name) = step (test_starts r name) []
 told r (TestEnds e) = let t = test_ends r e in step (record (t.run) { ended = t.run.ended + 1 }) t.notes
 told r OtherLine = step r []
 told r (HeadingLine name path) = step (headed r name path) []
-told r (CargoFails f line plain) = step (printed_to r (AFailure line)) (cargo_notes r f plain)
-told r (Prints line plain) = step (printed_to r (APrint line plain)) []
+told r (CargoFails f line plain) = step (record r { others = after_failure r.others }) (cargo_notes r f plain)
+told r (Prints line plain) = step (record r { others = after_print r.others line plain }) []
 told r (DamagedLine text) = step r (Disagrees (IsDamaged (cut text)) ∷ [])
 
 -- the test failed
@@ -348,7 +350,14 @@ file_notes r = (file_end r).notes
 abbrev pub after_file : RunState → RunState
 after_file r =
     let over = learned (file_end r).run (file_end r).notes in
-    record over { headings = []; heading = None; has_event = false; causes_at_file = over.causes; causes_at_cargo = over.causes }
+    record over {
+      headings = [];
+      heading = None;
+      has_event = false;
+      others = no_others;
+      causes_at_file = over.causes;
+      causes_at_cargo = over.causes;
+    }
 
 -- the sums and the outcome
 abbrev pub end_of : RunState → RunEnd

@@ -1,5 +1,6 @@
 -- The tests that are running.
 use Rattle.std.specs.Prelude.{◌≡◌, ◌≤◌, ◌+◌, ◌-◌, ◌==◌, ◌++◌, [], ℕ, List, Bool, codes, map, slice_index_or, take, Option, Some, None, option_and_then, option_map, string_bytes, length}
+use Rattle.std.specs.BTreeMap.{values}
 use Rattle.std.specs.List.{ends_with, find, position, range_with_len}
 use Rattle.std.specs.Fmt.{decimal}
 use Rattle.std.specs.Option.{option_eq}
@@ -23,7 +24,7 @@ running_view tests = map running_test_view tests
 
 -- the tests that run, by what is kept of them
 abbrev pub tests_of : Running → List RunningView
-tests_of r = running_view r.tests.items
+tests_of r = running_view (values r.tests)
 
 -- these are numbers of one suite, or both are of the tests outside of a suite
 abbrev pub is_same : Option ℕ → Option ℕ → Bool

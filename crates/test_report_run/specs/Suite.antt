@@ -8,10 +8,12 @@ use Rattle.test_report_events.specs.Event.{SuiteEndView}
 use Rattle.test_report_run.specs.Counted.{view_of_finish}
 use Rattle.test_report_run.specs.Name.{name_by}
 use Rattle.test_report_run.specs.Note.{NoteView, OutcomeView, TestIs, text_view}
-use Rattle.test_report_run.specs.Prints.{PrintsView, no_prints, prints_view}
+use Rattle.test_report_run.specs.Others.{OthersView, event_place, no_others, print_place}
 use Rattle.test_report_run.specs.Said.{no_lines, sum_of, with_said}
 use Rattle.test_report_run.specs.declared.counted.Finish.{Finish}
 use Rattle.test_report_run.specs.declared.last_line.Tally.{Tally}
+use Rattle.test_report_run.specs.declared.others.EventPlace.{EventPlace}
+use Rattle.test_report_run.specs.declared.others.PrintPlace.{PrintPlace}
 use Rattle.test_report_run.specs.declared.said.Said.{Said}
 use Rattle.test_report_run.specs.declared.suite.FlakyTest.{FlakyTest}
 use Rattle.test_report_run.specs.declared.suite.OverTest.{OverTest}
@@ -46,7 +48,9 @@ pub record SuiteState : Type 0 where
   pub skipped : ℕ
   pub flaky : List FlakyView
   pub time : Option ℕ
-  pub prints : PrintsView
+  -- the place of the first print after its first line, and that of its last event
+  pub start : PrintPlace
+  pub last_event : EventPlace
 
 -- what is known of a test that is over
 abbrev pub over_view : OverTest → OverView
@@ -72,12 +76,13 @@ state_of s = record {
   skipped = s.skipped;
   flaky = map flaky_view s.flaky.items;
   time = s.time;
-  prints = prints_view s.prints;
+  start = s.start;
+  last_event = s.last_event;
 }
 
--- a suite of which one first line was read
-abbrev pub suite_start : Option ℕ → Option (List ℕ) → Option (List ℕ) → Option ℕ → SuiteState
-suite_start number key heading count = record {
+-- a suite of which one first line was read, after these other lines
+abbrev pub suite_start : Option ℕ → Option (List ℕ) → Option (List ℕ) → Option ℕ → OthersView → SuiteState
+suite_start number key heading count others = record {
   number = number;
   key = key;
   heading = heading;
@@ -91,16 +96,17 @@ suite_start number key heading count = record {
   skipped = 0;
   flaky = [];
   time = None;
-  prints = no_prints;
+  start = print_place others;
+  last_event = event_place others;
 }
 
 -- the tests of a file that start outside of a suite, before the first of them
 abbrev pub outside_start : SuiteState
-outside_start = suite_start None None None None
+outside_start = suite_start None None None None no_others
 
 -- the suite with one more first line
-abbrev pub joined : SuiteState → Option ℕ → SuiteState
-joined s count = record s { open_lines = s.open_lines + 1; test_count = sum_of s.test_count count }
+abbrev pub joined_by : SuiteState → Option ℕ → SuiteState
+joined_by s count = record s { open_lines = s.open_lines + 1; test_count = sum_of s.test_count count }
 
 -- the suite with one more last line
 abbrev pub with_line : SuiteState → SuiteEndView → SuiteState

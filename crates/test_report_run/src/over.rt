@@ -2,6 +2,7 @@
 
 ghost use Rattle.std.specs.Prelude.{◌≡◌, ◌++◌, ◌∷◌, [], ◌+◌, is_some, IfOk, OnOk, map, true, length, if◌then◌else◌, ◌≤◌};
 ghost use Rattle.test_report_run.specs.Note.{HasCrashed, HasNoEnd, crash_view, kind_view, note_view};
+ghost use Rattle.test_report_run.specs.Others.{others_view};
 ghost use Rattle.test_report_run.specs.Over as spec;
 ghost use Rattle.test_report_run.specs.Running.{names_of, running_test_view};
 ghost use Rattle.test_report_run.specs.Suite.{flaky_view, over_view, state_of};
@@ -12,9 +13,11 @@ use crate::last_line::{Explanation, disagrees, explained};
 use crate::note::{
     Crash, Disagreement, Failure, FailureKind, NotRun, Note, SuiteNote, TestOutcome, failed_count,
 };
+use crate::others::Others;
 use crate::running::RunningTest;
 use crate::suite::{FlakyTest, OverTest, Suite};
 use std::alloc::{AllocError, Global};
+use std::rc::Rc;
 
 /// The numbers of a suite that its finished tests do not give.
 #[derive(Clone, Copy)]
@@ -41,19 +44,42 @@ fn over(test: RunningTest) -> OverTest
     }
 }
 
+/// Returns a copy of how a test crashed, which shares the text of the prints.
+fn copy_of(alloc: Global, crash: &Crash) -> Result<Crash, AllocError>
+    ensures { IfOk result (λ copy. crash_view copy ≡ crash_view crash.now) }
+{
+    let mut last = Vec::new(alloc);
+    for line in &crash.last {
+        last.push(line.clone()?)?;
+    }
+    let cause = match &crash.cause {
+        Some(cause) => Some(cause.clone()?),
+        None => None,
+    };
+    Ok(Crash {
+        running: crash.running,
+        has_key: crash.has_key,
+        cause,
+        prints: crash.prints.clone()?,
+        last,
+    })
+}
+
 impl Suite {
-    /// Ends the suite without a last line, and adds its notes. `left` are its running tests, which crashed.
+    /// Ends the suite without a last line, and adds its notes. `left` are its running tests, which crashed. `others`
+    /// are the lines of the file that are no events.
     pub(crate) fn end_early(
         mut self,
         alloc: Global,
+        others: &Others,
         left: Vec<RunningTest>,
         notes: &mut Vec<Note>,
     ) -> Result<(), RunError>
         ensures { OnOk result (map note_view notes.new.items ≡ map note_view notes.old.items
-            ++ spec.early_notes (state_of self) (names_of left.items)) }
+            ++ spec.early_notes (others_view others.now) (state_of self) (names_of left.items)) }
     {
         let crashed = left.len();
-        self.crash_all(alloc, left, notes)?;
+        self.crash_left(alloc, others, left, notes)?;
         self.release_flaky(alloc, false, notes)?;
         self.push_early_end(alloc, crashed, notes)?;
         let rest = Rest {
@@ -64,10 +90,34 @@ impl Suite {
         self.push_numbers(alloc, rest, notes)
     }
 
-    /// Counts all these tests as crashed.
+    /// Counts the running tests of the suite as crashed. `others` are the lines of the file that are no events.
+    fn crash_left(
+        &mut self,
+        alloc: Global,
+        others: &Others,
+        left: Vec<RunningTest>,
+        notes: &mut Vec<Note>,
+    ) -> Result<(), RunError>
+        ensures counts { OnOk result (state_of self.new ≡ record (state_of self.old) {
+          stats = spec.with_failed self.old.stats (names_of left.items);
+          crashed = self.old.crashed + length left.items;
+        }) }
+        ensures tells { OnOk result (map note_view notes.new.items ≡ map note_view notes.old.items
+            ++ spec.failed_notes (state_of self.old)
+            (HasCrashed (spec.crash_of (others_view others.now) (state_of self.old) (length left.items))) (names_of left.items)) }
+    {
+        if left.is_empty() {
+            return Ok(());
+        }
+        let crash = self.crash(alloc, others, left.len())?;
+        self.crash_all(alloc, &crash, left, notes)
+    }
+
+    /// Counts all these tests as crashed in this way.
     fn crash_all(
         &mut self,
         alloc: Global,
+        crash: &Crash,
         tests: Vec<RunningTest>,
         notes: &mut Vec<Note>,
     ) -> Result<(), RunError>
@@ -76,12 +126,11 @@ impl Suite {
           crashed = self.old.crashed + length tests.items;
         }) }
         ensures tells { OnOk result (map note_view notes.new.items ≡ map note_view notes.old.items
-            ++ spec.failed_notes (state_of self.old) (HasCrashed (spec.crash_of (state_of self.old) (length tests.items)))
+            ++ spec.failed_notes (state_of self.old) (HasCrashed (crash_view crash.now))
             (names_of tests.items)) }
     {
-        let running = tests.len();
         for test in tests {
-            let kind = FailureKind::Crashed(self.crash(alloc, running)?);
+            let kind = FailureKind::Crashed(copy_of(alloc, crash)?);
             self.crashed = one_more(self.crashed)?;
             self.fail(alloc, test, kind, notes)?;
         }
@@ -89,13 +138,16 @@ impl Suite {
     }
 
     /// Returns how a test of the suite crashed. `running` is the number of its running tests.
-    fn crash(&self, alloc: Global, running: usize) -> Result<Crash, AllocError>
-        ensures { IfOk result (λ crash. crash_view crash ≡ spec.crash_of (state_of self.now) running) }
+    fn crash(&self, alloc: Global, others: &Others, running: usize) -> Result<Crash, AllocError>
+        ensures { IfOk result (λ crash. crash_view crash
+            ≡ spec.crash_of (others_view others.now) (state_of self.now) running) }
     {
         Ok(Crash {
             running,
             has_key: self.name.key.is_some(),
-            prints: self.prints.lines(alloc)?,
+            cause: others.cause_behind(alloc, self.last_event)?,
+            prints: Rc::new(alloc, others.prints_from(alloc, self.start)?)?,
+            last: others.last_prints_from(alloc, self.start)?,
         })
     }
 

@@ -14,6 +14,7 @@ mod test_lines;
 use crate::error::{RunError, one_more};
 use crate::headings::Headings;
 use crate::note::{Disagreement, Note, RunEnd, TestOutcome};
+use crate::others::Others;
 use crate::run::lines::push_damaged;
 use crate::running::Running;
 use crate::suite::Suite;
@@ -41,6 +42,9 @@ pub struct TestRun {
     /// True if a line of the file was an event of a harness.
     has_event: bool,
 
+    /// The lines of the file that are no events of a harness.
+    others: Others,
+
     running: Running,
     ended: usize,
     totals: Totals,
@@ -65,6 +69,7 @@ impl TestRun {
             headings: Headings::new(alloc),
             heading: None,
             has_event: false,
+            others: Others::new(alloc),
             running: Running::new(alloc),
             ended: 0,
             totals: Totals::new(),
@@ -128,6 +133,7 @@ impl TestRun {
         self.headings = Headings::new(alloc);
         self.heading = None;
         self.has_event = false;
+        self.others = Others::new(alloc);
         self.causes_at_file = self.causes;
         self.causes_at_cargo = self.causes;
         Ok(notes)
@@ -183,12 +189,10 @@ impl TestRun {
             } => self.on_test_ended(alloc, name, end, details, notes),
             Event::Other => Ok(()),
             Event::Heading { suite, path } => self.on_heading(alloc, suite, path),
-            Event::CargoFailed {
-                failure,
-                line,
-                plain,
-            } => self.on_cargo_failed(alloc, failure, line, plain, notes),
-            Event::Print { line, plain } => self.on_print_line(alloc, line, plain),
+            Event::CargoFailed { failure, plain, .. } => {
+                self.on_cargo_failed(alloc, failure, plain, notes)
+            }
+            Event::Print { line, plain } => self.others.on_print(alloc, line, plain),
             Event::Damaged { text } => push_damaged(alloc, text, notes),
         }
     }

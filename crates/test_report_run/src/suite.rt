@@ -3,13 +3,13 @@
 ghost use Rattle.std.specs.Prelude.{◌≡◌, ◌==◌, ◌<◌, ◌^◌, ◌↔◌, IfOk, IsOk, OnOk, option_map};
 ghost use Rattle.test_report_events.specs.Event.{suite_end_view};
 ghost use Rattle.test_report_run.specs.Note.{note_view, outcome_view, text_view};
-ghost use Rattle.test_report_run.specs.Prints.{after_line, printed_view};
-ghost use Rattle.test_report_run.specs.Suite.{has_key, joined, named, outside_start, over_view, state_of, suite_name, suite_start, tally_of, test_note, with_line, with_start};
+ghost use Rattle.test_report_run.specs.Others.{no_others, others_view};
+ghost use Rattle.test_report_run.specs.Suite.{has_key, joined_by, named, outside_start, over_view, state_of, suite_name, suite_start, tally_of, test_note, with_line, with_start};
 
 use crate::error::{RunError, one_more};
 use crate::last_line::Tally;
 use crate::note::{Note, TestNote, TestOutcome, failed_count};
-use crate::prints::{Printed, Prints};
+use crate::others::{EventPlace, Others, PrintPlace};
 use crate::said::{Said, sum};
 use crate::suite_name::SuiteName;
 use run_events_stats::stats::RunStats;
@@ -77,37 +77,63 @@ pub(crate) struct Suite {
     /// The sum of the times of tests, in microseconds.
     pub(crate) time: Option<u64>,
 
-    /// The lines that may explain why the suite ended early.
-    pub(crate) prints: Prints,
+    /// The place of the first print after its first line.
+    pub(crate) start: PrintPlace,
+
+    /// The place of its last event.
+    pub(crate) last_event: EventPlace,
 }
 
 impl Suite {
-    /// Returns a suite after its first line.
+    /// Returns a suite after its first line. `others` are the other lines of the file before it.
     pub(crate) fn new(
         alloc: Global,
         number: usize,
         key: Option<String>,
         heading: Option<String>,
         test_count: Option<u128>,
+        others: &Others,
     ) -> Result<Suite, AllocError>
         ensures { IfOk result (λ suite. state_of suite
-            ≡ suite_start (Some number) (text_view key) (text_view heading) test_count) }
+            ≡ suite_start (Some number) (text_view key) (text_view heading) test_count (others_view others.now)) }
     {
         let name = SuiteName::new(alloc, number, key, heading)?;
-        Ok(Suite::named(alloc, name, test_count))
+        Ok(Suite::named(
+            alloc,
+            name,
+            test_count,
+            others.print_place(),
+            others.event_place(),
+        ))
     }
 
     /// Returns the tests of a file that start outside of a suite, before the first of them.
     pub(crate) fn outside(alloc: Global) -> Suite
         ensures { state_of result ≡ outside_start }
     {
-        Suite::named(alloc, SuiteName::outside(), None)
+        Suite::named(
+            alloc,
+            SuiteName::outside(),
+            None,
+            PrintPlace::default(),
+            EventPlace::default(),
+        )
     }
 
     /// Returns a suite with a name, after its first line.
-    fn named(alloc: Global, name: SuiteName, test_count: Option<u128>) -> Suite
+    fn named(
+        alloc: Global,
+        name: SuiteName,
+        test_count: Option<u128>,
+        start: PrintPlace,
+        last_event: EventPlace,
+    ) -> Suite
         requires { text_view name.first_test ≡ None }
-        ensures { state_of result ≡ suite_start name.number (text_view name.key) (text_view name.heading) test_count }
+        ensures { state_of result
+            ≡ record (suite_start name.number (text_view name.key) (text_view name.heading) test_count no_others) {
+              start = start;
+              last_event = last_event;
+            } }
     {
         Suite {
             name,
@@ -120,13 +146,14 @@ impl Suite {
             skipped: 0,
             flaky: Vec::new(alloc),
             time: None,
-            prints: Prints::new(alloc),
+            start,
+            last_event,
         }
     }
 
     /// Takes another first line of the suite.
     pub(crate) fn join(&mut self, test_count: Option<u128>) -> Result<(), RunError>
-        ensures { OnOk result (state_of self.new ≡ joined (state_of self.old) test_count) }
+        ensures { OnOk result (state_of self.new ≡ joined_by (state_of self.old) test_count) }
     {
         self.open_lines = one_more(self.open_lines)?;
         self.test_count = sum(self.test_count, test_count)?;
@@ -142,15 +169,6 @@ impl Suite {
         self.said = self.said.with_line(end)?;
         self.open_lines = self.open_lines.saturating_sub(1);
         Ok(self.open_lines == 0)
-    }
-
-    /// Takes a line that is no event of a harness.
-    pub(crate) fn on_print(&mut self, alloc: Global, printed: Printed<'_>) -> Result<(), AllocError>
-        ensures { OnOk result (state_of self.new ≡ record (state_of self.old) {
-          prints = after_line (state_of self.old).prints (printed_view printed.entry);
-        }) }
-    {
-        self.prints.on_printed(alloc, printed)
     }
 
     /// Takes the name in a line of a test of the suite.

@@ -1,14 +1,15 @@
-//! Lines that are of no suite and of no test: headings, failures of cargo, and what is printed.
+//! Headings, failures of cargo, and damaged lines.
 
 ghost use Rattle.std.specs.Prelude.{◌≡◌, ◌++◌, ◌∷◌, [], OnOk, map, option_map};
 ghost use Rattle.test_report_run.specs.Note.{Disagrees, IsDamaged, note_view};
-ghost use Rattle.test_report_run.specs.Prints.{AFailure, APrint, cut, printed_view};
+ghost use Rattle.test_report_run.specs.Others.{after_failure};
+ghost use Rattle.test_report_run.specs.Prints.{cut};
 ghost use Rattle.test_report_run.specs.Run as spec;
 ghost use Rattle.test_report_run.specs.Run.{run_state};
 
+use crate::cuts::shortened;
 use crate::error::RunError;
 use crate::note::{Disagreement, Note};
-use crate::prints::{Printed, shortened};
 use crate::run::TestRun;
 use std::alloc::{AllocError, Global};
 use test_report_events::event::CargoFailure;
@@ -24,7 +25,7 @@ impl TestRun {
         ensures { OnOk result (run_state self.new ≡ spec.headed (run_state self.old) name.now
             (option_map (λ path. path.now) path.entry)) }
     {
-        self.on_print(alloc, Printed::Heading)?;
+        self.others.on_heading(alloc)?;
         self.heading = Some(self.headings.on_heading(alloc, name, path)?);
         Ok(())
     }
@@ -34,16 +35,17 @@ impl TestRun {
         &mut self,
         alloc: Global,
         failure: CargoFailure,
-        line: &str,
         plain: &str,
         notes: &mut Vec<Note>,
     ) -> Result<(), RunError>
-        ensures takes { OnOk result (run_state self.new ≡ spec.printed_to (run_state self.old) (AFailure line.now)) }
+        ensures takes { OnOk result (run_state self.new ≡ record (run_state self.old) {
+          others = after_failure (run_state self.old).others;
+        }) }
         ensures tells { OnOk result (map note_view notes.new.items ≡ map note_view notes.old.items
             ++ spec.cargo_notes (run_state self.old) failure plain.now) }
     {
         self.count_cargo_failed(alloc, failure, plain, notes)?;
-        self.on_print(alloc, Printed::CargoFailed { line })?;
+        self.others.on_failure(alloc)?;
         Ok(())
     }
 
@@ -70,30 +72,6 @@ impl TestRun {
             }))?;
         }
         Ok(())
-    }
-
-    /// Takes a print: any other line.
-    pub(crate) fn on_print_line(
-        &mut self,
-        alloc: Global,
-        line: &str,
-        plain: &str,
-    ) -> Result<(), RunError>
-        ensures { OnOk result (run_state self.new ≡ spec.printed_to (run_state self.old) (APrint line.now plain.now)) }
-    {
-        self.on_print(alloc, Printed::Print { line, plain })?;
-        Ok(())
-    }
-
-    /// Takes a line that is no event of a harness.
-    fn on_print(&mut self, alloc: Global, printed: Printed<'_>) -> Result<(), AllocError>
-        ensures { OnOk result (run_state self.new
-            ≡ spec.printed_to (run_state self.old) (printed_view printed.entry)) }
-    {
-        for suite in self.suites.iter_mut() {
-            suite.on_print(alloc, printed)?;
-        }
-        self.outside.on_print(alloc, printed)
     }
 }
 

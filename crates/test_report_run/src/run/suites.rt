@@ -8,7 +8,7 @@ ghost use Rattle.test_report_run.specs.Over.{last_notes};
 ghost use Rattle.test_report_run.specs.Run as spec;
 ghost use Rattle.test_report_run.specs.Run.{run_state};
 ghost use Rattle.test_report_run.specs.Running.{is_same};
-ghost use Rattle.test_report_run.specs.Suite.{has_key, joined, state_of, with_line};
+ghost use Rattle.test_report_run.specs.Suite.{has_key, joined_by, state_of, with_line};
 
 use crate::error::{RunError, one_more};
 use crate::note::{Disagreement, Note};
@@ -69,9 +69,13 @@ impl TestRun {
     fn join(&mut self, test_count: Option<u128>, at: usize) -> Result<(), RunError>
         requires { at < length self.old.suites.items }
         ensures { OnOk result (run_state self.new ≡ spec.with_suite_at (run_state self.old) (Some at)
-            (joined (spec.suite_at (run_state self.old) (Some at)) test_count)) }
+            (joined_by (spec.suite_at (run_state self.old) (Some at)) test_count)) }
     {
-        self.suites[at].join(test_count)
+        let place = self.others.event_place();
+        let suite = &mut self.suites[at];
+        suite.join(test_count)?;
+        suite.last_event = place;
+        Ok(())
     }
 
     /// Removes the open suite at a position, and returns it.
@@ -99,7 +103,14 @@ impl TestRun {
             Some(heading) => Some(heading.clone()?),
             None => None,
         };
-        let suite = Suite::new(alloc, self.suites_started, key, heading, test_count)?;
+        let suite = Suite::new(
+            alloc,
+            self.suites_started,
+            key,
+            heading,
+            test_count,
+            &self.others,
+        )?;
         self.suites.push(Box::new(alloc, suite)?)?;
         Ok(())
     }
@@ -161,7 +172,11 @@ impl TestRun {
         ensures is_over { IfOk result (λ is_over. is_over
             ≡ ((with_line (spec.suite_at (run_state self.old) (Some at)) (suite_end_view end.entry)).open_lines == 0)) }
     {
-        self.suites[at].on_last_line(end)
+        let place = self.others.event_place();
+        let suite = &mut self.suites[at];
+        let is_over = suite.on_last_line(end)?;
+        suite.last_event = place;
+        Ok(is_over)
     }
 
     /// Ends a suite that has its last line.
@@ -191,7 +206,7 @@ impl TestRun {
             ≡ spec.ended_early (spec.step (run_state self.old) (map note_view notes.old.items)) (state_of suite)) }
     {
         let left = self.running.take_suite(alloc, suite.name.number)?;
-        suite.end_early(alloc, left, notes)
+        suite.end_early(alloc, &self.others, left, notes)
     }
 
     /// Returns the position of the first open suite with a key, or without a key.

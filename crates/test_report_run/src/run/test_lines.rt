@@ -31,14 +31,17 @@ impl TestRun {
         ensures number { IfOk result (λ number.
             number ≡ (spec.suite_at (run_state self.old) (spec.suite_place (run_state self.old) name.now)).number) }
     {
+        let place = self.others.event_place();
         match self.suite_of(name) {
             Some(at) => {
                 let suite = &mut self.suites[at];
                 suite.on_start(alloc, name)?;
+                suite.last_event = place;
                 Ok(suite.name.number)
             }
             None => {
                 self.outside.on_start(alloc, name)?;
+                self.outside.last_event = place;
                 Ok(self.outside.name.number)
             }
         }
@@ -126,9 +129,20 @@ impl TestRun {
             time: details.time,
             ended: Some(self.ended),
         };
+        let event = self.others.event_place();
         match place {
-            Some(at) => self.suites[at].on_end(alloc, over, order, end, details, notes),
-            None => self.outside.on_end(alloc, over, order, end, details, notes),
+            Some(at) => {
+                let suite = &mut self.suites[at];
+                suite.on_end(alloc, over, order, end, details, notes)?;
+                suite.last_event = event;
+                Ok(())
+            }
+            None => {
+                self.outside
+                    .on_end(alloc, over, order, end, details, notes)?;
+                self.outside.last_event = event;
+                Ok(())
+            }
         }
     }
 
@@ -186,9 +200,19 @@ impl TestRun {
             time: details.time,
             ended: Some(self.ended),
         };
+        let event = self.others.event_place();
         match self.suite_of(name) {
-            Some(at) => self.suites[at].on_stray_end(alloc, test, end, details, notes),
-            None => self.outside.on_stray_end(alloc, test, end, details, notes),
+            Some(at) => {
+                let suite = &mut self.suites[at];
+                suite.on_stray_end(alloc, test, end, details, notes)?;
+                suite.last_event = event;
+                Ok(())
+            }
+            None => {
+                self.outside.on_stray_end(alloc, test, end, details, notes)?;
+                self.outside.last_event = event;
+                Ok(())
+            }
         }
     }
 }

@@ -1,17 +1,16 @@
 -- A suite of the run changes.
-use Rattle.std.proofs.Common.{◌<◌, Some, arith, length, refl}
+use Rattle.std.proofs.Common.{◌<◌, ◌∙◌, Some, ap, arith, length, refl}
 use Rattle.std.proofs.lemmas.Grind.{common_steps}
-use Rattle.std.proofs.lemmas.Result.{on_ok_weaker}
 use Rattle.test_report_events.specs.Event.{suite_end_view}
 use Rattle.test_report_run.specs.Run.{run_state}
-use Rattle.test_report_run.specs.Suite.{with_line}
+use Rattle.test_report_run.specs.Suite.{state_of, with_line}
 use Rattle.test_report_run.proofs.Runs.{with_suite-at}
 use Rattle.test_report_run.proofs.run.TestRun.add_last_line.Goals as goal
 
 pub returns-clause-takes : goal.returns-clause-takes
 returns-clause-takes c =
     let inside : c.args.at < length c.args.self.now.suites.items = grind (arith, common_steps) in
-    on_ok_weaker c.on_last_line.result
-    (with_suite-at (run_state c.args.self.now) _ c.args.self.now.suites.items c.args.at (Some c.args.at) c.index_mut.result.now
-    c.deref_mut.result.now c.on_last_line.new.self
-    (λ s. with_line s (suite_end_view c.args.end)) refl refl inside refl c.index_mut.ensures.value c.deref_mut.ensures.value) c.on_last_line.ensures.takes
+    with_suite-at (run_state c.args.self.now) _ c.args.self.now.suites.items c.args.at (Some c.args.at) c.index_mut-suite.result.now
+    c.deref_mut.result.now c.deref_mut-2.result.now c.event_place-place.result
+    (λ s. with_line s (suite_end_view c.args.end)) refl refl inside refl c.index_mut-suite.ensures.value c.deref_mut.ensures.value
+    (ap state_of c.deref_mut-2.ensures.value ∙ c.in_ok-is_over.ensures.takes) c.event_place-place.ensures

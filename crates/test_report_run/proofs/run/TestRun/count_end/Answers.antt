@@ -1,23 +1,21 @@
 -- A test counts in its suite when it ends.
-use Rattle.std.proofs.Common.{[], ◌<◌, arith, length, refl}
+use Rattle.std.proofs.Common.{[], ◌<◌, ◌∙◌, ap, arith, length, refl}
 use Rattle.std.proofs.lemmas.Grind.{common_steps}
-use Rattle.std.proofs.lemmas.Result.{on_ok_weaker}
 use Rattle.test_report_events.specs.Event.{test_end_view}
 use Rattle.test_report_run.specs.Ended.{after_end}
 use Rattle.test_report_run.specs.Run.{place_of_number, run_state, running_over}
 use Rattle.test_report_run.specs.Running.{running_test_view}
+use Rattle.test_report_run.specs.Suite.{state_of}
 use Rattle.test_report_run.proofs.Runs.{with_suite-at}
 use Rattle.test_report_run.proofs.run.TestRun.count_end.Goals as goal
 
-pub returns-in-Some-clause-takes : goal.returns-in-Some-clause-takes
-returns-in-Some-clause-takes c =
+pub returns-in_ok-on_end-in-Some-clause-takes : goal.returns-in_ok-on_end-in-Some-clause-takes
+returns-in_ok-on_end-in-Some-clause-takes c =
     let r = run_state c.args.self.now in
     let e = test_end_view [] c.args.end c.args.details in
     let test = running_test_view c.args.test in
     let inside : c.in-Some.at < length c.args.self.now.suites.items = grind (arith, common_steps) in
-    on_ok_weaker c.on_end.result
-    (with_suite-at r _ c.args.self.now.suites.items c.in-Some.at (place_of_number r c.args.test.suite) c.index_mut.result.now c.deref_mut.result.now
-    c.on_end.new.self
-    (λ s. after_end s (running_over r e test c.args.attempts) test.order e) refl refl inside c.in-Some.ensures c.index_mut.ensures.value
-    c.deref_mut.ensures.value)
-    c.on_end.ensures.takes
+    with_suite-at r _ c.args.self.now.suites.items c.in-Some.at (place_of_number r c.args.test.suite) c.index_mut-suite.result.now c.deref_mut.result.now
+    c.deref_mut-in-Some.result.now c.event_place-event.result
+    (λ s. after_end s (running_over r e test c.args.attempts) test.order e) refl refl inside c.in-Some.ensures c.index_mut-suite.ensures.value
+    c.deref_mut.ensures.value (ap state_of c.deref_mut-in-Some.ensures.value ∙ c.in_ok-on_end-in-Some.ensures.takes) c.event_place-event.ensures

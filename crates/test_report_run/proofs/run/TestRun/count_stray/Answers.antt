@@ -1,7 +1,6 @@
 -- A stray end counts in the suite that its test would belong to.
 use Rattle.std.proofs.Common.{◌∙◌, ◌++◌, ◌<◌, List, ℕ, ap, arith, length, map, refl, sym}
 use Rattle.std.proofs.lemmas.Grind.{common_steps}
-use Rattle.std.proofs.lemmas.Result.{IfOk-equal, on_ok_weaker}
 use Rattle.test_report_events.specs.Event.{test_end_view}
 use Rattle.test_report_run.specs.Ended.{after_stray, stray_notes}
 use Rattle.test_report_run.specs.Note.{note_view}
@@ -10,28 +9,29 @@ use Rattle.test_report_run.specs.Suite.{OverView, state_of}
 use Rattle.test_report_run.proofs.Runs.{suite-at, with_suite-at}
 use Rattle.test_report_run.proofs.run.TestRun.count_stray.Goals as goal
 
-pub returns-in-Some-clause-takes : goal.returns-in-Some-clause-takes
-returns-in-Some-clause-takes c =
+pub returns-in_ok-on_stray_end-in-Some-clause-takes : goal.returns-in_ok-on_stray_end-in-Some-clause-takes
+returns-in_ok-on_stray_end-in-Some-clause-takes c =
     let r = run_state c.args.self.now in
     let e = test_end_view c.args.name.now c.args.end c.args.details in
     let s = state_of c.deref_mut.result.now in
     let over : List ℕ → OverView = λ name. record (stray_over r e) { name = name } in
     let inside : c.in-Some.at < length c.args.self.now.suites.items = grind (arith, common_steps) in
-    on_ok_weaker c.on_stray_end.result
-    (with_suite-at r _ c.args.self.now.suites.items c.in-Some.at (suite_place r c.args.name.now) c.index_mut.result.now c.deref_mut.result.now
-    c.on_stray_end.new.self
-    (λ s. after_stray s (stray_over r e) e) refl refl inside c.in-Some.ensures c.index_mut.ensures.value c.deref_mut.ensures.value)
-    (IfOk-equal c.on_stray_end.result _ _ _ c.on_stray_end.ensures.takes (ap (λ name. after_stray s (over name) e) c.in_ok-from_str.ensures.ok))
+    with_suite-at r _ c.args.self.now.suites.items c.in-Some.at (suite_place r c.args.name.now) c.index_mut-suite.result.now c.deref_mut.result.now
+    c.deref_mut-in-Some.result.now c.event_place-event.result
+    (λ s. after_stray s (stray_over r e) e) refl refl inside c.in-Some.ensures c.index_mut-suite.ensures.value c.deref_mut.ensures.value
+    (ap state_of c.deref_mut-in-Some.ensures.value ∙ c.in_ok-on_stray_end-in-Some.ensures.takes
+    ∙ ap (λ name. after_stray s (over name) e) c.in_ok-from_str.ensures.ok)
+    c.event_place-event.ensures
 
-pub returns-in-Some-clause-tells : goal.returns-in-Some-clause-tells
-returns-in-Some-clause-tells c =
+pub returns-in_ok-on_stray_end-in-Some-clause-tells : goal.returns-in_ok-on_stray_end-in-Some-clause-tells
+returns-in_ok-on_stray_end-in-Some-clause-tells c =
     let r = run_state c.args.self.now in
     let e = test_end_view c.args.name.now c.args.end c.args.details in
     let s = state_of c.deref_mut.result.now in
     let notes = map note_view c.args.notes.now.items in
     let over : List ℕ → OverView = λ name. record (stray_over r e) { name = name } in
     let inside : c.in-Some.at < length c.args.self.now.suites.items = grind (arith, common_steps) in
-    let place = suite-at r c.args.self.now.suites.items c.in-Some.at (suite_place r c.args.name.now) c.index_mut.result.now refl inside c.in-Some.ensures
-    c.index_mut.ensures.value ∙ sym (ap state_of c.deref_mut.ensures.value) in
-    IfOk-equal c.on_stray_end.result _ _ _ c.on_stray_end.ensures.tells
-    (ap (λ name. notes ++ stray_notes s (over name) e) c.in_ok-from_str.ensures.ok ∙ ap (λ s. notes ++ stray_notes s (stray_over r e) e) (sym place))
+    let place = suite-at r c.args.self.now.suites.items c.in-Some.at (suite_place r c.args.name.now) c.index_mut-suite.result.now refl inside c.in-Some.ensures
+    c.index_mut-suite.ensures.value ∙ sym (ap state_of c.deref_mut.ensures.value) in
+    c.in_ok-on_stray_end-in-Some.ensures.tells ∙ ap (λ name. notes ++ stray_notes s (over name) e) c.in_ok-from_str.ensures.ok
+    ∙ ap (λ s. notes ++ stray_notes s (stray_over r e) e) (sym place)

@@ -5,12 +5,20 @@ use Rattle.std.proofs.lemmas.Iterator.Consumers.{YieldsList-end}
 use Rattle.std.proofs.lemmas.Iterator.Adapters.{YieldsList-from_vec}
 use Rattle.test_report_run.specs.Note.{NoteView, note_view}
 use Rattle.test_report_run.specs.Run.{RunState, Step, ended_early, learned, no_event_notes, run_state, step}
-use Rattle.test_report_run.specs.Headings.{HeadingView}
+use Rattle.test_report_run.specs.Headings.{NamedPaths}
+use Rattle.test_report_run.specs.Others.{OthersView, no_others, others_view}
 use Rattle.test_report_run.specs.Suite.{SuiteState, outside_start, state_of}
 use Rattle.test_report_run.specs.declared.note.Note.{Note}
 use Rattle.test_report_run.specs.declared.suite.Suite.{Suite}
-use Rattle.test_report_run.proofs.Runs.{boxed_state, file-end}
+use Rattle.test_report_run.proofs.Runs.{boxed_state, file-end, suites-more}
 use Rattle.test_report_run.proofs.run.TestRun.end_file.Goals as goal
+
+pub loop-suite-preserved : goal.loop-suite-preserved
+loop-suite-preserved c =
+    let start : Step = step (record (run_state c.args.self.now) { suites = [] }) [] in
+    c.in_ok-end_early.ensures ∙ ap (λ (t : Step). ended_early t (state_of c.into_inner.result)) c.loop-suite.invariant
+    ∙ ap (λ (s : Suite). ended_early (fold ended_early start (map boxed_state c.loop-suite.yielded)) (state_of s)) c.into_inner.ensures
+    ∙ sym (suites-more start c.loop-suite.yielded c.in-Some.suite)
 
 pub returns-clause-tells : goal.returns-clause-tells
 returns-clause-tells c =
@@ -48,11 +56,27 @@ returns-clause-takes c =
     ∙ ap (λ (notes : List NoteView). learned (run_state c.end_early-2.new.self) notes) c.in_ok-push_no_event.ensures
     ∙ ap (λ (t : Step). learned t.run (t.notes ++ no_event_notes t.run)) end in
     let last = c.learn.new.self in
-    ap (λ (h : List HeadingView). record (run_state last) {
+    ap (λ (h : NamedPaths). record (run_state last) {
       headings = h;
       heading = None;
       has_event = false;
+      others = others_view c.new-3.result;
       causes_at_file = last.causes;
       causes_at_cargo = last.causes;
     }) c.new-2.ensures
-    ∙ ap (λ (x : RunState). record x { headings = []; heading = None; has_event = false; causes_at_file = x.causes; causes_at_cargo = x.causes }) over
+    ∙ ap (λ (o : OthersView). record (run_state last) {
+      headings = [];
+      heading = None;
+      has_event = false;
+      others = o;
+      causes_at_file = last.causes;
+      causes_at_cargo = last.causes;
+    }) c.new-3.ensures
+    ∙ ap (λ (x : RunState). record x {
+      headings = [];
+      heading = None;
+      has_event = false;
+      others = no_others;
+      causes_at_file = x.causes;
+      causes_at_cargo = x.causes;
+    }) over

@@ -1,7 +1,7 @@
 -- Where the running tests are counted as crashed.
 use Rattle.std.proofs.Common.{◌≡◌, ◌+◌, ◌++◌, length, map}
-use Rattle.test_report_run.specs.Note.{HasCrashed, note_view}
-use Rattle.test_report_run.specs.Over.{crash_of, failed_notes, with_failed}
+use Rattle.test_report_run.specs.Note.{HasCrashed, crash_view, note_view}
+use Rattle.test_report_run.specs.Over.{failed_notes, with_failed}
 use Rattle.test_report_run.specs.Running.{names_of}
 use Rattle.test_report_run.specs.Suite.{state_of}
 use Rattle.test_report_run.proofs.suite.Suite.crash_all.Given as goal
@@ -13,4 +13,4 @@ invariant-loop-test l =
       crashed = l.fn.self.crashed + length l.yielded;
     })
     × (map note_view l.notes.items ≡ map note_view l.fn.notes.items
-    ++ failed_notes (state_of l.fn.self) (HasCrashed (crash_of (state_of l.fn.self) l.running)) (names_of l.yielded))
+    ++ failed_notes (state_of l.fn.self) (HasCrashed (crash_view l.crash)) (names_of l.yielded))

@@ -1,0 +1,268 @@
+//! The lines of a file that are no events of a harness.
+
+ghost use Rattle.std.specs.Prelude.{◌≡◌, ◌==◌, ◌++◌, ◌∷◌, [], IfOk, OnOk, map, not, option_map, slice_get, string_bytes};
+ghost use Rattle.std.specs.List.{position};
+ghost use Rattle.test_report_run.specs.Note.{text_view};
+ghost use Rattle.test_report_run.specs.Others as spec;
+ghost use Rattle.test_report_run.specs.Others.{others_view, reported_view};
+ghost use Rattle.test_report_run.specs.Prints.{no_prints, prints_view};
+ghost use Rattle.test_report_run.specs.declared.others.Stage.TheVariants as stage;
+
+use crate::cuts::shortened;
+use crate::error::{RunError, one_more};
+use crate::prints::Prints;
+use std::alloc::{AllocError, Global};
+
+/// The line before the one in which cargo names the cause of its failure.
+const CAUSED_BY: &[u8] = b"Caused by:";
+
+/// The place of a print of a file.
+#[derive(Clone, Copy, Debug, Default, PartialEq, Eq)]
+pub(crate) struct PrintPlace {
+    /// The number of headings and failures that came before it.
+    part: usize,
+
+    /// The number of prints between the last of these and it.
+    print: usize,
+}
+
+/// The place of an event of a file among its other lines.
+#[derive(Clone, Copy, Debug, Default, PartialEq, Eq)]
+pub(crate) struct EventPlace {
+    /// The number of failures of cargo that came before it.
+    failures: usize,
+
+    /// The number of headings that came before it.
+    headings: usize,
+}
+
+/// A failure that cargo reported.
+#[derive(Drop)]
+pub(crate) struct Reported {
+    /// The number of headings that came before it.
+    headings: usize,
+
+    /// The line after the first `Caused by:` behind it, or its first 200 bytes, in which cargo names the cause.
+    cause: Option<String>,
+}
+
+/// How far the search for the cause of the last failure is.
+#[derive(Clone, Copy, Debug, PartialEq, Eq)]
+enum Stage {
+    /// There is nothing to search for: no failure came, the cause is known, or a heading came behind the failure.
+    Over,
+
+    /// Behind the failure, before the line `Caused by:`.
+    Failed,
+
+    /// Right behind the line `Caused by:`.
+    CausedBy,
+}
+
+/// What is kept of the lines of a file that are no events of a harness.
+#[derive(Drop)]
+pub(crate) struct Others {
+    /// The prints before the first heading or failure of cargo, and between two of them.
+    past: Vec<Prints>,
+
+    /// The prints behind the last heading or failure.
+    prints: Prints,
+
+    headings: usize,
+
+    /// The failures before the last one.
+    failures: Vec<Reported>,
+
+    last_failure: Option<Reported>,
+    stage: Stage,
+}
+
+impl Others {
+    /// Returns what is kept before the first line.
+    pub(crate) fn new(alloc: Global) -> Others
+        ensures { others_view result ≡ spec.no_others }
+    {
+        Others {
+            past: Vec::new(alloc),
+            prints: Prints::new(alloc),
+            headings: 0,
+            failures: Vec::new(alloc),
+            last_failure: None,
+            stage: Stage::Over,
+        }
+    }
+
+    /// Takes a print.
+    pub(crate) fn on_print(
+        &mut self,
+        alloc: Global,
+        line: &str,
+        plain: &str,
+    ) -> Result<(), RunError>
+        ensures { OnOk result (others_view self.new
+            ≡ spec.after_print (others_view self.old) line.now plain.now) }
+    {
+        self.prints.take_print(alloc, line)?;
+        if self.stage == Stage::CausedBy {
+            self.keep_cause(alloc, line)?;
+        }
+        self.stage = stage_after(self.stage, plain);
+        Ok(())
+    }
+
+    /// Keeps the cause of the last failure.
+    fn keep_cause(&mut self, alloc: Global, line: &str) -> Result<(), AllocError>
+        ensures { OnOk result (others_view self.new ≡ record (others_view self.old) {
+          last_failure = spec.with_cause stage.CausedBy (others_view self.old).last_failure line.now;
+        }) }
+    {
+        if let Some(failure) = &mut self.last_failure {
+            failure.cause = Some(String::from_str(alloc, shortened(line))?);
+        }
+        Ok(())
+    }
+
+    /// Takes a heading.
+    pub(crate) fn on_heading(&mut self, alloc: Global) -> Result<(), RunError>
+        ensures { OnOk result (others_view self.new ≡ spec.after_heading (others_view self.old)) }
+    {
+        self.end_part(alloc)?;
+        self.headings = one_more(self.headings)?;
+        self.stage = Stage::Over;
+        Ok(())
+    }
+
+    /// Takes a failure of cargo.
+    pub(crate) fn on_failure(&mut self, alloc: Global) -> Result<(), AllocError>
+        ensures { OnOk result (others_view self.new ≡ spec.after_failure (others_view self.old)) }
+    {
+        self.end_part(alloc)?;
+        let failure = Reported {
+            headings: self.headings,
+            cause: None,
+        };
+        if let Some(before) = std::mem::replace(&mut self.last_failure, Some(failure)) {
+            self.failures.push(before)?;
+        }
+        self.stage = Stage::Failed;
+        Ok(())
+    }
+
+    /// Ends the prints behind the last heading or failure.
+    fn end_part(&mut self, alloc: Global) -> Result<(), AllocError>
+        ensures { OnOk result (others_view self.new ≡ record (others_view self.old) {
+          past = (others_view self.old).past ++ (others_view self.old).prints ∷ [];
+          prints = no_prints;
+        }) }
+    {
+        let prints = std::mem::replace(&mut self.prints, Prints::new(alloc));
+        self.past.push(prints)?;
+        Ok(())
+    }
+
+    /// Returns the place of the next print.
+    pub(crate) fn print_place(&self) -> PrintPlace
+        ensures { result ≡ spec.print_place (others_view self.now) }
+    {
+        PrintPlace {
+            part: self.past.len(),
+            print: self.prints.count(),
+        }
+    }
+
+    /// Returns the place of an event.
+    pub(crate) fn event_place(&self) -> EventPlace
+        ensures { result ≡ spec.event_place (others_view self.now) }
+    {
+        let failures = match &self.last_failure {
+            Some(_) => self.failures.len() + 1,
+            None => self.failures.len(),
+        };
+        EventPlace {
+            failures,
+            headings: self.headings,
+        }
+    }
+
+    /// Returns the prints of a part: those between two headings or failures, or behind the last one.
+    fn part_at(&self, part: usize) -> &Prints
+        ensures { prints_view result.now ≡ spec.part_at (others_view self.now) part }
+    {
+        self.past.get(part).unwrap_or(&self.prints)
+    }
+
+    /// Returns the text of the prints from a place on, up to the first heading or failure behind it: the longest end
+    /// that fits.
+    pub(crate) fn prints_from(&self, alloc: Global, at: PrintPlace) -> Result<String, AllocError>
+        ensures { IfOk result (λ text. string_bytes text ≡ spec.prints_from (others_view self.now) at) }
+    {
+        self.part_at(at.part).text_from(alloc, at.print)
+    }
+
+    /// Returns the last three of these prints that are not blank.
+    pub(crate) fn last_prints_from(
+        &self,
+        alloc: Global,
+        at: PrintPlace,
+    ) -> Result<Vec<String>, AllocError>
+        ensures { IfOk result (λ lines. map string_bytes lines.items ≡ spec.last_prints_from (others_view self.now) at) }
+    {
+        self.part_at(at.part).last_from(alloc, at.print)
+    }
+
+    /// Returns the cause of the first failure behind an event, unless a heading came between them.
+    pub(crate) fn cause_behind(
+        &self,
+        alloc: Global,
+        at: EventPlace,
+    ) -> Result<Option<String>, AllocError>
+        ensures { IfOk result (λ cause. text_view cause ≡ spec.cause_behind (others_view self.now) at) }
+    {
+        match self.failure_at(at.failures) {
+            Some(failure) if failure.headings == at.headings => match &failure.cause {
+                Some(cause) => Ok(Some(cause.clone()?)),
+                None => Ok(None),
+            },
+            _ => Ok(None),
+        }
+    }
+
+    /// Returns the failure before which `earlier` others came.
+    fn failure_at(&self, earlier: usize) -> Option<&Reported>
+        ensures { option_map (λ f. reported_view f.now) result ≡ slice_get (spec.all_failures (others_view self.now)) earlier }
+    {
+        if earlier == self.failures.len() {
+            self.last_failure.as_ref()
+        } else {
+            self.failures.get(earlier)
+        }
+    }
+}
+
+/// Returns how far the search for a cause is after a print.
+fn stage_after(stage: Stage, plain: &str) -> Stage
+    ensures { result ≡ spec.stage_after stage plain.now }
+{
+    match stage {
+        Stage::Failed if says_caused_by(plain.as_bytes()) => Stage::CausedBy,
+        Stage::Failed => Stage::Failed,
+        Stage::Over | Stage::CausedBy => Stage::Over,
+    }
+}
+
+/// Returns true if a line is `Caused by:`, perhaps after spaces.
+fn says_caused_by(plain: &[u8]) -> bool
+    ensures { result ≡ spec.says_caused_by plain.now }
+{
+    match spaces_end(plain) {
+        Some(at) => plain[at..] == CAUSED_BY[..],
+        None => false,
+    }
+}
+
+/// Returns the offset of the first byte that is not a space.
+fn spaces_end(text: &[u8]) -> Option<usize>
+    ensures { result ≡ position (λ b. not (b == 32)) text.now }
+{
+    text.iter().position(|byte| *byte != b' ')
+}

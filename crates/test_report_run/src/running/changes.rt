@@ -1,0 +1,183 @@
+//! What starts and ends running tests.
+
+ghost use Rattle.std.specs.Prelude.{◌≡◌, ◌≤◌, ◌++◌, ◌∷◌, [], ◌+◌, ◌-◌, ℕ, List, true, false, filter, length, not, IfNone, IfOk, IfSome, MatchOption, OnOk, option_map, slice_get};
+ghost use Rattle.std.specs.BTreeMap.{get, is_at};
+ghost use Rattle.std.specs.List.{position, remove};
+ghost use Rattle.std.specs.Map.{remove_entry};
+ghost use Rattle.std.specs.Option.{option_map_or};
+ghost use Rattle.std.specs.Ordering.{nat_cmp};
+ghost use Rattle.test_report_run.specs.Orders.{is_in_suite};
+ghost use Rattle.test_report_run.specs.Running.{CountsAttempts, RunningView, ended_at, has_name, is_of, place_of_end, running_at, running_test_view, running_view, split_of, tests_of};
+
+use crate::error::{RunError, one_more};
+use crate::running::names::NameOrders;
+use crate::running::{Running, RunningTest};
+use std::alloc::{AllocError, Global};
+use std::collections::{BTreeMap, BTreeSet};
+
+/// The most attempts that a name may end with.
+const MOST_ATTEMPTS: usize = 1_000;
+
+impl Running {
+    /// Returns no tests.
+    pub fn new(alloc: Global) -> Running
+        ensures tests { tests_of result ≡ [] }
+        ensures started { result.started ≡ 0 }
+    {
+        Running {
+            tests: BTreeMap::new(alloc),
+            names: NameOrders::new(alloc),
+            suites: BTreeSet::new(alloc),
+            started: 0,
+        }
+    }
+
+    /// Adds a test that starts. `suite` is the number of its suite, or `None` outside of a suite. After an error
+    /// tests may be missing.
+    pub fn begin(&mut self, alloc: Global, name: &str, suite: Option<usize>) -> Result<(), RunError>
+        ensures tests { OnOk result (tests_of self.new ≡ tests_of self.old
+            ++ record { name = name.now; suite = suite; order = self.old.started } ∷ []) }
+        ensures started { OnOk result (self.new.started ≡ self.old.started + 1) }
+    {
+        let order = self.started;
+        let started = one_more(order)?;
+        let test = RunningTest {
+            name: String::from_str(alloc, name)?,
+            suite,
+            order,
+        };
+        let Running {
+            mut tests,
+            mut names,
+            mut suites,
+            started: _,
+        } = std::mem::replace(self, Running::new(alloc));
+        names.insert(alloc, name, order)?;
+        suites.insert((suite, order))?;
+        tests.insert(order, test)?;
+        *self = Running {
+            tests,
+            names,
+            suites,
+            started,
+        };
+        Ok(())
+    }
+
+    /// Removes the test that ends, and returns it with the number of its attempts. `written` is the name in
+    /// the line of its end. Returns `None` if no such test is running.
+    pub fn end(&mut self, written: &str) -> Option<(RunningTest, usize)>
+        ensures found { option_map {U = RunningView × ℕ} (λ found. (running_test_view found.0, found.1)) result
+            ≡ option_map (ended_at (tests_of self.old)) (place_of_end (tests_of self.old) written.now) }
+        ensures left { tests_of self.new ≡ option_map_or (λ place. remove (tests_of self.old) place.0)
+            (place_of_end (tests_of self.old) written.now) (tests_of self.old) }
+        ensures started { self.new.started ≡ self.old.started }
+    {
+        if let Some(test) = self.remove_named(written) {
+            return Some((test, 1));
+        }
+        let (name, attempts) = name_and_attempts(written)?;
+        let test = self.remove_named(name)?;
+        Some((test, attempts))
+    }
+
+    /// Returns the name of the test that started last.
+    pub fn last_name(&self) -> Option<&str>
+        ensures { option_map (λ name. name.now) result ≡ option_map (λ t. t.name)
+            (slice_get (tests_of self.now) (length (tests_of self.now) - 1)) }
+    {
+        let (_, test) = self.tests.last_key_value()?;
+        Some(test.name.as_str())
+    }
+
+    /// Removes the tests of a suite, and returns them in the order in which they started.
+    pub(crate) fn take_suite(
+        &mut self,
+        alloc: Global,
+        suite: Option<usize>,
+    ) -> Result<Vec<RunningTest>, AllocError>
+        ensures taken { IfOk result (λ taken.
+            running_view taken.items ≡ filter (is_of suite) (tests_of self.old)) }
+        ensures left { OnOk result (tests_of self.new
+            ≡ filter (λ t. not (is_of suite t)) (tests_of self.old)) }
+        ensures started { OnOk result (self.new.started ≡ self.old.started) }
+    {
+        let mut taken = Vec::new(alloc);
+        while let Some(test) = self.remove_of_suite(suite) {
+            taken.push(test)?;
+        }
+        Ok(taken)
+    }
+
+    /// Removes the first test with a name, and returns it.
+    fn remove_named(&mut self, name: &str) -> Option<RunningTest>
+        ensures found { option_map running_test_view result
+            ≡ option_map (running_at (tests_of self.old)) (position (has_name name.now) (tests_of self.old)) }
+        ensures left { tests_of self.new ≡ option_map_or (remove (tests_of self.old))
+            (position (has_name name.now) (tests_of self.old)) (tests_of self.old) }
+        ensures started { self.new.started ≡ self.old.started }
+    {
+        let order = self.names.first(name)?;
+        self.remove(order)
+    }
+
+    /// Removes the first test of a suite, and returns it.
+    fn remove_of_suite(&mut self, suite: Option<usize>) -> Option<RunningTest>
+        ensures found { option_map running_test_view result
+            ≡ option_map (running_at (tests_of self.old)) (position (is_of suite) (tests_of self.old)) }
+        ensures left { tests_of self.new ≡ option_map_or (remove (tests_of self.old))
+            (position (is_of suite) (tests_of self.old)) (tests_of self.old) }
+        ensures started { self.new.started ≡ self.old.started }
+    {
+        let order = self.first_of_suite(suite)?;
+        self.remove(order)
+    }
+
+    /// Returns the number of the first test of a suite.
+    fn first_of_suite(&self, suite: Option<usize>) -> Option<usize>
+        ensures first { IfSome result (λ order. is_in_suite self.now.tests suite order ≡ true) }
+        ensures least { IfSome result (λ order. (n : ℕ) → is_in_suite self.now.tests suite n ≡ true → order ≤ n) }
+        ensures none { IfNone result ((n : ℕ) → is_in_suite self.now.tests suite n ≡ false) }
+    {
+        match self.suites.range((suite, 0)..).next() {
+            Some((found, order)) if *found == suite => Some(*order),
+            _ => None,
+        }
+    }
+
+    /// Removes the test with this number, and returns it.
+    fn remove(&mut self, order: usize) -> Option<RunningTest>
+        ensures test { result ≡ get nat_cmp self.old.tests order }
+        ensures left { self.new.tests.entries ≡ remove_entry (is_at (nat_cmp order)) self.old.tests.entries }
+        ensures started { self.new.started ≡ self.old.started }
+    {
+        let test = self.tests.remove(&order)?;
+        self.names.remove(test.name.as_str(), order);
+        self.suites.remove(&(test.suite, order));
+        Some(test)
+    }
+}
+
+/// Splits a name that ends with `#` and a number of attempts into the name of the test and the number.
+fn name_and_attempts(written: &str) -> Option<(&str, usize)>
+    ensures { option_map {U = List ℕ × ℕ} (λ found. (found.0.now, found.1)) result ≡ split_of written.now }
+{
+    let (name, digits) = written.rsplit_once('#')?;
+    let attempts = number_of_attempts(digits)?;
+    Some((name, attempts))
+}
+
+/// Parses a number of attempts, which is from 2 to 1,000 and has neither a sign nor a leading zero.
+fn number_of_attempts(digits: &str) -> Option<usize>
+    ensures { MatchOption result ((n : ℕ) → ¬ CountsAttempts digits.now n) (CountsAttempts digits.now) }
+{
+    if digits.starts_with('+') || digits.starts_with('0') {
+        return None;
+    }
+    let attempts: usize = digits.parse().ok()?;
+    if 2 <= attempts && attempts <= MOST_ATTEMPTS {
+        Some(attempts)
+    } else {
+        None
+    }
+}
