@@ -61,3 +61,11 @@ three-parts a b d e x y z p q f g h i j k =
     ∙ append_assoc (option_to_list x) (option_to_list y) (option_to_list z)
     ∙ ap (λ o. option_to_list o ++ (option_to_list y ++ option_to_list z)) j
     ∙ ap (λ o. option_to_list p ++ (option_to_list o ++ option_to_list z)) k
+
+-- a part, another one that may be there, and more
+pub one-and-more : {X : Type 0} (a b d e more : List X) (w v : X) (x p : Option X) → a ≡ [] → b ≡ a ++ (w ∷ []) → d ≡ b ++ option_to_list x
+    → e ≡ d ++ more → w ≡ v → x ≡ p → e ≡ v ∷ (option_to_list p ++ more)
+one-and-more a b d e more w v x p f g h i j k =
+    i ∙ ap (λ t. t ++ more) (h ∙ ap (λ t. t ++ option_to_list x) (g ∙ ap (λ t. t ++ (w ∷ [])) f))
+    ∙ ap (λ y. y ∷ (option_to_list x ++ more)) j
+    ∙ ap (λ o. v ∷ (option_to_list o ++ more)) k

@@ -1,3 +1,4 @@
+pub mod Begins
 pub mod Cuts
 pub mod Ends
 pub mod Filtered

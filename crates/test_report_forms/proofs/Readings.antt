@@ -1,7 +1,8 @@
 -- A note has one entry, because output has one extraction and one last head.
-use Rattle.std.proofs.Common.{◌≡◌, ◌∙◌, ◌==◌, ap, sym, subst, ℕ, List, Option, None, Some, option_and_then}
+use Rattle.std.proofs.Common.{◌≡◌, ◌∙◌, ◌==◌, ap, sym, subst, ℕ, List, ◌∷◌, ◌++◌, Option, None, Some, option_and_then, option_map, option_to_list}
 use Rattle.std.specs.List.{after_first}
 use Rattle.std.specs.Option.{is_some, option_or}
+use Rattle.std.specs.Str.Lossy.{utf8_lossy}
 use Rattle.output_slice.specs.Laws.{OneExtraction, TakenHeadsExist}
 use Rattle.output_slice.specs.Taken.{IsLastTaken, last_of}
 use Rattle.output_slice.specs.declared.panic_head.HeadSpan.{HeadSpan}
@@ -9,8 +10,8 @@ use Rattle.test_report_forms.specs.Entry.{EntryView, IsEntryOf, IsTestEntry, Tes
 use Rattle.test_report_forms.specs.Laws.{OneWhy}
 use Rattle.test_report_forms.specs.Place.{IsFailurePlace, IsPanicPlace, IsPlaceOr, PlaceView, documented_place, first_line, message_place, place_behind}
 use Rattle.test_report_forms.specs.Title.{title_name}
-use Rattle.test_report_forms.specs.Why.{AreFailureParts, AreParts, IsOutputPart, IsShort, first_part, joined, known_parts, output_part, short_of, some_part}
-use Rattle.test_report_run.specs.Note.{Disagrees, FailureView, Fails, HasCrashed, HasFailed, HasNoEnd, HasTimedOut, IsFlaky, IsNotRun, IsSkipped, KindView, NoteView, OutcomeView, Passes, SuiteIs, TestIs, TestNoteView}
+use Rattle.test_report_forms.specs.Why.{AreCrashParts, AreFailureParts, AreParts, ArePrintsParts, IsExplanation, IsOutputPart, IsShort, crash_words, extract_bytes, first_part, joined, known_parts, output_part, said_by_prints, short_of, some_part}
+use Rattle.test_report_run.specs.Note.{CrashView, Disagrees, FailureView, Fails, HasCrashed, HasFailed, HasNoEnd, HasTimedOut, IsFlaky, IsNotRun, IsSkipped, KindView, NoteView, OutcomeView, Passes, SuiteIs, TestIs, TestNoteView}
 
 module _ (heads : TakenHeadsExist) (extraction : OneExtraction) where
   last-same : (b : List ℕ) (f g : Option HeadSpan) → IsLastTaken b f → IsLastTaken b g → f ≡ g
@@ -36,8 +37,19 @@ module _ (heads : TakenHeadsExist) (extraction : OneExtraction) where
   known-same : (f : FailureView) (time : Option ℕ) (a b : List (List ℕ)) → AreFailureParts f time a → AreFailureParts f time b → a ≡ b
   known-same f time a b p q = p.2 ∙ ap (λ o. some_part (known_parts f time o)) (output-same f.stdout f.message p.0 q.0 p.1 q.1) ∙ sym q.2
 
+  explanation-same : (text : List ℕ) (a b : Option (List ℕ)) → IsExplanation text a → IsExplanation text b → a ≡ b
+  explanation-same text a b p q =
+      p.2 ∙ ap (option_map (λ x. utf8_lossy (extract_bytes x))) (extraction (Some text) (Some text) p.0 q.0 p.1 q.1) ∙ sym q.2
+
+  prints-same : (c : CrashView) (a b : List (List ℕ)) → ArePrintsParts c a → ArePrintsParts c b → a ≡ b
+  prints-same c a b p q = p.2 ∙ ap (λ part. said_by_prints part c.last) (explanation-same c.prints p.0 q.0 p.1 q.1) ∙ sym q.2
+
+  crash-same : (c : CrashView) (a b : List (List ℕ)) → AreCrashParts c a → AreCrashParts c b → a ≡ b
+  crash-same c a b p q =
+      p.2 ∙ ap (λ said. crash_words c ∷ (option_to_list c.cause ++ said)) (prints-same c p.0 q.0 p.1 q.1) ∙ sym q.2
+
   parts-same : (k : KindView) (f : FailureView) (time : Option ℕ) (a b : List (List ℕ)) → AreParts k f time a → AreParts k f time b → a ≡ b
-  parts-same (HasCrashed crash) f time a b p q = p ∙ sym q
+  parts-same (HasCrashed crash) f time a b p q = crash-same crash a b p q
   parts-same HasFailed f time a b p q = known-same f time a b p q
   parts-same HasTimedOut f time a b p q = known-same f time a b p q
   parts-same HasNoEnd f time a b p q = known-same f time a b p q

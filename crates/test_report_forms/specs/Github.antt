@@ -6,7 +6,7 @@ use Rattle.std.specs.Option.{option_map_or}
 use Rattle.std.specs.Str.{chars}
 use Rattle.test_report_forms.specs.Entry.{EntryView, TestFailed}
 use Rattle.test_report_forms.specs.Model.{cause_line}
-use Rattle.test_report_forms.specs.Shown.{limited, shown_name}
+use Rattle.test_report_forms.specs.Shown.{limited, shown_line}
 use Rattle.test_report_forms.specs.Title.{title}
 use Rattle.test_report_forms.specs.Why.{PlaceView, WhyView}
 use Rattle.test_report_forms.specs.Words.{outcome_word, summary_line}
@@ -36,7 +36,7 @@ column_property column = option_map_or (λ c. codes ",col=" ++ c) column []
 -- the properties of a place
 unfoldable pub place_properties : PlaceView → List ℕ
 place_properties p =
-    codes "file=" ++ (property (shown_name p.file) ++ (codes ",line=" ++ (p.line ++ (column_property p.column ++ codes ","))))
+    codes "file=" ++ (property (shown_line p.file) ++ (codes ",line=" ++ (p.line ++ (column_property p.column ++ codes ","))))
 
 -- the properties of a place, if it is known
 unfoldable pub properties : Option PlaceView → List ℕ

@@ -153,8 +153,9 @@ title_text t = phrase_text title_phrase (failed_values t)
 abbrev pub suite_text : RowView → List ℕ
 suite_text r = phrase_text suite_phrase (suite_values r)
 
--- The template of the page is one element without control characters, and HTML ends each element where XML does. It has all holes and phrases. There
--- is one section for each failed test, with the holes of a failed test, and one for each problem, with the hole for its line.
+-- The template of the page is one element without control characters. It ends by `/>` only elements that have no content in HTML, and none of these by
+-- an end tag. It has all holes and phrases. There is one section for each failed test, with the holes of a failed test, and one for each problem, with
+-- the hole for its line.
 pub record PageIsSound : Type 0 where
   pub document : is_document page_parts ≡ true
   pub html : is_html page_parts ≡ true

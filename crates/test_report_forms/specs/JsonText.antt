@@ -1,10 +1,11 @@
 -- JSON as text: objects, lists, and the marks of commands, which are hidden.
-use Rattle.std.specs.Prelude.{◌≡◌, ◌||◌, ◌==◌, ◌++◌, ◌∷◌, [], ℕ, Bool, List, codes, if◌then◌else◌, nat_eq, string_bytes}
-use Rattle.std.specs.List.{flat_map, list_all, starts_with}
+use Rattle.std.specs.Prelude.{◌≡◌, ◌||◌, ◌==◌, ◌++◌, ◌∷◌, [], ℕ, Bool, List, codes, if◌then◌else◌, string_bytes}
+use Rattle.std.specs.List.{flat_map, list_all}
 use Rattle.json.specs.Json.{Json, Items, Members, array, item, member, no_items, no_members, object}
 use Rattle.json.specs.Print.{print, quoted}
 use Rattle.json.specs.Tree.{json_tokens}
 use Rattle.template.specs.Shown.{is_within}
+use Rattle.test_report_forms.specs.Commands.{is_command}
 use Rattle.test_report_forms.specs.declared.json_object.JsonObject.{JsonObject}
 
 -- a member of an object: its name and its value
@@ -57,11 +58,6 @@ is_plain_name name = list_all (λ b. is_within 97 122 b || b == 95) name
 -- what is kept of an object is of these members
 abbrev pub HasMembers : JsonObject → List Member → Type 0
 HasMembers o ms = string_bytes o.members ≡ more_members ms
-
--- what follows a `#` makes it the beginning of a command of a CI system
-unfoldable pub is_command : List ℕ → Bool
-is_command text =
-    starts_with nat_eq text (codes "#[") || (starts_with nat_eq text (codes "#vso[") || starts_with nat_eq text (codes "#teamcity["))
 
 -- a `#` before this text: an escape of JSON if a command begins there
 abbrev pub mark : List ℕ → List ℕ

@@ -1,3 +1,4 @@
+pub mod Commands
 pub mod Entry
 pub mod Files
 pub mod Github

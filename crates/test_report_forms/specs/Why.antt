@@ -46,10 +46,6 @@ crash_words c =
     then codes "one of " ++ (decimal c.running ++ (codes " tests that ran when " ++ end_words c.has_key))
     else end_words c.has_key ++ codes " before it did"
 
--- the parts of what is known about a crash
-abbrev pub crash_parts : CrashView → List (List ℕ)
-crash_parts c = crash_words c ∷ c.prints
-
 -- the words for a test that ran out of time
 unfoldable pub timed_out : Option ℕ → List ℕ
 timed_out time = codes "timed out" ++ option_map_or (λ micros. codes " after " ++ (seconds micros ++ codes "s")) time []
@@ -81,6 +77,25 @@ extract_bytes (panic_slice x) = x.bytes
 extract_bytes (error_slice x) = x.bytes
 extract_bytes (note_line x) = x.bytes
 
+-- this is the part of a text that explains a failure: what the heuristic finds in it as output
+abbrev pub IsExplanation : List ℕ → Option (List ℕ) → Type 0
+IsExplanation text part =
+    (found : Option Extract) × IsExtract (Some text) (Some text) found × (part ≡ option_map (λ x. utf8_lossy (extract_bytes x)) found)
+
+-- what prints say: their explanation, or else the last of them
+abbrev pub said_by_prints : Option (List ℕ) → List (List ℕ) → List (List ℕ)
+said_by_prints (Some part) last = part ∷ []
+said_by_prints None last = last
+
+-- these are the parts of what prints say before a crash
+abbrev pub ArePrintsParts : CrashView → List (List ℕ) → Type 0
+ArePrintsParts c parts = (part : Option (List ℕ)) × IsExplanation c.prints part × (parts ≡ said_by_prints part c.last)
+
+-- these are the parts of what is known about a crash: a sentence, the cause that cargo names, and what the prints say
+abbrev pub AreCrashParts : CrashView → List (List ℕ) → Type 0
+AreCrashParts c parts =
+    (said : List (List ℕ)) × ArePrintsParts c said × (parts ≡ crash_words c ∷ (option_to_list c.cause ++ said))
+
 -- the part of an output that explains a failure: what the heuristic finds, or else its last lines if there is no message
 abbrev pub output_part : List ℕ → Bool → Option Extract → Option (List ℕ)
 output_part out has_message (Some found) = Some (utf8_lossy (extract_bytes found))
@@ -108,7 +123,7 @@ AreFailureParts f time parts = (output : Option (List ℕ)) × IsOutputPart f.st
 
 -- these are the parts of what is known about a failure of this kind
 abbrev pub AreParts : KindView → FailureView → Option ℕ → List (List ℕ) → Type 0
-AreParts (HasCrashed crash) f time parts = parts ≡ crash_parts crash
+AreParts (HasCrashed crash) f time parts = AreCrashParts crash parts
 AreParts HasFailed f time parts = AreFailureParts f time parts
 AreParts HasTimedOut f time parts = AreFailureParts f time parts
 AreParts HasNoEnd f time parts = AreFailureParts f time parts

@@ -6,7 +6,7 @@ use Rattle.run_events_stats.specs.declared.outcome.run_outcome.RunOutcome.{RunOu
 use Rattle.run_events_stats.specs.declared.outcome.run_outcome.RunOutcome.TheVariants as outcome
 use Rattle.test_report_events.specs.declared.event.TestResult.{TestResult}
 use Rattle.test_report_events.specs.declared.event.TestResult.TheVariants as ended
-use Rattle.test_report_forms.specs.Shown.{bracket, name_and_space, shown_name}
+use Rattle.test_report_forms.specs.Shown.{bracket, name_and_space, shown_line, shown_name}
 use Rattle.test_report_run.specs.Note.{CargoSays, DisagreementView, EndsEarly, HasCrashed, HasFailed, HasNoEnd, HasNoEvent, HasTimedOut, IsDamaged, IsFlaky, KindView, SaysOther, StartsOutside, StrayEnds, StraySuiteEnds}
 use Rattle.test_report_run.specs.Suite.{failed_of}
 use Rattle.test_report_run.specs.declared.note.RunEnd.{RunEnd}
@@ -74,8 +74,8 @@ disagreement_line (SaysOther suite said passed failed) = shown_name suite ++ (sa
 disagreement_line (StrayEnds name how) = shown_name name ++ (codes " ended " ++ (result_word how ++ codes ", and had not started"))
 disagreement_line (StraySuiteEnds key failed) = codes "a suite ended that had not started: " ++ key_and_verdict key failed
 disagreement_line (StartsOutside n) = decimal n ++ codes " tests started outside of a suite"
-disagreement_line (CargoSays line) = codes "cargo: " ++ shown_name line
-disagreement_line (IsDamaged text) = codes "a damaged line says that a test or a suite failed: " ++ shown_name text
+disagreement_line (CargoSays line) = codes "cargo: " ++ shown_line line
+disagreement_line (IsDamaged text) = codes "a damaged line says that a test or a suite failed: " ++ shown_line text
 disagreement_line HasNoEvent = codes "no line of the input is of a test run"
 
 -- the line of the tests of a suite that were not run

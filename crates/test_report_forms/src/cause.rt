@@ -7,7 +7,7 @@ ghost use Rattle.test_report_forms.specs.Words.{disagreement_line, its_tests, no
 ghost use Rattle.test_report_run.specs.Note.{disagreement_view, text_view};
 
 use crate::entry::Entry;
-use crate::shown::{push_name, push_name_and_space};
+use crate::shown::{push_line, push_name, push_name_and_space};
 use std::alloc::{AllocError, Global};
 use std::fmt::Write;
 use test_report_events::event::TestResult;
@@ -128,11 +128,11 @@ fn push_disagreement(text: &mut String, disagreement: &Disagreement) -> Result<(
         }
         Disagreement::Cargo { line } => {
             text.push_str("cargo: ")?;
-            push_name(text, line.as_str())
+            push_line(text, line.as_str())
         }
         Disagreement::Damaged { text: line } => {
             text.push_str("a damaged line says that a test or a suite failed: ")?;
-            push_name(text, line.as_str())
+            push_line(text, line.as_str())
         }
         Disagreement::NoEvent => text.push_str("no line of the input is of a test run"),
     }

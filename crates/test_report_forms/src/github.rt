@@ -13,7 +13,7 @@ use crate::entry::Entry;
 use crate::form::Form;
 use crate::options::Options;
 use crate::place::Place;
-use crate::shown::{push_limited, push_name};
+use crate::shown::{push_limited, push_line};
 use crate::summary::{outcome_text, push_summary};
 use crate::title::push_title;
 use crate::why::Why;
@@ -161,7 +161,7 @@ fn push_place(alloc: Global, text: &mut String, place: &Place<'_>) -> Result<(),
         ≡ string_bytes text.old ++ place_properties (place_view place.now)) }
 {
     let mut file = String::new(alloc);
-    push_name(&mut file, place.file)?;
+    push_line(&mut file, place.file)?;
     text.push_str("file=")?;
     push_property(text, file.as_str())?;
     text.push_str(",line=")?;

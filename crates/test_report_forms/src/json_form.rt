@@ -11,6 +11,7 @@ ghost use Rattle.test_report_forms.specs.JsonValues.{all_problems};
 ghost use Rattle.test_report_run.specs.Note.{suite_view, text_view};
 
 use crate::cause::cause_of;
+use crate::commands::is_command;
 use crate::entry::Entry;
 use crate::form::Form;
 use crate::json_values::{
@@ -184,12 +185,4 @@ fn mark(text: &str) -> &'static str
     ensures { result.now ≡ spec_text.mark text.now }
 {
     if is_command(text) { "\\u0023" } else { "#" }
-}
-
-/// Returns true if what follows a `#` makes it the beginning of a command of a CI system.
-#[tactic(auto, unfolding(crate::specs::JsonText::is_command))]
-fn is_command(text: &str) -> bool
-    ensures { result ≡ spec_text.is_command text.now }
-{
-    text.starts_with("#[") || text.starts_with("#vso[") || text.starts_with("#teamcity[")
 }

@@ -21,9 +21,10 @@ pub fn one_entry()
     one_why();
 }
 
-/// The template of the page is one element, in which no value is read as markup. HTML ends each element where XML does.
-/// Its own texts have no control characters. It has a place for each value in `page_holes`, and each phrase in `page_phrases`: for example, each number
-/// of the run is next to its word. It shows a failed test's status, suite, name, note and reason together.
+/// The template of the page is one element, in which no value is read as markup. It ends by `/>` only elements that
+/// have no content in HTML, and none of these by an end tag. Its own texts have no control characters. It has a place
+/// for each value in `page_holes`, and each phrase in `page_phrases`: for example, each number of the run is next to its
+/// word. It shows a failed test's status, suite, name, note and reason together.
 pub fn page_is_sound()
     ensures { PageIsSound }
 {}

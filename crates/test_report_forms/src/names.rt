@@ -2,7 +2,7 @@
 
 use crate::entry::Entry;
 use crate::form::Form;
-use crate::shown::push_name;
+use crate::shown::push_line;
 use std::alloc::{AllocError, Global};
 use test_report_run::note::RunEnd;
 
@@ -28,7 +28,7 @@ impl Form for NamesForm {
     ) -> Result<(), AllocError> {
         match entry {
             Entry::Failed { test, .. } => {
-                push_name(text, test.name.as_str())?;
+                push_line(text, test.name.as_str())?;
                 text.push('\n')
             }
             _ => Ok(()),

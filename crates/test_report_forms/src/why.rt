@@ -142,16 +142,47 @@ fn panic_words(line: &str) -> Option<&str>
     }
 }
 
-/// Returns the parts of why a test crashed: a sentence, and the last lines that something else printed.
+/// Returns the parts of why a test crashed: a sentence, the cause that cargo names, and what the prints say.
 fn crash_parts(alloc: Global, crash: &Crash) -> Result<Vec<String>, AllocError>
-    ensures { IfOk result (λ parts. map string_bytes parts.items ≡ spec.crash_parts (crash_view crash.now)) }
+    ensures { IfOk result (λ parts. spec.AreCrashParts (crash_view crash.now) (map string_bytes parts.items)) }
 {
     let mut parts = Vec::new(alloc);
     parts.push(crash_words(alloc, crash)?)?;
-    for line in &crash.prints {
-        parts.push(line.clone()?)?;
-    }
+    push_some(&mut parts, copied(alloc, &crash.cause)?)?;
+    parts.append(&mut prints_parts(alloc, crash)?)?;
     Ok(parts)
+}
+
+/// Returns what the prints before a crash say: the part that explains a failure, or else the last of them.
+fn prints_parts(alloc: Global, crash: &Crash) -> Result<Vec<String>, AllocError>
+    ensures { IfOk result (λ parts. spec.ArePrintsParts (crash_view crash.now) (map string_bytes parts.items)) }
+{
+    match explanation_in(alloc, crash.prints.as_str())? {
+        Some(part) => Ok(vec![in alloc; part]?),
+        None => copies_of(alloc, crash.last.as_slice()),
+    }
+}
+
+/// Returns the part of a text that explains a failure, or `None` if it has none.
+fn explanation_in(alloc: Global, text: &str) -> Result<Option<String>, AllocError>
+    ensures { IfOk result (λ part. spec.IsExplanation text.now (option_map string_bytes part)) }
+{
+    let bytes = Some(text.as_bytes());
+    match TestOutputErrorSlice::heuristic_extract(bytes, bytes) {
+        Some(found) => found_text(alloc, &found),
+        None => Ok(None),
+    }
+}
+
+/// Returns copies of lines.
+fn copies_of(alloc: Global, lines: &[String]) -> Result<Vec<String>, AllocError>
+    ensures { IfOk result (λ copies. map string_bytes copies.items ≡ map string_bytes lines.now) }
+{
+    let mut copies = Vec::new(alloc);
+    for line in lines {
+        copies.push(line.clone()?)?;
+    }
+    Ok(copies)
 }
 
 /// Returns the sentence for a crash.

@@ -10,7 +10,7 @@ returns-in_ok-push_str-in-StraySuiteEnd c =
 pub returns-in_ok-push_str-in-Damaged : goal.returns-in_ok-push_str-in-Damaged
 unfolding disagreement_line
 returns-in_ok-push_str-in-Damaged c =
-    rw c.in-Damaged.is (rw (c.as_str-in-Damaged.ensures.value, c.in_ok-push_str-in-Damaged.ensures.bytes, append_assoc) at c.push_name-in-Damaged.ensures)
+    rw c.in-Damaged.is (rw (c.as_str-in-Damaged.ensures.value, c.in_ok-push_str-in-Damaged.ensures.bytes, append_assoc) at c.push_line-in-Damaged.ensures)
 
 pub returns-in-OutsideSuite : goal.returns-in-OutsideSuite
 unfolding disagreement_line
