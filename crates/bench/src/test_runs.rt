@@ -9,6 +9,7 @@ use serde_json::Value;
 use std::alloc::{AllocError, Global};
 use std::fmt::Write;
 use test_report_engine::fault::Fault;
+use test_report_engine::others::Nowhere;
 use test_report_engine::report::Report;
 use test_report_forms::options::Options;
 use test_report_forms::text::TextForm;
@@ -89,7 +90,7 @@ impl TestRun {
         let mut sink = MemorySink::new(self.room.as_mut_slice(), None);
         let form = TextForm::new(self.alloc, OPTIONS);
         let mut report = Report::new(self.alloc, form);
-        report.read_file(self.alloc, &mut source, &mut sink)?;
+        report.read_file(self.alloc, &mut source, &mut sink, &mut Nowhere::new())?;
         report.finish(self.alloc, &mut sink)?;
         Ok(sink.written() == self.text.as_bytes())
     }

@@ -24,7 +24,7 @@ notes-line : (r : RunState) (e : List EventView) (es : List (List EventView)) �
 notes-line r e es = append_assoc (line_notes r e) (notes_of (after_line r e) es) (end_notes (run_after (after_line r e) es))
 
 -- a line that has begun, with its end and the rest
-line-rest : (begun end bytes rest : List ℕ) → bytes ≡ begun ++ end → with_feed bytes ++ rest ≡ begun ++ (with_feed end ++ rest)
+pub line-rest : (begun end bytes rest : List ℕ) → bytes ≡ begun ++ end → with_feed bytes ++ rest ≡ begun ++ (with_feed end ++ rest)
 line-rest begun end bytes rest is = rw is (simp append_assoc)
 
 -- what a run makes known and becomes by a line, and by the end of an input

@@ -2,4 +2,5 @@ pub mod Inputs
 pub mod Lines
 pub mod Lists
 pub mod Notes
+pub mod PassedOn
 pub mod Reports

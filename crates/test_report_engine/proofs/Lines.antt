@@ -153,7 +153,7 @@ module _ (one-reading-of-line : OneReadingOfLine) where
       one-at input are.ended are.last p.lines a b are.is are.one_line are.lines_are p.say q
 
 -- a line that is not empty is one
-not_empty-one : (line : List ℕ) → 0 < length line → not_empty line ≡ line ∷ []
+pub not_empty-one : (line : List ℕ) → 0 < length line → not_empty line ≡ line ∷ []
 not_empty-one [] some = absurd (omega arith)
 not_empty-one (b ∷ bs) some = refl
 

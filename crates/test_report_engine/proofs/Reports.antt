@@ -125,7 +125,7 @@ unfolding run_of
 end-known run end is = is
 
 -- what comes before the end of an input is all that is left of it
-nothing-left : (x y xs ys : List ℕ) (k : ℕ) (bytes : List ℕ) → xs ≡ take k bytes ++ ys → k ≡ 0 → ys ≡ [] → y ≡ x → y ≡ x ++ xs
+pub nothing-left : (x y xs ys : List ℕ) (k : ℕ) (bytes : List ℕ) → xs ≡ take k bytes ++ ys → k ≡ 0 → ys ≡ [] → y ≡ x → y ≡ x ++ xs
 nothing-left x y xs ys k bytes consumed none end same =
     let empty : xs ≡ [] = consumed ∙ (ap (λ i. take i bytes ++ ys) none ∙ end) in
     same ∙ (sym (append-nil x) ∙ ap (λ l. x ++ l) (sym empty))

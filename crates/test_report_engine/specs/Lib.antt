@@ -1,5 +1,6 @@
 pub mod Fault
 pub mod Lines
+pub mod Others
 pub mod Progress
 pub mod Reading
 pub mod Report

@@ -5,17 +5,20 @@
 //! To do something between the pieces of a file, such as showing how far the run is, call `read_piece`
 //! instead of `read_file`.
 //!
+//! The lines of a file that are no events, such as the compiler's errors, go to a second sink if they are wanted.
+//!
 //! These calls report a run of one file, and return true if it succeeded:
 //!
 //! ```rust
 //! let mut report = Report::new(alloc, TextForm::new(alloc, options));
-//! report.read_file(alloc, source, sink)?;
+//! report.read_file(alloc, source, sink, &mut Nowhere::new())?;
 //! let end = report.finish(alloc, sink)?;
 //! Ok(end.outcome == RunOutcome::Success)
 //! ```
 #![tactic(auto)]
 
 pub mod fault;
+pub mod others;
 pub mod pieces;
 pub mod progress;
 pub mod report;

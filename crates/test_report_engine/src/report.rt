@@ -8,11 +8,13 @@ ghost use Rattle.test_report_forms.specs.Files.{FilesKnow};
 ghost use Rattle.test_report_forms.specs.declared.files.FileForms.{FileForms};
 ghost use Rattle.test_report_run.specs.Note.{note_view};
 ghost use Rattle.test_report_engine.specs.Lines.{IsOneLine};
+ghost use Rattle.test_report_engine.specs.Others.{GetsOthers, sink_state};
 ghost use Rattle.test_report_engine.specs.Reading.{TakesLine};
 ghost use Rattle.test_report_engine.specs.Report.{AreTexts, line_notes, run_of};
 ghost use Rattle.test_report_engine.specs.declared.fault.Fault.TheVariants as faults;
 
 use crate::fault::Fault;
+use crate::others::pass_rest;
 use crate::pieces::Pieces;
 use crate::progress::{Progress, take_line};
 use bstr::ByteSlice;
@@ -39,6 +41,7 @@ pub struct Report<F: Form> {
 }
 
 impl<F: Form + Drop> Report<F> {
+    ghost use Rattle.test_report_engine.specs.Others as second;
     ghost use Rattle.test_report_engine.specs.Reading as reading;
 
     /// Returns a report that has read and written nothing.
@@ -64,18 +67,24 @@ impl<F: Form + Drop> Report<F> {
     /// Reads a file of the run to its end. If a line makes something known, the report writes it and flushes
     /// the sink before it takes the next line.
     ///
-    /// Neither device may have failed before. After a fault the sink has the start of the text that the file
-    /// would have added to the report.
+    /// `others` is a second sink, which gets the lines that are no events, and the text in front of an event in a
+    /// line, each with a line feed. Each is written and flushed before the report writes what the line or a later
+    /// one makes known. If this sink fails, it gets nothing more, and the report is the same. Pass
+    /// [`Nowhere`](crate::others::Nowhere) if these lines are not wanted.
+    ///
+    /// `source` and `sink` must not have failed before. After a fault the sink has the start of the text that the
+    /// file would have added to the report, and `others` has what the first lines of the file pass on.
     ///
     /// - [`Fault::Read`] if and only if the source fails, and [`Fault::Write`] if and only if the sink
     ///   fails.
     /// - [`Fault::CounterFull`] if a number is too large for its counter.
     /// - [`Fault::OutOfMemory`] if there is not enough memory.
-    pub fn read_file<R: Source, W: Sink>(
+    pub fn read_file<R: Source, W: Sink, O: Sink>(
         &mut self,
         alloc: Global,
         source: &mut R,
         sink: &mut W,
+        others: &mut O,
     ) -> Result<(), Fault>
         requires source_works { R.failed source.old ≡ false }
         requires sink_works { W.failed sink.old ≡ false }
@@ -92,12 +101,18 @@ impl<F: Form + Drop> Report<F> {
         ensures breaks_off { OnErr result (IfSome (R.left source.old)
             (λ input. reading.BreaksOff F.line F.last F.Knows self.old input
             (W.written sink.old) (W.written sink.new))) }
+        ensures others { OnOk result (IfSome (R.left source.old)
+            (λ input. second.GetsInput input (sink_state O.failed O.flushed O.written others.old)
+            (sink_state O.failed O.flushed O.written others.new))) }
+        ensures others_start { OnErr result (IfSome (R.left source.old)
+            (λ input. second.GetsStart F.line self.old input (sink_state O.failed O.flushed O.written others.old)
+            (sink_state O.failed O.flushed O.written others.new) (W.written sink.old) (W.written sink.new))) }
     {
         test_report_events::laws::one_reading_of_line();
         test_report_forms::laws::one_entry();
         let mut pieces = Pieces::without_progress(alloc);
         for _piece in 0..u64::MAX {
-            let more = self.read_piece(alloc, source, &mut pieces, sink)?;
+            let more = self.read_piece(alloc, source, &mut pieces, sink, others)?;
             if !more {
                 return Ok(());
             }
@@ -112,19 +127,22 @@ impl<F: Form + Drop> Report<F> {
     /// If a line makes something known, the report writes it and flushes the sink before it takes the next
     /// line. The call that returns false takes the rest of the last line and the end of the file.
     ///
-    /// Neither device may have failed before. After a fault the sink has the start of the text that the rest
-    /// of the file would have added to the report.
+    /// `others` gets the lines that are no events, as in `read_file`.
+    ///
+    /// `source` and `sink` must not have failed before. After a fault the sink has the start of the text that the
+    /// rest of the file would have added to the report, and `others` has what the first lines of the rest pass on.
     ///
     /// - [`Fault::Read`] if and only if the source fails, and [`Fault::Write`] if and only if the sink
     ///   fails.
     /// - [`Fault::CounterFull`] if a number is too large for its counter.
     /// - [`Fault::OutOfMemory`] if there is not enough memory.
-    pub fn read_piece<R: Source, W: Sink>(
+    pub fn read_piece<R: Source, W: Sink, O: Sink>(
         &mut self,
         alloc: Global,
         source: &mut R,
         pieces: &mut Pieces,
         sink: &mut W,
+        others: &mut O,
     ) -> Result<bool, Fault>
         requires source_works { R.failed source.old ≡ false }
         requires sink_works { W.failed sink.old ≡ false }
@@ -143,6 +161,18 @@ impl<F: Form + Drop> Report<F> {
         ensures breaks_off { OnErr result (IfSome (R.left source.old)
             (λ rest. reading.ReadsStart F.line self.old (pieces.old.line.items ++ rest)
             (W.written sink.old) (W.written sink.new))) }
+        ensures others_piece { IfOk result (λ more. more ≡ true → second.GetsPiece F.line self.old self.new
+            pieces.old.line.items pieces.new.line.items (R.left source.old) (R.left source.new)
+            (sink_state O.failed O.flushed O.written others.old)
+            (sink_state O.failed O.flushed O.written others.new) (W.written sink.old) (W.written sink.new)) }
+        ensures others_rest { IfOk result (λ more. more ≡ false → IfSome (R.left source.old)
+            (λ rest. second.GetsInput (pieces.old.line.items ++ rest)
+            (sink_state O.failed O.flushed O.written others.old)
+            (sink_state O.failed O.flushed O.written others.new))) }
+        ensures others_start { OnErr result (IfSome (R.left source.old)
+            (λ rest. second.GetsStart F.line self.old (pieces.old.line.items ++ rest)
+            (sink_state O.failed O.flushed O.written others.old)
+            (sink_state O.failed O.flushed O.written others.new) (W.written sink.old) (W.written sink.new))) }
     {
         let mut chunk = [0u8; CHUNK];
         let n = match source.read(&mut chunk) {
@@ -151,10 +181,11 @@ impl<F: Form + Drop> Report<F> {
         };
         let mut line = std::mem::replace(&mut pieces.line, Vec::new(alloc));
         if n == 0 {
-            self.end_file(alloc, line.as_slice(), &mut pieces.progress, sink)?;
+            self.end_file(alloc, line.as_slice(), &mut pieces.progress, sink, others)?;
             return Ok(false);
         }
-        self.on_bytes(alloc, &mut line, &mut pieces.progress, &chunk[..n], sink)?;
+        let bytes = &chunk[..n];
+        self.on_bytes(alloc, &mut line, &mut pieces.progress, bytes, sink, others)?;
         pieces.line = line;
         Ok(true)
     }
@@ -198,13 +229,14 @@ impl<F: Form + Drop> Report<F> {
     }
 
     /// Takes the next bytes of a file. `begun` has the bytes of the current line that were read before.
-    fn on_bytes<W: Sink>(
+    fn on_bytes<W: Sink, O: Sink>(
         &mut self,
         alloc: Global,
         begun: &mut Vec<u8>,
         progress: &mut Option<Progress>,
         bytes: &[u8],
         sink: &mut W,
+        others: &mut O,
     ) -> Result<(), Fault>
         requires sink_works { W.failed sink.old ≡ false }
         requires one_line { IsOneLine begun.old.items }
@@ -216,6 +248,12 @@ impl<F: Form + Drop> Report<F> {
             begun.old.items begun.new.items bytes.now (W.written sink.old) (W.written sink.new)) }
         ensures starts { OnErr result ((rest : List ℕ) → reading.ReadsStart F.line self.old
             (begun.old.items ++ (bytes.now ++ rest)) (W.written sink.old) (W.written sink.new)) }
+        ensures others { OnOk result (second.GetsBytes F.line self.old self.new begun.old.items begun.new.items bytes.now
+            (sink_state O.failed O.flushed O.written others.old)
+            (sink_state O.failed O.flushed O.written others.new) (W.written sink.old) (W.written sink.new)) }
+        ensures others_start { OnErr result ((rest : List ℕ) → second.GetsStart F.line self.old
+            (begun.old.items ++ (bytes.now ++ rest)) (sink_state O.failed O.flushed O.written others.old)
+            (sink_state O.failed O.flushed O.written others.new) (W.written sink.old) (W.written sink.new)) }
     {
         test_report_events::laws::one_reading_of_line();
         test_report_forms::laws::one_entry();
@@ -223,7 +261,7 @@ impl<F: Form + Drop> Report<F> {
         while let Some(at) = rest.find_byte(b'\n') {
             let (end, after) = rest.split_at(at);
             begun.extend_from_slice(end)?;
-            self.on_line(alloc, begun.as_slice(), progress, sink)?;
+            self.on_line(alloc, begun.as_slice(), progress, sink, others)?;
             begun.clear();
             rest = &after[1..];
         }
@@ -232,12 +270,13 @@ impl<F: Form + Drop> Report<F> {
     }
 
     /// Takes a line.
-    fn on_line<W: Sink>(
+    fn on_line<W: Sink, O: Sink>(
         &mut self,
         alloc: Global,
         bytes: &[u8],
         progress: &mut Option<Progress>,
         sink: &mut W,
+        others: &mut O,
     ) -> Result<(), Fault>
         requires sink_works { W.failed sink.old ≡ false }
         ensures write { IsErrOf result faults.Write ↔ (W.failed sink.new ≡ true) }
@@ -248,20 +287,28 @@ impl<F: Form + Drop> Report<F> {
         ensures starts { OnErr result ((events : List EventView) → LineSays bytes.now events
             → reading.AppendsLinesStart (F.line self.old.form) (line_notes (run_of self.old.run) events)
             (W.written sink.old) (W.written sink.new)) }
+        ensures others { OnOk result (GetsOthers (bytes.now ∷ [])
+            (sink_state O.failed O.flushed O.written others.old)
+            (sink_state O.failed O.flushed O.written others.new)) }
+        ensures others_start { OnErr result ((((sink_state O.failed O.flushed O.written others.new)
+            ≡ (sink_state O.failed O.flushed O.written others.old)) × (W.written sink.new ≡ W.written sink.old))
+            ⊎ GetsOthers (bytes.now ∷ []) (sink_state O.failed O.flushed O.written others.old)
+            (sink_state O.failed O.flushed O.written others.new)) }
     {
         test_report_events::laws::one_reading_of_line();
-        let notes = notes_of_line(alloc, &mut self.run, progress, bytes)?;
+        let notes = notes_of_line(alloc, &mut self.run, progress, bytes, others)?;
         self.write(alloc, notes.as_slice(), sink)
     }
 
     /// Takes the end of a file. `begun` has the bytes after the last line feed. They are a line unless there
     /// are none.
-    fn end_file<W: Sink>(
+    fn end_file<W: Sink, O: Sink>(
         &mut self,
         alloc: Global,
         begun: &[u8],
         progress: &mut Option<Progress>,
         sink: &mut W,
+        others: &mut O,
     ) -> Result<(), Fault>
         requires sink_works { W.failed sink.old ≡ false }
         requires one_line { IsOneLine begun.now }
@@ -272,11 +319,17 @@ impl<F: Form + Drop> Report<F> {
             (W.written sink.old) (W.written sink.new)) }
         ensures starts { OnErr result (reading.ReadsStart F.line self.old begun.now
             (W.written sink.old) (W.written sink.new)) }
+        ensures others { OnOk result (second.GetsInput begun.now
+            (sink_state O.failed O.flushed O.written others.old)
+            (sink_state O.failed O.flushed O.written others.new)) }
+        ensures others_start { OnErr result (second.GetsStart F.line self.old begun.now
+            (sink_state O.failed O.flushed O.written others.old)
+            (sink_state O.failed O.flushed O.written others.new) (W.written sink.old) (W.written sink.new)) }
     {
         test_report_events::laws::one_reading_of_line();
         test_report_forms::laws::one_entry();
         if !begun.is_empty() {
-            self.on_line(alloc, begun, progress, sink)?;
+            self.on_line(alloc, begun, progress, sink, others)?;
         }
         let notes = self.run.end_file(alloc)?;
         self.write(alloc, notes.as_slice(), sink)
@@ -319,17 +372,26 @@ impl<F: Form + Drop> Report<F> {
     }
 }
 
-/// Takes the events of a line and, if the progress of the run is followed, updates it. Returns the notes that
-/// the events make known.
-fn notes_of_line(
+/// Passes on what of a line is no event, takes the events of the line and, if the progress of the run is followed,
+/// updates it. Returns the notes that the events make known.
+fn notes_of_line<O: Sink>(
     alloc: Global,
     run: &mut TestRun,
     progress: &mut Option<Progress>,
     bytes: &[u8],
+    others: &mut O,
 ) -> Result<Vec<Note>, RunError>
-    ensures { IfOk result (λ notes. TakesLine run.old run.new bytes.now (map note_view notes.items)) }
+    ensures takes { IfOk result (λ notes. TakesLine run.old run.new bytes.now (map note_view notes.items)) }
+    ensures others { OnOk result (GetsOthers (bytes.now ∷ [])
+        (sink_state O.failed O.flushed O.written others.old)
+        (sink_state O.failed O.flushed O.written others.new)) }
+    ensures others_start { OnErr result (((sink_state O.failed O.flushed O.written others.new)
+        ≡ (sink_state O.failed O.flushed O.written others.old))
+        ⊎ GetsOthers (bytes.now ∷ []) (sink_state O.failed O.flushed O.written others.old)
+        (sink_state O.failed O.flushed O.written others.new)) }
 {
     let line = Line::read(alloc, bytes)?;
+    pass_rest(alloc, others, bytes, line.rest())?;
     let notes = run.on_line(alloc, &line)?;
     take_line(alloc, progress, &line, notes.as_slice())?;
     Ok(notes)

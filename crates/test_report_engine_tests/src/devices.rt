@@ -7,6 +7,7 @@ use program_io::memory_device::{MemorySink, MemorySource};
 use run_events_stats::outcome::RunOutcome;
 use std::alloc::{AllocError, Global};
 use test_report_engine::fault::Fault;
+use test_report_engine::others::Nowhere;
 use test_report_engine::report::Report;
 use test_report_forms::form::Form;
 use test_report_forms::options::Options;
@@ -73,7 +74,7 @@ pub(crate) fn reported<F: Form + Drop, R: Source, W: Sink>(
     requires sink_works { W.failed sink.old ≡ false }
 {
     let mut report = Report::new(alloc, form);
-    report.read_file(alloc, source, sink)?;
+    report.read_file(alloc, source, sink, &mut Nowhere::new())?;
     report.finish(alloc, sink)
 }
 

@@ -6,6 +6,7 @@ use run_events_stats::outcome::RunOutcome;
 use std::alloc::{AllocError, Global};
 use std::test::Fail;
 use test_report_engine::fault::Fault;
+use test_report_engine::others::Nowhere;
 use test_report_engine::report::Report;
 use test_report_forms::files::FileForms;
 use test_report_forms::form::Form;
@@ -128,7 +129,7 @@ fn has_files(alloc: Global) -> Result<bool, Fault> {
     let mut source = MemorySource::new(RUN.as_bytes(), None);
     let mut sink = MemorySink::new(&mut buffer, None);
     let mut report = Report::with_files(alloc, NamesForm, all_files(alloc)?);
-    report.read_file(alloc, &mut source, &mut sink)?;
+    report.read_file(alloc, &mut source, &mut sink, &mut Nowhere::new())?;
     let texts = report.file_texts(alloc)?;
     let end = report.finish(alloc, &mut sink)?;
     let page = match &texts.html {
@@ -170,11 +171,13 @@ fn is_one_run(alloc: Global) -> Result<bool, Fault> {
         alloc,
         &mut MemorySource::new(cut.as_bytes(), None),
         &mut sink,
+        &mut Nowhere::new(),
     )?;
     report.read_file(
         alloc,
         &mut MemorySource::new(RUN.as_bytes(), None),
         &mut sink,
+        &mut Nowhere::new(),
     )?;
     let end = report.finish(alloc, &mut sink)?;
     Ok(sink.written() == b"a\na\n".as_slice() && end.stats.failed == 2 && end.not_run == 2)
@@ -183,4 +186,37 @@ fn is_one_run(alloc: Global) -> Result<bool, Fault> {
 #[test]
 fn several_files_are_one_run(rt: HostRuntime) {
     assert!(rt; is_one_run(rt.alloc()) == Ok(true));
+}
+
+/// A run in which a test fails. Three of its lines are no events: the first line, text in front of an event, and the
+/// last line, which has no line feed.
+const MIXED: &str = r#"warning: unused
+{"type":"suite","event":"started","test_count":1}
+adding {"type":"test","event":"started","name":"a"}
+{"type":"test","event":"failed","name":"a","message":"why"}
+{"type":"suite","event":"failed"}
+bye"#;
+
+/// Returns true if this is passed on of [`MIXED`] to a sink of which this call fails, and the report is whole.
+fn passes_on(alloc: Global, fails: Option<usize>, wanted: &str) -> Result<bool, Fault> {
+    let (mut names, mut passed) = ([0; 100], [0; 100]);
+    let mut source = MemorySource::new(MIXED.as_bytes(), None);
+    let mut sink = MemorySink::new(&mut names, None);
+    let mut others = MemorySink::new(&mut passed, fails);
+    let mut report = Report::new(alloc, NamesForm);
+    report.read_file(alloc, &mut source, &mut sink, &mut others)?;
+    let end = report.finish(alloc, &mut sink)?;
+    Ok(
+        sink.written() == b"a\n".as_slice()
+            && end.stats.failed == 1
+            && others.written() == wanted.as_bytes(),
+    )
+}
+
+#[test]
+fn lines_that_are_no_events_are_passed_on(rt: HostRuntime) {
+    let all = "warning: unused\nadding \nbye\n";
+    assert!(rt; passes_on(rt.alloc(), None, all) == Ok(true));
+    // Each line is a write and a flush.
+    assert!(rt; passes_on(rt.alloc(), Some(2), "warning: unused\n") == Ok(true));
 }

@@ -12,6 +12,7 @@ use program_io::device::{Sink, Source};
 use run_events_stats::outcome::RunOutcome;
 use std::alloc::Global;
 use test_report_engine::fault::Fault;
+use test_report_engine::others::Nowhere;
 use test_report_engine::report::Report;
 use test_report_forms::options::Options;
 use test_report_forms::text::TextForm;
@@ -33,7 +34,7 @@ pub fn succeeds<R: Source, W: Sink>(
     ensures write { IsErrOf result faults.Write ↔ (W.failed sink.new ≡ true) }
 {
     let mut report = Report::new(alloc, TextForm::new(alloc, options));
-    report.read_file(alloc, source, sink)?;
+    report.read_file(alloc, source, sink, &mut Nowhere::new())?;
     let end = report.finish(alloc, sink)?;
     Ok(end.outcome == RunOutcome::Success)
 }

@@ -1,5 +1,24 @@
+use Rattle.std.proofs.Common.{inr, subst, sym}
+use Rattle.test_report_events.specs.Line.{RestOf}
 use Rattle.test_report_engine.proofs.Inputs.{line-takes}
+use Rattle.test_report_engine.proofs.Notes.{on_err}
+use Rattle.test_report_engine.proofs.PassedOn.{others-one}
 use Rattle.test_report_engine.proofs.report.notes_of_line.Goals as goal
 
-pub returns : goal.returns
-returns c = line-takes _ _ _ _ _ c.in_ok-line.ensures.says c.in_ok-notes.ensures.tells c.in_ok-notes.ensures.takes
+pub returns-clause-takes : goal.returns-clause-takes
+returns-clause-takes g c = line-takes _ _ _ _ _ c.in_ok-line.ensures.says c.in_ok-notes.ensures.tells c.in_ok-notes.ensures.takes
+
+pub returns-clause-others : goal.returns-clause-others
+returns-clause-others g c =
+    others-one c.args.bytes.now c.rest.result _ _ (subst (RestOf c.args.bytes.now) (sym c.rest.ensures) c.in_ok-line.ensures.rest)
+    c.in_ok-pass_rest.ensures.gets
+
+pub returns-in_err-notes-clause-others_start : goal.returns-in_err-notes-clause-others_start
+returns-in_err-notes-clause-others_start g c =
+    on_err _ (inr (others-one c.args.bytes.now c.rest.result _ _ (subst (RestOf c.args.bytes.now) (sym c.rest.ensures) c.in_ok-line.ensures.rest)
+    c.in_ok-pass_rest.ensures.gets))
+
+pub returns-in_err-take_line-clause-others_start : goal.returns-in_err-take_line-clause-others_start
+returns-in_err-take_line-clause-others_start g c =
+    on_err _ (inr (others-one c.args.bytes.now c.rest.result _ _ (subst (RestOf c.args.bytes.now) (sym c.rest.ensures) c.in_ok-line.ensures.rest)
+    c.in_ok-pass_rest.ensures.gets))

@@ -2,6 +2,8 @@ use Rattle.std.proofs.Common.{arith, length, ◌<◌, [], ap}
 use Rattle.std.proofs.lemmas.Result.{on_ok_weaker}
 use Rattle.test_report_engine.proofs.Inputs.{EndsAs, end-read, end-start, ends-line, ends-none, input-end-start, input-line-start, input-none, last-start, some-bytes}
 use Rattle.test_report_engine.proofs.Notes.{on_err, on_err_weaker}
+use Rattle.test_report_engine.proofs.PassedOn.{EndsGets, ends-gets-line, ends-gets-none, ends-input, ends-stop, last-stop}
+use Rattle.test_report_engine.specs.Others.{sink_state}
 use Rattle.test_report_engine.proofs.report.Report.end_file.Goals as goal
 use Rattle.test_report_engine.proofs.report.Report.end_file.Goals.{then-not-is_empty+in_ok-on_line, else-not-is_empty}
 
@@ -56,3 +58,68 @@ returns-clause-reads g c =
     (λ writes. ends.reads c.write.new.self _ (end-read g.F.Form.line g.F.Form.last g.F.Form.Knows c.if-not-is_empty.self c.write.new.self _ _ _ _ _
     c.in_ok-notes.ensures.tells c.in_ok-notes.ensures.takes c.as_slice.ensures.value c.write.ensures.same_run writes))
     c.write.ensures.writes
+
+pub returns-in_err-on_line-clause-others_start : goal.returns-in_err-on_line-clause-others_start
+returns-in_err-on_line-clause-others_start g c =
+    let some : 0 < length c.args.begun.now = grind arith in
+    on_err c.from_residual.result
+    (last-stop g.F.Form.line c.args.self.now c.args.begun.now _ _ _ _ c.requires.one_line some c.in_err-on_line.ensures.others_start
+    c.in_err-on_line.ensures.starts)
+
+pub returns-in_err-notes-clause-others_start : goal.returns-in_err-notes-clause-others_start
+returns-in_err-notes-clause-others_start g c =
+    let ends : EndsGets g.F.Form.line c.args.self.now c.if-not-is_empty.self c.args.begun.now
+    (sink_state g.O.Sink.failed g.O.Sink.flushed g.O.Sink.written c.args.others.now)
+    (sink_state g.O.Sink.failed g.O.Sink.flushed g.O.Sink.written c.if-not-is_empty.others)
+    (g.W.Sink.written c.args.sink.now) (g.W.Sink.written c.if-not-is_empty.sink) =
+    elim c.if-not-is_empty.branch [
+      | then-not-is_empty+in_ok-on_line w ↦
+          ends-gets-line c.one_reading_of_line.ensures c.one_entry.ensures g.F.Form.line g.F.Form.last g.F.Form.Knows _ w.on_line.new.self
+          _ _ _ _ _ _ _ _ c.requires.one_line (some-bytes _ _ c.is_empty.ensures w.if-not-is_empty.true) w.in_ok-on_line.ensures.reads
+          w.in_ok-on_line.ensures.others w.self-is (ap (sink_state g.O.Sink.failed g.O.Sink.flushed g.O.Sink.written) w.others-is)
+          (ap g.W.Sink.written w.sink-is)
+      | else-not-is_empty w ↦
+          ends-gets-none g.F.Form.line _ _ _ _ _ _ _ (grind arith) w.self-is
+          (ap (sink_state g.O.Sink.failed g.O.Sink.flushed g.O.Sink.written) w.others-is) (ap g.W.Sink.written w.sink-is)
+    ] in
+    on_err c.from_residual-in_err-notes.result
+    (ends-stop g.F.Form.line _ _ _ _ _ _ _ _ ends (input-none g.F.Form.line c.if-not-is_empty.self [] _))
+
+pub returns-clause-others : goal.returns-clause-others
+returns-clause-others g c =
+    let ends : EndsGets g.F.Form.line c.args.self.now c.if-not-is_empty.self c.args.begun.now
+    (sink_state g.O.Sink.failed g.O.Sink.flushed g.O.Sink.written c.args.others.now)
+    (sink_state g.O.Sink.failed g.O.Sink.flushed g.O.Sink.written c.if-not-is_empty.others)
+    (g.W.Sink.written c.args.sink.now) (g.W.Sink.written c.if-not-is_empty.sink) =
+    elim c.if-not-is_empty.branch [
+      | then-not-is_empty+in_ok-on_line w ↦
+          ends-gets-line c.one_reading_of_line.ensures c.one_entry.ensures g.F.Form.line g.F.Form.last g.F.Form.Knows _ w.on_line.new.self
+          _ _ _ _ _ _ _ _ c.requires.one_line (some-bytes _ _ c.is_empty.ensures w.if-not-is_empty.true) w.in_ok-on_line.ensures.reads
+          w.in_ok-on_line.ensures.others w.self-is (ap (sink_state g.O.Sink.failed g.O.Sink.flushed g.O.Sink.written) w.others-is)
+          (ap g.W.Sink.written w.sink-is)
+      | else-not-is_empty w ↦
+          ends-gets-none g.F.Form.line _ _ _ _ _ _ _ (grind arith) w.self-is
+          (ap (sink_state g.O.Sink.failed g.O.Sink.flushed g.O.Sink.written) w.others-is) (ap g.W.Sink.written w.sink-is)
+    ] in
+    on_ok_weaker c.write.result (λ writes. ends-input g.F.Form.line _ _ _ _ _ _ _ ends) c.write.ensures.writes
+
+pub returns-clause-others_start : goal.returns-clause-others_start
+returns-clause-others_start g c =
+    let ends : EndsGets g.F.Form.line c.args.self.now c.if-not-is_empty.self c.args.begun.now
+    (sink_state g.O.Sink.failed g.O.Sink.flushed g.O.Sink.written c.args.others.now)
+    (sink_state g.O.Sink.failed g.O.Sink.flushed g.O.Sink.written c.if-not-is_empty.others)
+    (g.W.Sink.written c.args.sink.now) (g.W.Sink.written c.if-not-is_empty.sink) =
+    elim c.if-not-is_empty.branch [
+      | then-not-is_empty+in_ok-on_line w ↦
+          ends-gets-line c.one_reading_of_line.ensures c.one_entry.ensures g.F.Form.line g.F.Form.last g.F.Form.Knows _ w.on_line.new.self
+          _ _ _ _ _ _ _ _ c.requires.one_line (some-bytes _ _ c.is_empty.ensures w.if-not-is_empty.true) w.in_ok-on_line.ensures.reads
+          w.in_ok-on_line.ensures.others w.self-is (ap (sink_state g.O.Sink.failed g.O.Sink.flushed g.O.Sink.written) w.others-is)
+          (ap g.W.Sink.written w.sink-is)
+      | else-not-is_empty w ↦
+          ends-gets-none g.F.Form.line _ _ _ _ _ _ _ (grind arith) w.self-is
+          (ap (sink_state g.O.Sink.failed g.O.Sink.flushed g.O.Sink.written) w.others-is) (ap g.W.Sink.written w.sink-is)
+    ] in
+    on_err_weaker c.write.result
+    (λ starts. ends-stop g.F.Form.line _ _ _ _ _ _ _ _ ends (input-end-start c.one_reading_of_line.ensures g.F.Form.line c.if-not-is_empty.self _ _
+    (end-start _ c.if-not-is_empty.self.run _ _ _ _ c.in_ok-notes.ensures.tells c.as_slice.ensures.value starts)))
+    c.write.ensures.starts

@@ -1,7 +1,8 @@
-use Rattle.std.proofs.Common.{◌∙◌, arith, rules, subst, sym}
-use Rattle.test_report_engine.proofs.Inputs.{bytes-line, bytes-line-start, bytes-rest, bytes-starts, input-none}
+use Rattle.std.proofs.Common.{◌∙◌, [], append-nil, arith, refl, rules, subst, sym}
+use Rattle.test_report_engine.proofs.Inputs.{bytes-line, bytes-line-start, bytes-rest, bytes-starts, input-none, leads-begun}
 use Rattle.test_report_engine.proofs.Lines.{empty-line, feedless, joined}
 use Rattle.test_report_engine.proofs.Notes.{on_err}
+use Rattle.test_report_engine.proofs.PassedOn.{front-end, front-line, front-line-stop, front-none, front-stop}
 use Rattle.test_report_engine.specs.Lines.{IsOneLine}
 use Rattle.test_report_engine.proofs.report.Report.on_bytes.Goals as goal
 
@@ -32,6 +33,14 @@ loop-at-preserved g c = record {
       c.split_at.ensures.front c.split_at.ensures.back c.in-Some.ensures.0.high
       (λ k below. c.in-Some.ensures.0.before k (omega arith) below) c.in-Some.ensures.1
       (c.as_slice.ensures.value ∙ c.in_ok-extend_from_slice.ensures.items) c.clear.ensures.items c.in_ok-on_line.ensures.reads;
+  gets =
+      front-line c.one_reading_of_line.ensures c.one_entry.ensures g.F.Form.line g.F.Form.last g.F.Form.Knows
+      c.args.self.now c.loop-at.self c.on_line.new.self c.args.begun.now.items c.loop-at.begun.items _
+      c.as_slice.result.now c.args.bytes.now c.loop-at.rest.now _ _ _ _ _ _ _ _ c.in-Some.at c.loop-at.invariant.gets c.loop-at.invariant.one_line
+      c.split_at.ensures.front c.split_at.ensures.back c.in-Some.ensures.0.high
+      (λ k below. c.in-Some.ensures.0.before k (omega arith) below) c.in-Some.ensures.1
+      (c.as_slice.ensures.value ∙ c.in_ok-extend_from_slice.ensures.items) c.clear.ensures.items c.in_ok-on_line.ensures.reads
+      c.in_ok-on_line.ensures.others;
 }
 
 pub returns-in_err-extend_from_slice-2-clause-starts : goal.returns-in_err-extend_from_slice-2-clause-starts
@@ -51,3 +60,42 @@ pub returns-clause-leads : goal.returns-clause-leads
 returns-clause-leads g c =
     bytes-rest g.F.Form.line g.F.Form.last g.F.Form.Knows c.args.self.now c.loop-at.self c.args.begun.now.items c.loop-at.begun.items _ c.args.bytes.now
     c.loop-at.rest.now _ _ c.loop-at.invariant.takes c.in_ok-extend_from_slice-2.ensures.items
+
+pub loop-at-init : goal.loop-at-init
+loop-at-init g c = record {
+  works = c.requires.sink_works;
+  one_line = c.requires.one_line;
+  flushed = λ held. held;
+  takes = record {
+    done = [];
+    are = refl;
+    leads = leads-begun g.F.Form.line g.F.Form.last g.F.Form.Knows c.args.self.now c.args.begun.now.items c.args.begun.now.items [] _
+        (sym (append-nil c.args.begun.now.items));
+  };
+  gets = front-none g.F.Form.line c.args.self.now c.args.begun.now.items c.args.bytes.now _ _;
+}
+
+pub returns-in_err-extend_from_slice-clause-others_start : goal.returns-in_err-extend_from_slice-clause-others_start
+returns-in_err-extend_from_slice-clause-others_start g c =
+    on_err c.from_residual.result
+    (λ after. front-stop g.F.Form.line c.args.self.now c.loop-at.self c.args.begun.now.items c.loop-at.begun.items c.args.bytes.now
+    c.loop-at.rest.now after _ _ _ _ c.loop-at.invariant.gets)
+
+pub returns-in_err-on_line-clause-others_start : goal.returns-in_err-on_line-clause-others_start
+returns-in_err-on_line-clause-others_start g c =
+    on_err c.from_residual-in_err-on_line.result
+    (λ after. front-line-stop g.F.Form.line c.args.self.now c.loop-at.self c.args.begun.now.items c.loop-at.begun.items c.as_slice.result.now
+    c.args.bytes.now c.loop-at.rest.now _ _ after _ _ _ _ _ _ c.in-Some.at c.loop-at.invariant.gets c.loop-at.invariant.one_line
+    c.split_at.ensures.front c.split_at.ensures.back c.in-Some.ensures.0.high (λ k below. c.in-Some.ensures.0.before k (omega arith) below) c.in-Some.ensures.1
+    (c.as_slice.ensures.value ∙ c.in_ok-extend_from_slice.ensures.items) c.in_err-on_line.ensures.others_start c.in_err-on_line.ensures.starts)
+
+pub returns-in_err-extend_from_slice-2-clause-others_start : goal.returns-in_err-extend_from_slice-2-clause-others_start
+returns-in_err-extend_from_slice-2-clause-others_start g c =
+    on_err c.from_residual-in_err-extend_from_slice-2.result
+    (λ after. front-stop g.F.Form.line c.args.self.now c.loop-at.self c.args.begun.now.items c.loop-at.begun.items c.args.bytes.now
+    c.loop-at.rest.now after _ _ _ _ c.loop-at.invariant.gets)
+
+pub returns-clause-others : goal.returns-clause-others
+returns-clause-others g c =
+    front-end g.F.Form.line c.args.self.now c.loop-at.self c.args.begun.now.items c.loop-at.begun.items _ c.args.bytes.now
+    c.loop-at.rest.now _ _ _ _ c.loop-at.invariant.gets c.in_ok-extend_from_slice-2.ensures.items

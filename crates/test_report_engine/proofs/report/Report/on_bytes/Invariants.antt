@@ -1,6 +1,8 @@
 use Rattle.std.proofs.Common.{◌≡◌, false, length, true}
 use Rattle.test_report_engine.specs.Lines.{IsOneLine}
+use Rattle.test_report_engine.specs.Others.{sink_state}
 use Rattle.test_report_engine.proofs.Inputs.{TakesBytes}
+use Rattle.test_report_engine.proofs.PassedOn.{GetsFront}
 use Rattle.test_report_engine.proofs.report.Report.on_bytes.Given as goal
 
 -- the bytes before the rest were taken
@@ -10,6 +12,9 @@ invariant-loop-at g l = record {
   one_line : IsOneLine l.begun.items;
   flushed : g.W.Sink.flushed l.fn.sink ≡ true → g.W.Sink.flushed l.sink ≡ true;
   takes : TakesBytes g.F.Form.line g.F.Form.last g.F.Form.Knows l.fn.self l.self l.fn.begun.items l.begun.items l.fn.bytes l.rest
+      (g.W.Sink.written l.fn.sink) (g.W.Sink.written l.sink);
+  gets : GetsFront g.F.Form.line l.fn.self l.self l.fn.begun.items l.begun.items l.fn.bytes l.rest
+      (sink_state g.O.Sink.failed g.O.Sink.flushed g.O.Sink.written l.fn.others) (sink_state g.O.Sink.failed g.O.Sink.flushed g.O.Sink.written l.others)
       (g.W.Sink.written l.fn.sink) (g.W.Sink.written l.sink);
 }
 

@@ -11,12 +11,12 @@ returns-in_err-notes-clause-starts g c =
 pub returns-clause-starts : goal.returns-clause-starts
 returns-clause-starts g c =
     on_err_weaker c.write.result
-    (line-start c.one_reading_of_line.ensures _ c.args.self.now.run _ c.args.bytes.now _ _ _ _ c.in_ok-notes.ensures c.as_slice.ensures.value)
+    (line-start c.one_reading_of_line.ensures _ c.args.self.now.run _ c.args.bytes.now _ _ _ _ c.in_ok-notes.ensures.takes c.as_slice.ensures.value)
     c.write.ensures.starts
 
 pub returns-clause-reads : goal.returns-clause-reads
 returns-clause-reads g c =
     on_ok_weaker c.write.result
     (line-read g.F.Form.line g.F.Form.last g.F.Form.Knows c.args.self.now c.write.new.self _ c.args.bytes.now _ _ _ _
-    c.in_ok-notes.ensures c.as_slice.ensures.value c.write.ensures.same_run)
+    c.in_ok-notes.ensures.takes c.as_slice.ensures.value c.write.ensures.same_run)
     c.write.ensures.writes

@@ -1,4 +1,9 @@
-use Rattle.std.proofs.Common.{rules}
+use Rattle.std.proofs.Common.{[], refl, rules, subst, sym}
+use Rattle.std.proofs.KnownBytes.{Consumes-nil}
+use Rattle.test_report_engine.specs.Others.{GetsPiece, sink_state}
+use Rattle.test_report_engine.specs.Reading.{ReadsPiece}
+use Rattle.test_report_engine.proofs.Inputs.{leads-begun}
+use Rattle.test_report_engine.proofs.PassedOn.{bytes-none, gets-more, gets-rest, gets-stop, rest-start-none}
 use Rattle.test_report_engine.proofs.Notes.{on_err}
 use Rattle.test_report_engine.proofs.Reports.{pieces-break, pieces-files, pieces-more, pieces-reads, rest-none}
 use Rattle.test_report_engine.proofs.report.Report.read_file.Goals as goal
@@ -27,6 +32,9 @@ loop-piece-preserved g c = record {
   reads =
       pieces-more g.F.Form.line g.F.Form.last g.F.Form.Knows c.args.self.now c.loop-piece.self c.read_piece.new.self c.loop-piece.pieces.line.items _
       _ _ _ _ _ _ c.loop-piece.invariant.reads (c.in_ok-more.ensures.piece (search rules));
+  gets =
+      gets-more g.F.Form.line c.args.self.now c.loop-piece.self c.read_piece.new.self c.loop-piece.pieces.line.items _ _ _ _ _ _ _ _ _ _
+      c.loop-piece.invariant.gets (c.in_ok-more.ensures.others_piece (search rules));
 }
 
 pub returns-clause-breaks_off : goal.returns-clause-breaks_off
@@ -34,3 +42,41 @@ returns-clause-breaks_off g c =
     pieces-break c.one_reading_of_line.ensures c.one_entry.ensures g.F.Form.line g.F.Form.last g.F.Form.Knows
     c.args.self.now c.loop-piece.self c.loop-piece.pieces.line.items _ _ _ _ _ c.loop-piece.invariant.reads
     (rest-none g.F.Form.line c.loop-piece.self c.loop-piece.pieces.line.items _ _)
+
+pub returns-in_err-more-clause-others_start : goal.returns-in_err-more-clause-others_start
+returns-in_err-more-clause-others_start g c =
+    on_err c.from_residual.result
+    (gets-stop g.F.Form.line c.args.self.now c.loop-piece.self c.loop-piece.pieces.line.items _ _ _ _ _ _ _ _
+    c.loop-piece.invariant.gets c.in_err-more.ensures.others_start)
+
+pub returns-then-not-more-clause-others : goal.returns-then-not-more-clause-others
+returns-then-not-more-clause-others g c =
+    gets-rest g.F.Form.line c.args.self.now c.loop-piece.self c.loop-piece.pieces.line.items _ _ _ _ _ _ _
+    c.loop-piece.invariant.gets (c.in_ok-more.ensures.others_rest (search rules))
+
+pub returns-clause-others_start : goal.returns-clause-others_start
+returns-clause-others_start g c =
+    gets-stop g.F.Form.line c.args.self.now c.loop-piece.self c.loop-piece.pieces.line.items _ _ _ _ _ _ _ _
+    c.loop-piece.invariant.gets (rest-start-none g.F.Form.line c.loop-piece.self c.loop-piece.pieces.line.items _ _ _)
+
+pub loop-piece-init : goal.loop-piece-init
+loop-piece-init g c = record {
+  source_works = c.requires.source_works;
+  sink_works = c.requires.sink_works;
+  flushed = λ held. held;
+  reads =
+      subst (λ y. ReadsPiece g.F.Form.line g.F.Form.last g.F.Form.Knows c.args.self.now c.args.self.now [] y (g.R.Source.left c.args.source.now)
+      (g.R.Source.left c.args.source.now) (g.W.Sink.written c.args.sink.now) (g.W.Sink.written c.args.sink.now))
+      (sym c.without_progress-pieces.ensures) (record {
+        bytes = [];
+        consumed = Consumes-nil (g.R.Source.left c.args.source.now);
+        leads = leads-begun g.F.Form.line g.F.Form.last g.F.Form.Knows c.args.self.now [] [] [] _ refl;
+      });
+  gets =
+      subst (λ y. GetsPiece g.F.Form.line c.args.self.now c.args.self.now [] y (g.R.Source.left c.args.source.now) (g.R.Source.left c.args.source.now)
+      (sink_state g.O.Sink.failed g.O.Sink.flushed g.O.Sink.written c.args.others.now)
+      (sink_state g.O.Sink.failed g.O.Sink.flushed g.O.Sink.written c.args.others.now)
+      (g.W.Sink.written c.args.sink.now) (g.W.Sink.written c.args.sink.now))
+      (sym c.without_progress-pieces.ensures)
+      ([], Consumes-nil (g.R.Source.left c.args.source.now), bytes-none g.F.Form.line c.args.self.now [] _ _);
+}

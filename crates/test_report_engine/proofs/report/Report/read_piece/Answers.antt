@@ -1,5 +1,7 @@
 use Rattle.std.proofs.Common.{◌∙◌, ap, arith}
 use Rattle.test_report_engine.proofs.Notes.{on_err}
+use Rattle.test_report_engine.specs.Others.{GetsInput, sink_state}
+use Rattle.test_report_engine.proofs.PassedOn.{rest-end, rest-start-none}
 use Rattle.test_report_engine.proofs.Reports.{reads-some, rest-end-starts, rest-starts}
 use Rattle.test_report_engine.proofs.report.Report.read_piece.Goals as goal
 
@@ -18,3 +20,13 @@ returns-in_err-on_bytes-clause-breaks_off g c =
 
 pub returns-clause-some : goal.returns-clause-some
 returns-clause-some g c = λ more. reads-some c.in-Ok.n _ _ _ c.in-Ok.ensures.bytes (grind arith) c.in-Ok.ensures.count (grind arith)
+
+pub returns-in-Err-clause-others_start : goal.returns-in-Err-clause-others_start
+returns-in-Err-clause-others_start g c = rest-start-none g.F.Form.line c.args.self.now c.args.pieces.now.line.items _ _ _
+
+pub returns-then-n-eq0-clause-others_rest : goal.returns-then-n-eq0-clause-others_rest
+returns-then-n-eq0-clause-others_rest g c = λ over. rest-end
+    (λ l. GetsInput l (sink_state g.O.Sink.failed g.O.Sink.flushed g.O.Sink.written c.args.others.now)
+    (sink_state g.O.Sink.failed g.O.Sink.flushed g.O.Sink.written c.end_file.new.others))
+    c.args.pieces.now.line.items c.as_slice.result.now c.in-Ok.n _ _ _ c.in-Ok.ensures.bytes c.if-n-eq0.true (c.in-Ok.ensures.end c.if-n-eq0.true)
+    (c.as_slice.ensures.value ∙ ap (λ v. v.items) c.replace-line.ensures.value) c.in_ok-end_file.ensures.others
