@@ -14,11 +14,12 @@ use Rattle.test_report_laws.proofs.OverRuns.{over-run}
 use Rattle.test_report_laws.proofs.Tallies.{run-sums}
 use Rattle.test_report_laws.proofs.Weights.{keeps-line, weigh, weight_of}
 use Rattle.test_report_run.specs.Note.{NoteView}
+use Rattle.test_report_run.specs.Others.{OthersView}
 use Rattle.test_report_run.specs.Over.{early_notes, early_state, explained_of, last_notes, last_state, rest_of}
-use Rattle.test_report_run.specs.Run.{RunState, Step, after, all_ended_early, ended_at, ended_early, file_notes, learned, names_in, no_event_notes, notes_at, open_suite, opened, run_start, started_again, step, stray_suite_notes, suite_at, with_suite_at, without_tests}
+use Rattle.test_report_run.specs.Run.{RunState, Step, after, all_ended_early, ended_at, ended_early, file_notes, heard, learned, names_in, no_event_notes, notes_at, open_suite, opened, run_start, started_again, step, stray_suite_notes, suite_at, with_suite_at, without_tests}
 use Rattle.test_report_run.specs.Said.{sum_of}
 use Rattle.test_report_laws.specs.Status.{AnnouncedAreCounted, announced_by}
-use Rattle.test_report_run.specs.Suite.{SuiteState, has_key, joined, outside_start, suite_start, with_line}
+use Rattle.test_report_run.specs.Suite.{SuiteState, has_key, joined_by, outside_start, suite_start, with_line}
 use Rattle.test_report_laws.specs.Whole.{all_notes, run_after_files}
 use Rattle.test_report_laws.proofs.Types.{Explanation, Said}
 use Rattle.test_report_run.specs.declared.note.RunEnd.{RunEnd}
@@ -37,13 +38,13 @@ covers : (count : Option ℕ) (skipped finished left : ℕ) → option_map_or (�
 covers None skipped finished left = omega arith
 covers (Some c) skipped finished left = omega arith
 
-early-covers : (s : SuiteState) (names : List (List ℕ)) → weigh announcing s ≤ sum_by reach (early_notes s names)
-early-covers s names =
+early-covers : (others : OthersView) (s : SuiteState) (names : List (List ℕ)) → weigh announcing s ≤ sum_by reach (early_notes others s names)
+early-covers others s names =
     let last = early_state s names in
     let rest = early_rest s in
     omega (
       arith,
-      early-suite (λ n. n.stats.finished_count + n.skipped + n.not_run) s names,
+      early-suite (λ n. n.stats.finished_count + n.skipped + n.not_run) others s names,
       covers s.test_count rest.skipped last.stats.finished_count rest.left,
     )
 
@@ -71,7 +72,7 @@ covered-first : (n : ℕ) (notes : List NoteView) (r : RunState) (key : Option (
     → let t = option_map_or (started_again r key count) at (step (opened r key count) []) in
     Covered (n + option_map_or (λ n. n) count 0) (notes ++ t.notes) (learned t.run t.notes)
 covered-first n notes r key count None in' i =
-    let start = suite_start (Some (r.suites_started + 1)) key r.heading count in
+    let start = suite_start (Some (r.suites_started + 1)) key r.heading count r.others in
     omega (arith, i, sum_by_push (weigh announcing) r.suites start, sum_by-append reach notes [])
 covered-first n notes r (Some key) count (Some at) in' i =
     let s = suite_at r (Some at) in
@@ -79,20 +80,20 @@ covered-first n notes r (Some key) count (Some at) in' i =
       arith,
       i,
       both-announced s.test_count count,
-      sum_by-set (weigh announcing) r.suites at (joined s count) r.outside in',
+      sum_by-set (weigh announcing) r.suites at (heard r (joined_by s count)) r.outside in',
       sum_by-append reach notes [],
     )
 covered-first n notes r None count (Some at) in' i =
     let s = suite_at r (Some at) in
     let names = names_in r s in
-    let start = suite_start (Some (r.suites_started + 1)) None r.heading count in
+    let start = suite_start (Some (r.suites_started + 1)) None r.heading count r.others in
     omega (
       arith,
       i,
-      early-covers s names,
+      early-covers r.others s names,
       sum_by_push (weigh announcing) (remove r.suites at) start,
       sum_by-remove (weigh announcing) r.suites at r.outside in',
-      sum_by-append reach notes (early_notes s names),
+      sum_by-append reach notes (early_notes r.others s names),
     )
 
 covered-over : (n : ℕ) (notes : List NoteView) (r : RunState) (e : SuiteEndView) (at : ℕ) (over : Bool) → at < length r.suites → Covered n notes r
@@ -112,7 +113,7 @@ covered-over n notes r e at true in' i =
     )
 covered-over n notes r e at false in' i =
     let s = with_line (suite_at r (Some at)) e in
-    omega (arith, i, sum_by-set (weigh announcing) r.suites at s r.outside in', sum_by-append reach notes [])
+    omega (arith, i, sum_by-set (weigh announcing) r.suites at (heard r s) r.outside in', sum_by-append reach notes [])
 
 covered-last : (n : ℕ) (notes : List NoteView) (r : RunState) (e : SuiteEndView) (at : Option ℕ) → IsIn r.suites at → Covered n notes r
     → let t = option_map_or (ended_at r e) at (step r (stray_suite_notes e)) in Covered (n + 0) (notes ++ t.notes) (learned t.run t.notes)
@@ -139,9 +140,9 @@ covered-ends t (s ∷ suites) =
     let names = names_in t.run s in
     omega (
       arith,
-      early-covers s names,
+      early-covers t.run.others s names,
       sum_by-cons (weigh announcing) s suites,
-      sum_by-append reach t.notes (early_notes s names),
+      sum_by-append reach t.notes (early_notes t.run.others s names),
       covered-ends (ended_early t s) suites,
     )
 
@@ -149,7 +150,7 @@ covered-end : (n : ℕ) (notes : List NoteView) (r : RunState) → Covered n not
 covered-end n notes r i =
     let none = step (record r { suites = [] }) [] in
     let ended = fold ended_early none r.suites in
-    let last = early_notes r.outside (names_in (record (ended.run) { outside = outside_start }) r.outside) in
+    let last = early_notes ended.run.others r.outside (names_in (record (ended.run) { outside = outside_start }) r.outside) in
     let over = all_ended_early r in
     omega (
       arith,

@@ -4,7 +4,7 @@ use Rattle.std.specs.List.{All, count_by, fold, position, remove, sum_by}
 use Rattle.std.specs.Option.{option_map_or, option_or}
 use Rattle.std.specs.Prelude.{◌-◌, ◌==◌, ◌&&◌, if◌then◌else◌, nat_lt, not, option_and_then}
 use Rattle.std.proofs.lemmas.Bool.{cond_both, eqb-false}
-use Rattle.std.proofs.lemmas.List.Elements.{All-append, All-cons, All-drop, All-get_or, All-head, All-map, All-nil, All-push, All-set, All-tail, All-take}
+use Rattle.std.proofs.lemmas.List.Elements.{All-append, All-cons, All-drop, All-get_or, All-head, All-nil, All-push, All-set, All-tail, All-take}
 use Rattle.std.proofs.lemmas.List.Quantifiers.{position-Some}
 use Rattle.std.proofs.lemmas.List.Sums.{fold-append, sum_by-append, sum_by-cons, sum_by-remove, sum_by-set, sum_by_push}
 use Rattle.run_events_stats.specs.Counters.{counters_of, nothing_known}
@@ -14,15 +14,16 @@ use Rattle.test_report_events.specs.declared.event.TestResult.{TestResult}
 use Rattle.test_report_events.specs.declared.event.TestResult.TheVariants.{Ok, Failed, Ignored}
 use Rattle.test_report_laws.proofs.EndSums.{last_by}
 use Rattle.test_report_laws.proofs.OverRuns.{over-run, up-to-line}
-use Rattle.test_report_laws.proofs.Sums.{sum-if-none, sum-map}
+use Rattle.test_report_laws.proofs.Sums.{sum-if-none}
 use Rattle.test_report_run.specs.Ended.{after_end, end_notes}
 use Rattle.test_report_run.specs.Note.{CargoSays, Disagrees, DisagreementView, HasNoEvent, IsDamaged, NoteView, StrayEnds, StraySuiteEnds}
+use Rattle.test_report_run.specs.Others.{OthersView, after_failure, after_print}
 use Rattle.test_report_run.specs.Over.{early_notes, explained_of, last_notes}
-use Rattle.test_report_run.specs.Prints.{AFailure, AHeading, APrint, PrintedView, cut}
-use Rattle.test_report_run.specs.Run.{RunState, Step, after, after_file, all_ended_early, counts_tests, ended_at, ended_early, file_notes, is_cause, is_disagreement, is_explained, learned, marked, names_in, no_event_notes, notes_at, open_suite, opened, printed_to, run_start, running_ends, running_over, started_again, step, stray_ends, stray_over, stray_suite_notes, stray_test, suite_at, suite_place, suite_prints, told, with_note, with_suite_at, without_tests}
+use Rattle.test_report_run.specs.Prints.{cut}
+use Rattle.test_report_run.specs.Run.{RunState, Step, after, after_file, all_ended_early, counts_tests, ended_at, ended_early, file_notes, heard, is_cause, is_disagreement, is_explained, learned, marked, names_in, no_event_notes, notes_at, open_suite, opened, run_start, running_ends, running_over, started_again, step, stray_ends, stray_over, stray_suite_notes, stray_test, suite_at, suite_place, told, with_note, with_suite_at, without_tests}
 use Rattle.test_report_run.specs.Running.{is_same, place_of_end, running_at}
 use Rattle.test_report_run.specs.Name.{before_dollar}
-use Rattle.test_report_run.specs.Suite.{FlakyView, OverView, SuiteState, has_key, joined, named, outside_start, suite_start, with_line, with_start}
+use Rattle.test_report_run.specs.Suite.{FlakyView, OverView, SuiteState, has_key, joined_by, named, outside_start, suite_start, with_line, with_start}
 use Rattle.test_report_laws.proofs.Types.{Explanation}
 use Rattle.test_report_run.specs.Totals.{no_suites}
 use Rattle.test_report_laws.specs.Whole.{all_notes, notes_of, run_after, run_after_files}
@@ -82,7 +83,7 @@ module _ (h : Kept → ℕ) where
   held-set : (r : RunState) (at : Option ℕ) (s : SuiteState) → IsIn r.suites at
       → all_held (with_suite_at r at s) + held (suite_at r at) ≡ all_held r + held s
   held-set r None s in' = omega arith
-  held-set r (Some at) s in' = omega (arith, sum_by-set held r.suites at s r.outside in')
+  held-set r (Some at) s in' = omega (arith, sum_by-set held r.suites at (heard r s) r.outside in')
 
   held-push : (suites : List SuiteState) (s : SuiteState) → held s ≡ 0 → sum_by held (suites ++ s ∷ []) ≡ sum_by held suites
   held-push suites s none = omega (arith, sum_by_push held suites s, none)
@@ -132,8 +133,8 @@ pub record Rules (loose : ℕ) (w v : NoteView → ℕ) (h : Kept → ℕ) (Fine
   pub of_end : (s : SuiteState) (t : OverView) (order : ℕ) (e : TestEndView) → Fine (kept s)
       → (sum_by w (end_notes s t e) + h (kept s) ≡ sum_by v (end_notes s t e) + h (kept (after_end s t order e)))
       × Fine (kept (after_end s t order e))
-  pub of_early : (s : SuiteState) (names : List (List ℕ)) → Fine (kept s)
-      → Within loose (sum_by w (early_notes s names) + h (kept s)) (sum_by v (early_notes s names))
+  pub of_early : (others : OthersView) (s : SuiteState) (names : List (List ℕ)) → Fine (kept s)
+      → Within loose (sum_by w (early_notes others s names) + h (kept s)) (sum_by v (early_notes others s names))
   pub of_last : (s : SuiteState) (e : Explanation) (names : List (List ℕ)) → Fine (kept s)
       → Within loose (sum_by w (last_by s e names) + h (kept s)) (sum_by v (last_by s e names))
 
@@ -158,7 +159,7 @@ module _ {loose : ℕ} {w v : NoteView → ℕ} {h : Kept → ℕ} {Fine : Kept 
 
   fine-set : (r : RunState) (at : Option ℕ) (s : SuiteState) → AreFine r → IsFine s → AreFine (with_suite_at r at s)
   fine-set r None s f k = (k, f.1)
-  fine-set r (Some at) s f k = (f.0, All-set IsFine r.suites at s k f.1)
+  fine-set r (Some at) s f k = (f.0, All-set IsFine r.suites at (heard r s) k f.1)
 
   fine-remove : (r : RunState) (at : ℕ) → AreFine r → All IsFine (remove r.suites at)
   fine-remove r at f = All-append IsFine (take at r.suites) (drop (suc at) r.suites) (All-take IsFine at r.suites f.1) (All-drop IsFine (suc at) r.suites f.1)
@@ -186,17 +187,17 @@ module _ {loose : ℕ} {w v : NoteView → ℕ} {h : Kept → ℕ} {Fine : Kept 
   keeps-first : (r : RunState) (key : Option (List ℕ)) (count : Option ℕ) (at : Option ℕ) → AreFine r → IsIn r.suites at
       → Keeps r (option_map_or (started_again r key count) at (step (opened r key count) []))
   keeps-first r key count None f in' =
-      let start = suite_start (Some (r.suites_started + 1)) key r.heading count in
+      let start = suite_start (Some (r.suites_started + 1)) key r.heading count r.others in
       let same = held-push h r.suites start empty in
       (record { low = omega arith; high = λ _. omega arith }, (f.0, All-push IsFine r.suites start f.1 fine_empty), refl)
   keeps-first r (Some key) count (Some at) f in' =
-      let s = suite_at r (Some at) in keeps-set r (Some at) (joined s count) [] f in' (fine-at r (Some at) f in') (omega arith)
+      let s = suite_at r (Some at) in keeps-set r (Some at) (joined_by s count) [] f in' (fine-at r (Some at) f in') (omega arith)
   keeps-first r None count (Some at) f in' =
       let s = suite_at r (Some at) in
-      let start = suite_start (Some (r.suites_started + 1)) None r.heading count in
+      let start = suite_start (Some (r.suites_started + 1)) None r.heading count r.others in
       let same = held-push h (remove r.suites at) start empty in
       let less = held-remove h r at in' in
-      let over = of_early s (names_in r s) (fine-at r (Some at) f in') in (
+      let over = of_early r.others s (names_in r s) (fine-at r (Some at) f in') in (
         record { low = omega (arith, over.low); high = λ e. omega (arith, over.high e) },
         (f.0, All-push IsFine (remove r.suites at) start (fine-remove r at f) fine_empty),
         refl,
@@ -262,11 +263,9 @@ module _ {loose : ℕ} {w v : NoteView → ℕ} {h : Kept → ℕ} {Fine : Kept 
       same-at (Some at) = refl
 
   -- a line that is no event of a harness
-  keeps-print : (r : RunState) (line : PrintedView) (notes : List NoteView) → AreFine r → sum_by w notes ≡ 0 → sum_by v notes ≡ 0
-      → Keeps r (step (printed_to r line) notes)
-  keeps-print r line notes f a b =
-      let same = sum-map (held h) (suite_prints line) r.suites in
-      (record { low = omega arith; high = λ _. omega arith }, (f.0, All-map IsFine (suite_prints line) r.suites f.1), refl)
+  keeps-other : (r : RunState) (others : OthersView) (notes : List NoteView) → AreFine r → sum_by w notes ≡ 0 → sum_by v notes ≡ 0
+      → Keeps r (step (record r { others = others }) notes)
+  keeps-other r others notes f a b = (record { low = omega arith; high = λ _. omega arith }, f, refl)
 
   keeps-line : (r : RunState) (e : EventView) → AreFine r → Keeps r (told r e)
   keeps-line r (SuiteStarts key count) f = keeps-first r key count (open_suite r key) f (position-in (has_key key) r.suites (open_suite r key) refl)
@@ -276,13 +275,13 @@ module _ {loose : ℕ} {w v : NoteView → ℕ} {h : Kept → ℕ} {Fine : Kept 
       keeps-set r at (with_start (suite_at r at) name) [] f (place-in r name) (fine-at r at f (place-in r name)) (omega arith)
   keeps-line r (TestEnds e) f = keeps-test r e (place_of_end r.running e.name) f
   keeps-line r OtherLine f = keeps-same r [] f refl refl
-  keeps-line r (HeadingLine name path) f = keeps-print r AHeading [] f refl refl
+  keeps-line r (HeadingLine name path) f = (record { low = omega arith; high = λ _. omega arith }, f, refl)
   keeps-line r (CargoFails k line plain) f =
       let d = CargoSays plain in
       let counts = length r.suites == 0 && not (is_explained r k) in
-      keeps-print r (AFailure line) (if counts then Disagrees d ∷ [] else []) f
+      keeps-other r (after_failure r.others) (if counts then Disagrees d ∷ [] else []) f
       (sum-if-none w counts (Disagrees d) (w_disagree d)) (sum-if-none v counts (Disagrees d) (v_disagree d))
-  keeps-line r (Prints line plain) f = keeps-print r (APrint line plain) [] f refl refl
+  keeps-line r (Prints line plain) f = keeps-other r (after_print r.others line plain) [] f refl refl
   keeps-line r (DamagedLine text) f = keeps-if r true (IsDamaged (cut text)) f
 
   -- what holds of a run of which these notes are known
@@ -320,11 +319,11 @@ module _ {loose : ℕ} {w v : NoteView → ℕ} {h : Kept → ℕ} {Fine : Kept 
   ends-early t [] f = record { low = omega arith; high = λ _. omega arith }
   ends-early t (s ∷ suites) f =
       let names = names_in t.run s in
-      let now = of_early s names (All-head IsFine s suites f) in
+      let now = of_early t.run.others s names (All-head IsFine s suites f) in
       let rest = ends-early (ended_early t s) suites (All-tail IsFine s suites f) in
       let more = sum_by-cons (held h) s suites in
-      let x = sum_by-append w t.notes (early_notes s names) in
-      let y = sum_by-append v t.notes (early_notes s names) in
+      let x = sum_by-append w t.notes (early_notes t.run.others s names) in
+      let y = sum_by-append v t.notes (early_notes t.run.others s names) in
       record { low = omega (arith, now.low, rest.low); high = λ e. omega (arith, now.high e, rest.high e) }
 
   holds-file_end : (notes : List NoteView) (r : RunState) → Holds notes r → HoldsAll loose w v (notes ++ file_notes r) (after_file r)

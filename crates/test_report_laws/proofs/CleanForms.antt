@@ -4,7 +4,7 @@ use Rattle.std.proofs.lemmas.List.Elements.{All-head, All-tail}
 use Rattle.std.specs.List.{All, flat_map}
 use Rattle.template.proofs.Controls.{Clean, also, clean-char, clean-chars, clean-decimal, clean-if, nothing, word}
 use Rattle.template.specs.Shown.{is_escaped}
-use Rattle.test_report_laws.proofs.CleanLines.{clean, clean-name, clean-number, clean-text, name-line}
+use Rattle.test_report_laws.proofs.CleanLines.{clean, clean-line, clean-number, clean-text, line-alone}
 use Rattle.test_report_laws.proofs.CleanWords.{clean-disagreement, clean-not_run, clean-outcome, clean-summary, clean-title}
 use Rattle.test_report_laws.proofs.Numerals.{HasNumbers, IsColumn, IsNumbered, entry-numbers}
 use Rattle.test_report_forms.specs.Entry.{EntryView, IsEntryOf, LinesDisagree, SuiteNotRun, SuiteOver, TestFailed, TestPassed, TestSkipped}
@@ -18,7 +18,7 @@ use Rattle.test_report_run.specs.declared.note.RunEnd.{RunEnd}
 
 -- the form of names
 pub names-are-lines : NamesAreLines
-names-are-lines (TestFailed t f w) = inr (name-line t.name)
+names-are-lines (TestFailed t f w) = inr (line-alone t.name)
 names-are-lines (TestPassed t) = inl refl
 names-are-lines (TestSkipped t) = inl refl
 names-are-lines (LinesDisagree d) = inl refl
@@ -56,7 +56,7 @@ unfolding properties place_properties
 clean-properties None h = nothing
 clean-properties (Some p) h =
     let numbers = also (word (codes ",line=") refl) (also (clean (clean-number h.0)) (also (clean-column p.column h.1) (word (codes ",") refl))) in
-    also (word (codes "file=") refl) (also (clean-property (clean (clean-name p.file))) numbers)
+    also (word (codes "file=") refl) (also (clean-property (clean (clean-line p.file))) numbers)
 
 clean-command : (limit : ℕ) (t : TestNoteView) (w : WhyView) → IsNumbered w.place → Clean (failed_command limit t w)
 unfolding failed_command title_property why_message

@@ -1,5 +1,6 @@
 -- Parts of lines: texts without control characters and without characters that change the direction of writing.
-use Rattle.std.proofs.Common.{◌≡◌, ◌≤◌, ◌<◌, ◌==◌, ◌&&◌, ◌||◌, refl, arith, ℕ, zero, suc, Bool, true, false, true≢false, not, List, [], ◌∷◌, ◌++◌, codes, if◌then◌else◌, Option, Some, None}
+use Rattle.std.proofs.Common.{◌≡◌, ◌∙◌, ◌≤◌, ◌<◌, ◌==◌, ◌&&◌, ◌||◌, refl, arith, ℕ, zero, suc, Bool, true, false, true≢false, not, List, [], ◌∷◌, ◌++◌, codes, if◌then◌else◌, length, nat_lt, Option, Some, None}
+use Rattle.std.proofs.lemmas.Bool.{or_parts}
 use Rattle.std.proofs.lemmas.Bool.Decides.{nat_tests}
 use Rattle.std.specs.Char.{encode_utf8, is_ascii_digit}
 use Rattle.std.specs.Fmt.{decimal}
@@ -7,11 +8,13 @@ use Rattle.std.specs.List.{list_all}
 use Rattle.std.specs.Option.{option_map_or}
 use Rattle.std.specs.Prelude.{replicate}
 use Rattle.std.specs.Str.{NonePass, chars}
-use Rattle.template.proofs.Controls.{Clean, clean-char, clean-escape, clean-flat_map}
-use Rattle.template.proofs.Lacks.{Lacks, both, lacks-decimal, lacks-escape, lacks-flat_map, lacks-more, lacks-word, none, one-char, visible}
+use Rattle.template.proofs.Controls as controls
+use Rattle.template.proofs.Controls.{Clean, clean-char, clean-escape}
+use Rattle.template.proofs.Lacks.{Lacks, both, lacks-decimal, lacks-escape, lacks-more, lacks-word, none, one-char, visible}
 use Rattle.template.specs.Shown.{escape, is_escaped}
 use Rattle.test_report_forms.proofs.Tests.{and-left, and-right}
-use Rattle.test_report_forms.specs.Shown.{name_char, shown_name, shown_text, text_char}
+use Rattle.test_report_forms.specs.Commands.{begins_command}
+use Rattle.test_report_forms.specs.Shown.{front, has_escape, is_control, is_front, shown_from, shown_line, shown_name, shown_text}
 use Rattle.test_report_laws.proofs.Numerals.{IsNumber}
 use Rattle.test_report_laws.specs.Forms.{IsPlainLine, is_unseen}
 
@@ -45,26 +48,34 @@ pub clean-replicate : (b n : ℕ) → visible is_unseen b ≡ true → CleanLine
 clean-replicate b zero e = nothing
 clean-replicate b (suc n) e = lacks-more is_unseen b (replicate n b) e (clean-replicate b n e)
 
--- names
-seen-in-name : (tab line unseen : Bool) → (tab || (line || (not tab && (not line && unseen)))) ≡ false → unseen ≡ false
-seen-in-name true line unseen e = absurd (true≢false e)
-seen-in-name false true unseen e = absurd (true≢false e)
-seen-in-name false false unseen e = e
+-- names and other texts in one line
+seen-in-line : (blank escaped : Bool) (tab line unseen : Bool) → (not tab && (not line && unseen)) ≡ escaped → (tab || line) ≡ blank
+    → (blank || escaped) ≡ false → unseen ≡ false
+seen-in-line true escaped tab line unseen e f h = absurd (true≢false h)
+seen-in-line false escaped true line unseen e f h = absurd (true≢false f)
+seen-in-line false escaped false true unseen e f h = absurd (true≢false f)
+seen-in-line false escaped false false unseen e f h = e ∙ h
 
-clean-name_char : (c : ℕ) → CleanLine (name_char c)
-unfolding name_char
-clean-name_char c =
-    let test = c == 9 || (c == 10 || is_escaped c) in
-    elim test as (λ b. test ≡ b → CleanLine (if b then escape c else encode_utf8 c)) [
+clean-shown : (at_front : Bool) (cs : List ℕ) → CleanLine (shown_from true at_front cs)
+clean-shown at_front [] = nothing
+clean-shown at_front (c ∷ cs) =
+    let test = has_escape true at_front c cs in
+    let kept = λ (e : test ≡ false). (or_parts (begins_command at_front c cs) (is_control true c) e).1 in
+    let first = elim test as (λ b. test ≡ b → CleanLine (if b then escape c else encode_utf8 c)) [
       | true ↦ λ e. lacks-escape is_unseen printable c
-      | false ↦ λ e. one-char is_unseen c (seen-in-name (c == 9) (c == 10) (is_unseen c) e)
-    ] refl
+      | false ↦ λ e. one-char is_unseen c (seen-in-line (c == 9 || c == 10) (is_escaped c) (c == 9) (c == 10) (is_unseen c) refl refl (kept e))
+    ] refl in
+    also first (clean-shown (is_front at_front c) cs)
+
+pub clean-line : (text : List ℕ) → CleanLine (shown_line text)
+clean-line text = clean-shown true (chars text)
 
 pub clean-name : (name : List ℕ) → CleanLine (shown_name name)
-clean-name name = lacks-flat_map is_unseen name_char clean-name_char (chars name)
+unfolding shown_name
+clean-name name = also (clean-line (front name 1024)) (clean-if (nat_lt 1024 (length name)) (word (codes "..") refl) nothing)
 
-pub name-line : (name : List ℕ) → IsPlainLine (shown_name name ++ codes "\n")
-name-line name = (shown_name name, refl, (clean-name name).is)
+pub line-alone : (text : List ℕ) → IsPlainLine (shown_line text ++ codes "\n")
+line-alone text = (shown_line text, refl, (clean-line text).is)
 
 -- such a text has no control characters, and no ends of lines
 pub fewer : (p q : ℕ → Bool) → ((c : ℕ) → p c ≡ false → q c ≡ false) → {text : List ℕ} → Lacks p text → Lacks q text
@@ -100,12 +111,16 @@ pub clean-number : {ds : List ℕ} → IsNumber ds → CleanLine ds
 clean-number n = digits-lack is_unseen seen-digit n
 
 -- a text as it is shown
-clean-text_char : (c : ℕ) → Clean (text_char false c)
-unfolding text_char
-clean-text_char c =
-    elim (is_escaped c) as (λ b. is_escaped c ≡ b → Clean (if b then escape c else encode_utf8 c))
-    [ true ↦ λ e. clean-escape c | false ↦ λ e. clean-char c e ] refl
+clean-several : (at_front : Bool) (cs : List ℕ) → Clean (shown_from false at_front cs)
+clean-several at_front [] = controls.nothing
+clean-several at_front (c ∷ cs) =
+    let test = has_escape false at_front c cs in
+    let first = elim test as (λ b. test ≡ b → Clean (if b then escape c else encode_utf8 c)) [
+      | true ↦ λ e. clean-escape c
+      | false ↦ λ e. clean-char c (or_parts (begins_command at_front c cs) (is_escaped c) e).1
+    ] refl in
+    controls.also first (clean-several (is_front at_front c) cs)
 
 pub clean-text : (raw : Bool) (text : List ℕ) → raw ≡ false → Clean (shown_text raw text)
 clean-text true text e = absurd (true≢false e)
-clean-text false text e = clean-flat_map (text_char false) clean-text_char (chars text)
+clean-text false text e = clean-several true (chars text)

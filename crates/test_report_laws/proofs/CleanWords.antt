@@ -5,7 +5,7 @@ use Rattle.run_events_stats.specs.declared.outcome.run_outcome.RunOutcome.{RunOu
 use Rattle.run_events_stats.specs.declared.outcome.run_outcome.RunOutcome.TheVariants as outcome
 use Rattle.test_report_events.specs.declared.event.TestResult.{TestResult}
 use Rattle.test_report_events.specs.declared.event.TestResult.TheVariants as ended
-use Rattle.test_report_laws.proofs.CleanLines.{CleanLine, also, clean-decimal, clean-if, clean-name, clean-option, clean-replicate, nothing, word}
+use Rattle.test_report_laws.proofs.CleanLines.{CleanLine, also, clean-decimal, clean-if, clean-line, clean-name, clean-option, clean-replicate, nothing, word}
 use Rattle.test_report_forms.specs.List.{flaky_word}
 use Rattle.test_report_forms.specs.Shown.{and_space, bracket, name_and_space, seconds, three_digits}
 use Rattle.test_report_forms.specs.Text.{attempts_note}
@@ -105,8 +105,8 @@ clean-disagreement (StrayEnds name how) =
 clean-disagreement (StraySuiteEnds key failed) =
     also (word (codes "a suite ended that had not started: ") refl) (also (clean-name_and_space key) (clean-verdict failed))
 clean-disagreement (StartsOutside n) = also (clean-decimal n) (word (codes " tests started outside of a suite") refl)
-clean-disagreement (CargoSays line) = also (word (codes "cargo: ") refl) (clean-name line)
-clean-disagreement (IsDamaged text) = also (word (codes "a damaged line says that a test or a suite failed: ") refl) (clean-name text)
+clean-disagreement (CargoSays line) = also (word (codes "cargo: ") refl) (clean-line line)
+clean-disagreement (IsDamaged text) = also (word (codes "a damaged line says that a test or a suite failed: ") refl) (clean-line text)
 clean-disagreement HasNoEvent = word (codes "no line of the input is of a test run") refl
 
 pub clean-not_run : (suite : List ℕ) (n of : ℕ) → CleanLine (not_run_line suite n of)

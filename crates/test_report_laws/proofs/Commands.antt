@@ -10,7 +10,7 @@ use Rattle.template.proofs.Lacks.{Lacks, both, lacks-flat_map, lacks-word, none,
 use Rattle.test_report_forms.specs.Entry.{EntryView, IsEntryOf, LinesDisagree, SuiteNotRun, SuiteOver, TestFailed, TestPassed, TestSkipped}
 use Rattle.test_report_forms.specs.Github.{data_char, error_command, failed_command, github_last, github_line, message, place_properties, properties, column_property, property, property_char, title_property, why_message}
 use Rattle.test_report_forms.specs.Place.{PlaceView}
-use Rattle.test_report_forms.specs.Shown.{limited, shown_name}
+use Rattle.test_report_forms.specs.Shown.{limited, shown_line}
 use Rattle.test_report_forms.specs.Title.{title}
 use Rattle.test_report_forms.specs.Why.{WhyView}
 use Rattle.test_report_forms.specs.Words.{disagreement_line, not_run_line, outcome_word, summary_line}
@@ -108,13 +108,13 @@ Properties ps = All IsProperty ps
 one-property : (p : List ℕ) → IsProperty p → Properties (p ∷ [])
 one-property p h = All-cons IsProperty p [] h (All-nil IsProperty)
 
-file-property : (file : List ℕ) → IsProperty (codes "file=" ++ property (shown_name file))
+file-property : (file : List ℕ) → IsProperty (codes "file=" ++ property (shown_line file))
 file-property file = record {
   name = codes "file";
-  value = property (shown_name file);
+  value = property (shown_line file);
   is = refl;
   is_name = (0, omega arith, refl);
-  is_value = (value-property (shown_name file)).is;
+  is_value = (value-property (shown_line file)).is;
 }
 
 line-property : (line : List ℕ) → IsNumber line → IsProperty (codes "line=" ++ line)
@@ -152,11 +152,11 @@ module _ (named said : List ℕ) (is_named : IsProperty named) (inner_named : In
       → IsWhole (failed_line (Some (record { file = file; line = line; column = column })) named said)
   unfolding properties place_properties column_property
   placed file line column h i =
-      let path = property (shown_name file) in
+      let path = property (shown_line file) in
       let a = codes "file=" ++ path in
       let b = codes "line=" ++ line in
       let parts = λ (c : List ℕ). place-parts (codes "::error ") (codes "file=") path (codes ",") (codes "line=") line c named (codes "::" ++ said) in
-      let front = λ (c : List ℕ) (within_c : Inner c). both (plain (codes "file=") refl) (both (within (value-property (shown_name file)))
+      let front = λ (c : List ℕ) (within_c : Inner c). both (plain (codes "file=") refl) (both (within (value-property (shown_line file)))
       (both (plain (codes ",line=") refl) (both (within (value-number h)) (both within_c (plain (codes ",") refl))))) in
       let lead = plain (codes "::error ") refl in
       let are = λ (ps : List (List ℕ)) (each : Properties ps).

@@ -18,6 +18,7 @@ use Rattle.test_report_laws.proofs.Sums.{sum-none}
 use Rattle.test_report_run.specs.Counted.{finish_for, view_of_finish}
 use Rattle.test_report_run.specs.Ended.{after_end, after_flaky, end_notes, starts_later, timed}
 use Rattle.test_report_run.specs.Note.{Fails, HasCrashed, HasFailed, HasNoEnd, HasTimedOut, IsFlaky, IsSkipped, KindView, NoteView, OutcomeView, Passes, SuiteIs, SuiteNoteView, TestIs}
+use Rattle.test_report_run.specs.Others.{OthersView}
 use Rattle.test_report_run.specs.Over.{bare_failure, crash_of, early_notes, early_state, flaky_outcome, last_state, lost, one_failed, one_flaky, rest_of, skipped_note, with_all_flaky, with_failed}
 use Rattle.test_report_run.specs.Run.{with_note}
 use Rattle.test_report_run.specs.Totals.{no_suites, with_suite}
@@ -52,10 +53,10 @@ of_suite weight (SuiteIs s) = weight s
 of_suite weight note = 0
 
 -- the notes of a suite that ends have one of the suite
-pub early-suite : (weight : SuiteNoteView → ℕ) (s : SuiteState) (names : List (List ℕ))
-    → sum_by (of_suite weight) (early_notes s names) ≡ of_suite weight (suite_note (early_state s names) (early_rest s))
-early-suite weight s names =
-    omega (arith, by-early (of_suite weight) (λ d. refl) (λ suite n of. refl) false s names (λ name. refl) (λ f. refl))
+pub early-suite : (weight : SuiteNoteView → ℕ) (others : OthersView) (s : SuiteState) (names : List (List ℕ))
+    → sum_by (of_suite weight) (early_notes others s names) ≡ of_suite weight (suite_note (early_state s names) (early_rest s))
+early-suite weight others s names =
+    omega (arith, by-early (of_suite weight) (λ d. refl) (λ suite n of. refl) false others s names (λ name. refl) (λ f. refl))
 
 pub last-suite : (weight : SuiteNoteView → ℕ) (s : SuiteState) (e : Explanation) (names : List (List ℕ))
     → sum_by (of_suite weight) (last_by s e names) ≡ of_suite weight (suite_note (last_state s e names) (rest_of s e names))
@@ -169,13 +170,14 @@ module _ (counter : RunStats → ℕ) (rule : OutcomeView → ℕ → ℕ) (empt
   no-suite s t e Failed = refl
   no-suite s t e Ignored = refl
 
-  at-early : (s : SuiteState) (names : List (List ℕ)) → All IsLate s.flaky → sum_by w (early_notes s names) + counter s.stats ≡ sum_by v (early_notes s names)
-  at-early s names late =
-      let kind = HasCrashed (crash_of s (length names)) in
+  at-early : (others : OthersView) (s : SuiteState) (names : List (List ℕ)) → All IsLate s.flaky
+      → sum_by w (early_notes others s names) + counter s.stats ≡ sum_by v (early_notes others s names)
+  at-early others s names late =
+      let kind = HasCrashed (crash_of others s (length names)) in
       omega (
         arith,
-        ends.of-early w (λ d. refl) (λ suite n of. refl) s names,
-        early-suite (λ n. counter n.stats) s names,
+        ends.of-early w (λ d. refl) (λ suite n of. refl) others s names,
+        early-suite (λ n. counter n.stats) others s names,
         counts-failed kind refl (λ n. refl) s.stats names,
         counts-flaky false (with_failed s.stats names) s.flaky late,
       )
@@ -203,7 +205,7 @@ module _ (counter : RunStats → ℕ) (rule : OutcomeView → ℕ → ℕ) (empt
     empty = empty;
     fine_empty = record { late = All-nil IsLate; passed = omega arith; fair = omega arith };
     of_end = λ s t order e sound. (omega (arith, at-end s t order e e.result, no-suite s t e e.result), end-sound s t order e e.result sound);
-    of_early = λ s names sound. exactly (at-early s names sound.late);
+    of_early = λ others s names sound. exactly (at-early others s names sound.late);
     of_last = λ s e names sound. exactly (at-last s e names sound.late);
   }
 

@@ -5,6 +5,7 @@ use Rattle.std.specs.Prelude.{◌-◌}
 use Rattle.std.proofs.lemmas.List.Sums.{sum_by-append}
 use Rattle.test_report_laws.proofs.Sums.{sum-all, sum-map}
 use Rattle.test_report_run.specs.Note.{Disagrees, DisagreementView, HasCrashed, HasNoEnd, IsNotRun, NoteView, SuiteIs}
+use Rattle.test_report_run.specs.Others.{OthersView}
 use Rattle.test_report_run.specs.Over.{crash_of, early_disagreements, early_notes, early_state, failed_note, failed_notes, flaky_note, flaky_notes, initial_of, last_disagreement, last_state, lost, number_notes, rest_of, skipped_note}
 use Rattle.test_report_run.specs.Suite.{FlakyView, SuiteState, suite_name}
 use Rattle.test_report_laws.proofs.Types.{Explanation, Rest}
@@ -38,11 +39,11 @@ module _ (w : NoteView → ℕ) (not_run : (suite : List ℕ) (n of : ℕ) → w
   of-numbers s rest = grind (arith, not_run)
 
   -- what becomes known of a suite that ends early: its running tests, its flaky tests and its numbers
-  pub of-early-all : (s : SuiteState) (names : List (List ℕ)) → sum_by w (early_notes s names)
-      ≡ sum_by (λ name. w (failed_note s (HasCrashed (crash_of s (length names))) name)) names
+  pub of-early-all : (others : OthersView) (s : SuiteState) (names : List (List ℕ)) → sum_by w (early_notes others s names)
+      ≡ sum_by (λ name. w (failed_note s (HasCrashed (crash_of others s (length names))) name)) names
       + (sum_by (λ f. w (flaky_note s false f)) s.flaky
       + (sum_by w (early_disagreements s (length names)) + w (suite_note (early_state s names) (early_rest s))))
-  of-early-all s names =
+  of-early-all others s names =
       simp (sum_by-append, sum-map) (omega (arith, simp sum_by-append at (of-numbers (early_state s names) (early_rest s))))
 
   -- what becomes known of a suite that ends by its last line
@@ -63,10 +64,10 @@ module _ (w : NoteView → ℕ) (disagree : (d : DisagreementView) → w (Disagr
   of-last_disagreement : (s : SuiteState) → sum_by w (last_disagreement s) ≡ 0
   of-last_disagreement s = grind (arith, disagree)
 
-  pub of-early : (s : SuiteState) (names : List (List ℕ)) → sum_by w (early_notes s names)
-      ≡ sum_by (λ name. w (failed_note s (HasCrashed (crash_of s (length names))) name)) names
+  pub of-early : (others : OthersView) (s : SuiteState) (names : List (List ℕ)) → sum_by w (early_notes others s names)
+      ≡ sum_by (λ name. w (failed_note s (HasCrashed (crash_of others s (length names))) name)) names
       + (sum_by (λ f. w (flaky_note s false f)) s.flaky + w (suite_note (early_state s names) (early_rest s)))
-  of-early s names = omega (arith, of-early-all w not_run s names, of-early_disagreements s (length names))
+  of-early others s names = omega (arith, of-early-all w not_run others s names, of-early_disagreements s (length names))
 
   pub of-last : (s : SuiteState) (e : Explanation) (names : List (List ℕ)) → sum_by w (last_by s e names)
       ≡ sum_by (λ name. w (failed_note s HasNoEnd name)) (lost e names)
@@ -75,14 +76,14 @@ module _ (w : NoteView → ℕ) (disagree : (d : DisagreementView) → w (Disagr
   of-last s e names = omega (arith, of-last-all w not_run s e names, of-last_disagreement (last_state s e names))
 
   -- the same where each test of a kind weighs 1, or each of them nothing
-  pub by-early : (crashes : Bool) (s : SuiteState) (names : List (List ℕ))
-      → ((name : List ℕ) → w (failed_note s (HasCrashed (crash_of s (length names))) name) ≡ cond crashes 1 0)
+  pub by-early : (crashes : Bool) (others : OthersView) (s : SuiteState) (names : List (List ℕ))
+      → ((name : List ℕ) → w (failed_note s (HasCrashed (crash_of others s (length names))) name) ≡ cond crashes 1 0)
       → ((f : FlakyView) → w (flaky_note s false f) ≡ 0)
-      → sum_by w (early_notes s names) ≡ cond crashes (length names) 0 + w (suite_note (early_state s names) (early_rest s))
-  by-early crashes s names crash flaky = omega (
+      → sum_by w (early_notes others s names) ≡ cond crashes (length names) 0 + w (suite_note (early_state s names) (early_rest s))
+  by-early crashes others s names crash flaky = omega (
     arith,
-    of-early s names,
-    sum-all (λ name. w (failed_note s (HasCrashed (crash_of s (length names))) name)) crashes crash names,
+    of-early others s names,
+    sum-all (λ name. w (failed_note s (HasCrashed (crash_of others s (length names))) name)) crashes crash names,
     sum-all (λ f. w (flaky_note s false f)) false flaky s.flaky,
   )
 

@@ -107,7 +107,7 @@ module _ (files : List (List EventView)) (clean : IsClean (all_notes files)) whe
   none-ends r count None is fine none = refl
   none-ends r count (Some at) is fine none =
       let s = suite_at r (Some at) in
-      absurd (omega (arith, none, early-cause s (names_in r s) (has-number r at fine (position-in (has_key None) r.suites (Some at) is))))
+      absurd (omega (arith, none, early-cause r.others s (names_in r s) (has-number r at fine (position-in (has_key None) r.suites (Some at) is))))
 
   not-one : (b : Bool) → ◌≡◌ {A = ℕ} (if b then 1 else 0) 0 → b ≡ false
   not-one true h = absurd (cc)

@@ -4,7 +4,8 @@ use Rattle.std.proofs.lemmas.Bool.{eqb-true}
 use Rattle.std.specs.Prelude.{⊤}
 use Rattle.template.specs.Shows.{HasPart}
 use Rattle.test_report_forms.specs.Json.{json_line, json_of, json_written}
-use Rattle.test_report_forms.specs.JsonText.{hidden, is_command, json_text}
+use Rattle.test_report_forms.specs.Commands.{is_command}
+use Rattle.test_report_forms.specs.JsonText.{hidden, json_text}
 use Rattle.test_report_laws.specs.Json.{HasNoHash, JsonHasNoCommands}
 
 -- what follows the first `#` of a command: no backslash and no line feed

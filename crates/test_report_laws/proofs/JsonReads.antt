@@ -14,7 +14,8 @@ use Rattle.json.proofs.Printed.Numbers.{lex-number}
 use Rattle.json.proofs.Printed.Strings.{content-escape, escape_byte_plain, lex-escape}
 use Rattle.json.proofs.Printed.Tokens.{tokens-print}
 use Rattle.json.proofs.Printed.Trees.{ArePrintable-json_tokens, value-json_tokens}
-use Rattle.test_report_forms.specs.JsonText.{hidden, is_command, json_text}
+use Rattle.test_report_forms.specs.Commands.{is_command}
+use Rattle.test_report_forms.specs.JsonText.{hidden, json_text}
 use Rattle.serde_json.specs.Read.{max_depth as read_depth, of_json}
 use Rattle.test_report_forms.specs.Json.{json_line, json_of, json_written}
 use Rattle.test_report_laws.proofs.JsonHidden.{hash-hidden, hash-kept, other}

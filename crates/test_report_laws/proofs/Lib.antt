@@ -28,6 +28,9 @@ pub mod Outcomes
 pub mod OverRuns
 pub mod Parts
 pub mod Phrases
+pub mod Quiet
+pub mod QuietShown
+pub mod QuietText
 pub mod ReportReasons
 pub mod ReportValues
 pub mod RunCauses

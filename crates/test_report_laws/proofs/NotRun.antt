@@ -16,6 +16,7 @@ use Rattle.test_report_laws.proofs.Weights.{has-number, numbered-end, numbered-l
 use Rattle.test_report_run.specs.Ended.{after_end, end_notes}
 use Rattle.test_report_laws.specs.Run.{not_run_of}
 use Rattle.test_report_run.specs.Note.{CargoSays, Disagrees, DisagreementView, HasCrashed, HasNoEnd, HasNoEvent, IsNotRun, NoteView, StrayEnds, StraySuiteEnds, SuiteIs, SuiteNoteView, TestIs, TestNoteView}
+use Rattle.test_report_run.specs.Others.{OthersView}
 use Rattle.test_report_run.specs.Over.{crash_of, early_disagreements, early_notes, early_state, explained_of, failed_note, failed_notes, flaky_note, flaky_notes, initial_of, last_disagreement, last_notes, last_state, lost, number_notes, rest_of, skipped_note}
 use Rattle.test_report_run.specs.Run.{RunState, Step, after, all_ended_early, counts_tests, ended_at, ended_early, file_notes, is_explained, names_in, no_event_notes, notes_at, open_suite, opened, place_of_number, running_ends, running_over, started_again, step, stray_ends, stray_over, stray_suite_notes, stray_test, suite_at, suite_place, with_suite_at, without_tests}
 use Rattle.test_report_run.specs.Running.{place_of_end, running_at}
@@ -27,9 +28,10 @@ use Rattle.test_report_laws.proofs.Types.{Explanation, Rest}
 -- a weight of notes, in which those of tests and of disagreements weigh nothing
 module _ (w : NoteView → ℕ) (test : (t : TestNoteView) → w (TestIs t) ≡ 0) (disagree : (d : DisagreementView) → w (Disagrees d) ≡ 0) where
   -- of a suite that ends, only its numbers weigh
-  of-early : (s : SuiteState) (names : List (List ℕ)) → sum_by w (early_notes s names) ≡ sum_by w (number_notes (early_state s names) (early_rest s))
-  of-early s names =
-      let crashed = failed_notes s (HasCrashed (crash_of s (length names))) names in
+  of-early : (others : OthersView) (s : SuiteState) (names : List (List ℕ))
+      → sum_by w (early_notes others s names) ≡ sum_by w (number_notes (early_state s names) (early_rest s))
+  of-early others s names =
+      let crashed = failed_notes s (HasCrashed (crash_of others s (length names))) names in
       let flaky = flaky_notes s false in
       let disagreements = early_disagreements s (length names) in
       let numbers = number_notes (early_state s names) (early_rest s) in
@@ -40,8 +42,8 @@ module _ (w : NoteView → ℕ) (test : (t : TestNoteView) → w (TestIs t) ≡ 
         sum_by-append w crashed (flaky ++ (disagreements ++ numbers)),
         sum_by-append w flaky (disagreements ++ numbers),
         sum_by-append w disagreements numbers,
-        sum-map w (failed_note s (HasCrashed (crash_of s (length names)))) names,
-        sum-none (λ name. w (failed_note s (HasCrashed (crash_of s (length names))) name)) (λ name. test _) names,
+        sum-map w (failed_note s (HasCrashed (crash_of others s (length names)))) names,
+        sum-none (λ name. w (failed_note s (HasCrashed (crash_of others s (length names))) name)) (λ name. test _) names,
         sum-map w (flaky_note s false) s.flaky,
         sum-none (λ f. w (flaky_note s false f)) (λ f. test _) s.flaky,
       )
@@ -127,14 +129,14 @@ same-numbers s rest none =
     same-named (suite_name s) n (initial_of s rest) note refl none
 
 -- a suite that has a number, or tests outside of a suite, of which none is announced
-same-early : (s : SuiteState) (names : List (List ℕ)) → (s.number ≡ None → s.test_count ≡ None) → Same (early_notes s names)
-same-early s names fine =
+same-early : (others : OthersView) (s : SuiteState) (names : List (List ℕ)) → (s.number ≡ None → s.test_count ≡ None) → Same (early_notes others s names)
+same-early others s names fine =
     let last = early_state s names in
     let rest = early_rest s in
     omega (
       arith,
-      of-early named_not_run (λ t. refl) (λ d. refl) s names,
-      of-early not_run_of (λ t. refl) (λ d. refl) s names,
+      of-early named_not_run (λ t. refl) (λ d. refl) others s names,
+      of-early not_run_of (λ t. refl) (λ d. refl) others s names,
       same-numbers last rest (λ h. none-announced s.test_count rest.skipped last.stats.finished_count (fine (no-name last h))),
     )
 
@@ -155,7 +157,7 @@ same-first : (r : RunState) (key : Option (List ℕ)) (count : Option ℕ) (at :
 same-first r key count None in' numbered = refl
 same-first r (Some key) count (Some at) in' numbered = refl
 same-first r None count (Some at) in' numbered =
-    let s = suite_at r (Some at) in same-early s (names_in r s) (λ zero. absurd (has-number r at numbered in' zero))
+    let s = suite_at r (Some at) in same-early r.others s (names_in r s) (λ zero. absurd (has-number r at numbered in' zero))
 
 same-over : (r : RunState) (e : SuiteEndView) (at : ℕ) (over : Bool) → at < length r.suites → weight_of unnumbered r ≡ 0
     → let s = with_line (suite_at r (Some at)) e in
@@ -245,8 +247,8 @@ same-ends t (s ∷ suites) numbered same =
     let names = names_in t.run s in
     let parts = sum_by-cons (weigh unnumbered) s suites in
     same-ends (ended_early t s) suites (omega arith)
-    (same-append t.notes (early_notes s names) same
-    (same-early s names (λ zero. absurd (omega (arith, ap (λ n. unnumbered n s.said s.test_count) zero)))))
+    (same-append t.notes (early_notes t.run.others s names) same
+    (same-early t.run.others s names (λ zero. absurd (omega (arith, ap (λ n. unnumbered n s.said s.test_count) zero)))))
 
 same-end : (r : RunState) → weight_of unnumbered r ≡ 0 → IsUnannounced r → Same (file_notes r)
 same-end r numbered none =
@@ -257,7 +259,8 @@ same-end r numbered none =
     let quiet = not over.run.has_event && not (nat_lt over.run.causes_at_file over.run.causes) in
     let d = Disagrees HasNoEvent in
     same-append over.notes (no_event_notes over.run)
-    (same-append ended.notes (early_notes r.outside names) (same-ends start r.suites numbered refl) (same-early r.outside names (λ zero. none)))
+    (same-append ended.notes (early_notes ended.run.others r.outside names) (same-ends start r.suites numbered refl)
+    (same-early ended.run.others r.outside names (λ zero. none)))
     (sum-if-none named_not_run quiet d refl ∙ sym (sum-if-none not_run_of quiet d refl))
 
 -- what holds at each line and at each end of a file

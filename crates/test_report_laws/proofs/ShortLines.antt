@@ -4,23 +4,23 @@ use Rattle.std.proofs.lemmas.Bool.Decides.{nat_tests}
 use Rattle.std.proofs.lemmas.List.Elements.{All-append, All-cons, All-drop, All-head, All-nil, All-tail, All-take}
 use Rattle.std.proofs.lemmas.Str.{IsCharBoundary-start, IsUtf8-string_bytes, IsUtf8-take, encode_ascii}
 use Rattle.std.specs.Char.{encode_utf8}
-use Rattle.std.specs.List.{All, after_first, before_first, ends_with, flat_map, prefix_len}
+use Rattle.std.specs.List.{All, after_first, before_first, ends_with, prefix_len}
 use Rattle.std.specs.Option.{option_map_or}
 use Rattle.std.specs.Prelude.{nat_eq, slice_index}
 use Rattle.std.specs.Str.{IsCharBoundary, IsUtf8, NonePass, chars, encode_utf8_all}
 use Rattle.output_slice.specs.declared.panic_head.HeadSpan.{HeadSpan}
 use Rattle.template.proofs.Characters.{chars-encode}
 use Rattle.template.proofs.Lacks.{Lacks, both, lacks-escape, none, one-char, visible}
-use Rattle.template.specs.Shown.{escape, is_escaped}
+use Rattle.template.specs.Shown.{escape}
 use Rattle.test_report_forms.specs.Entry.{EntryView, IsEntryOf, IsTestEntry, TestFailed}
 use Rattle.test_report_forms.specs.Place.{first_line}
-use Rattle.test_report_forms.specs.Shown.{front, shown_text, text_char}
+use Rattle.test_report_forms.specs.Shown.{front, has_escape, is_front, shown_from, shown_text}
 use Rattle.test_report_forms.specs.Why.{IsShort, first_part, short_of, with_next}
 use Rattle.test_report_forms.specs.declared.entry.Entry.TheVariants as entry
 use Rattle.test_report_laws.proofs.Lines.{in-one-line}
 use Rattle.test_report_laws.specs.Lines.{IsInLine, ShortIsInLine}
 use Rattle.test_report_run.specs.Note.{Disagrees, Fails, IsNotRun, IsSkipped, NoteView, OutcomeView, Passes, SuiteIs, TestIs, TestNoteView}
-use Rattle.test_report_run.specs.Prints.{floor_of, is_boundary}
+use Rattle.test_report_run.specs.LongestEnd.{floor_of, is_boundary}
 
 abbrev is_feed : ℕ → Bool
 is_feed b = b == 10
@@ -116,23 +116,21 @@ no-feeds (c ∷ cs) h =
 printable : (b : ℕ) → 32 ≤ b → b < 127 → visible is_feed b ≡ true
 printable b low high = grind (arith, nat_tests)
 
-feedless-char : (raw : Bool) (c : ℕ) → is_feed c ≡ false → Lacks is_feed (text_char raw c)
-unfolding text_char
-feedless-char raw c e =
-    elim (not raw && is_escaped c) as (λ t. Lacks is_feed (if t then escape c else encode_utf8 c))
-    [ true ↦ lacks-escape is_feed printable c | false ↦ one-char is_feed c e ]
-
-feedless : (raw : Bool) (cs : List ℕ) → NonePass is_feed cs → Lacks is_feed (flat_map (text_char raw) cs)
-feedless raw [] h = none is_feed
-feedless raw (c ∷ cs) h = both (feedless-char raw c h.0) (feedless raw cs h.1)
+feedless : (at_front : Bool) (cs : List ℕ) → NonePass is_feed cs → Lacks is_feed (shown_from false at_front cs)
+feedless at_front [] h = none is_feed
+feedless at_front (c ∷ cs) h =
+    let first = elim (has_escape false at_front c cs) as (λ t. Lacks is_feed (if t then escape c else encode_utf8 c))
+    [ true ↦ lacks-escape is_feed printable c | false ↦ one-char is_feed c h.0 ] in
+    both first (feedless (is_front at_front c) cs h.1)
 
 shown-in-line : (raw : Bool) (text : List ℕ) (limit : ℕ) → IsUtf8 text → NoFeed text → IsInLine (shown_text raw (front text limit))
-shown-in-line raw text limit u h =
+shown-in-line true text limit u h = record { has_no_feed = All-take (λ b. is_feed b ≡ false) (floor_of text limit - 0) text h }
+shown-in-line false text limit u h =
     let v = utf8-front text limit u in
     let n = floor_of text limit in
     let kept = subst NoFeed (sym v.1.1) (All-take (λ b. is_feed b ≡ false) (n - 0) text h) in
     let same : v.0 ≡ chars (front text limit) = sym (chars-encode v.0) ∙ ap chars v.1.1 in
-    in-one-line (subst (λ cs. Lacks is_feed (flat_map (text_char raw) cs)) same (feedless raw v.0 (no-feeds v.0 kept)))
+    in-one-line (subst (λ cs. Lacks is_feed (shown_from false true cs)) same (feedless true v.0 (no-feeds v.0 kept)))
 
 pub short-is-in-line : ShortIsInLine
 short-is-in-line o n (entry.Failed test failure why) is =

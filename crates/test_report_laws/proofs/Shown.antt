@@ -14,6 +14,7 @@ use Rattle.test_report_laws.proofs.Tallies.{count-of, crashed_weight, finished-c
 use Rattle.test_report_run.specs.LastLine.{is_contradicted}
 use Rattle.test_report_laws.specs.Run.{Agrees, EarlyEndShows, LastLineAgrees, StrayEndShows, crashed_in, disagreements_in, failed_in, fails_by, has_passed, is_crash, passed_in}
 use Rattle.test_report_run.specs.Note.{Disagrees, HasCrashed, HasNoEnd, NoteView, StraySuiteEnds}
+use Rattle.test_report_run.specs.Others.{OthersView}
 use Rattle.test_report_run.specs.Over.{crash_of, early_disagreements, early_notes, explained_of, failed_note, flaky_note, last_disagreement, last_state, lost, skipped_note}
 use Rattle.test_report_run.specs.Run.{RunState, counts_tests, ended_at, is_disagreement, open_suite, step, stray_suite_notes}
 use Rattle.test_report_run.specs.Said.{numbers_of}
@@ -93,20 +94,20 @@ last-agrees s names some sound =
     )
 
 -- the disagreements of a suite that ends early
-of-early : (s : SuiteState) (names : List (List ℕ))
-    → disagreements_in (early_notes s names) ≡ sum_by weight (early_disagreements s (length names))
-of-early s names = omega (
+of-early : (others : OthersView) (s : SuiteState) (names : List (List ℕ))
+    → disagreements_in (early_notes others s names) ≡ sum_by weight (early_disagreements s (length names))
+of-early others s names = omega (
   arith,
-  ends.of-early-all weight (λ suite n of. refl) s names,
-  sum-none (λ n. weight (failed_note s (HasCrashed (crash_of s (length names))) n)) (λ n. refl) names,
+  ends.of-early-all weight (λ suite n of. refl) others s names,
+  sum-none (λ n. weight (failed_note s (HasCrashed (crash_of others s (length names))) n)) (λ n. refl) names,
   sum-none (λ f. weight (flaky_note s false f)) (λ f. refl) s.flaky,
 )
 
-crashes : (s : SuiteState) (names : List (List ℕ)) → crashed_in (early_notes s names) ≡ length names
-crashes s names = omega (
+crashes : (others : OthersView) (s : SuiteState) (names : List (List ℕ)) → crashed_in (early_notes others s names) ≡ length names
+crashes others s names = omega (
   arith,
-  count-of (λ t. fails_by is_crash t.outcome) crashed_weight (λ t. refl) (early_notes s names),
-  ends.by-early (of_test crashed_weight) (λ d. refl) (λ suite n of. refl) true s names (λ name. refl) (λ f. refl),
+  count-of (λ t. fails_by is_crash t.outcome) crashed_weight (λ t. refl) (early_notes others s names),
+  ends.by-early (of_test crashed_weight) (λ d. refl) (λ suite n of. refl) true others s names (λ name. refl) (λ f. refl),
 )
 
 -- no test runs: the end of a suite with a number disagrees, and tests outside of a suite do
@@ -114,8 +115,8 @@ shows : (s : SuiteState) → (s.number ≡ None → 0 < s.started) → sum_by we
 shows s some = grind (arith, nat_tests)
 
 pub early-shows : EarlyEndShows
-early-shows s [] some = omega (arith, of-early s [], shows s some)
-early-shows s (name ∷ names) some = omega (arith, crashes s (name ∷ names))
+early-shows others s [] some = omega (arith, of-early others s [], shows s some)
+early-shows others s (name ∷ names) some = omega (arith, crashes others s (name ∷ names))
 
 -- a last line of a suite that is not open
 pub stray-one : (r : RunState) (e : SuiteEndView) (at : Option ℕ) → at ≡ None

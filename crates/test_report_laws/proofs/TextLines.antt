@@ -6,7 +6,7 @@ use Rattle.std.specs.List.{All, AllZip, filter_map, flat_map}
 use Rattle.std.specs.Option.{option_map_or}
 use Rattle.std.specs.Str.{bytes_eq}
 use Rattle.test_report_laws.proofs.CleanLines as clean
-use Rattle.test_report_laws.proofs.CleanLines.{CleanLine, clean-name, clean-replicate, word}
+use Rattle.test_report_laws.proofs.CleanLines.{CleanLine, clean-line, clean-replicate, word}
 use Rattle.test_report_laws.proofs.CleanWords.{clean-attempts, clean-bracket, clean-disagreement, clean-failed_word, clean-flaky_word, clean-not_run, clean-outcome, clean-summary, clean-title}
 use Rattle.test_report_laws.proofs.KeyedLines.{Alike, alike-if, each-alike, falling-alike, fold-alike, rising-alike, text-alike}
 use Rattle.test_report_laws.proofs.Lines.{AddsNoRule, HasNoRule, IsWritten, also, blocks-lines, has-blocks, in-line, line-end, lines-both, lines-each, no-rule-both, no-rule-line, no-rules, none-after}
@@ -273,7 +273,7 @@ text-names-causes o entries end = text-says o entries end
 
 -- names
 name-written : (e : EntryView) → IsWritten (names_line e) (names_block e)
-name-written (TestFailed t f w) = (refl, in-line (clean-name t.name), inl refl)
+name-written (TestFailed t f w) = (refl, in-line (clean-line t.name), inl refl)
 name-written (TestPassed t) = refl
 name-written (TestSkipped t) = refl
 name-written (LinesDisagree d) = refl

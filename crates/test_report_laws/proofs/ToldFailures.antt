@@ -14,6 +14,7 @@ use Rattle.test_report_laws.proofs.Sums.{sum-if-none}
 use Rattle.test_report_run.specs.Ended.{end_notes, failure_of}
 use Rattle.test_report_laws.specs.Run.{FailureIsTold, NoFailureOfFileEnd, OneFailureOfLine, TellsFailure, is_failure, is_told_failure}
 use Rattle.test_report_run.specs.Note.{CargoSays, Disagrees, Fails, HasNoEvent, NoteView, StrayEnds, StraySuiteEnds, TestIs, TestNoteView}
+use Rattle.test_report_run.specs.Others.{OthersView}
 use Rattle.test_report_run.specs.Over.{early_notes, explained_of}
 use Rattle.test_report_run.specs.Run.{RunState, Step, all_ended_early, counts_tests, ended_at, ended_early, is_explained, names_in, no_event_notes, notes_at, open_suite, opened, running_ends, running_over, started_again, step, stray_ends, stray_over, stray_suite_notes, stray_test, suite_at, suite_place}
 use Rattle.test_report_run.specs.Running.{RunningView, attempts_of, ends_in_number, has_name, is_same, no_test, place_by_attempts, place_of_end, running_at, split_at, without_number}
@@ -27,9 +28,9 @@ abbrev weight : NoteView → ℕ
 weight note = cond (is_told_failure note) 1 0
 
 -- the end of a suite tells of none
-none-early : (s : SuiteState) (names : List (List ℕ)) → told (early_notes s names) ≡ 0
-none-early s names =
-    omega (arith, by-early weight (λ d. refl) (λ suite n of. refl) false s names (λ name. refl) (λ f. refl))
+none-early : (others : OthersView) (s : SuiteState) (names : List (List ℕ)) → told (early_notes others s names) ≡ 0
+none-early others s names =
+    omega (arith, by-early weight (λ d. refl) (λ suite n of. refl) false others s names (λ name. refl) (λ f. refl))
 
 none-last : (s : SuiteState) (e : Explanation) (names : List (List ℕ)) → told (last_by s e names) ≡ 0
 none-last s e names = omega (
@@ -41,7 +42,7 @@ none-last s e names = omega (
 none-again : (r : RunState) (key : Option (List ℕ)) (count : Option ℕ) (at : Option ℕ)
     → told (option_map_or (started_again r key count) at (step (opened r key count) [])).notes ≡ 0
 none-again r key count None = refl
-none-again r None count (Some at) = none-early (suite_at r (Some at)) (names_in r (suite_at r (Some at)))
+none-again r None count (Some at) = none-early r.others (suite_at r (Some at)) (names_in r (suite_at r (Some at)))
 none-again r (Some key) count (Some at) = refl
 
 none-ended : (r : RunState) (e : SuiteEndView) (at : Option ℕ) → told (option_map_or (ended_at r e) at (step r (stray_suite_notes e))).notes ≡ 0
@@ -90,7 +91,7 @@ none-early-all : (t : Step) (suites : List SuiteState) → told t.notes ≡ 0 �
 none-early-all t [] h = h
 none-early-all t (s ∷ suites) h =
     let names = names_in t.run s in
-    none-early-all (ended_early t s) suites (omega (arith, h, sum_by-append weight t.notes (early_notes s names), none-early s names))
+    none-early-all (ended_early t s) suites (omega (arith, h, sum_by-append weight t.notes (early_notes t.run.others s names), none-early t.run.others s names))
 
 pub no-failure : NoFailureOfFileEnd
 no-failure r =

@@ -16,10 +16,11 @@ use Rattle.test_report_laws.proofs.Sums.{one-most}
 use Rattle.test_report_laws.proofs.Weights.{Keeps, has-number, keeps-line, numbered-end, numbered-line, unnumbered, weigh, weight_of}
 use Rattle.test_report_laws.specs.Run.{FailedVerdictShows, IsClean, IsSound, crashed_in, disagreements_in, failed_in, failed_verdicts_of, fails_by, is_crash, is_test, says_failed_verdict}
 use Rattle.test_report_run.specs.Note.{Fails, NoteView, OutcomeView, TestIs}
+use Rattle.test_report_run.specs.Others.{OthersView}
 use Rattle.test_report_run.specs.Over.{early_notes, last_notes}
-use Rattle.test_report_run.specs.Run.{RunState, Step, after, after_file, all_ended_early, ended_at, ended_early, file_notes, has_failed, is_cause, learned, names_in, no_event_notes, notes_at, open_suite, opened, started_again, step, stray_suite_notes, suite_at, with_suite_at, without_tests}
+use Rattle.test_report_run.specs.Run.{RunState, Step, after, after_file, all_ended_early, ended_at, ended_early, file_notes, has_failed, heard, is_cause, learned, names_in, no_event_notes, notes_at, open_suite, opened, started_again, step, stray_suite_notes, suite_at, with_suite_at, without_tests}
 use Rattle.test_report_run.specs.Said.{no_lines}
-use Rattle.test_report_run.specs.Suite.{SuiteState, failed_of, has_key, joined, outside_start, suite_start, with_line}
+use Rattle.test_report_run.specs.Suite.{SuiteState, failed_of, has_key, joined_by, outside_start, suite_start, with_line}
 use Rattle.test_report_laws.specs.Whole.{all_notes}
 use Rattle.test_report_laws.proofs.Types.{Said}
 
@@ -50,10 +51,10 @@ crashes-fail notes =
     each (TestIs t) = crash-fails t.outcome
     each note = omega arith
 
-pub early-cause : (s : SuiteState) (names : List (List ℕ)) → s.number ≢ None → 0 < count_by is_cause (early_notes s names)
-early-cause s names some =
-    let notes = early_notes s names in
-    omega (arith, early-shows s names (λ zero. absurd (some zero)), causes-of notes, crashes-fail notes)
+pub early-cause : (others : OthersView) (s : SuiteState) (names : List (List ℕ)) → s.number ≢ None → 0 < count_by is_cause (early_notes others s names)
+early-cause others s names some =
+    let notes = early_notes others s names in
+    omega (arith, early-shows others s names (λ zero. absurd (some zero)), causes-of notes, crashes-fail notes)
 
 -- and so does one with a failed verdict that ends by its last line, unless a test of it failed before
 last-cause : (s : SuiteState) (names : List (List ℕ)) (known : ℕ) → s.number ≢ None → IsSound s → failed_of s.stats ≤ known → s.said.failed_verdict ≡ true
@@ -70,15 +71,15 @@ seen-first : (n : ℕ) (notes : List NoteView) (r : RunState) (key : Option (Lis
     → Seen n notes r → IsIn r.suites at
     → let t = option_map_or (started_again r key count) at (step (opened r key count) []) in Seen (n + 0) (notes ++ t.notes) (learned t.run t.notes)
 seen-first n notes r key count None numbered i in' some =
-    let start = suite_start (Some (r.suites_started + 1)) key r.heading count in
+    let start = suite_start (Some (r.suites_started + 1)) key r.heading count r.others in
     omega (arith, i (omega arith), sum_by_push (weigh failing) r.suites start, sum_by-append weight notes [])
 seen-first n notes r (Some key) count (Some at) numbered i in' some =
-    let s = joined (suite_at r (Some at)) count in
+    let s = heard r (joined_by (suite_at r (Some at)) count) in
     omega (arith, i (omega arith), sum_by-set (weigh failing) r.suites at s r.outside in', sum_by-append weight notes [])
 seen-first n notes r None count (Some at) numbered i in' some =
     let s = suite_at r (Some at) in
     let names = names_in r s in
-    omega (arith, early-cause s names (has-number r at numbered in'), sum_by-append weight notes (early_notes s names))
+    omega (arith, early-cause r.others s names (has-number r at numbered in'), sum_by-append weight notes (early_notes r.others s names))
 
 -- a last line of a suite
 still-shown : (n known left rest more : ℕ) (old e : Bool) → (0 < n → 0 < known + left) → rest + cond old 1 0 ≡ left
@@ -110,7 +111,7 @@ seen-over n notes r e at false holds numbered i in' some =
       arith,
       i,
       get_or-le-sum_by (weigh failing) r.suites at r.outside in',
-      sum_by-set (weigh failing) r.suites at s r.outside in',
+      sum_by-set (weigh failing) r.suites at (heard r s) r.outside in',
       sum_by-append weight notes [],
     )
 
@@ -146,8 +147,8 @@ early-causes t (s ∷ suites) none =
     let parts = sum_by-cons (weigh unnumbered) s suites in
     omega (
       arith,
-      early-cause s names (λ zero. absurd (omega (arith, ap (λ n. unnumbered n no_lines None) zero))),
-      sum_by-append weight t.notes (early_notes s names),
+      early-cause t.run.others s names (λ zero. absurd (omega (arith, ap (λ n. unnumbered n no_lines None) zero))),
+      sum_by-append weight t.notes (early_notes t.run.others s names),
       early-causes (ended_early t s) suites (omega arith),
     )
 
@@ -156,7 +157,7 @@ pub end-causes : (r : RunState) → weight_of unnumbered r ≡ 0 → length r.su
 end-causes r numbered =
     let none = step (record r { suites = [] }) [] in
     let ended = fold ended_early none r.suites in
-    let last = early_notes r.outside (names_in (record (ended.run) { outside = outside_start }) r.outside) in
+    let last = early_notes ended.run.others r.outside (names_in (record (ended.run) { outside = outside_start }) r.outside) in
     let over = all_ended_early r in
     omega (arith, early-causes none r.suites numbered, sum_by-append weight ended.notes last, sum_by-append weight over.notes (no_event_notes over.run))
 
@@ -165,11 +166,11 @@ pub outside-cause : (r : RunState) → 0 < r.outside.started → 0 < count_by is
 outside-cause r some =
     let ended = fold ended_early (step (record r { suites = [] }) []) r.suites in
     let names = names_in (record (ended.run) { outside = outside_start }) r.outside in
-    let last = early_notes r.outside names in
+    let last = early_notes ended.run.others r.outside names in
     let over = all_ended_early r in
     omega (
       arith,
-      early-shows r.outside names (λ zero. some),
+      early-shows ended.run.others r.outside names (λ zero. some),
       causes-of last,
       crashes-fail last,
       sum_by-append weight ended.notes last,

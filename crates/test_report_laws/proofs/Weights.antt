@@ -9,14 +9,12 @@ use Rattle.test_report_events.specs.declared.event.TestResult.{TestResult}
 use Rattle.test_report_events.specs.declared.event.TestResult.TheVariants.{Ok, Failed, Ignored}
 use Rattle.test_report_laws.proofs.Books.{IsIn, ends-keep, place-in, position-in}
 use Rattle.test_report_laws.proofs.OverRuns.{up-to-line}
-use Rattle.test_report_laws.proofs.Sums.{sum-map}
 use Rattle.test_report_run.specs.Ended.{after_end}
 use Rattle.test_report_run.specs.Over.{last_notes}
-use Rattle.test_report_run.specs.Prints.{AFailure, AHeading, APrint, PrintedView}
-use Rattle.test_report_run.specs.Run.{RunState, after, after_file, ended_at, names_in, open_suite, opened, printed_to, run_start, running_ends, running_over, started_again, step, stray_ends, stray_over, stray_suite_notes, suite_at, suite_place, suite_prints, with_suite_at, without_tests}
+use Rattle.test_report_run.specs.Run.{RunState, after, after_file, ended_at, heard, names_in, open_suite, opened, run_start, running_ends, running_over, started_again, step, stray_ends, stray_over, stray_suite_notes, suite_at, suite_place, with_suite_at, without_tests}
 use Rattle.test_report_run.specs.Running.{RunningView, is_same, place_of_end, running_at}
 use Rattle.test_report_run.specs.Said.{no_lines}
-use Rattle.test_report_run.specs.Suite.{OverView, SuiteState, has_key, joined, named, suite_start, with_line, with_start}
+use Rattle.test_report_run.specs.Suite.{OverView, SuiteState, has_key, joined_by, named, suite_start, with_line, with_start}
 use Rattle.test_report_laws.specs.Whole.{run_after, run_after_files}
 use Rattle.test_report_laws.proofs.Types.{Said}
 
@@ -40,7 +38,7 @@ Keeps r now = (g : Option ℕ → Said → Option ℕ → ℕ) → weight_of g n
 keeps-set : (r : RunState) (running : List RunningView) (at : Option ℕ) (s : SuiteState) → IsIn r.suites at → Alike s (suite_at r at)
     → Keeps r (with_suite_at (record r { running = running }) at s)
 keeps-set r running None s in' same g = refl
-keeps-set r running (Some at) s in' same g = omega (arith, same g, sum_by-set (weigh g) r.suites at s r.outside in')
+keeps-set r running (Some at) s in' same g = omega (arith, same g, sum_by-set (weigh g) r.suites at (heard r s) r.outside in')
 
 end-alike : (s : SuiteState) (t : OverView) (order : ℕ) (e : TestEndView) (how : TestResult) → Alike (after_end s t order (record e { result = how })) s
 end-alike s t order e Ok g = grind arith
@@ -65,9 +63,6 @@ keeps-test r e (Some p) =
     keeps-set r (remove r.running p.0) at _ (position-in (λ s. is_same s.number test.suite) r.suites at refl)
     (end-alike (suite_at r at) (running_over r e test p.1) test.order e e.result)
 
-keeps-print : (r : RunState) (line : PrintedView) → Keeps r (printed_to r line)
-keeps-print r line g = sum-map (weigh g) (suite_prints line) r.suites
-
 -- the line is the first or a last one of a suite
 abbrev pub is_of_suite : EventView → Bool
 is_of_suite (SuiteStarts key count) = true
@@ -88,9 +83,9 @@ keeps-line r (TestStarts name) other =
     let at = suite_place r name in keeps-set r r.running at (with_start (suite_at r at) name) (place-in r name) (λ g. refl)
 keeps-line r (TestEnds e) other = keeps-test r e (place_of_end r.running e.name)
 keeps-line r OtherLine other = λ g. refl
-keeps-line r (HeadingLine name path) other = keeps-print r AHeading
-keeps-line r (CargoFails f line plain) other = λ g. grind (arith, keeps-print r (AFailure line) g)
-keeps-line r (Prints line plain) other = keeps-print r (APrint line plain)
+keeps-line r (HeadingLine name path) other = λ g. refl
+keeps-line r (CargoFails f line plain) other = λ g. grind arith
+keeps-line r (Prints line plain) other = λ g. refl
 keeps-line r (DamagedLine text) other = λ g. refl
 
 -- an open suite has a number
@@ -105,12 +100,12 @@ has-number r at none in' zero = absurd (omega (
 numbered-first : (r : RunState) (key : Option (List ℕ)) (count : Option ℕ) (at : Option ℕ) → IsIn r.suites at → weight_of unnumbered r ≡ 0
     → weight_of unnumbered (option_map_or (started_again r key count) at (step (opened r key count) [])).run ≡ 0
 numbered-first r key count None in' none =
-    let start = suite_start (Some (r.suites_started + 1)) key r.heading count in
+    let start = suite_start (Some (r.suites_started + 1)) key r.heading count r.others in
     omega (arith, none, sum_by_push (weigh unnumbered) r.suites start)
 numbered-first r (Some key) count (Some at) in' none =
-    let s = joined (suite_at r (Some at)) count in omega (arith, none, sum_by-set (weigh unnumbered) r.suites at s r.outside in')
+    let s = heard r (joined_by (suite_at r (Some at)) count) in omega (arith, none, sum_by-set (weigh unnumbered) r.suites at s r.outside in')
 numbered-first r None count (Some at) in' none =
-    let start = suite_start (Some (r.suites_started + 1)) None r.heading count in
+    let start = suite_start (Some (r.suites_started + 1)) None r.heading count r.others in
     omega (
       arith,
       none,
@@ -125,7 +120,7 @@ numbered-over : (r : RunState) (e : SuiteEndView) (at : ℕ) (over : Bool) → a
     else step (with_suite_at r (Some at) s) []).run ≡ 0
 numbered-over r e at true in' none = omega (arith, none, sum_by-remove (weigh unnumbered) r.suites at r.outside in')
 numbered-over r e at false in' none =
-    omega (arith, none, sum_by-set (weigh unnumbered) r.suites at (with_line (suite_at r (Some at)) e) r.outside in')
+    omega (arith, none, sum_by-set (weigh unnumbered) r.suites at (heard r (with_line (suite_at r (Some at)) e)) r.outside in')
 
 numbered-last : (r : RunState) (e : SuiteEndView) (at : Option ℕ) → IsIn r.suites at → weight_of unnumbered r ≡ 0
     → weight_of unnumbered (option_map_or (ended_at r e) at (step r (stray_suite_notes e))).run ≡ 0

@@ -1,9 +1,13 @@
--- The commands that a form writes to the log of a workflow on GitHub.
-use Rattle.std.specs.Prelude.{◌≡◌, ◌==◌, ◌||◌, ◌++◌, ℕ, Bool, List, [], ◌∷◌, codes}
-use Rattle.std.specs.List.{All, Contains, flat_map, join_with_byte, slice_split}
-use Rattle.std.specs.Str.{NoCharPasses}
+-- The commands of CI systems in a log: those that the form for GitHub writes, and those that no other form has.
+use Rattle.std.specs.Prelude.{◌≡◌, ◌==◌, ◌||◌, ◌++◌, ℕ, Bool, false, List, [], ◌∷◌, codes, nat_eq}
+use Rattle.std.specs.List.{All, Contains, flat_map, join_with_byte, slice_split, starts_with}
+use Rattle.std.specs.Str.{NoCharPasses, chars, skip_leading_whitespace}
+use Rattle.template.specs.Shows.{HasPart}
 use Rattle.test_report_forms.specs.Entry.{EntryView, IsEntryOf}
 use Rattle.test_report_forms.specs.Github.{github_last, github_line}
+use Rattle.test_report_forms.specs.Names.{names_line}
+use Rattle.test_report_forms.specs.Text.{text_last, text_line}
+use Rattle.test_report_forms.specs.declared.options.Options.{Options}
 use Rattle.test_report_run.specs.Note.{NoteView}
 use Rattle.test_report_run.specs.declared.note.RunEnd.{RunEnd}
 
@@ -51,3 +55,27 @@ abbrev pub OnlyCommands : Type 0
 OnlyCommands = (limit : ℕ) (entries : List EntryView) (end : RunEnd) → All (λ e. (n : NoteView) × IsEntryOf n e) entries
     → (commands : List (List ℕ)) × All IsCommand commands
     × (slice_split is_line_end (flat_map (github_line limit) entries ++ github_last end) ≡ commands ++ [] ∷ [])
+
+-- a text has none of the marks by which a CI system takes a part of a line for a command
+pub record HasNoMarks (text : List ℕ) : Type 0 where
+  pub group : ¬ HasPart text (codes "##[")
+  pub azure : ¬ HasPart text (codes "##vso[")
+  pub teamcity : ¬ HasPart text (codes "##teamcity[")
+
+-- a line begins with `::` after white space
+abbrev pub is_command_line : List ℕ → Bool
+is_command_line line = starts_with nat_eq (skip_leading_whitespace line) (codes "::")
+
+-- a text has no command of a CI system: none of its lines begins with `::` after white space, and it has none of the marks
+pub record HasNoCommands (text : List ℕ) : Type 0 where
+  pub lines : All (λ line. is_command_line line ≡ false) (slice_split (λ c. c == 10) (chars text))
+  pub marks : HasNoMarks text
+
+-- What the form for people writes of entries and at the end has no command, if `raw` is false.
+abbrev pub TextHasNoCommands : Type 0
+TextHasNoCommands = (o : Options) (entries : List EntryView) (end : RunEnd) → o.raw ≡ false
+    → HasNoCommands (flat_map (text_line o) entries ++ text_last o entries end)
+
+-- What the form of names writes has no command.
+abbrev pub NamesHasNoCommands : Type 0
+NamesHasNoCommands = (entries : List EntryView) → HasNoCommands (flat_map names_line entries)

@@ -4,20 +4,14 @@ use Rattle.json.specs.Json.{Items, Json, Members, array, boolean, document, item
 use Rattle.json.specs.Print.{IsNumber}
 use Rattle.json.specs.Tree.{depth}
 use Rattle.serde_json.specs.Read.{max_depth, of_json, read}
-use Rattle.template.specs.Shows.{HasPart}
 use Rattle.test_report_forms.specs.Entry.{EntryView}
 use Rattle.test_report_forms.specs.Json.{json_of, json_written}
+use Rattle.test_report_laws.specs.Commands.{HasNoMarks}
 use Rattle.test_report_run.specs.declared.note.RunEnd.{RunEnd}
-
--- a text has no command of a CI system: none of the texts that begin one
-pub record HasNoCommands (text : List ℕ) : Type 0 where
-  pub group : ¬ HasPart text (codes "##[")
-  pub azure : ¬ HasPart text (codes "##vso[")
-  pub teamcity : ¬ HasPart text (codes "##teamcity[")
 
 -- What the form in JSON writes has no command of a CI system.
 abbrev pub JsonHasNoCommands : Type 0
-JsonHasNoCommands = (limit : ℕ) (entries : List EntryView) (end : RunEnd) → HasNoCommands (json_written limit entries end)
+JsonHasNoCommands = (limit : ℕ) (entries : List EntryView) (end : RunEnd) → HasNoMarks (json_written limit entries end)
 
 -- a text has no `#`
 abbrev pub HasNoHash : List ℕ → Type 0

@@ -4,7 +4,7 @@ use Rattle.std.specs.List.{All, Contains, filter_map, flat_map, slice_split}
 use Rattle.test_report_forms.specs.Entry.{EntryView, IsEntryOf, LinesDisagree, SuiteNotRun, TestFailed, entry_view}
 use Rattle.test_report_forms.specs.Github.{github_last, github_line, message, properties, title_property}
 use Rattle.test_report_forms.specs.Names.{names_line}
-use Rattle.test_report_forms.specs.Shown.{bracket, front, limited, shown_name, shown_text}
+use Rattle.test_report_forms.specs.Shown.{bracket, front, limited, shown_line, shown_text}
 use Rattle.test_report_forms.specs.Text.{attempts_note, text_last, text_line, why_lines}
 use Rattle.test_report_forms.specs.Title.{title}
 use Rattle.test_report_forms.specs.Words.{disagreement_line, failed_word, not_run_line, outcome_word, status_text, summary_line}
@@ -83,7 +83,7 @@ github_block limit _ = None
 
 -- the form of names: the name of a failed test
 abbrev pub names_block : EntryView → Option Block
-names_block (TestFailed t f w) = Some (record { line = shown_name t.name; below = [] })
+names_block (TestFailed t f w) = Some (record { line = shown_line t.name; below = [] })
 names_block _ = None
 
 -- the short reason of a failed test is shown in one line

@@ -9,6 +9,7 @@ use Rattle.test_report_events.specs.declared.event.TestResult.{TestResult}
 use Rattle.test_report_events.specs.declared.event.TestResult.TheVariants.{Ok, Failed, Ignored}
 use Rattle.test_report_run.specs.Ended.{failure_of}
 use Rattle.test_report_run.specs.Note.{Disagrees, Fails, HasCrashed, HasFailed, HasNoEnd, HasTimedOut, IsFlaky, IsNotRun, IsSkipped, KindView, NoteView, OutcomeView, Passes, SuiteIs, SuiteNoteView, TestIs, TestNoteView}
+use Rattle.test_report_run.specs.Others.{OthersView}
 use Rattle.test_report_run.specs.Over.{early_notes, last_notes}
 use Rattle.test_report_run.specs.Run.{RunState, counts_tests, file_notes, has_failed, is_disagreement, notes_at, open_suite, run_start}
 use Rattle.test_report_run.specs.Running.{ends_in_number, without_number}
@@ -221,8 +222,8 @@ LastLineAgrees = (s : SuiteState) → (names : List (List ℕ)) → s.number ≢
 
 -- A suite that ends early makes a crashed test or a disagreement known, and so does a file with tests outside of a suite.
 abbrev pub EarlyEndShows : Type 0
-EarlyEndShows = (s : SuiteState) → (names : List (List ℕ)) → (s.number ≡ None → 0 < s.started)
-    → 0 < crashed_in (early_notes s names) + disagreements_in (early_notes s names)
+EarlyEndShows = (others : OthersView) → (s : SuiteState) → (names : List (List ℕ)) → (s.number ≡ None → 0 < s.started)
+    → 0 < crashed_in (early_notes others s names) + disagreements_in (early_notes others s names)
 
 -- A last line of a suite that is not open makes a disagreement known if and only if it has a failed verdict or counts tests that ran.
 abbrev pub StrayEndShows : Type 0

@@ -1,7 +1,7 @@
 //! Laws of what the forms write.
 
 ghost use Rattle.test_report_laws.specs.Colours.{TextIsColoured};
-ghost use Rattle.test_report_laws.specs.Commands.{OnlyCommands};
+ghost use Rattle.test_report_laws.specs.Commands.{NamesHasNoCommands, OnlyCommands, TextHasNoCommands};
 ghost use Rattle.test_report_laws.specs.Forms.{GithubHasNoControls, HtmlHasNoControls, HtmlNamesCauses, HtmlReadsBack, HtmlSaysEnd, HtmlShowsItems, HtmlShowsPhrases, HtmlShowsValues, MarkdownHasNoControls, MarkdownKeepsMarks, MarkdownNamesCauses, MarkdownSaysEnd, MarkdownShowsPhrases, MarkdownShowsTests, MarkdownShowsValues, NamesAreLines, TextHasNoControls};
 ghost use Rattle.test_report_laws.specs.Json.{JsonHasNoCommands, JsonReadsBack};
 ghost use Rattle.test_report_laws.specs.Junit.{JunitHasCases, JunitHasNoControls, JunitNamesCauses, JunitReadsBack, JunitSaysNoTests};
@@ -12,6 +12,13 @@ ghost use Rattle.test_report_laws.specs.Lines.{GithubNamesCauses, NamesNamesTest
 /// comma, no colon and no end of a line. A carriage return ends a line, too.
 pub fn only_commands()
     ensures { OnlyCommands }
+{}
+
+/// Whatever the input has, no line that `text` without `raw` or `names` writes is a command of a CI system: after white
+/// space at its front no line begins with `::`, and no line has two `#` and `[`, `vso[` or `teamcity[` behind them.
+pub fn no_commands()
+    ensures text { TextHasNoCommands }
+    ensures names { NamesHasNoCommands }
 {}
 
 /// Whatever the input has, no form but `json` writes control characters, except tabs and line feeds, or characters

@@ -16,7 +16,7 @@
 //! {
 //!     success_means();
 //!     let mut report = Report::new(alloc, TextForm::new(alloc, options));
-//!     report.read_file(alloc, source, sink)?;
+//!     report.read_file(alloc, source, sink, &mut Nowhere::new())?;
 //!     let end = report.finish(alloc, sink)?;
 //!     Ok(end.outcome == RunOutcome::Success)
 //! }

@@ -1,0 +1,420 @@
+-- The forms for people and of names have no commands of CI systems.
+use Rattle.std.proofs.Common.{◌≡◌, ◌-◌, ◌/◌, ◌%◌, ◌||◌, not, refl, sym, subst, ap, ℕ, zero, suc, Bool, true, false, List, [], ◌∷◌, ◌++◌, append_assoc, append-nil, codes, if◌then◌else◌, length, replicate, ◌==◌, Option, Some, None, nat_lt}
+use Rattle.std.proofs.lemmas.Bool.{and_parts}
+use Rattle.std.specs.Fmt.{decimal}
+use Rattle.std.specs.List.{AllZip, flat_map}
+use Rattle.std.specs.Char.{is_whitespace}
+use Rattle.std.specs.Option.{option_map_or}
+use Rattle.std.specs.Str.{bytes_eq}
+use Rattle.run_events_stats.specs.declared.outcome.run_outcome.RunOutcome.{RunOutcome}
+use Rattle.run_events_stats.specs.declared.outcome.run_outcome.RunOutcome.TheVariants as outcome
+use Rattle.test_report_events.specs.declared.event.TestResult.{TestResult}
+use Rattle.test_report_events.specs.declared.event.TestResult.TheVariants as ended
+use Rattle.test_report_forms.specs.Entry.{EntryView, LinesDisagree, SuiteNotRun, SuiteOver, TestFailed, TestPassed, TestSkipped}
+use Rattle.test_report_forms.specs.List.{KeyedLine, failed_line, failed_of, flaky_line, flaky_lines, flaky_of, flaky_passed, flaky_word, list_line, put_falling, put_rising, short_list, slow_line, slow_lines, slow_of, text_of_lines, timed}
+use Rattle.test_report_forms.specs.Names.{names_line}
+use Rattle.test_report_forms.specs.Shown.{bracket, front, indented, indented_line, more_bytes, name_and_space, shown_line, shown_name, shown_text, three_digits}
+use Rattle.test_report_forms.specs.Text.{attempts_note, failed_head, failed_text, more_line, outcome_line, summary_lines, text_last, text_line, why_lines}
+use Rattle.test_report_forms.specs.Title.{title, title_name}
+use Rattle.test_report_forms.specs.Words.{color_of, disagreement_line, failed_numbers, failed_word, its_tests, key_and_verdict, not_run_line, other_numbers, outcome_word, passed_numbers, result_word, run_numbers, said_numbers, said_text, status_text, summary_line, verdict_word}
+use Rattle.test_report_forms.specs.declared.options.Options.{Options}
+use Rattle.test_report_laws.proofs.KeyedLines.{Alike, alike-if, each-alike, falling-alike, fold-alike, rising-alike, text-alike}
+use Rattle.test_report_laws.proofs.Quiet.{Inner, Quiet, also, dark-decimal, inner-decimal, inner-if, inner-more, is_dark, is_inner, no-commands, quiet-byte, quiet-colon, quiet-dark, quiet-dark-all, quiet-feed, quiet-inner, quiet-nothing, quiet-space, word}
+use Rattle.test_report_laws.proofs.QuietShown.{After, quiet-line, quiet-name, quiet-text}
+use Rattle.test_report_laws.specs.Commands.{NamesHasNoCommands, TextHasNoCommands}
+use Rattle.test_report_run.specs.Note.{CargoSays, DisagreementView, EndsEarly, HasCrashed, HasFailed, HasNoEnd, HasNoEvent, HasTimedOut, IsDamaged, IsFlaky, KindView, SaysOther, StartsOutside, StrayEnds, StraySuiteEnds, TestNoteView}
+use Rattle.test_report_run.specs.declared.note.RunEnd.{RunEnd}
+
+-- the program's own words, numbers and times
+inner-replicate : (b n : ℕ) → is_inner b ≡ true → Inner (replicate n b)
+inner-replicate b zero e = word [] refl
+inner-replicate b (suc n) e = inner-more b e (inner-replicate b n e)
+
+inner-three : (n : ℕ) → Inner (three_digits n)
+inner-three n = also (inner-replicate 48 (3 - length (decimal n)) refl) (inner-decimal n)
+
+inner-bracket : (time : Option ℕ) → Inner (bracket time)
+unfolding bracket
+inner-bracket None = word [] refl
+inner-bracket (Some micros) =
+    let whole = decimal (micros / 1000000) in
+    let padding = also (inner-replicate 32 (4 - length whole) refl) (inner-decimal (micros / 1000000)) in
+    also (word (codes "[") refl) (also padding (also (word (codes ".") refl) (also (inner-three (micros / 1000 % 1000)) (word (codes "s] ") refl))))
+
+inner-verdict : (failed : Bool) → Inner (verdict_word failed)
+inner-verdict failed = inner-if failed (word (codes "failed") refl) (word (codes "ok") refl)
+
+inner-result : (how : TestResult) → Inner (result_word how)
+inner-result ended.Ok = word (codes "ok") refl
+inner-result ended.Failed = word (codes "failed") refl
+inner-result ended.Ignored = word (codes "ignored") refl
+
+inner-outcome : (o : RunOutcome) → Inner (outcome_word o)
+inner-outcome outcome.Success = word (codes "success") refl
+inner-outcome outcome.NoTestsRun = word (codes "no-tests-run") refl
+inner-outcome (outcome.Cancelled step) = word (codes "cancelled") refl
+inner-outcome (outcome.Failed step) = word (codes "failed") refl
+
+inner-said_numbers : (passed failed : Option ℕ) (verdict : List ℕ) → Inner verdict → Inner (said_numbers passed failed verdict)
+unfolding said_numbers
+inner-said_numbers (Some p) (Some f) verdict h =
+    also (word (codes "counts ") refl) (also (inner-decimal p) (also (word (codes " passed and ") refl)
+    (also (inner-decimal f) (also (word (codes " failed (") refl) (also h (word (codes ")") refl))))))
+inner-said_numbers (Some p) None verdict h =
+    also (word (codes "counts ") refl) (also (inner-decimal p) (also (word (codes " passed (") refl) (also h (word (codes ")") refl))))
+inner-said_numbers None (Some f) verdict h =
+    also (word (codes "counts ") refl) (also (inner-decimal f) (also (word (codes " failed (") refl) (also h (word (codes ")") refl))))
+inner-said_numbers None None verdict h = also (word (codes "says ") refl) h
+
+inner-its_tests : (passed failed : ℕ) → Inner (its_tests passed failed)
+unfolding its_tests
+inner-its_tests passed failed =
+    also (word (codes ", but ") refl) (also (inner-decimal passed) (also (word (codes " of its tests passed and ") refl)
+    (also (inner-decimal failed) (word (codes " failed") refl))))
+
+inner-summary : (e : RunEnd) → Inner (summary_line e)
+unfolding summary_line run_numbers passed_numbers failed_numbers other_numbers
+inner-summary e =
+    let passed =
+    also (inner-decimal e.stats.finished_count) (also (word (codes " tests run: ") refl) (also (inner-decimal e.stats.passed)
+    (also (word (codes " passed (") refl) (also (inner-decimal e.stats.flaky) (word (codes " flaky), ") refl))))) in
+    let failed =
+    also (inner-decimal (e.stats.finished_count - e.stats.passed)) (also (word (codes " failed (") refl) (also (inner-decimal e.stats.failed_timed_out)
+    (also (word (codes " timed out, ") refl) (also (inner-decimal e.crashed) (word (codes " crashed), ") refl))))) in
+    let others = also (inner-decimal e.skipped) (also (word (codes " skipped, ") refl) (also (inner-decimal e.not_run) (word (codes " not run") refl))) in
+    also (inner-bracket e.time) (also passed (also failed others))
+
+-- a part of a line that is quiet after another one, at the front of the line, and after a name
+record Within (text : List ℕ) : Type 0 where
+  pub is : {rest : List ℕ} → After rest → Quiet false (text ++ rest)
+
+record Opens (text : List ℕ) : Type 0 where
+  pub is : {rest : List ℕ} → After rest → Quiet true (text ++ rest)
+
+record Follows (text : List ℕ) : Type 0 where
+  pub is : {rest : List ℕ} → After rest → After (text ++ rest)
+
+inner : {text : List ℕ} → Inner text → Within text
+inner h = record { is = λ a. quiet-inner h a.within }
+
+before : {xs ys : List ℕ} → Inner xs → Within ys → Within (xs ++ ys)
+before {xs} {ys} h w = record { is = λ {rest} a. subst (Quiet false) (sym (append_assoc xs ys rest)) (quiet-inner h (w.is a)) }
+
+name : (n : List ℕ) → Within (shown_name n)
+name n = record { is = λ a. quiet-name false n a }
+
+line : (text : List ℕ) → Within (shown_line text)
+line text = record { is = λ a. quiet-line false text a }
+
+name-before : (n : List ℕ) {ys : List ℕ} → Follows ys → Within (shown_name n ++ ys)
+name-before n {ys} f = record { is = λ {rest} a. subst (Quiet false) (sym (append_assoc (shown_name n) ys rest)) (quiet-name false n (f.is a)) }
+
+name-opens : (n : List ℕ) {ys : List ℕ} → Follows ys → Opens (shown_name n ++ ys)
+name-opens n {ys} f = record { is = λ {rest} a. subst (Quiet true) (sym (append_assoc (shown_name n) ys rest)) (quiet-name true n (f.is a)) }
+
+word-opens : (b : ℕ) {text : List ℕ} → is_dark b ≡ true → Within text → Opens (b ∷ text)
+word-opens b e w = record { is = λ a. quiet-dark true b e (w.is a) }
+
+space-follows : {text : List ℕ} → Opens text → Within text → Follows (32 ∷ text)
+space-follows o w = record { is = λ a. record { apart = refl; at_front = quiet-space (o.is a); within = quiet-byte 32 refl (w.is a) } }
+
+word-follows : (b : ℕ) {text : List ℕ} → is_dark b ≡ true → Within text → Follows (32 ∷ b ∷ text)
+word-follows b e w = space-follows (word-opens b e w) (record { is = λ a. quiet-dark false b e (w.is a) })
+
+colon-follows : {text : List ℕ} → Within text → Follows (58 ∷ 32 ∷ text)
+colon-follows w = record {
+  is = λ a. record {
+    apart = refl;
+    at_front = quiet-colon (w.is a);
+    within = quiet-byte 58 refl (quiet-byte 32 refl (w.is a));
+  };
+}
+
+-- the title of a test
+suite-within : (suite : Option (List ℕ)) {text : List ℕ} → Opens text → Within text → Within (name_and_space suite ++ text)
+unfolding name_and_space
+suite-within None o w = w
+suite-within (Some s) {text} o w = subst Within (sym (append_assoc (shown_name s) (codes " ") text)) (name-before s (space-follows o w))
+
+title-within : (t : TestNoteView) → Within (title t)
+unfolding title
+title-within t = suite-within t.suite (record { is = λ a. quiet-name true (title_name t) a }) (name (title_name t))
+
+-- lines of disagreements
+verdict-opens : (failed : Bool) → Opens (verdict_word failed)
+verdict-opens true = word-opens 102 refl (inner (word (codes "ailed") refl))
+verdict-opens false = word-opens 111 refl (inner (word (codes "k") refl))
+
+key-within : (key : Option (List ℕ)) (failed : Bool) → Within (key_and_verdict key failed)
+unfolding key_and_verdict
+key-within key failed = suite-within key (verdict-opens failed) (inner (inner-verdict failed))
+
+disagreement-opens : (d : DisagreementView) → Opens (disagreement_line d)
+unfolding disagreement_line said_text
+disagreement-opens (EndsEarly suite) = name-opens suite (word-follows 101 refl (inner (word (codes "nded early") refl)))
+disagreement-opens (SaysOther suite said passed failed) =
+    let said_so = inner-said_numbers said.passed said.failed (verdict_word said.failed_verdict) (inner-verdict said.failed_verdict) in
+    name-opens suite (colon-follows (inner (also (also (word (codes "its last line ") refl) said_so) (inner-its_tests passed failed))))
+disagreement-opens (StrayEnds n how) =
+    name-opens n (word-follows 101 refl (inner (also (word (codes "nded ") refl) (also (inner-result how) (word (codes ", and had not started") refl)))))
+disagreement-opens (StraySuiteEnds key failed) =
+    word-opens 97 refl (before (word (codes " suite ended that had not started: ") refl) (key-within key failed))
+disagreement-opens (StartsOutside n) =
+    let words = codes " tests started outside of a suite" in
+    let follows = word-follows 116 refl (inner (word (codes "ests started outside of a suite") refl)) in
+    record {
+      is = λ {rest} a.
+          let more = follows.is a in
+          subst (Quiet true) (sym (append_assoc (decimal n) words rest)) (quiet-dark-all (decimal n) (dark-decimal n) more.at_front more.within);
+    }
+disagreement-opens (CargoSays text) = word-opens 99 refl (before (word (codes "argo: ") refl) (line text))
+disagreement-opens (IsDamaged text) =
+    word-opens 97 refl (before (word (codes " damaged line says that a test or a suite failed: ") refl) (line text))
+disagreement-opens HasNoEvent = word-opens 110 refl (inner (word (codes "o line of the input is of a test run") refl))
+
+not-run-opens : (suite : List ℕ) (n of : ℕ) → Opens (not_run_line suite n of)
+unfolding not_run_line
+not-run-opens suite n of =
+    name-opens suite (colon-follows (inner (also (inner-decimal n) (also (word (codes " of ") refl)
+    (also (inner-decimal of) (word (codes " tests were not run") refl))))))
+
+-- whole lines
+record Lines (text : List ℕ) : Type 0 where
+  pub is : {rest : List ℕ} → Quiet true rest → Quiet true (text ++ rest)
+
+no-lines : Lines []
+no-lines = record { is = λ q. q }
+
+both : {xs ys : List ℕ} → Lines xs → Lines ys → Lines (xs ++ ys)
+both {xs} {ys} a b = record { is = λ {rest} q. subst (Quiet true) (sym (append_assoc xs ys rest)) (a.is (b.is q)) }
+
+each : {X : Type 0} (f : X → List ℕ) → ((x : X) → Lines (f x)) → (xs : List X) → Lines (flat_map f xs)
+each f h [] = no-lines
+each f h (x ∷ xs) = both (h x) (each f h xs)
+
+lines-if : (b : Bool) {text : List ℕ} → Lines text → Lines (if b then [] else text)
+lines-if true h = no-lines
+lines-if false h = h
+
+after-feed : {rest : List ℕ} → Quiet true rest → After (10 ∷ rest)
+after-feed q = record { apart = refl; at_front = quiet-feed true q; within = quiet-feed false q }
+
+one-line : {text : List ℕ} → Opens text → Lines (text ++ codes "\n")
+one-line {text} o = record { is = λ {rest} q. subst (Quiet true) (sym (append_assoc text (codes "\n") rest)) (o.is (after-feed q)) }
+
+-- the words for results
+record Status (w : List ℕ) : Type 0 where
+  pub of_inner : Inner w
+  pub at_front : {rest : List ℕ} → Quiet false rest → Quiet true (w ++ rest)
+
+status : (b : ℕ) (bs : List ℕ) → is_dark b ≡ true → Inner bs → Status (b ∷ bs)
+status b bs e h = record {
+  of_inner = inner-more b (and_parts (is_inner b) (not (b == 58 || is_whitespace b)) e).0 h;
+  at_front = λ q. quiet-dark true b e (quiet-inner h q);
+}
+
+failed-status : (kind : KindView) → Status (failed_word kind)
+failed-status HasFailed = status 70 (codes "AIL") refl (word (codes "AIL") refl)
+failed-status HasTimedOut = status 84 (codes "IMEOUT") refl (word (codes "IMEOUT") refl)
+failed-status HasNoEnd = status 70 (codes "AIL") refl (word (codes "AIL") refl)
+failed-status IsFlaky = status 70 (codes "AIL") refl (word (codes "AIL") refl)
+failed-status (HasCrashed crash) = status 67 (codes "RASH") refl (word (codes "RASH") refl)
+
+flaky-status : (attempts : ℕ) → Status (flaky_word attempts)
+unfolding flaky_word
+flaky-status attempts =
+    status 70 _ refl (also (word (codes "LAKY ") refl) (also (inner-decimal attempts) (also (word (codes "/") refl) (inner-decimal attempts))))
+
+slow-status : Status (codes "SLOW")
+slow-status = status 83 (codes "LOW") refl (word (codes "LOW") refl)
+
+inner-color : (w : List ℕ) → Inner (color_of w)
+inner-color w =
+    let red = word (codes "1;31") refl in
+    let last = inner-if (bytes_eq w (codes "CRASH")) red (word (codes "1;33") refl) in
+    inner-if (bytes_eq w (codes "FAIL")) red (inner-if (bytes_eq w (codes "TIMEOUT")) red last)
+
+coloured-status : (color : Bool) {w : List ℕ} → Status w → Status (status_text color w)
+unfolding status_text
+coloured-status false s = s
+coloured-status true {w} s =
+    status 27 _ refl (also (word (codes "[") refl) (also (inner-color w) (also (word (codes "m") refl) (also s.of_inner (word (27 ∷ codes "[0m") refl)))))
+
+status-opens : {w ys : List ℕ} → Status w → Within ys → Opens (w ++ ys)
+status-opens {w} {ys} s h = record { is = λ {rest} a. subst (Quiet true) (sym (append_assoc w ys rest)) (s.at_front (h.is a)) }
+
+spaces-open : (n : ℕ) {text : List ℕ} → Opens text → Opens (replicate n 32 ++ text)
+spaces-open zero o = o
+spaces-open (suc n) o = record { is = λ a. quiet-space ((spaces-open n o).is a) }
+
+follows-if : (b : Bool) {text : List ℕ} → Follows text → Follows (if b then text else [])
+follows-if true f = f
+follows-if false f = record { is = λ a. a }
+
+attempts-follow : (attempts : ℕ) → Follows (attempts_note attempts)
+unfolding attempts_note
+attempts-follow attempts =
+    follows-if (nat_lt 1 attempts) (word-follows 40 refl (inner (also (inner-decimal attempts) (word (codes " attempts)") refl))))
+
+within-both : {xs ys : List ℕ} → Within xs → Follows ys → Within (xs ++ ys)
+within-both {xs} {ys} h f = record { is = λ {rest} a. subst (Quiet false) (sym (append_assoc xs ys rest)) (h.is (f.is a)) }
+
+opens-both : {xs ys : List ℕ} → Opens xs → Follows ys → Opens (xs ++ ys)
+opens-both {xs} {ys} h f = record { is = λ {rest} a. subst (Quiet true) (sym (append_assoc xs ys rest)) (h.is (f.is a)) }
+
+head-parts : (s b t a : List ℕ) → (s ++ (codes " " ++ (b ++ (t ++ a)))) ++ codes "\n" ≡ s ++ (codes " " ++ (b ++ (t ++ (a ++ codes "\n"))))
+head-parts s b t a = simp append_assoc
+
+-- the end
+summary-lines : (end : RunEnd) → Lines (summary_lines end)
+unfolding summary_lines
+summary-lines end = record {
+  is = λ {rest} q.
+      let line = quiet-inner (inner-summary end) (quiet-feed false q) in
+      let summary = quiet-dark true 83 refl (quiet-inner (word (codes "ummary ") refl) line) in
+      let indented = quiet-space (quiet-space (quiet-space (quiet-space (quiet-space summary)))) in
+      let all = quiet-dark true 45 refl (quiet-inner (word (codes "-----------") refl) (quiet-feed false indented)) in
+      subst (Quiet true) (ap (λ l. codes "------------\n     Summary " ++ l) (sym (append_assoc (summary_line end) (codes "\n") rest))) all;
+}
+
+outcome-lines : (end : RunEnd) → Lines (outcome_line end)
+unfolding outcome_line
+outcome-lines end =
+    let words = before (word (codes "utcome ") refl) (inner (inner-outcome end.outcome)) in
+    subst Lines (append_assoc (codes "outcome ") (outcome_word end.outcome) (codes "\n")) (one-line (word-opens 111 refl words))
+
+module _ (o : Options) (raw : o.raw ≡ false) where
+  list-opens : (w : List ℕ) (t : TestNoteView) → Status w → Opens (list_line o w t)
+  unfolding list_line
+  list-opens w t s =
+      spaces-open (12 - length w) (status-opens (coloured-status o.color s)
+      (before (word (codes " ") refl) (before (inner-bracket t.time) (title-within t))))
+
+  item : (w : List ℕ) (t : TestNoteView) → Status w → Lines (list_line o w t ++ codes "\n")
+  item w t s = one-line (list-opens w t s)
+
+  -- each line of a list is a whole line
+  abbrev Own : List ℕ → List ℕ → Type 0
+  Own own other = Lines own
+
+  abbrev AreLines : List KeyedLine → Type 0
+  AreLines lines = AllZip (Alike Own) lines lines
+
+  own-line : (l : KeyedLine) → Lines l.line → Alike Own l l
+  own-line l h = record { key = refl; line = h }
+
+  flaky-of : (e : EntryView) → AreLines (flaky_of o e)
+  unfolding flaky_passed flaky_line
+  flaky-of (TestPassed t) =
+      let is = own-line (flaky_line o t) (item (flaky_word t.attempts) t (flaky-status t.attempts)) in
+      alike-if Own (nat_lt 1 t.attempts) (flaky_line o t) (flaky_line o t) is
+  flaky-of (TestSkipped t) = tt
+  flaky-of (TestFailed t f w) = tt
+  flaky-of (LinesDisagree d) = tt
+  flaky-of (SuiteNotRun suite n of) = tt
+  flaky-of (SuiteOver s) = tt
+
+  timed-of : (t : TestNoteView) (time : Option ℕ) → AreLines (option_map_or (λ time. slow_line o t time ∷ []) time [])
+  unfolding slow_line
+  timed-of t None = tt
+  timed-of t (Some time) = (own-line (slow_line o t time) (item (codes "SLOW") t slow-status), tt)
+
+  slow-of : (e : EntryView) → AreLines (slow_of o e)
+  unfolding timed
+  slow-of (TestPassed t) = timed-of t t.time
+  slow-of (TestFailed t f w) = timed-of t t.time
+  slow-of (TestSkipped t) = tt
+  slow-of (LinesDisagree d) = tt
+  slow-of (SuiteNotRun suite n of) = tt
+  slow-of (SuiteOver s) = tt
+
+  lines-text : (lines : List KeyedLine) → AreLines lines → Lines (text_of_lines lines)
+  lines-text lines h = text-alike Own no-lines (λ xs ys us vs a b. both a b) lines lines h
+
+  flaky-text : (entries : List EntryView) → Lines (text_of_lines (flaky_lines o entries))
+  flaky-text entries =
+      lines-text (flaky_lines o entries) (fold-alike Own put_rising (rising-alike Own) [] [] (flat_map (flaky_of o) entries) (flat_map (flaky_of o) entries) tt
+      (each-alike Own (flaky_of o) (flaky_of o) flaky-of entries))
+
+  slow-text : (entries : List EntryView) → Lines (text_of_lines (slow_lines o entries))
+  slow-text entries =
+      lines-text (slow_lines o entries) (fold-alike Own put_falling (falling-alike Own) [] [] (flat_map (slow_of o) entries) (flat_map (slow_of o) entries) tt
+      (each-alike Own (slow_of o) (slow_of o) slow-of entries))
+
+  -- text of the input
+  shown-within : (text : List ℕ) → Within (shown_text o.raw text)
+  shown-within text = subst (λ r. Within (shown_text r text)) (sym raw) (record { is = λ a. quiet-text false text a })
+
+  shown-opens : (text : List ℕ) → Opens (shown_text o.raw text)
+  shown-opens text = subst (λ r. Opens (shown_text r text)) (sym raw) (record { is = λ a. quiet-text true text a })
+
+  failed-of : (e : EntryView) → Lines (failed_of o e)
+  unfolding failed_line
+  failed-of (TestFailed t f w) =
+      let short = shown_text o.raw (front w.short o.limit) in
+      let own = list_line o (failed_word f.kind) t in
+      let parts = append_assoc own (codes ": " ++ short) (codes "\n") in
+      let entry = list-opens (failed_word f.kind) t (failed-status f.kind) in
+      subst Lines parts (one-line (opens-both entry (colon-follows (shown-within (front w.short o.limit)))))
+  failed-of (TestPassed t) = no-lines
+  failed-of (TestSkipped t) = no-lines
+  failed-of (LinesDisagree d) = no-lines
+  failed-of (SuiteNotRun suite n of) = no-lines
+  failed-of (SuiteOver s) = no-lines
+
+  list-lines : (entries : List EntryView) → Lines (short_list o entries)
+  unfolding short_list
+  list-lines entries = both (flaky-text entries) (both (each (failed_of o) failed-of entries) (slow-text entries))
+
+  -- entries
+  indented-line : (text : List ℕ) → Lines (indented_line o.raw text)
+  indented-line text = one-line {text = codes "    " ++ shown_text o.raw text} (spaces-open 4 (shown-opens text))
+
+  more-line : (more : ℕ) → Lines (more_line more)
+  unfolding more_line
+  more-line more =
+      let words = also (inner-decimal more) (word (codes " more bytes)") refl) in
+      let parts = append_assoc (decimal more) (codes " more bytes)") (codes "\n") in
+      lines-if (more == 0) (subst (λ l. Lines (codes "    (" ++ l)) parts (one-line (spaces-open 4 (word-opens 40 refl (inner words)))))
+
+  why-lines : (why : List ℕ) → Lines (why_lines o why)
+  unfolding why_lines
+  why-lines why = both (each (indented_line o.raw) indented-line _) (more-line (more_bytes why o.limit))
+
+  head-line : (t : TestNoteView) (w : List ℕ) → Status w → Lines (failed_head o t w)
+  unfolding failed_head
+  head-line t w s =
+      let rest = before (word (codes " ") refl) (before (inner-bracket t.time) (within-both (title-within t) (attempts-follow t.attempts))) in
+      let parts = head-parts (status_text o.color w) (bracket t.time) (title t) (attempts_note t.attempts) in
+      subst Lines parts (one-line (status-opens (coloured-status o.color s) rest))
+
+  text-entry : (e : EntryView) → Lines (text_line o e)
+  unfolding failed_text
+  text-entry (TestFailed t f w) = both (head-line t (failed_word f.kind) (failed-status f.kind)) (why-lines w.text)
+  text-entry (LinesDisagree d) = one-line (disagreement-opens d)
+  text-entry (SuiteNotRun suite n of) = one-line (not-run-opens suite n of)
+  text-entry (TestPassed t) = no-lines
+  text-entry (TestSkipped t) = no-lines
+  text-entry (SuiteOver s) = no-lines
+
+  text-end : (entries : List EntryView) (end : RunEnd) → Lines (text_last o entries end)
+  unfolding text_last
+  text-end entries end = both (summary-lines end) (both (list-lines entries) (outcome-lines end))
+
+pub text-has-no-commands : TextHasNoCommands
+text-has-no-commands o entries end raw =
+    let all = both (each (text_line o) (text-entry o raw) entries) (text-end o raw entries end) in
+    no-commands (subst (Quiet true) (append-nil _) (all.is (quiet-nothing true)))
+
+-- the form of names
+names-entry : (e : EntryView) → Lines (names_line e)
+names-entry (TestFailed t f w) = one-line (record { is = λ a. quiet-line true t.name a })
+names-entry (TestPassed t) = no-lines
+names-entry (TestSkipped t) = no-lines
+names-entry (LinesDisagree d) = no-lines
+names-entry (SuiteNotRun suite n of) = no-lines
+names-entry (SuiteOver s) = no-lines
+
+pub names-has-no-commands : NamesHasNoCommands
+names-has-no-commands entries =
+    no-commands (subst (Quiet true) (append-nil _) ((each names_line names-entry entries).is (quiet-nothing true)))
