@@ -15,7 +15,7 @@ const FORMS: &[&str] = &[
 /// The values of `--no-tests`.
 const ACTIONS: &[&str] = &["fail", "pass"];
 
-/// The values of `--color` and `--progress`.
+/// The values of `--color`, `--progress` and `--others`.
 const TIMES: &[&str] = &["auto", "always", "never"];
 
 /// The text of `--help` after the options.
@@ -23,8 +23,8 @@ const AFTER_HELP: &str = "\
 Examples (with `set -o pipefail` a pipe also fails if the test command does):
   RUSTC_BOOTSTRAP=1 cargo test --no-fail-fast -- -Z unstable-options --format json 2>&1 | test-report
   NEXTEST_EXPERIMENTAL_LIBTEST_JSON=1 cargo nextest run --message-format libtest-json 2>&1 | test-report
-  (a nightly toolchain does not need RUSTC_BOOTSTRAP=1. The report leaves out lines that are not of the run,
-  such as the compiler's errors. `.. 2>&1 | tee run.log | test-report` keeps them in run.log)
+  (a nightly toolchain does not need RUSTC_BOOTSTRAP=1. Lines that are not of the run, such as the compiler's errors,
+  are passed on to standard error)
   .. | test-report --format github                      annotations of a workflow on GitHub
   .. | test-report --format names                       the names of failed tests, to run them again
   .. | test-report --junit junit.xml                    the text, and a file for a build server
@@ -84,6 +84,9 @@ pub(crate) fn command<'a>(alloc: Global) -> Result<Command<'a>, AllocError> {
         .arg(choice(alloc, "progress", "WHEN", TIMES).help(
             "Show the progress in a line on standard error; `auto` does so if that is a terminal",
         ))?
+        .arg(choice(alloc, "others", "WHEN", TIMES).help(
+            "Write the lines that are no events to standard error; `auto` does so for standard input, and not for files",
+        ))?
         .arg(limit)?
         .arg(raw)?;
     Ok(command.after_help(AFTER_HELP))
@@ -125,5 +128,15 @@ pub(crate) fn shows_progress(matches: &ArgMatches<'_>, is_terminal: bool) -> boo
         Some("always") => true,
         Some("never") => false,
         _ => is_terminal,
+    }
+}
+
+/// Returns true if the lines of an input that are no events are passed on to standard error. `is_standard_input` is
+/// true if the input is standard input.
+pub(crate) fn wants_others(matches: &ArgMatches<'_>, is_standard_input: bool) -> bool {
+    match matches.get_str("others") {
+        Some("always") => true,
+        Some("never") => false,
+        _ => is_standard_input,
     }
 }

@@ -5,14 +5,16 @@
 mod arguments;
 mod failure;
 mod files;
+mod others;
 mod output;
 mod output_files;
 mod progress;
 mod same_file;
 
-use crate::arguments::{command, options_of, shows_progress};
+use crate::arguments::{command, options_of, shows_progress, wants_others};
 use crate::failure::{BAD_ARGUMENT, FAILED, Failure};
 use crate::files::{append, replace};
+use crate::others::Others;
 use crate::output::Output;
 use crate::output_files::{STANDARD_INPUT, Streams, conflict_of, inputs_of, remove_old_files};
 use crate::progress::ProgressLine;
@@ -25,6 +27,7 @@ use std::fs::File;
 use std::io::{self, ErrorKind, IsTerminal, Read, Write};
 use std::os::fd::AsFd;
 use std::process::ExitCode;
+use std::rc::Rc;
 use std::rt::{Env, Files};
 use test_report_engine::fault::Fault;
 use test_report_engine::pieces::Pieces;
@@ -115,13 +118,14 @@ fn read_file<'a, R: Files + AllocGlobal + Input, F: Form + Drop, W: Write>(
     report: &mut Report<F>,
     pieces: &mut Pieces,
     output: &mut Output<W>,
+    others: &mut Others,
 ) -> Result<(), Failure<'a>> {
     if path == STANDARD_INPUT {
-        read_from(rt, rt.reader(), report, pieces, output)?;
+        read_from(rt, rt.reader(), report, pieces, output, others)?;
         return Ok(());
     }
     match File::open(rt, path) {
-        Ok(file) => Ok(read_from(rt, file, report, pieces, output)?),
+        Ok(file) => Ok(read_from(rt, file, report, pieces, output, others)?),
         Err(_) => Err(Failure::Open(path)),
     }
 }
@@ -133,14 +137,15 @@ fn read_from<S: Read + Drop, R: AllocGlobal, F: Form + Drop, W: Write>(
     report: &mut Report<F>,
     pieces: &mut Pieces,
     output: &mut Output<W>,
+    others: &mut Others,
 ) -> Result<(), Fault> {
     let mut source = StdSource::new(reader);
     for _piece in 0..u64::MAX {
-        if !read_piece(rt.alloc(), &mut source, report, pieces, output)? {
+        if !read_piece(rt.alloc(), &mut source, report, pieces, output, others)? {
             return Ok(());
         }
         if let Some(progress) = pieces.progress() {
-            output.line.show(progress.text(rt.alloc())?);
+            output.show_progress(progress.text(rt.alloc())?);
         }
     }
     Err(Fault::CounterFull)
@@ -153,11 +158,14 @@ fn read_piece<S: Read + Drop, F: Form + Drop, W: Write>(
     report: &mut Report<F>,
     pieces: &mut Pieces,
     output: &mut Output<W>,
+    others: &mut Others,
 ) -> Result<bool, Fault> {
     if source.has_failed() {
         return Err(Fault::Read);
     }
-    report.read_piece(alloc, source, pieces, &mut StdSink::new(output))
+    let mut sink = StdSink::new(output);
+    let mut others = StdSink::new(others);
+    report.read_piece(alloc, source, pieces, &mut sink, &mut others)
 }
 
 /// Reads the files of the run, and writes the report. Returns the end of the run, and the texts of the files
@@ -168,9 +176,11 @@ fn report_to<'a, R: Files + AllocGlobal + Input, F: Form + Drop, W: Write>(
     mut report: Report<F>,
     mut pieces: Pieces,
     output: &mut Output<W>,
+    others: &mut Others,
 ) -> Result<(RunEnd, FileTexts), Failure<'a>> {
     for path in inputs_of(rt.alloc(), matches)? {
-        read_file(rt, path, &mut report, &mut pieces, output)?;
+        others.are_wanted = wants_others(matches, path == STANDARD_INPUT);
+        read_file(rt, path, &mut report, &mut pieces, output, others)?;
     }
     let texts = report.file_texts(rt.alloc())?;
     let end = report.finish(rt.alloc(), &mut StdSink::new(output))?;
@@ -186,24 +196,29 @@ fn pieces_of(alloc: Global, settings: Settings) -> Pieces {
     }
 }
 
-/// Writes the report to standard output in a form, and then the files. Returns the exit status. If the reader
-/// of standard output has gone, nothing is written to standard error.
+/// Writes the report to standard output in a form, and then the files. Returns the exit status, which is that of a
+/// failure if a line that is no event could not be passed on. If the reader of standard output has gone, no message
+/// is written to standard error.
 fn report_in<'a, R: Files + AllocGlobal + Input + Print, F: Form + Drop>(
     rt: &R,
     matches: &ArgMatches<'a>,
     settings: Settings,
-    line: ProgressLine,
+    line: Rc<ProgressLine>,
+    mut others: Others,
     form: F,
 ) -> Result<u8, Failure<'a>> {
     let files = file_forms(rt.alloc(), matches, settings.options)?;
     let report = Report::with_files(rt.alloc(), form, files);
     let pieces = pieces_of(rt.alloc(), settings);
     let mut output = Output::new(io::writer(rt), line);
-    let written = report_to(rt, matches, report, pieces, &mut output);
-    output.line.hide();
+    let written = report_to(rt, matches, report, pieces, &mut output, &mut others);
+    output.hide_progress();
     match written {
         Ok((end, texts)) => {
             write_files(rt, matches, &texts)?;
+            if others.has_failed() {
+                return Ok(FAILED);
+            }
             Ok(exit_status(end.outcome, settings.options.no_tests_pass))
         }
         Err(_) if output.is_closed() => Ok(FAILED),
@@ -216,23 +231,60 @@ fn report_of<'a, R: Files + AllocGlobal + Input + Print>(
     rt: &R,
     matches: &ArgMatches<'a>,
     settings: Settings,
-    line: ProgressLine,
+    line: Rc<ProgressLine>,
+    others: Others,
 ) -> Result<u8, Failure<'a>> {
     let (alloc, options) = (rt.alloc(), settings.options);
     match matches.get_str("format") {
-        Some("github") => report_in(rt, matches, settings, line, GithubForm::new(options)),
-        Some("names") => report_in(rt, matches, settings, line, NamesForm),
-        Some("junit") => report_in(rt, matches, settings, line, JunitForm::new(alloc, options)),
-        Some("html") => report_in(rt, matches, settings, line, HtmlForm::new(alloc, options)),
+        Some("github") => report_in(
+            rt,
+            matches,
+            settings,
+            line,
+            others,
+            GithubForm::new(options),
+        ),
+        Some("names") => report_in(rt, matches, settings, line, others, NamesForm),
+        Some("junit") => report_in(
+            rt,
+            matches,
+            settings,
+            line,
+            others,
+            JunitForm::new(alloc, options),
+        ),
+        Some("html") => report_in(
+            rt,
+            matches,
+            settings,
+            line,
+            others,
+            HtmlForm::new(alloc, options),
+        ),
         Some("markdown") => report_in(
             rt,
             matches,
             settings,
             line,
+            others,
             MarkdownForm::new(alloc, options),
         ),
-        Some("json") => report_in(rt, matches, settings, line, JsonForm::new(alloc, options)),
-        _ => report_in(rt, matches, settings, line, TextForm::new(alloc, options)),
+        Some("json") => report_in(
+            rt,
+            matches,
+            settings,
+            line,
+            others,
+            JsonForm::new(alloc, options),
+        ),
+        _ => report_in(
+            rt,
+            matches,
+            settings,
+            line,
+            others,
+            TextForm::new(alloc, options),
+        ),
     }
 }
 
@@ -270,7 +322,10 @@ fn run_parsed<'a>(rt: &HostRuntime, matches: &ArgMatches<'a>) -> Result<u8, Fail
         options: options_of(matches, has_colors(rt)?),
         shows_progress: shows_progress(matches, rt.stderr().is_terminal()),
     };
-    report_of(rt, matches, settings, ProgressLine::new(rt.stderr()))
+    let line = Rc::new(rt.alloc(), ProgressLine::new(rt.stderr()));
+    let line = line.map_err(AllocError::from)?;
+    let others = Others::new(Output::new(rt.stderr(), line.clone()?));
+    report_of(rt, matches, settings, line, others)
 }
 
 /// Does what the arguments ask for, and returns the exit status.

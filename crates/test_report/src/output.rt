@@ -1,26 +1,38 @@
-//! Standard output.
+//! The standard streams to which the program writes.
 
 use crate::progress::ProgressLine;
 use std::io::{self, ErrorKind, Write};
+use std::rc::Rc;
 
-/// A writer that hides the line of progress before it writes, and remembers whether its reader has gone.
+/// A writer that hides the line of progress before it writes, and remembers whether its reader has gone. Several of
+/// them share one line.
 #[derive(Drop)]
 pub(crate) struct Output<W> {
     writer: W,
     is_closed: bool,
 
     /// The line of progress.
-    pub(crate) line: ProgressLine,
+    line: Rc<ProgressLine>,
 }
 
 impl<W: Write> Output<W> {
     /// Returns a writer that has not failed.
-    pub(crate) fn new(writer: W, line: ProgressLine) -> Output<W> {
+    pub(crate) fn new(writer: W, line: Rc<ProgressLine>) -> Output<W> {
         Output {
             writer,
             is_closed: false,
             line,
         }
+    }
+
+    /// Shows this text in the line of progress.
+    pub(crate) fn show_progress(&self, text: String) {
+        self.line.show(text);
+    }
+
+    /// Hides the line of progress.
+    pub(crate) fn hide_progress(&self) {
+        self.line.hide();
     }
 
     /// Returns true if a call failed because the reader of the pipe has gone.

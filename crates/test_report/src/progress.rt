@@ -1,10 +1,17 @@
 //! The line on standard error that shows the progress of the run.
 
+use std::cell::RefCell;
 use std::io::{Stderr, Write};
 
-/// A line on standard error. While it is shown, the cursor is at its end.
+/// A line on standard error, which several writers share. While it is shown, the cursor is at its end.
 #[derive(Drop)]
 pub(crate) struct ProgressLine {
+    state: RefCell<State>,
+}
+
+/// The state of the line.
+#[derive(Drop)]
+struct State {
     stderr: Stderr,
 
     /// The text on the terminal, or `None` if the line is hidden.
@@ -15,14 +22,32 @@ impl ProgressLine {
     /// Returns a line that is not shown yet.
     pub(crate) fn new(stderr: Stderr) -> ProgressLine {
         ProgressLine {
-            stderr,
-            shown: None,
+            state: RefCell::new(State {
+                stderr,
+                shown: None,
+            }),
         }
     }
 
     /// Shows this text, and writes nothing if it is on the terminal already. The terminal cuts the text at its
     /// width.
-    pub(crate) fn show(&mut self, text: String) {
+    pub(crate) fn show(&self, text: String) {
+        if let Ok(mut state) = self.state.try_borrow_mut() {
+            state.show(text);
+        }
+    }
+
+    /// Hides the line.
+    pub(crate) fn hide(&self) {
+        if let Ok(mut state) = self.state.try_borrow_mut() {
+            state.hide();
+        }
+    }
+}
+
+impl State {
+    /// Shows this text.
+    fn show(&mut self, text: String) {
         if self.shows(text.as_str()) {
             return;
         }
@@ -40,7 +65,7 @@ impl ProgressLine {
     }
 
     /// Hides the line.
-    pub(crate) fn hide(&mut self) {
+    fn hide(&mut self) {
         if self.shown.is_some() {
             let _ = self.stderr.write_all(b"\r\x1b[K");
             self.shown = None;
