@@ -50,6 +50,8 @@ class Row:
     late_links: dict = field(default_factory=dict)
     # If this is false, the program cannot write a byte to any file.
     has_space: bool = True
+    # If this is true, the program runs a command, which the proved program cannot.
+    runs_command: bool = False
 
 
 def started(count):
@@ -179,7 +181,6 @@ def several_files():
         (["red.jsonl", "-"], "pays\nrounds\n"),
         (["-"], "rounds\n"),
         (["-", "-"], "rounds\n"),
-        (["--", "-"], "rounds\n"),
         ([], "rounds\n"),
         (["red.jsonl"], "pays\n"),
     ]:
@@ -243,6 +244,33 @@ def progress():
     for arguments in ([], ["--progress", "auto"], ["--progress", "always"]):
         yield Row(f"the screen, {arguments}", [*arguments, "--color", "never"], RED, 1, RED_TEXT,
                   output="screen", error="screen", pause="0 of 1 tests, 0 failed")
+
+
+# Lines that are no events, one of them in front of an event and the last without a line feed, and what is passed on.
+MIXED = "\x1b[31mwarning\x1b[0m: unused\n" + started(1) + "\n" + "adding " + passed("adds") + ended("ok", 1, 0) + "bye"
+OTHERS = "\x1b[31mwarning\x1b[0m: unused\n\nadding \nbye\n"
+
+
+def others():
+    """Yields the rows of `--others`."""
+    for value, of_input, of_file in [
+        ([], OTHERS, ""),
+        (["--others", "auto"], OTHERS, ""),
+        (["--others", "always"], OTHERS, OTHERS),
+        (["--others=never"], "", ""),
+    ]:
+        for form in FORMS:
+            yield Row(f"{value} of standard input, {form}", [*value, "--format", form], MIXED, 0, GREEN_PARTS[form], of_input)
+        yield Row(f"{value} of -", [*value, "-"], MIXED, 0, GREEN_TEXT, of_input)
+        yield Row(f"{value} of a file", [*value, "a"], "", 0, GREEN_TEXT, of_file, {"a": MIXED})
+        yield Row(f"{value} of both", [*value, "--format", "names", "a", "-"], MIXED, 0, "", of_file + of_input, {"a": MIXED})
+    for error in ("closed", "/dev/full"):
+        yield Row(f"lines for a standard error that is {error}", ["--junit", "a.xml"], MIXED, 3, GREEN_TEXT,
+                  after={"a.xml": Parts(["<testsuites "])}, error=error)
+        yield Row(f"no lines for a standard error that is {error}", ["--others", "never"], MIXED, 0, GREEN_TEXT, error=error)
+        yield Row(f"a file and a standard error that is {error}", ["a"], "", 0, GREEN_TEXT, files={"a": MIXED}, error=error)
+    yield Row("lines above the line of progress", ["--progress", "always"], MIXED, 0, GREEN_TEXT,
+              Parts(["unused\n", "adding \n", SHOWN + "1 of 1 tests, 0 failed\x1b[?7h", HIDDEN + "bye\n"]))
 
 
 def streams():
@@ -371,7 +399,100 @@ def conflicts():
               files={"a/x": "old", "b/y": ""}, after={"a/x": XML, "b/x": PAGE})
 
 
+RUNS = {"red.jsonl": RED, "green.jsonl": GREEN, "empty.jsonl": EMPTY}
+
+
+def command(words, status=0, stdout="", stderr="", options=(), **others):
+    """Returns the row of a command: a script of the shell, or a list of words. The stored runs are there as files."""
+    words = words if isinstance(words, list) else ["sh", "-c", words]
+    files = {**RUNS, **others.pop("files", {})}
+    return Row(f"the command {words}, {options}, {others}", [*options, "--", *words], others.pop("text", ""), status,
+               stdout, stderr, files, runs_command=True, **others)
+
+
+def commands():
+    """Yields the rows of commands that end in some way."""
+    no_reason = "test-report: the command ended with status {}, and no line says why\n"
+    for form in FORMS:
+        yield command("cat red.jsonl; exit 101", 1, RED_PARTS[form], options=["--format", form])
+        yield command("cat green.jsonl; exit 7", 1, GREEN_PARTS[form], no_reason.format(7), ["--format", form])
+    yield command("cat green.jsonl", 0, GREEN_TEXT)
+    yield command("cat green.jsonl >&2", 0, GREEN_TEXT)
+    yield command("cat red.jsonl", 1, RED_TEXT)
+    yield command("head -n 2 red.jsonl; sed -n 3p red.jsonl >&2; tail -n 1 red.jsonl", 1, RED_TEXT)
+    yield command("true", 1, Parts(["\noutcome "]))
+    yield command("cat empty.jsonl", 0, NO_TESTS["text"][1], options=["--no-tests", "pass"])
+    yield command("cat empty.jsonl; exit 3", 1, NO_TESTS["text"][1], no_reason.format(3), ["--no-tests", "pass"])
+    for number in (9, 15):
+        line = f"test-report: the command ended by signal {number}\n"
+        yield command(f"cat green.jsonl; kill -{number} $$", 1, GREEN_TEXT, line)
+        yield command(f"cat red.jsonl; kill -{number} $$", 1, RED_TEXT, line)
+    line = Parts(["test-report: the command could not be started: "])
+    for words in (["./none"], ["."], [""], ["-"], ["none", "red.jsonl"]):
+        yield command(words, 1, Parts(["\noutcome "]), line)
+        yield command(words, 1, Parts(["\noutcome "]), line, ["--no-tests", "pass"])
+    # A process in the background has the pipe open, and writes nothing or writes later.
+    yield command("sleep 20 & cat green.jsonl", 0, GREEN_TEXT)
+    yield command("(for line in 1 2 3 4; do sleep 0.8; sed -n ${line}p red.jsonl; done) &", 1, RED_TEXT)
+    # A command that goes on without its streams is waited for.
+    yield command("cat green.jsonl; exec >&- 2>&-; sleep 1; exit 4", 1, GREEN_TEXT, no_reason.format(4))
+    yield command("cat red.jsonl", 1, RED_TEXT, options=OPTIONS, after=WRITTEN)
+
+
+def surroundings():
+    """Yields the rows of what a command gets, of arguments that are refused, and of streams that cannot be written."""
+    error = Parts(["error: "])
+    for option in (["red.jsonl"], ["-"], ["red.jsonl", "--raw"]):
+        yield command("cat red.jsonl", 2, "", error, option)
+    for option in ([], ["--raw"], ["--format", "names"]):
+        yield command([], 2, "", "test-report: there is no command after `--`\n", option)
+    yield command("touch a", 2, "", "test-report: --junit /dev/stdout is standard output\n", ["--junit", "/dev/stdout"],
+                  after={"a": None})
+    yield command(["cat"], 1, "pays\n", options=["--format", "names"], text=RED)
+    yield command(["cat", "--", "red.jsonl"], 1, RED_TEXT)
+    yield command(["sh", "-c", "cat red.jsonl", "--format", "names"], 1, RED_TEXT)
+    yield command('cat "$RUN"', 1, RED_TEXT, variables={"RUN": "red.jsonl"})
+    yield command("cat red.jsonl", 1, RED_TEXT, source="closed")
+    yield command("touch a", 3, "", NOT_WRITTEN, output="closed", after={"a": None})
+    # The command is asked to end, and does not take its 100 seconds.
+    slow = "trap 'kill $!; echo ended >a; exit 1' TERM; sleep 100 & cat red.jsonl; wait"
+    yield command(slow, 3, "", NOT_WRITTEN, output="/dev/full", after={"a": "ended\n"})
+    for given, error, wanted in [
+        ({}, "pipe", "\n"), ({}, "terminal", "always\n"), ({"CARGO_TERM_COLOR": "never"}, "terminal", "never\n"),
+    ]:
+        yield command('echo "$CARGO_TERM_COLOR" >a; cat red.jsonl', 1, RED_TEXT, options=["--progress", "never"],
+                      error=error, variables=given, after={"a": wanted})
+
+
+# What follows the arguments of `cargo test` that are for cargo.
+HARNESS = "-- -Z unstable-options --format json --report-time"
+
+
+def added_arguments():
+    """Yields the rows of what is added to the arguments of cargo. `cargo` is a shell, and its subcommand is a script
+    that writes its arguments to a file. The variable says that the harness takes unstable options."""
+    script = 'echo "$0 $@ $NEXTEST_EXPERIMENTAL_LIBTEST_JSON" >a; cat red.jsonl'
+    for words, wanted in [
+        ("test", f"test --no-fail-fast {HARNESS}"),
+        ("t one", f"t --no-fail-fast one {HARNESS}"),
+        ("bench -p a --no-fail-fast -- two", f"bench -p a --no-fail-fast {HARNESS} two"),
+        ("test -- --format=json --report-time", "test --no-fail-fast -- -Z unstable-options --format=json --report-time"),
+        ("test -- --format terse", "test -- --format terse"),
+        ("test --no-run", "test --no-run"),
+        ("test -- --list", "test -- --list"),
+        ("nextest run -P ci", "nextest run --message-format libtest-json-plus -P ci 1"),
+        ("nextest r --message-format libtest-json", "nextest r --message-format libtest-json 1"),
+        ("nextest list", "nextest list"),
+        ("build test", "build test"),
+    ]:
+        wanted = wanted if wanted.endswith(" 1") else wanted + " "
+        yield command(["./cargo", *words.split()], 1, RED_TEXT, links={"cargo": "/bin/sh"},
+                      files={words.split()[0]: script}, variables={"RUSTC_BOOTSTRAP": "1"},
+                      after={"a": wanted + "\n", "cargo": "-> /bin/sh"})
+
+
 def rows():
     """Returns all rows."""
-    kinds = (forms, several_files, limits, colours, progress, streams, files, links, devices, conflicts)
+    kinds = (forms, several_files, limits, colours, progress, others, streams, files, links, devices, conflicts, commands,
+             surroundings, added_arguments)
     return [row for kind in kinds for row in kind()]

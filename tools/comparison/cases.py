@@ -14,7 +14,7 @@ REPLAYED = {"count": "count", "digest-extract": "extract"}
 REFUSED = [
     ["--nothing"], ["-x"], ["--limit"], ["--limit", "many"], ["--limit=-1"], ["--limit", ""], ["--limit=+7"],
     ["--limit", "18446744073709551616"], ["--raw=yes"], ["--raw", "--raw"], ["--limit", "1", "--limit", "2"],
-    ["--lim", "7"], ["--limit", "0x10"], ["--limit", " 7"], ["--", "--raw"], ["--format"], ["--format", "xml"],
+    ["--lim", "7"], ["--limit", "0x10"], ["--limit", " 7"], ["--format"], ["--format", "xml"],
     ["--format="], ["--format", "Text"], ["--format", "text", "--format", "text"], ["--no-tests", "warn"],
     ["--no-tests"], ["--color", "yes"], ["--progress", "yes"], ["--color=always", "--color=always"], ["--junit"], ["--html"],
     ["--markdown"], ["--json"], ["--junit", "a", "--junit", "b"], ["--form", "text"],
@@ -83,13 +83,13 @@ def chosen_options(rng):
 def report_case(rng, stored):
     """Returns a case of `test-report`, with any options and files that it takes."""
     origin, text = damaged_or_generated(rng, reported_run, stored)
-    options, paths = chosen_options(rng), rng.choice([[], [], [], [], ["-"], ["--", "-"]])
+    options, paths = chosen_options(rng), rng.choice([[], [], [], [], ["-"]])
     files = {"old.txt": rng.choice([b"", b"older text\n" * 2000])}
     if rng.random() < 0.3:
         names = ["a.jsonl", "b.jsonl"]
         files |= {name: damaged_or_generated(rng, reported_run, stored)[1] for name in names}
         paths = [rng.choice([*names, "-"]) for _ in range(rng.randint(1, 4))]
-    arguments = options + paths if rng.random() < 0.7 or "--" in paths else paths + options
+    arguments = options + paths if rng.random() < 0.7 else paths + options
     return Case("test-report", arguments, text, origin, files=files)
 
 

@@ -81,9 +81,11 @@ def run_in(folder, program, case):
 
 
 def same_but_cause(proved, erased):
-    """Returns true if two messages are the same, except that the erased one may also have the system's error."""
+    """Returns true if two messages are the same, except that the last line of the erased one may also have the system's
+    error."""
     start = proved.removesuffix(b"\n")
-    return proved == erased or (bool(start) and erased.startswith(start + b": ") and erased.count(b"\n") == 1)
+    is_longer = bool(start) and erased.startswith(start + b": ")
+    return proved == erased or (is_longer and erased.count(b"\n") == proved.count(b"\n"))
 
 
 def differences(case, proved, erased):

@@ -1,6 +1,7 @@
 //! The arguments of the programs.
 
 use clap::{Arg, ArgAction, Command, ValueHint, value_parser};
+use std::ffi::OsString;
 
 /// The text of `run-digest --help` after the options.
 const AFTER_DIGEST_HELP: &str = "\
@@ -27,28 +28,51 @@ const FORMS: [&str; 7] = [
     "text", "github", "names", "junit", "html", "markdown", "json",
 ];
 
-/// The text of `test-report --help` after the options.
-const AFTER_REPORT_HELP: &str = "\
-Examples (with `set -o pipefail` a pipe also fails if the test command does):
-  RUSTC_BOOTSTRAP=1 cargo test --no-fail-fast -- -Z unstable-options --format json 2>&1 | test-report
-  NEXTEST_EXPERIMENTAL_LIBTEST_JSON=1 cargo nextest run --message-format libtest-json 2>&1 | test-report
-  (a nightly toolchain does not need RUSTC_BOOTSTRAP=1. The report leaves out lines that are not of the run,
-  such as the compiler's errors. `.. 2>&1 | tee run.log | test-report` keeps them in run.log)
-  .. | test-report --format github                      annotations of a workflow on GitHub
-  .. | test-report --format names                       the names of failed tests, to run them again
-  .. | test-report --junit junit.xml                    the text, and a file for a build server
-  .. | test-report --html report.html                   the text, and a page for a browser
-  .. | test-report --markdown \"$GITHUB_STEP_SUMMARY\"    the text, and a summary on GitHub
-  .. | test-report --json report.json                   the text, and a file for other programs
-  test-report --format junit first.jsonl second.jsonl   two files, as one run
+/// The groups of options in `--help`.
+const FORMS_HEADING: &str = "Forms and files";
+const STATUS_HEADING: &str = "Result";
+const DISPLAY_HEADING: &str = "Display";
 
+/// The text of `test-report --help` between the options and the exit statuses.
+const AFTER_REPORT_HELP: &str = "\
+Examples:
+  test-report -- cargo test                              run all tests, and report those that failed
+  test-report --html report.html -- cargo test -p money  the text, and a page for a browser
+  test-report -- cargo nextest run                       the same with nextest
+  cargo test-report -- -p money                          the same as `test-report -- cargo test -p money`
+  test-report --junit junit.xml -- ..                    the text, and a file for a build server
+  test-report --markdown \"$GITHUB_STEP_SUMMARY\" -- ..    the text, and a summary on GitHub
+  test-report --json report.json -- ..                   the text, and a file for other programs
+  test-report --format github -- ..                      annotations of a workflow on GitHub
+  test-report --format names -- ..                       the names of failed tests, to run them again
+  test-report --format junit first.jsonl second.jsonl    two files, as one run
+
+A COMMAND such as `cargo test`, `cargo bench` or `cargo nextest run` gets what makes it write JSON. Nothing is compiled
+in another way or again, unless your settings of cargo or a variable name a runner or a rustdoc. Another COMMAND is run
+as it is. Its lines that are no events, such as the compiler's messages, go to standard error as with `--others always`.
+
+In a pipe, `set -o pipefail` makes the pipe fail if the test command does:
+  RUSTC_BOOTSTRAP=1 cargo test --no-fail-fast -- -Z unstable-options --format json 2>&1 | test-report
+  NEXTEST_EXPERIMENTAL_LIBTEST_JSON=1 cargo nextest run --message-format libtest-json 2>&1 | test-report";
+
+/// The exit statuses of `test-report` in `--help`.
+const REPORT_STATUSES: &str = "\
 Exit status:
   0  the run succeeded; or no test ran, nothing else is wrong, and `--no-tests` is `pass`
   1  the run did not succeed: a test failed, some of the tests that a suite's first line announces neither ended
-     nor were ignored, lines contradict each other, cargo reported a failure that no test explains, or no test ran
+     nor were ignored, lines contradict each other, cargo reported a failure that no test explains, the command
+     could not be started, ended by a signal, or failed and no line says why, or no test ran
   2  an argument is invalid, or `--junit`, `--html`, `--markdown` or `--json` names standard output, a file that is
      read, or the file of another of these options
   3  reading or writing failed, a file cannot be opened or written, or a number is too large to count";
+
+/// The text of `cargo test-report --help` between the options and the exit statuses.
+const AFTER_CARGO_HELP: &str = "\
+Examples:
+  cargo test-report                                      run all tests, and report those that failed
+  cargo test-report --html report.html -- -p money       the text of one package, and a page for a browser
+
+It is the same as `test-report [OPTIONS] -- cargo test [ARG]..`: `test-report --help` says more.";
 
 /// Returns the arguments that `run-digest` takes.
 pub fn run_digest() -> Command {
@@ -67,25 +91,51 @@ pub fn run_digest() -> Command {
 
 /// Returns the arguments that `test-report` takes.
 pub fn test_report() -> Command {
-    Command::new("test-report")
+    let file = Arg::new("file")
+        .value_name("FILE")
+        .num_args(0..)
+        .value_hint(ValueHint::FilePath)
+        .help("The JSON lines of the run, in one file or several; standard input if absent or `-`");
+    let command = words("command", "COMMAND")
+        .num_args(1..)
+        .conflicts_with("file")
+        .value_hint(ValueHint::CommandWithArguments)
+        .help("The command that runs the tests, and its arguments, in place of files");
+    let about = "Reports which tests of a run failed, and why, from the JSON output of the run";
+    let program = Command::new("test-report").about(about);
+    with_options(program.arg(file).arg(command))
+        .after_help(format!("{AFTER_REPORT_HELP}\n\n{REPORT_STATUSES}"))
+}
+
+/// Returns the arguments that `cargo-test-report` takes, which cargo starts for `cargo test-report`.
+pub fn cargo_test_report() -> Command {
+    let argument = words("argument", "ARG")
+        .num_args(0..)
+        .help("The arguments of `cargo test`");
+    let about = "Runs `cargo test`, and reports which tests failed, and why";
+    let program = Command::new("cargo-test-report")
+        .bin_name("cargo test-report")
+        .about(about);
+    with_options(program.arg(argument))
+        .after_help(format!("{AFTER_CARGO_HELP}\n\n{REPORT_STATUSES}"))
+}
+
+/// Adds the options of a report.
+fn with_options(command: Command) -> Command {
+    command
         .version(env!("CARGO_PKG_VERSION"))
-        .about("Reports which tests of a run failed, and why, from the JSON output of the run")
-        .arg(
-            Arg::new("file")
-                .value_name("FILE")
-                .num_args(0..)
-                .value_hint(ValueHint::FilePath)
-                .help("The JSON lines of the run, in one file or several; standard input if absent or `-`"),
-        )
+        .next_help_heading(FORMS_HEADING)
         .arg(choice("format", "FORM", "text", FORMS).help("Write the report in this form"))
         .arg(file("junit").help("Also write JUnit's XML to FILE. An old FILE is removed at the start"))
         .arg(file("html").help("Also write an HTML page to FILE. An old FILE is removed at the start"))
         .arg(file("markdown").help("Also append Markdown to FILE, such as $GITHUB_STEP_SUMMARY"))
         .arg(file("json").help("Also write the report as JSON to FILE. An old FILE is removed at the start"))
+        .next_help_heading(STATUS_HEADING)
         .arg(
             choice("no-tests", "ACTION", "fail", ["fail", "pass"])
                 .help("Whether the exit status is 1 (`fail`) or 0 (`pass`) if no test ran and nothing else is wrong"),
         )
+        .next_help_heading(DISPLAY_HEADING)
         .arg(
             choice("color", "WHEN", "auto", ["auto", "always", "never"])
                 .help("Colour words such as FAIL; `auto` does so if standard output is a terminal and NO_COLOR is absent or empty"),
@@ -93,6 +143,10 @@ pub fn test_report() -> Command {
         .arg(
             choice("progress", "WHEN", "auto", ["auto", "always", "never"])
                 .help("Show the progress in a line on standard error; `auto` does so if that is a terminal"),
+        )
+        .arg(
+            choice("others", "WHEN", "auto", ["auto", "always", "never"])
+                .help("Write the lines that are no events to standard error; `auto` does so for standard input, and not for files"),
         )
         .arg(
             Arg::new("limit")
@@ -109,7 +163,14 @@ pub fn test_report() -> Command {
                 .action(ArgAction::SetTrue)
                 .help("Print control characters in reasons as the tests wrote them, in the form `text`"),
         )
-        .after_help(AFTER_REPORT_HELP)
+}
+
+/// Returns the argument that takes all words after `--`.
+fn words(name: &'static str, value: &'static str) -> Arg {
+    Arg::new(name)
+        .value_name(value)
+        .last(true)
+        .value_parser(value_parser!(OsString))
 }
 
 /// Returns an option that has one of several values.

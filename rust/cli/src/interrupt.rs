@@ -10,6 +10,9 @@ use std::sync::atomic::{AtomicBool, Ordering};
 #[derive(Debug)]
 pub struct Interrupt {
     has_come: Arc<AtomicBool>,
+
+    /// True if SIGTERM came and nobody took it yet.
+    is_terminated: Arc<AtomicBool>,
 }
 
 impl Interrupt {
@@ -19,16 +22,26 @@ impl Interrupt {
     /// Fails if the system refuses a handler.
     pub fn catch_first() -> io::Result<Interrupt> {
         let has_come = Arc::new(AtomicBool::new(false));
+        let is_terminated = Arc::new(AtomicBool::new(false));
         for signal in [SIGINT, SIGTERM] {
             // The actions for a signal run in the order in which they are registered.
             register_conditional_default(signal, Arc::clone(&has_come))?;
             register(signal, Arc::clone(&has_come))?;
         }
-        Ok(Interrupt { has_come })
+        register(SIGTERM, Arc::clone(&is_terminated))?;
+        Ok(Interrupt {
+            has_come,
+            is_terminated,
+        })
     }
 
     /// Returns true if the first signal has come.
     pub fn has_come(&self) -> bool {
         self.has_come.load(Ordering::SeqCst)
+    }
+
+    /// Returns true, once, if SIGTERM has come.
+    pub fn take_terminate(&self) -> bool {
+        self.is_terminated.swap(false, Ordering::SeqCst)
     }
 }

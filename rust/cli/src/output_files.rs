@@ -40,9 +40,9 @@ struct Streams {
 
 impl Streams {
     /// Returns standard output, and these files of the run.
-    fn of(inputs: &[&str]) -> Streams {
-        let id_of_input = |path: &&str| {
-            if *path == STANDARD_INPUT {
+    fn of(inputs: &[String]) -> Streams {
+        let id_of_input = |path: &String| {
+            if path == STANDARD_INPUT {
                 FileId::of_standard_input()
             } else {
                 FileId::of_path(Path::new(path))
@@ -66,17 +66,10 @@ impl Streams {
     }
 }
 
-/// Returns the names of the files of the run.
-pub fn inputs_of(matches: &ArgMatches) -> Vec<&str> {
-    match matches.get_many::<String>("file") {
-        Some(files) if files.len() > 0 => files.map(String::as_str).collect(),
-        _ => vec![STANDARD_INPUT],
-    }
-}
-
 /// Refuses a file that an option names if it is standard output, if it is also read, or if two options name it.
-pub fn refuse_conflicts(matches: &ArgMatches) -> Result<(), Failure> {
-    let streams = Streams::of(&inputs_of(matches));
+/// `inputs` are the files of the run.
+pub fn refuse_conflicts(matches: &ArgMatches, inputs: &[String]) -> Result<(), Failure> {
+    let streams = Streams::of(inputs);
     let mut files: Vec<OutputFile> = Vec::new();
     for option in WRITTEN {
         let Some(path) = matches.get_one::<String>(option) else {

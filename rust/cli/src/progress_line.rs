@@ -1,5 +1,6 @@
 //! The line on standard error that shows the progress of the run.
 
+use std::cell::RefCell;
 use std::io::{self, Stderr, Write};
 use std::time::{Duration, Instant};
 
@@ -90,22 +91,19 @@ impl<T: Write> ProgressLine<T> {
     }
 }
 
-/// A writer that hides the line before it writes.
+/// A writer that hides the line before it writes. Several of them share one line.
 #[derive(Debug)]
-pub struct Output<W> {
+pub struct Output<'a, W> {
     writer: W,
 
     /// The line of progress, on standard error.
-    pub line: ProgressLine<Stderr>,
+    line: &'a RefCell<ProgressLine<Stderr>>,
 }
 
-impl<W> Output<W> {
+impl<'a, W> Output<'a, W> {
     /// Returns a writer that shares a terminal with a line.
-    pub fn new(writer: W) -> Output<W> {
-        Output {
-            writer,
-            line: ProgressLine::new(io::stderr()),
-        }
+    pub fn new(writer: W, line: &'a RefCell<ProgressLine<Stderr>>) -> Output<'a, W> {
+        Output { writer, line }
     }
 
     /// Returns the writer.
@@ -114,9 +112,9 @@ impl<W> Output<W> {
     }
 }
 
-impl<W: Write> Write for Output<W> {
+impl<W: Write> Write for Output<'_, W> {
     fn write(&mut self, buffer: &[u8]) -> io::Result<usize> {
-        self.line.hide();
+        self.line.borrow_mut().hide();
         self.writer.write(buffer)
     }
 

@@ -1,6 +1,7 @@
-//! Standard input and standard output. If the program was started without one of them, each call on it fails.
+//! Standard input, standard output and standard error. If the program was started without one of them, each call on it
+//! fails.
 
-use std::io::{self, Read, Stdin, StdoutLock, Write};
+use std::io::{self, Read, Stderr, Stdin, StdoutLock, Write};
 
 /// Finds out which streams are open before Rust's runtime starts, because the runtime opens the null device in place
 /// of a closed one.
@@ -16,6 +17,9 @@ mod at_start {
     /// True if standard output was closed when the program was started.
     static OUTPUT_IS_CLOSED: AtomicBool = AtomicBool::new(false);
 
+    /// True if standard error was closed when the program was started.
+    static ERROR_IS_CLOSED: AtomicBool = AtomicBool::new(false);
+
     /// The number of the system's error for a descriptor that is not open.
     const EBADF: i32 = 9;
 
@@ -29,6 +33,7 @@ mod at_start {
     extern "C" fn note() {
         INPUT_IS_CLOSED.store(is_closed(&io::stdin()), Ordering::SeqCst);
         OUTPUT_IS_CLOSED.store(is_closed(&io::stdout()), Ordering::SeqCst);
+        ERROR_IS_CLOSED.store(is_closed(&io::stderr()), Ordering::SeqCst);
     }
 
     /// Returns true if a stream is closed.
@@ -45,6 +50,11 @@ mod at_start {
     /// Fails if there was no standard output.
     pub(super) fn check_output() -> io::Result<()> {
         fail_if(&OUTPUT_IS_CLOSED)
+    }
+
+    /// Fails if there was no standard error.
+    pub(super) fn check_error() -> io::Result<()> {
+        fail_if(&ERROR_IS_CLOSED)
     }
 
     /// Fails if a stream was closed.
@@ -68,6 +78,11 @@ mod at_start {
 
     /// Does nothing.
     pub(super) fn check_output() -> io::Result<()> {
+        Ok(())
+    }
+
+    /// Does nothing.
+    pub(super) fn check_error() -> io::Result<()> {
         Ok(())
     }
 }
@@ -120,5 +135,31 @@ impl Write for StandardOutput {
 
     fn flush(&mut self) -> io::Result<()> {
         self.stdout.flush()
+    }
+}
+
+/// Standard error.
+#[derive(Debug)]
+pub struct StandardError {
+    stderr: Stderr,
+}
+
+impl StandardError {
+    /// Returns standard error.
+    pub fn get() -> StandardError {
+        StandardError {
+            stderr: io::stderr(),
+        }
+    }
+}
+
+impl Write for StandardError {
+    fn write(&mut self, buffer: &[u8]) -> io::Result<usize> {
+        at_start::check_error()?;
+        self.stderr.write(buffer)
+    }
+
+    fn flush(&mut self) -> io::Result<()> {
+        self.stderr.flush()
     }
 }

@@ -66,7 +66,7 @@ fn test_report_refuses_arguments() {
 
 #[test]
 fn test_report_takes_arguments() {
-    let taken: [&[&str]; 14] = [
+    let taken: [&[&str]; 13] = [
         &[],
         &["--format", "text"],
         &["--format=text", "--color=never", "--no-tests=fail"],
@@ -79,7 +79,6 @@ fn test_report_takes_arguments() {
         &["--raw"],
         &["--limit", "0"],
         &["--limit=18446744073709551615", "-"],
-        &["--", "-"],
         &["--raw", "--limit", "7", "-"],
     ];
     for arguments in taken {

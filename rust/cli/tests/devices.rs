@@ -43,7 +43,7 @@ fn a_folder_cannot_be_read() {
 
 #[test]
 fn standard_output_that_is_closed() {
-    for (program, argument) in [("test-report", "-"), ("run-digest", "count")] {
+    for (program, argument) in [("test-report", "--others=never"), ("run-digest", "count")] {
         let mut child = command(program, &[argument])
             .spawn()
             .expect("the program starts");
@@ -90,7 +90,7 @@ fn no_standard_output() {
 #[test]
 fn standard_output_that_is_full() {
     for (program, argument, message) in [
-        ("test-report", "-", "test-report: write failed"),
+        ("test-report", "--others=never", "test-report: write failed"),
         ("run-digest", "count", "write failed"),
     ] {
         let full = std::fs::OpenOptions::new()
@@ -128,15 +128,12 @@ fn input_that_is_not_utf8() {
     let output = run("run-digest", &["extract"], b"\xff\nError: \xfe\n\xff\n");
     let found = b"error-str 2 10\nError: \xfe\n\xff\n";
     assert_output(&output, found, b"", 0, "extract");
-    let output = run(
-        "test-report",
-        &["-"],
-        b"\xff\xfe\n{ \"type\": \"te\xffst\" }\n",
-    );
+    let lines = b"\xff\xfe\n{ \"type\": \"te\xffst\" }\n";
+    let output = run("test-report", &["-"], lines);
     let report = "no line of the input is of a test run\n------------\n     \
         Summary 0 tests run: 0 passed (0 flaky), 0 failed (0 timed out, 0 crashed), 0 skipped, 0 not run\n\
         outcome failed\n";
-    assert_output(&output, report.as_bytes(), b"", 1, "test-report");
+    assert_output(&output, report.as_bytes(), lines, 1, "test-report");
 }
 
 /// A reader or writer of which every second call is interrupted.

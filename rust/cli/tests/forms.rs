@@ -80,8 +80,10 @@ fn with_characters(text: &str) -> String {
     text.replace("&#xFFFD;", "\u{fffd}")
 }
 
-/// Returns the standard output of the program with arguments on the run, and asserts its exit status.
+/// Returns the standard output of the program with arguments on the run, and asserts its exit status. Lines that are no
+/// events are not passed on.
 fn report(arguments: &[&str], input: &str, status: i32) -> String {
+    let arguments = &[&["--others", "never"], arguments].concat();
     let output = run("test-report", arguments, input.as_bytes());
     assert_eq!(String::from_utf8_lossy(&output.stderr), "", "{arguments:?}");
     assert_eq!(output.status.code(), Some(status), "{arguments:?}");
@@ -214,7 +216,8 @@ fn a_file_that_cannot_be_written() {
     let folder = Folder::new("refused");
     for option in ["--junit", "--html", "--markdown", "--json"] {
         let path = folder.file("no/such/file");
-        let output = run("test-report", &[option, &path], RUN.as_bytes());
+        let arguments = ["--others", "never", option, &path];
+        let output = run("test-report", &arguments, RUN.as_bytes());
         assert_eq!(output.status.code(), Some(3), "{option}");
         let message = String::from_utf8_lossy(&output.stderr);
         let start = format!("test-report: {path} cannot be written: ");

@@ -3,7 +3,7 @@
 
 mod common;
 
-use common::{Folder, read_until, soon, start, wait_for};
+use common::{Folder, Running, command, read_until, soon, start, started, wait_for};
 use std::fs::{self, OpenOptions};
 use std::io::Write;
 use std::os::unix::process::ExitStatusExt;
@@ -154,4 +154,82 @@ fn the_user_is_told_before_any_input() {
     let stderr = wait_for(running.stderr, STILL_READING);
     drop((running.stdin, stderr));
     assert_eq!(end_of(running.child).code(), Some(1));
+}
+
+/// A script that writes the start of a run, and the last line when the file `go` is in a folder, the folder is gone, or
+/// SIGTERM comes.
+const COMMAND: &str = r#"
+trap 'printf "%s\n" "$LATER"; exit 3' TERM
+printf '%s\n' "$FAILED"
+while [ -d "$1" ] && ! [ -e "$1/go" ]; do sleep 0.05; done
+printf '%s\n' "$LATER"
+exit 101
+"#;
+
+/// Starts `test-report` with a command that waits until a file is there.
+fn start_with_command(folder: &str) -> Running {
+    let mut command = command("test-report", &["--progress", "always", "--"]);
+    command
+        .args(["sh", "-c", COMMAND, "sh", folder])
+        .env("FAILED", FAILED.trim_end())
+        .env("LATER", LATER.trim_end());
+    started(&mut command)
+}
+
+#[test]
+fn the_first_interrupt_leaves_the_command_alone() {
+    let folder = Folder::new("interrupted");
+    let running = start_with_command(&folder.file(""));
+    let (first, stdout) = read_until(running.stdout, "    Error: no such currency\n");
+    send("INT", &running.child);
+    let stderr = wait_for(running.stderr, STILL_READING);
+    fs::write(folder.file("go"), "").expect("the folder is there");
+    let (rest, _) = read_until(stdout, "outcome failed\n");
+    assert_eq!([first, rest].concat(), REPORT);
+    assert_eq!(end_of(running.child).code(), Some(1));
+    drop((running.stdin, stderr));
+}
+
+#[test]
+fn the_first_sigterm_is_sent_on_to_the_command() {
+    let folder = Folder::new("terminated");
+    let running = start_with_command(&folder.file(""));
+    let (first, stdout) = read_until(running.stdout, "    Error: no such currency\n");
+    send("TERM", &running.child);
+    let (rest, _) = read_until(stdout, "outcome failed\n");
+    assert_eq!([first, rest].concat(), REPORT);
+    assert_eq!(end_of(running.child).code(), Some(1));
+    drop((running.stdin, running.stderr));
+}
+
+#[test]
+fn a_second_signal_ends_the_program_before_its_command() {
+    for (first, second, number) in [("INT", "INT", 2), ("INT", "TERM", 15)] {
+        let folder = Folder::new(&format!("second{second}"));
+        let running = start_with_command(&folder.file(""));
+        let (_, stdout) = read_until(running.stdout, "    Error: no such currency\n");
+        send(first, &running.child);
+        let stderr = wait_for(running.stderr, STILL_READING);
+        send(second, &running.child);
+        assert_eq!(end_of(running.child).signal(), Some(number));
+        drop((running.stdin, stdout, stderr));
+    }
+}
+
+#[test]
+fn a_command_starts_with_the_default_action_of_both_signals() {
+    // A shell ignores Ctrl-C for a program in the background, and the program's command would inherit that.
+    for (signal, number) in [("INT", 2), ("TERM", 15)] {
+        let script = r#"trap '' INT TERM; exec "$0" -- sh -c "kill -$1 "'$$; printf %s "$FAILED"'"#;
+        let mut command = Command::new("sh");
+        command
+            .args(["-c", script, common::path_of("test-report"), signal])
+            .env("FAILED", FAILED);
+        let output = command.output().expect("the program runs");
+        assert_eq!(
+            String::from_utf8_lossy(&output.stderr),
+            format!("test-report: the command ended by signal {number}\n")
+        );
+        assert_eq!(output.status.code(), Some(1));
+    }
 }

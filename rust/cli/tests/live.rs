@@ -122,7 +122,7 @@ fn the_line_of_progress_is_gone_at_the_end() {
     ];
     for (input, wanted) in cases {
         for form in ["text", "names", "junit"] {
-            let arguments = ["--progress", "always", "--format", form];
+            let arguments = ["--progress=always", "--others=never", "--format", form];
             let output = run("test-report", &arguments, input.as_bytes());
             let shown = String::from_utf8_lossy(&output.stderr).into_owned();
             assert_eq!(output.status.code(), Some(1), "{input}");

@@ -17,6 +17,9 @@ const SPLIT: &str = "    if [[ ${cur} == = ]]; then
     fi
 ";
 
+/// The arguments without a name that a script for bash offers as words.
+const UNNAMED: [&str; 3] = [" [FILE]...", " [COMMAND]...", " [ARG]..."];
+
 /// Makes a script for bash complete `--format=te`, and not offer `[FILE]...` as a word.
 fn mend_bash(script: &Path) -> io::Result<()> {
     let text = fs::read_to_string(script)?;
@@ -24,7 +27,9 @@ fn mend_bash(script: &Path) -> io::Result<()> {
         let name = script.display();
         return Err(io::Error::other(format!("{name} has another form")));
     };
-    let rest = rest.replace(" [FILE]...", "");
+    let rest = UNNAMED
+        .iter()
+        .fold(rest.to_string(), |rest, word| rest.replace(word, ""));
     fs::write(script, format!("{start}{PREVIOUS}{SPLIT}{rest}"))
 }
 

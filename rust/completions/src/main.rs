@@ -1,4 +1,5 @@
-//! Writes the completions of `run-digest` and `test-report` for bash, zsh and fish, and their man pages.
+//! Writes the completions of `run-digest`, `test-report` and `cargo-test-report` for bash, zsh and fish, and their man
+//! pages.
 //!
 //! The only argument is the folder for the files, which must be present.
 
@@ -9,7 +10,7 @@ mod page;
 
 use clap::Command;
 use completions::write_completions;
-use deodarsieve_cli::commands::{run_digest, test_report};
+use deodarsieve_cli::commands::{cargo_test_report, run_digest, test_report};
 use man_page::{Document, man_page};
 use std::env;
 use std::fs;
@@ -18,7 +19,7 @@ use std::path::Path;
 use std::process::ExitCode;
 
 /// Returns the programs with their documents.
-fn programs() -> [(Command, Document); 2] {
+fn programs() -> [(Command, Document); 3] {
     let of_run_digest = Document {
         path: "docs/RUN-DIGEST.md",
         text: include_str!("../../../docs/RUN-DIGEST.md"),
@@ -33,14 +34,20 @@ fn programs() -> [(Command, Document); 2] {
         path: "docs/TEST-REPORT.md",
         text: include_str!("../../../docs/TEST-REPORT.md"),
         sections: &[
+            ("Running the tests", "Running the tests"),
             ("What the report has", "What the report has"),
             ("Contradictions", "Contradictions"),
             ("Forms", "Forms"),
         ],
     };
+    let of_cargo_test_report = Document {
+        sections: &[("Running the tests", "Running the tests")],
+        ..of_test_report
+    };
     [
         (run_digest(), of_run_digest),
         (test_report(), of_test_report),
+        (cargo_test_report(), of_cargo_test_report),
     ]
 }
 
@@ -75,21 +82,18 @@ fn main() -> ExitCode {
 #[cfg(test)]
 mod tests {
     use super::*;
+    use std::collections::BTreeSet;
 
-    /// What `--help` of each proved program prints, its last words, and what they are for the plain
-    /// program, which aborts if memory runs out.
-    const PROVED: [(&str, &str, &str); 2] = [
-        (
-            include_str!("../../../tools/help/run-digest.txt"),
-            "writing failed, or there was not enough memory",
-            "writing failed",
-        ),
-        (
-            include_str!("../../../tools/help/test-report.txt"),
-            "a number is too large to count, or there was not enough memory",
-            "or a number is too large to count",
-        ),
-    ];
+    /// What `--help` of the proved programs prints.
+    const PROVED_DIGEST: &str = include_str!("../../../tools/help/run-digest.txt");
+    const PROVED_REPORT: &str = include_str!("../../../tools/help/test-report.txt");
+
+    /// What `--help` of the plain `test-report` prints.
+    const PLAIN_REPORT: &str = include_str!("../../../tools/help/test-report-plain.txt");
+
+    /// What the plain `test-report` says of status 1, and the proved one does not.
+    const COMMAND_FAILS: &str =
+        "the command could not be started, ended by a signal, or failed and no line says why,";
 
     /// Returns the words of a text, one a line.
     fn words_of(text: &str) -> String {
@@ -98,15 +102,61 @@ mod tests {
             .collect()
     }
 
+    /// Returns the words of a program's `--help`. Older versions of clap say `Print help information`.
+    fn help_of(mut command: Command) -> String {
+        words_of(
+            &command
+                .render_help()
+                .to_string()
+                .replace(" information", ""),
+        )
+    }
+
+    /// Returns the lines of a text that describe options.
+    fn options_in(text: &str) -> BTreeSet<String> {
+        let lines = text
+            .lines()
+            .filter(|line| line.trim_start().starts_with('-'));
+        lines.map(words_of).collect()
+    }
+
+    /// Returns what a text says of one exit status.
+    fn status_in(text: &str, number: u8) -> String {
+        let (_, statuses) = text
+            .split_once("\nExit status:\n")
+            .expect("there are statuses");
+        let statuses = words_of(statuses);
+        let (_, rest) = statuses
+            .split_once(&format!("{number}\n"))
+            .expect("it is there");
+        let end = rest.find(&format!("\n{}\n", number + 1));
+        rest[..end.unwrap_or(rest.len())].to_string()
+    }
+
     #[test]
-    fn help_is_that_of_the_proved_programs() {
-        for ((mut command, _), (help, last, own)) in programs().into_iter().zip(PROVED) {
-            // Older versions of clap say `Print help information`.
-            let own_help = command.render_help().to_string();
-            let own_help = words_of(&own_help.replace(" information", ""));
-            let beginning = own_help.strip_suffix(&words_of(own)).expect(&own_help);
-            assert_eq!(beginning.to_owned() + &words_of(last), words_of(help));
+    fn help_of_run_digest_is_that_of_the_proved_program() {
+        let own = help_of(run_digest());
+        // The plain program aborts if memory runs out.
+        let beginning = own.strip_suffix("writing\nfailed\n").expect(&own);
+        let last = words_of("writing failed, or there was not enough memory");
+        assert_eq!(beginning.to_owned() + &last, words_of(PROVED_DIGEST));
+    }
+
+    #[test]
+    fn the_stored_help_is_that_of_test_report() {
+        assert_eq!(help_of(test_report()), words_of(PLAIN_REPORT));
+    }
+
+    #[test]
+    fn the_proved_test_report_has_the_same_options_and_statuses() {
+        assert_eq!(options_in(PLAIN_REPORT), options_in(PROVED_REPORT));
+        for number in [0, 2] {
+            let own = status_in(PLAIN_REPORT, number);
+            assert_eq!(own, status_in(PROVED_REPORT, number));
         }
+        // The plain program also runs a command.
+        let own = status_in(PLAIN_REPORT, 1).replace(&words_of(COMMAND_FAILS), "");
+        assert_eq!(own, status_in(PROVED_REPORT, 1));
     }
 
     #[test]

@@ -13,7 +13,12 @@ const EXIT_STATUS: &str = "Exit status:";
 /// proved program.
 const OUT_OF_MEMORY: &str = "The status is also 3 if there was not enough memory.";
 
+/// What the proved program, which a release has, does not do.
+const NO_COMMAND: &str =
+    "The program of a release is proved, and reads files alone: it runs no COMMAND.";
+
 /// The document of a program.
+#[derive(Clone, Copy)]
 pub struct Document {
     /// Its path in the repository.
     pub path: &'static str,
@@ -72,6 +77,9 @@ fn add_arguments(page: &mut Page, command: &Command) {
     let arguments = command.get_arguments();
     let (files, options): (Vec<_>, Vec<_>) = arguments.partition(|it| it.is_positional());
     add_list(page, "Arguments", &files);
+    if files.iter().any(|argument| argument.get_id() == "command") {
+        page.paragraph(NO_COMMAND);
+    }
     if command.has_subcommands() {
         page.section("Commands");
     }

@@ -6,11 +6,14 @@
 //! To do something between the pieces of a file, such as showing how far the run is, call `read_piece`
 //! instead of `read_file`.
 //!
+//! The lines of a file that are no events, such as the compiler's errors, go to a second sink if they are wanted.
+//!
 //! These calls report a run of one file, and return true if it succeeded:
 //!
 //! ```
 //! use deodarsieve::RunOutcome;
 //! use deodarsieve_cli::program_io::memory_device::{MemorySink, MemorySource};
+//! use deodarsieve_cli::test_report_engine::others::Nowhere;
 //! use deodarsieve_cli::test_report_engine::report::Report;
 //! use deodarsieve_cli::test_report_forms::names::NamesForm;
 //!
@@ -19,7 +22,7 @@
 //! let mut buffer = [0; 1_000];
 //! let mut sink = MemorySink::new(&mut buffer, None);
 //! let mut report = Report::new(NamesForm);
-//! report.read_file(&mut source, &mut sink)?;
+//! report.read_file(&mut source, &mut sink, &mut Nowhere::new())?;
 //! let end = report.finish(&mut sink)?;
 //! assert!(end.outcome != RunOutcome::Success);
 //! assert_eq!(sink.written(), b"adds\n");
@@ -27,6 +30,7 @@
 //! ```
 
 pub mod fault;
+pub mod others;
 pub mod pieces;
 pub mod progress;
 pub mod report;

@@ -4,6 +4,7 @@
 use crate::program_io::device::{Sink, Source};
 use crate::program_io::transfer::write_all;
 use crate::test_report_engine::fault::Fault;
+use crate::test_report_engine::others::pass_rest;
 use crate::test_report_engine::pieces::Pieces;
 use crate::test_report_engine::progress::{Progress, take_line};
 use crate::test_report_events::line::Line;
@@ -44,20 +45,26 @@ impl<F: Form> Report<F> {
     /// Reads a file of the run to its end. If a line makes something known, the report writes it and flushes
     /// the sink before it takes the next line.
     ///
-    /// Neither device may have failed before. After a fault the sink has the start of the text that the file
-    /// would have added to the report.
+    /// `others` is a second sink, which gets the lines that are no events, and the text in front of an event in a
+    /// line, each with a line feed. Each is written and flushed before the report writes what the line or a later
+    /// one makes known. If this sink fails, it gets nothing more, and the report is the same. Pass
+    /// [`Nowhere`](crate::test_report_engine::others::Nowhere) if these lines are not wanted.
+    ///
+    /// `source` and `sink` must not have failed before. After a fault the sink has the start of the text that the
+    /// file would have added to the report, and `others` has what the first lines of the file pass on.
     ///
     /// - [`Fault::Read`] if and only if the source fails, and [`Fault::Write`] if and only if the sink
     ///   fails.
     /// - [`Fault::CounterFull`] if a number is too large for its counter.
-    pub fn read_file<R: Source, W: Sink>(
+    pub fn read_file<R: Source, W: Sink, O: Sink>(
         &mut self,
         source: &mut R,
         sink: &mut W,
+        others: &mut O,
     ) -> Result<(), Fault> {
         let mut pieces = Pieces::without_progress();
         loop {
-            let more = self.read_piece(source, &mut pieces, sink)?;
+            let more = self.read_piece(source, &mut pieces, sink, others)?;
             if !more {
                 return Ok(());
             }
@@ -71,26 +78,30 @@ impl<F: Form> Report<F> {
     /// If a line makes something known, the report writes it and flushes the sink before it takes the next
     /// line. The call that returns false takes the rest of the last line and the end of the file.
     ///
-    /// Neither device may have failed before. After a fault the sink has the start of the text that the rest
-    /// of the file would have added to the report.
+    /// `others` gets the lines that are no events, as in `read_file`.
+    ///
+    /// `source` and `sink` must not have failed before. After a fault the sink has the start of the text that the
+    /// rest of the file would have added to the report, and `others` has what the first lines of the rest pass on.
     ///
     /// - [`Fault::Read`] if and only if the source fails, and [`Fault::Write`] if and only if the sink
     ///   fails.
     /// - [`Fault::CounterFull`] if a number is too large for its counter.
-    pub fn read_piece<R: Source, W: Sink>(
+    pub fn read_piece<R: Source, W: Sink, O: Sink>(
         &mut self,
         source: &mut R,
         pieces: &mut Pieces,
         sink: &mut W,
+        others: &mut O,
     ) -> Result<bool, Fault> {
         let mut chunk = [0u8; CHUNK];
         let n = source.read(&mut chunk).map_err(|_| Fault::Read)?;
         let mut line = std::mem::take(&mut pieces.line);
         if n == 0 {
-            self.end_file(line.as_slice(), &mut pieces.progress, sink)?;
+            self.end_file(line.as_slice(), &mut pieces.progress, sink, others)?;
             return Ok(false);
         }
-        self.on_bytes(&mut line, &mut pieces.progress, &chunk[..n], sink)?;
+        let bytes = &chunk[..n];
+        self.on_bytes(&mut line, &mut pieces.progress, bytes, sink, others)?;
         pieces.line = line;
         Ok(true)
     }
@@ -115,18 +126,19 @@ impl<F: Form> Report<F> {
     }
 
     /// Takes the next bytes of a file. `begun` has the bytes of the current line that were read before.
-    fn on_bytes<W: Sink>(
+    fn on_bytes<W: Sink, O: Sink>(
         &mut self,
         begun: &mut Vec<u8>,
         progress: &mut Option<Progress>,
         bytes: &[u8],
         sink: &mut W,
+        others: &mut O,
     ) -> Result<(), Fault> {
         let mut rest = bytes;
         while let Some(at) = rest.find_byte(b'\n') {
             let (end, after) = rest.split_at(at);
             begun.extend_from_slice(end);
-            self.on_line(begun.as_slice(), progress, sink)?;
+            self.on_line(begun.as_slice(), progress, sink, others)?;
             begun.clear();
             rest = &after[1..];
         }
@@ -135,26 +147,28 @@ impl<F: Form> Report<F> {
     }
 
     /// Takes a line.
-    fn on_line<W: Sink>(
+    fn on_line<W: Sink, O: Sink>(
         &mut self,
         bytes: &[u8],
         progress: &mut Option<Progress>,
         sink: &mut W,
+        others: &mut O,
     ) -> Result<(), Fault> {
-        let notes = notes_of_line(&mut self.run, progress, bytes)?;
+        let notes = notes_of_line(&mut self.run, progress, bytes, others)?;
         self.write(notes.as_slice(), sink)
     }
 
     /// Takes the end of a file. `begun` has the bytes after the last line feed. They are a line unless there
     /// are none.
-    fn end_file<W: Sink>(
+    fn end_file<W: Sink, O: Sink>(
         &mut self,
         begun: &[u8],
         progress: &mut Option<Progress>,
         sink: &mut W,
+        others: &mut O,
     ) -> Result<(), Fault> {
         if !begun.is_empty() {
-            self.on_line(begun, progress, sink)?;
+            self.on_line(begun, progress, sink, others)?;
         }
         let notes = self.run.end_file()?;
         self.write(notes.as_slice(), sink)
@@ -182,14 +196,16 @@ impl<F: Form> Report<F> {
     }
 }
 
-/// Takes the events of a line and, if the progress of the run is followed, updates it. Returns the notes that
-/// the events make known.
-fn notes_of_line(
+/// Passes on what of a line is no event, takes the events of the line and, if the progress of the run is followed,
+/// updates it. Returns the notes that the events make known.
+fn notes_of_line<O: Sink>(
     run: &mut TestRun,
     progress: &mut Option<Progress>,
     bytes: &[u8],
+    others: &mut O,
 ) -> Result<Vec<Note>, RunError> {
     let line = Line::read(bytes);
+    pass_rest(others, bytes, line.rest());
     let notes = run.on_line(&line)?;
     take_line(progress, &line, notes.as_slice())?;
     Ok(notes)

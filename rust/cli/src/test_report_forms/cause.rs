@@ -3,7 +3,7 @@
 
 use crate::test_report_events::event::TestResult;
 use crate::test_report_forms::entry::Entry;
-use crate::test_report_forms::shown::{push_name, push_name_and_space};
+use crate::test_report_forms::shown::{push_line, push_name, push_name_and_space};
 use crate::test_report_run::note::{Disagreement, NotRun, SaidNumbers};
 
 /// A disagreement, or a suite whose tests were not all run.
@@ -106,11 +106,11 @@ fn push_disagreement(text: &mut String, disagreement: &Disagreement) {
         }
         Disagreement::Cargo { line } => {
             text.push_str("cargo: ");
-            push_name(text, line.as_str());
+            push_line(text, line.as_str());
         }
         Disagreement::Damaged { text: line } => {
             text.push_str("a damaged line says that a test or a suite failed: ");
-            push_name(text, line.as_str());
+            push_line(text, line.as_str());
         }
         Disagreement::NoEvent => text.push_str("no line of the input is of a test run"),
     }

@@ -6,7 +6,7 @@ use crate::test_report_forms::entry::Entry;
 use crate::test_report_forms::form::Form;
 use crate::test_report_forms::options::Options;
 use crate::test_report_forms::place::Place;
-use crate::test_report_forms::shown::{push_limited, push_name};
+use crate::test_report_forms::shown::{push_limited, push_line};
 use crate::test_report_forms::summary::{outcome_text, push_summary};
 use crate::test_report_forms::title::push_title;
 use crate::test_report_forms::why::Why;
@@ -99,7 +99,7 @@ fn push_properties(text: &mut String, place: &Option<Place<'_>>) {
 /// Appends a place as properties.
 fn push_place(text: &mut String, place: &Place<'_>) {
     let mut file = String::new();
-    push_name(&mut file, place.file);
+    push_line(&mut file, place.file);
     text.push_str("file=");
     push_property(text, file.as_str());
     text.push_str(",line=");

@@ -2,6 +2,7 @@
 //! The form for other programs: one object of JSON, on one line.
 
 use crate::test_report_forms::cause::cause_of;
+use crate::test_report_forms::commands::is_command;
 use crate::test_report_forms::entry::Entry;
 use crate::test_report_forms::form::Form;
 use crate::test_report_forms::json_values::{
@@ -125,9 +126,4 @@ fn push_hidden(text: &mut String, json: &str) {
 /// Returns a `#` before this text: an escape of JSON if a command of a CI system begins there.
 fn mark(text: &str) -> &'static str {
     if is_command(text) { "\\u0023" } else { "#" }
-}
-
-/// Returns true if what follows a `#` makes it the beginning of a command of a CI system.
-fn is_command(text: &str) -> bool {
-    text.starts_with("#[") || text.starts_with("#vso[") || text.starts_with("#teamcity[")
 }

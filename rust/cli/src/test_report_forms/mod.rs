@@ -8,8 +8,11 @@
 //!
 //! Control characters of the input, except tab and line feed in the captured output of tests, and
 //! characters that change the direction of writing become escapes such as `\u{1b}`. A test therefore
-//! cannot control the reader's terminal. The exceptions are `TextForm` with `raw`, whose reasons of failures
-//! keep these characters, and `JsonForm`, which escapes only what JSON requires.
+//! cannot control the reader's terminal. A colon at the front of a line, and the first of two `#` before `[`,
+//! `vso[` or `teamcity[` become escapes, too, so that no CI system takes a line for a command. The exceptions are `TextForm`
+//! with `raw`, whose reasons of failures keep all this, and `JsonForm`, which escapes only what JSON requires, and
+//! such a `#`. Of the name of a suite or a test at most the first 1,024 bytes are shown. `NamesForm` and `JsonForm`
+//! have it whole.
 //!
 //! This function returns the text that `TextForm` writes for one note:
 //!
@@ -34,6 +37,7 @@
 //! ```
 
 mod cause;
+mod commands;
 mod document;
 pub mod entry;
 mod failed_test;

@@ -3,7 +3,7 @@
 
 use crate::test_report_forms::entry::Entry;
 use crate::test_report_forms::form::Form;
-use crate::test_report_forms::shown::push_name;
+use crate::test_report_forms::shown::push_line;
 use crate::test_report_run::note::RunEnd;
 
 /// The form that writes the name of each failed test, one on each line.
@@ -13,7 +13,7 @@ pub struct NamesForm;
 impl Form for NamesForm {
     fn on_entry(&mut self, entry: &Entry<'_>, text: &mut String) {
         if let Entry::Failed { test, .. } = entry {
-            push_name(text, test.name.as_str());
+            push_line(text, test.name.as_str());
             text.push('\n');
         }
     }

@@ -8,7 +8,8 @@ pub struct Options {
     /// in UTF-8, before escapes.
     pub limit: usize,
 
-    /// True if the form for people keeps control characters in why a test failed. Names are escaped all the same.
+    /// True if the form for people keeps control characters, and what a CI system takes for a command, in why a test
+    /// failed. Names are escaped all the same.
     pub raw: bool,
 
     /// True if the form for people colours the words for results.

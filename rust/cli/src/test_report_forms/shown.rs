@@ -2,9 +2,13 @@
 //! How text of the input is shown.
 
 use crate::template::shown::{is_escaped, push_escape};
+use crate::test_report_forms::commands::begins_command;
+
+/// The most bytes of the name of a suite or a test that are shown.
+const NAME_LIMIT: usize = 1_024;
 
 /// Appends a character, as an escape such as `\u{1b}` if `escaped` is true.
-pub(crate) fn push_char(text: &mut String, c: char, escaped: bool) {
+fn push_char(text: &mut String, c: char, escaped: bool) {
     if escaped {
         push_escape(text, c);
     } else {
@@ -12,40 +16,55 @@ pub(crate) fn push_char(text: &mut String, c: char, escaped: bool) {
     }
 }
 
-/// Returns true for a printable ASCII character.
-fn is_printable(byte: u8) -> bool {
-    matches!(byte, b' '..=b'~')
+/// Returns true for a printable ASCII character except `#`.
+fn is_plain_byte(byte: u8) -> bool {
+    matches!(byte, b' '..=b'~') && byte != b'#'
 }
 
-/// Returns true for a printable ASCII character, a tab or a line feed.
-fn is_printable_or_blank(byte: u8) -> bool {
-    is_printable(byte) || byte == b'\t' || byte == b'\n'
+/// Returns true if the first character of a text that is not white space is a colon.
+fn begins_with_colon(text: &str) -> bool {
+    text.trim_start().starts_with(":")
 }
 
-/// Returns true if a name has nothing but printable ASCII characters.
-fn is_plain_name(name: &[u8]) -> bool {
-    name.iter().all(|byte| is_printable(*byte))
+/// Returns true if all bytes are printable ASCII characters except `#`.
+fn has_plain_bytes(bytes: &[u8]) -> bool {
+    bytes.iter().all(|byte| is_plain_byte(*byte))
 }
 
-/// Returns true if a text has nothing but printable ASCII characters, tabs and line feeds.
-fn is_plain_text(shown: &[u8]) -> bool {
-    shown.iter().all(|byte| is_printable_or_blank(*byte))
+/// Returns true if a text has nothing but printable ASCII characters, no `#`, and no colon at its front. Such a
+/// text has no escapes.
+fn is_plain(text: &str) -> bool {
+    has_plain_bytes(text.as_bytes()) && !begins_with_colon(text)
 }
 
-/// Appends a name. All control characters are shown as escapes.
+/// Returns true if a character is shown as an escape: a control character, except a tab or a line feed in a text of
+/// several lines, or a character that changes the direction of writing.
+fn is_control(c: char, one_line: bool) -> bool {
+    (one_line && (c == '\t' || c == '\n')) || is_escaped(c)
+}
+
+/// Returns true if a character is shown as an escape. `rest` is the text after it.
+fn has_escape(c: char, rest: &str, at_front: bool, one_line: bool) -> bool {
+    begins_command(c, rest, at_front) || is_control(c, one_line)
+}
+
+/// Appends the name of a suite or a test: at most its first 1,024 bytes, cut at a character, and `..` if it is
+/// longer.
 pub(crate) fn push_name(text: &mut String, name: &str) {
-    if is_plain_name(name.as_bytes()) {
-        text.push_str(name);
-    } else {
-        push_name_chars(text, name);
+    push_line(text, front(name, NAME_LIMIT));
+    push_dots(text, name.len() > NAME_LIMIT);
+}
+
+/// Appends `..` if the rest of a name is not shown.
+fn push_dots(text: &mut String, is_cut: bool) {
+    if is_cut {
+        text.push_str("..");
     }
 }
 
-/// Appends a name, character by character.
-fn push_name_chars(text: &mut String, name: &str) {
-    for c in name.chars() {
-        push_char(text, c, c == '\t' || c == '\n' || is_escaped(c));
-    }
+/// Appends a text as one line. All control characters are shown as escapes.
+pub(crate) fn push_line(text: &mut String, line: &str) {
+    push_shown(text, line, true);
 }
 
 /// Appends a name and a space. Appends nothing if there is no name.
@@ -58,20 +77,39 @@ pub(crate) fn push_name_and_space(text: &mut String, name: &Option<String>) {
     }
 }
 
-/// Appends a text. Its control characters are shown as escapes, unless `raw` is true.
+/// Appends a text of one or several lines. Its control characters except tabs and line feeds are shown as escapes.
+/// Appends the text as it is if `raw` is true.
 pub(crate) fn push_text(text: &mut String, shown: &str, raw: bool) {
-    if is_plain_text(shown.as_bytes()) {
+    if raw {
         text.push_str(shown);
     } else {
-        push_text_chars(text, shown, raw);
+        push_shown(text, shown, false);
     }
 }
 
-/// Appends a text, character by character.
-fn push_text_chars(text: &mut String, shown: &str, raw: bool) {
-    for c in shown.chars() {
-        push_char(text, c, !raw && is_escaped(c));
+/// Appends a text with its escapes. If `one_line` is true, tabs and line feeds are escapes, too.
+fn push_shown(text: &mut String, shown: &str, one_line: bool) {
+    if is_plain(shown) {
+        text.push_str(shown);
+    } else {
+        push_chars(text, shown, one_line);
     }
+}
+
+/// Appends a text with its escapes, character by character.
+fn push_chars(text: &mut String, shown: &str, one_line: bool) {
+    let mut rest = shown.chars();
+    let mut at_front = true;
+    while let Some(c) = rest.next() {
+        let escaped = has_escape(c, rest.as_str(), at_front, one_line);
+        push_char(text, c, escaped);
+        at_front = is_front(c, at_front);
+    }
+}
+
+/// Returns true if only white space is before the next character in its line, if this is so before `c` or not.
+fn is_front(c: char, at_front: bool) -> bool {
+    c == '\n' || (at_front && c.is_whitespace())
 }
 
 /// Returns at most the first `limit` bytes of a text, cut at a character.

@@ -103,13 +103,38 @@ fn panic_words(line: &str) -> Option<&str> {
     }
 }
 
-/// Returns the parts of why a test crashed: a sentence, and the last lines that something else printed.
+/// Returns the parts of why a test crashed: a sentence, the cause that cargo names, and what the prints say.
 fn crash_parts(crash: &Crash) -> Vec<String> {
     let mut parts = vec![crash_words(crash)];
-    for line in &crash.prints {
-        parts.push(line.clone());
-    }
+    push_some(&mut parts, copied(&crash.cause));
+    parts.append(&mut prints_parts(crash));
     parts
+}
+
+/// Returns what the prints before a crash say: the part that explains a failure, or else the last of them.
+fn prints_parts(crash: &Crash) -> Vec<String> {
+    match explanation_in(crash.prints.as_str()) {
+        Some(part) => vec![part],
+        None => copies_of(crash.last.as_slice()),
+    }
+}
+
+/// Returns the part of a text that explains a failure, or `None` if it has none.
+fn explanation_in(text: &str) -> Option<String> {
+    let bytes = Some(text.as_bytes());
+    match TestOutputErrorSlice::heuristic_extract(bytes, bytes) {
+        Some(found) => found_text(&found),
+        None => None,
+    }
+}
+
+/// Returns copies of lines.
+fn copies_of(lines: &[String]) -> Vec<String> {
+    let mut copies = Vec::new();
+    for line in lines {
+        copies.push(line.clone());
+    }
+    copies
 }
 
 /// Returns the sentence for a crash.

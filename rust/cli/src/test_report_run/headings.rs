@@ -1,38 +1,27 @@
 // Made by tools/erase from crates/test_report_run/src/headings.rt. Do not edit.
 //! The names that headings give suites.
 
-use crate::test_report_run::error::{RunError, one_more};
+use crate::test_report_run::error::RunError;
+use std::collections::BTreeMap;
 
-/// A heading: the name that it gives, and the path of the binary. Headings of documentation tests have no
-/// path.
-#[derive(Clone)]
-struct Heading {
-    name: String,
-    path: Option<String>,
-}
-
-impl Heading {
-    /// Returns true if the heading has this name and this path.
-    fn is(&self, name: &str, path: Option<&str>) -> bool {
-        let same_path = match (&self.path, path) {
-            (Some(own), Some(path)) => own.as_str() == path,
-            (None, None) => true,
-            _ => false,
-        };
-        self.name.as_str() == name && same_path
-    }
-}
-
-/// The headings of a file, in the order in which they came first.
+/// The headings of a file: the paths that each name had.
 #[derive(Clone)]
 pub(crate) struct Headings {
-    list: Vec<Heading>,
+    names: BTreeMap<String, Paths>,
+}
+
+/// The paths that one name had, each with its number. Headings of documentation tests have no path.
+#[derive(Clone)]
+struct Paths {
+    numbers: BTreeMap<Option<String>, usize>,
 }
 
 impl Headings {
     /// Returns no headings.
     pub(crate) fn new() -> Headings {
-        Headings { list: Vec::new() }
+        Headings {
+            names: BTreeMap::new(),
+        }
     }
 
     /// Takes a heading, and returns the name of the suites that follow it. If headings with this name had
@@ -42,41 +31,39 @@ impl Headings {
         name: &str,
         path: Option<&str>,
     ) -> Result<String, RunError> {
-        let at = self.place(name, path);
-        let earlier = self.named_before(at, name);
-        if at == self.list.len() {
-            self.push(name, path);
-        }
-        if earlier == 0 {
+        let number = self.number(name, path);
+        if number == 1 {
             return Ok(String::from(name));
         }
-        let number = one_more(earlier)?;
         Ok(format!("{name} ({number})"))
     }
 
-    /// Returns the position of a heading, or the number of headings if it is not among them.
-    fn place(&self, name: &str, path: Option<&str>) -> usize {
-        let place = self.position(name, path);
-        place.unwrap_or(self.list.len())
-    }
-
-    /// Returns the position of a heading, or `None` if it is not among them.
-    fn position(&self, name: &str, path: Option<&str>) -> Option<usize> {
-        self.list.iter().position(|heading| heading.is(name, path))
-    }
-
-    /// Returns how many of the first `at` headings have a name.
-    fn named_before(&self, at: usize, name: &str) -> usize {
-        self.list[..at]
-            .iter()
-            .filter(|heading| heading.name.as_str() == name)
-            .count()
-    }
-
-    /// Adds a heading.
-    fn push(&mut self, name: &str, path: Option<&str>) {
-        let path = path.map(String::from);
+    /// Adds a path to those of a name, and returns its number.
+    fn number(&mut self, name: &str, path: Option<&str>) -> usize {
+        let path = owned(path);
         let name = String::from(name);
-        self.list.push(Heading { name, path });
+        let paths = self.names.entry(name).or_insert(Paths::new());
+        paths.number(path)
     }
+}
+
+impl Paths {
+    /// Returns no paths.
+    fn new() -> Paths {
+        Paths {
+            numbers: BTreeMap::new(),
+        }
+    }
+
+    /// Adds a path if it is new, and returns its number. The first path has the number 1.
+    fn number(&mut self, path: Option<String>) -> usize {
+        let next = self.numbers.len() + 1;
+        let number = self.numbers.entry(path).or_insert(next);
+        *number
+    }
+}
+
+/// Returns a text that may be absent, as an owned text.
+fn owned(text: Option<&str>) -> Option<String> {
+    text.map(String::from)
 }

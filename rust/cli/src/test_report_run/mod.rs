@@ -35,11 +35,14 @@
 //! ```
 
 mod counted;
+mod cuts;
 mod ended;
 pub mod error;
 mod headings;
 mod last_line;
+mod longest_end;
 pub mod note;
+mod others;
 mod over;
 mod prints;
 pub mod run;

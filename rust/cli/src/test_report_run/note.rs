@@ -3,6 +3,7 @@
 
 use crate::test_report_events::event::TestResult;
 use deodarsieve::{RunOutcome, RunStats};
+use std::rc::Rc;
 
 /// A fact about a run that a line, or the end of a file, makes known.
 #[derive(Clone, Debug)]
@@ -99,9 +100,15 @@ pub struct Crash {
     /// True if the suite has a key. Then each of its tests ran in a process of its own.
     pub has_key: bool,
 
-    /// The last prints before the suite ended, and the line in which cargo names the signal, if there are
-    /// such lines.
-    pub prints: Vec<String>,
+    /// The line after `Caused by:`, in which cargo names the signal, or its first 200 bytes.
+    pub cause: Option<String>,
+
+    /// The text of the prints after the suite started, up to the first heading or failure of cargo: the longest
+    /// end of them that has at most 16,384 bytes. The crashed tests of a suite share it.
+    pub prints: Rc<String>,
+
+    /// The last three of these prints that are not blank, or their first 200 bytes.
+    pub last: Vec<String>,
 }
 
 /// A contradiction between lines of a run. A damaged line that says a failure, and a file without an event of a

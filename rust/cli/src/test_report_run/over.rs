@@ -7,8 +7,10 @@ use crate::test_report_run::last_line::{Explanation, disagrees, explained};
 use crate::test_report_run::note::{
     Crash, Disagreement, Failure, FailureKind, NotRun, Note, SuiteNote, TestOutcome, failed_count,
 };
+use crate::test_report_run::others::Others;
 use crate::test_report_run::running::RunningTest;
 use crate::test_report_run::suite::{FlakyTest, OverTest, Suite};
+use std::rc::Rc;
 
 /// The numbers of a suite that its finished tests do not give.
 #[derive(Clone, Copy)]
@@ -33,15 +35,33 @@ fn over(test: RunningTest) -> OverTest {
     }
 }
 
+/// Returns a copy of how a test crashed, which shares the text of the prints.
+fn copy_of(crash: &Crash) -> Crash {
+    let mut last = Vec::new();
+    for line in &crash.last {
+        last.push(line.clone());
+    }
+    let cause = crash.cause.clone();
+    Crash {
+        running: crash.running,
+        has_key: crash.has_key,
+        cause,
+        prints: crash.prints.clone(),
+        last,
+    }
+}
+
 impl Suite {
-    /// Ends the suite without a last line, and adds its notes. `left` are its running tests, which crashed.
+    /// Ends the suite without a last line, and adds its notes. `left` are its running tests, which crashed. `others`
+    /// are the lines of the file that are no events.
     pub(crate) fn end_early(
         mut self,
+        others: &Others,
         left: Vec<RunningTest>,
         notes: &mut Vec<Note>,
     ) -> Result<(), RunError> {
         let crashed = left.len();
-        self.crash_all(left, notes)?;
+        self.crash_left(others, left, notes)?;
         self.release_flaky(false, notes)?;
         self.push_early_end(crashed, notes)?;
         let rest = Rest {
@@ -52,15 +72,29 @@ impl Suite {
         self.push_numbers(rest, notes)
     }
 
-    /// Counts all these tests as crashed.
+    /// Counts the running tests of the suite as crashed. `others` are the lines of the file that are no events.
+    fn crash_left(
+        &mut self,
+        others: &Others,
+        left: Vec<RunningTest>,
+        notes: &mut Vec<Note>,
+    ) -> Result<(), RunError> {
+        if left.is_empty() {
+            return Ok(());
+        }
+        let crash = self.crash(others, left.len());
+        self.crash_all(&crash, left, notes)
+    }
+
+    /// Counts all these tests as crashed in this way.
     fn crash_all(
         &mut self,
+        crash: &Crash,
         tests: Vec<RunningTest>,
         notes: &mut Vec<Note>,
     ) -> Result<(), RunError> {
-        let running = tests.len();
         for test in tests {
-            let kind = FailureKind::Crashed(self.crash(running));
+            let kind = FailureKind::Crashed(copy_of(crash));
             self.crashed = one_more(self.crashed)?;
             self.fail(test, kind, notes)?;
         }
@@ -68,11 +102,13 @@ impl Suite {
     }
 
     /// Returns how a test of the suite crashed. `running` is the number of its running tests.
-    fn crash(&self, running: usize) -> Crash {
+    fn crash(&self, others: &Others, running: usize) -> Crash {
         Crash {
             running,
             has_key: self.name.key.is_some(),
-            prints: self.prints.lines(),
+            cause: others.cause_behind(self.last_event),
+            prints: Rc::new(others.prints_from(self.start)),
+            last: others.last_prints_from(self.start),
         }
     }
 

@@ -1,147 +1,87 @@
 // Made by tools/erase from crates/test_report_run/src/prints.rt. Do not edit.
-//! The lines that may explain why a suite ended early.
+//! Prints that come one after the other, without a heading or a failure of cargo between them.
 
-/// The number of prints that are kept.
-const KEPT_PRINTS: usize = 3;
+use crate::test_report_run::cuts::shortened;
+use crate::test_report_run::error::{RunError, one_more};
+use crate::test_report_run::longest_end::LongestEnd;
 
-/// The most bytes of a print that are kept.
-const KEPT_BYTES: usize = 200;
+/// How many of the last prints that are not blank are kept besides.
+const LAST_PRINTS: usize = 3;
 
-/// The line before the one in which cargo names the cause of its failure.
-const CAUSED_BY: &[u8] = b"Caused by:";
+/// A print that is not blank.
+#[derive(Clone)]
+pub(crate) struct LastPrint {
+    /// The number of prints that came before it.
+    place: usize,
 
-/// A line that is no event of a harness.
-#[derive(Clone, Copy)]
-pub(crate) enum Printed<'a> {
-    /// Any line, and the same line without colours.
-    Print { line: &'a str, plain: &'a str },
-
-    /// A heading of cargo.
-    Heading,
-
-    /// A line in which cargo or nextest reports a failure.
-    CargoFailed { line: &'a str },
+    /// Its first 200 bytes.
+    line: String,
 }
 
-/// Which of the lines that may explain an early end has been read.
-#[derive(Clone, Copy, PartialEq, Eq)]
-enum Stage {
-    /// Before the first heading or failure.
-    Open,
-
-    /// After the first failure, before the line `Caused by:`.
-    Failed,
-
-    /// Right after the line `Caused by:`.
-    CausedBy,
-
-    /// After a heading, a second failure, or the line after `Caused by:`.
-    Over,
-}
-
-/// The lines that may explain why a suite ended early. They are the last three prints before the first
-/// heading or failure of cargo, without blank ones. After a failure, they also have the line after
-/// `Caused by:`.
+/// Prints that come one after the other: the longest end of them that fits, and the last three that are not blank.
 #[derive(Clone)]
 pub(crate) struct Prints {
-    lines: Vec<String>,
-    stage: Stage,
+    count: usize,
+    kept: LongestEnd,
+    last: Vec<LastPrint>,
 }
 
 impl Prints {
-    /// Returns no lines.
+    /// Returns no prints.
     pub(crate) fn new() -> Prints {
         Prints {
-            lines: Vec::new(),
-            stage: Stage::Open,
+            count: 0,
+            kept: LongestEnd::new(),
+            last: Vec::new(),
         }
     }
 
-    /// Takes the next line.
-    pub(crate) fn on_printed(&mut self, printed: Printed<'_>) {
-        match self.stage {
-            Stage::Open => self.on_print(printed),
-            Stage::Failed => {
-                self.stage = stage_after_failure(printed);
-            }
-            Stage::CausedBy => {
-                self.stage = Stage::Over;
-                self.on_cause(printed);
-            }
-            Stage::Over => {}
+    /// Returns the number of prints.
+    pub(crate) fn count(&self) -> usize {
+        self.count
+    }
+
+    /// Takes the next print.
+    pub(crate) fn take_print(&mut self, line: &str) -> Result<(), RunError> {
+        self.kept.take_line(line);
+        if !line.trim().is_empty() {
+            self.push_last(line);
         }
+        self.count = one_more(self.count)?;
+        Ok(())
     }
 
-    /// Takes a line before the first heading or failure.
-    fn on_print(&mut self, printed: Printed<'_>) {
-        match printed {
-            Printed::Print { line, .. } if line.trim().is_empty() => {}
-            Printed::Print { line, .. } => {
-                self.make_room();
-                self.push(shortened(line));
-            }
-            Printed::Heading => {
-                self.stage = Stage::Over;
-            }
-            Printed::CargoFailed { .. } => {
-                self.stage = Stage::Failed;
-            }
-        }
+    /// Keeps a print that is not blank among the last three.
+    fn push_last(&mut self, line: &str) {
+        let line = String::from(shortened(line));
+        let place = self.count;
+        self.last.push(LastPrint { place, line });
+        drop_early(&mut self.last);
     }
 
-    /// Keeps the line right after `Caused by:`, unless it is a heading.
-    fn on_cause(&mut self, printed: Printed<'_>) {
-        match printed {
-            Printed::Print { line, .. } | Printed::CargoFailed { line } => self.push(line),
-            Printed::Heading => {}
-        }
+    /// Returns the text of the prints that are kept, from the print on before which `first` others came. Prints are
+    /// joined by line feeds.
+    pub(crate) fn text_from(&self, first: usize) -> String {
+        let dropped = self.count.saturating_sub(self.kept.len());
+        self.kept.text(first.saturating_sub(dropped))
     }
 
-    /// Drops the first line if there are three.
-    fn make_room(&mut self) {
-        if self.lines.len() >= KEPT_PRINTS {
-            self.lines.remove(0);
-        }
-    }
-
-    /// Keeps a line.
-    fn push(&mut self, line: &str) {
-        self.lines.push(String::from(line));
-    }
-
-    /// Returns a copy of the lines.
-    pub(crate) fn lines(&self) -> Vec<String> {
+    /// Returns the last three prints that are not blank, of those from that print on. Of each print there are at
+    /// most 200 bytes.
+    pub(crate) fn last_from(&self, first: usize) -> Vec<String> {
         let mut lines = Vec::new();
-        for line in &self.lines {
-            lines.push(line.clone());
+        for print in &self.last {
+            if print.place >= first {
+                lines.push(print.line.clone());
+            }
         }
         lines
     }
 }
 
-/// Returns the stage after a line that comes after the first failure.
-fn stage_after_failure(printed: Printed<'_>) -> Stage {
-    match printed {
-        Printed::Print { plain, .. } if says_caused_by(plain.as_bytes()) => Stage::CausedBy,
-        Printed::Print { .. } => Stage::Failed,
-        Printed::Heading | Printed::CargoFailed { .. } => Stage::Over,
+/// Drops all prints but the last three.
+fn drop_early(prints: &mut Vec<LastPrint>) {
+    while prints.len() > LAST_PRINTS {
+        prints.remove(0);
     }
-}
-
-/// Returns true if a line is `Caused by:`, perhaps after spaces.
-fn says_caused_by(plain: &[u8]) -> bool {
-    match spaces_end(plain) {
-        Some(at) => plain[at..] == CAUSED_BY[..],
-        None => false,
-    }
-}
-
-/// Returns the offset of the first byte that is not a space.
-fn spaces_end(text: &[u8]) -> Option<usize> {
-    text.iter().position(|byte| *byte != b' ')
-}
-
-/// Returns the longest start of a line that has at most [`KEPT_BYTES`] bytes and ends between characters.
-pub(crate) fn shortened(line: &str) -> &str {
-    &line[..line.floor_char_boundary(KEPT_BYTES)]
 }

@@ -10,6 +10,7 @@ use crate::test_report_events::line::Line;
 use crate::test_report_run::error::{RunError, one_more};
 use crate::test_report_run::headings::Headings;
 use crate::test_report_run::note::{Disagreement, Note, RunEnd, TestOutcome};
+use crate::test_report_run::others::Others;
 use crate::test_report_run::run::lines::push_damaged;
 use crate::test_report_run::running::Running;
 use crate::test_report_run::suite::Suite;
@@ -34,6 +35,9 @@ pub struct TestRun {
     /// True if a line of the file was an event of a harness.
     has_event: bool,
 
+    /// The lines of the file that are no events of a harness.
+    others: Others,
+
     running: Running,
     ended: usize,
     totals: Totals,
@@ -56,6 +60,7 @@ impl TestRun {
             headings: Headings::new(),
             heading: None,
             has_event: false,
+            others: Others::new(),
             running: Running::new(),
             ended: 0,
             totals: Totals::new(),
@@ -105,6 +110,7 @@ impl TestRun {
         self.headings = Headings::new();
         self.heading = None;
         self.has_event = false;
+        self.others = Others::new();
         self.causes_at_file = self.causes;
         self.causes_at_cargo = self.causes;
         Ok(notes)
@@ -138,12 +144,10 @@ impl TestRun {
             } => self.on_test_ended(name, end, details, notes),
             Event::Other => Ok(()),
             Event::Heading { suite, path } => self.on_heading(suite, path),
-            Event::CargoFailed {
-                failure,
-                line,
-                plain,
-            } => self.on_cargo_failed(failure, line, plain, notes),
-            Event::Print { line, plain } => self.on_print_line(line, plain),
+            Event::CargoFailed { failure, plain, .. } => {
+                self.on_cargo_failed(failure, plain, notes)
+            }
+            Event::Print { line, plain } => self.others.on_print(line, plain),
             Event::Damaged { text } => push_damaged(text, notes),
         }
     }

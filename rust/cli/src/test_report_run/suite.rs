@@ -5,7 +5,7 @@ use crate::test_report_events::event::SuiteEnd;
 use crate::test_report_run::error::{RunError, one_more};
 use crate::test_report_run::last_line::Tally;
 use crate::test_report_run::note::{Note, TestNote, TestOutcome, failed_count};
-use crate::test_report_run::prints::{Printed, Prints};
+use crate::test_report_run::others::{EventPlace, Others, PrintPlace};
 use crate::test_report_run::said::{Said, sum};
 use crate::test_report_run::suite_name::SuiteName;
 use deodarsieve::RunStats;
@@ -71,29 +71,43 @@ pub(crate) struct Suite {
     /// The sum of the times of tests, in microseconds.
     pub(crate) time: Option<u64>,
 
-    /// The lines that may explain why the suite ended early.
-    pub(crate) prints: Prints,
+    /// The place of the first print after its first line.
+    pub(crate) start: PrintPlace,
+
+    /// The place of its last event.
+    pub(crate) last_event: EventPlace,
 }
 
 impl Suite {
-    /// Returns a suite after its first line.
+    /// Returns a suite after its first line. `others` are the other lines of the file before it.
     pub(crate) fn new(
         number: usize,
         key: Option<String>,
         heading: Option<String>,
         test_count: Option<u128>,
+        others: &Others,
     ) -> Suite {
         let name = SuiteName::new(number, key, heading);
-        Suite::named(name, test_count)
+        Suite::named(name, test_count, others.print_place(), others.event_place())
     }
 
     /// Returns the tests of a file that start outside of a suite, before the first of them.
     pub(crate) fn outside() -> Suite {
-        Suite::named(SuiteName::outside(), None)
+        Suite::named(
+            SuiteName::outside(),
+            None,
+            PrintPlace::default(),
+            EventPlace::default(),
+        )
     }
 
     /// Returns a suite with a name, after its first line.
-    fn named(name: SuiteName, test_count: Option<u128>) -> Suite {
+    fn named(
+        name: SuiteName,
+        test_count: Option<u128>,
+        start: PrintPlace,
+        last_event: EventPlace,
+    ) -> Suite {
         Suite {
             name,
             test_count,
@@ -105,7 +119,8 @@ impl Suite {
             skipped: 0,
             flaky: Vec::new(),
             time: None,
-            prints: Prints::new(),
+            start,
+            last_event,
         }
     }
 
@@ -121,11 +136,6 @@ impl Suite {
         self.said = self.said.with_line(end)?;
         self.open_lines = self.open_lines.saturating_sub(1);
         Ok(self.open_lines == 0)
-    }
-
-    /// Takes a line that is no event of a harness.
-    pub(crate) fn on_print(&mut self, printed: Printed<'_>) {
-        self.prints.on_printed(printed);
     }
 
     /// Takes the name in a line of a test of the suite.

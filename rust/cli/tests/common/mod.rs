@@ -1,4 +1,4 @@
-//! Running the two programs.
+//! Running the programs.
 #![allow(
     dead_code,
     reason = "each file of tests is a program of its own, and calls only some of these"
@@ -20,6 +20,7 @@ const PATIENCE: Duration = Duration::from_secs(60);
 /// Returns the path of a program of this package.
 pub fn path_of(program: &str) -> &'static str {
     match program {
+        "cargo-test-report" => env!("CARGO_BIN_EXE_cargo-test-report"),
         "run-digest" => env!("CARGO_BIN_EXE_run-digest"),
         "test-report" => env!("CARGO_BIN_EXE_test-report"),
         _ => panic!("this package has no program {program}"),
@@ -47,9 +48,12 @@ pub struct Running {
 
 /// Starts `test-report` with arguments.
 pub fn start(arguments: &[&str]) -> Running {
-    let mut child = command("test-report", arguments)
-        .spawn()
-        .expect("the program starts");
+    started(&mut command("test-report", arguments))
+}
+
+/// Starts a program whose standard input, output and error are pipes.
+pub fn started(command: &mut Command) -> Running {
+    let mut child = command.spawn().expect("the program starts");
     Running {
         stdin: child.stdin.take().expect("standard input is a pipe"),
         stdout: child.stdout.take().expect("standard output is a pipe"),

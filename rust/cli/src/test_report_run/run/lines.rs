@@ -1,16 +1,16 @@
 // Made by tools/erase from crates/test_report_run/src/run/lines.rt. Do not edit.
-//! Lines that are of no suite and of no test: headings, failures of cargo, and what is printed.
+//! Headings, failures of cargo, and damaged lines.
 
 use crate::test_report_events::event::CargoFailure;
+use crate::test_report_run::cuts::shortened;
 use crate::test_report_run::error::RunError;
 use crate::test_report_run::note::{Disagreement, Note};
-use crate::test_report_run::prints::{Printed, shortened};
 use crate::test_report_run::run::TestRun;
 
 impl TestRun {
     /// Takes a heading of cargo.
     pub(crate) fn on_heading(&mut self, name: &str, path: Option<&str>) -> Result<(), RunError> {
-        self.on_print(Printed::Heading);
+        self.others.on_heading()?;
         self.heading = Some(self.headings.on_heading(name, path)?);
         Ok(())
     }
@@ -19,12 +19,11 @@ impl TestRun {
     pub(crate) fn on_cargo_failed(
         &mut self,
         failure: CargoFailure,
-        line: &str,
         plain: &str,
         notes: &mut Vec<Note>,
     ) -> Result<(), RunError> {
         self.count_cargo_failed(failure, plain, notes)?;
-        self.on_print(Printed::CargoFailed { line });
+        self.others.on_failure();
         Ok(())
     }
 
@@ -47,20 +46,6 @@ impl TestRun {
             }));
         }
         Ok(())
-    }
-
-    /// Takes a print: any other line.
-    pub(crate) fn on_print_line(&mut self, line: &str, plain: &str) -> Result<(), RunError> {
-        self.on_print(Printed::Print { line, plain });
-        Ok(())
-    }
-
-    /// Takes a line that is no event of a harness.
-    fn on_print(&mut self, printed: Printed<'_>) {
-        for suite in self.suites.iter_mut() {
-            suite.on_print(printed);
-        }
-        self.outside.on_print(printed);
     }
 }
 

@@ -44,7 +44,11 @@ impl TestRun {
 
     /// Adds a first line to the open suite at a position.
     fn join(&mut self, test_count: Option<u128>, at: usize) -> Result<(), RunError> {
-        self.suites[at].join(test_count)
+        let place = self.others.event_place();
+        let suite = &mut self.suites[at];
+        suite.join(test_count)?;
+        suite.last_event = place;
+        Ok(())
     }
 
     /// Removes the open suite at a position, and returns it.
@@ -56,7 +60,7 @@ impl TestRun {
     fn open(&mut self, key: Option<String>, test_count: Option<u128>) -> Result<(), RunError> {
         self.suites_started = one_more(self.suites_started)?;
         let heading = self.heading.clone();
-        let suite = Suite::new(self.suites_started, key, heading, test_count);
+        let suite = Suite::new(self.suites_started, key, heading, test_count, &self.others);
         self.suites.push(Box::new(suite));
         Ok(())
     }
@@ -99,7 +103,11 @@ impl TestRun {
 
     /// Adds a last line to the open suite at a position. Returns true if the suite is over.
     fn add_last_line(&mut self, end: SuiteEnd<'_>, at: usize) -> Result<bool, RunError> {
-        self.suites[at].on_last_line(end)
+        let place = self.others.event_place();
+        let suite = &mut self.suites[at];
+        let is_over = suite.on_last_line(end)?;
+        suite.last_event = place;
+        Ok(is_over)
     }
 
     /// Ends a suite that has its last line.
@@ -115,7 +123,7 @@ impl TestRun {
         notes: &mut Vec<Note>,
     ) -> Result<(), RunError> {
         let left = self.running.take_suite(suite.name.number);
-        suite.end_early(left, notes)
+        suite.end_early(&self.others, left, notes)
     }
 
     /// Returns the position of the first open suite with a key, or without a key.

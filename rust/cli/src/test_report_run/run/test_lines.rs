@@ -18,14 +18,17 @@ impl TestRun {
 
     /// Counts the start of a test in its suite. Returns the number of the suite, if it has one.
     fn count_start(&mut self, name: &str) -> Result<Option<usize>, RunError> {
+        let place = self.others.event_place();
         match self.suite_of(name) {
             Some(at) => {
                 let suite = &mut self.suites[at];
                 suite.on_start(name)?;
+                suite.last_event = place;
                 Ok(suite.name.number)
             }
             None => {
                 self.outside.on_start(name)?;
+                self.outside.last_event = place;
                 Ok(self.outside.name.number)
             }
         }
@@ -93,9 +96,19 @@ impl TestRun {
             time: details.time,
             ended: Some(self.ended),
         };
+        let event = self.others.event_place();
         match place {
-            Some(at) => self.suites[at].on_end(over, order, end, details, notes),
-            None => self.outside.on_end(over, order, end, details, notes),
+            Some(at) => {
+                let suite = &mut self.suites[at];
+                suite.on_end(over, order, end, details, notes)?;
+                suite.last_event = event;
+                Ok(())
+            }
+            None => {
+                self.outside.on_end(over, order, end, details, notes)?;
+                self.outside.last_event = event;
+                Ok(())
+            }
         }
     }
 
@@ -139,9 +152,19 @@ impl TestRun {
             time: details.time,
             ended: Some(self.ended),
         };
+        let event = self.others.event_place();
         match self.suite_of(name) {
-            Some(at) => self.suites[at].on_stray_end(test, end, details, notes),
-            None => self.outside.on_stray_end(test, end, details, notes),
+            Some(at) => {
+                let suite = &mut self.suites[at];
+                suite.on_stray_end(test, end, details, notes)?;
+                suite.last_event = event;
+                Ok(())
+            }
+            None => {
+                self.outside.on_stray_end(test, end, details, notes)?;
+                self.outside.last_event = event;
+                Ok(())
+            }
         }
     }
 }

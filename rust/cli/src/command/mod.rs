@@ -1,0 +1,8 @@
+//! Runs the command whose tests are reported, for example `cargo test`.
+
+pub mod cargo;
+pub mod end;
+pub mod prepared;
+pub mod running;
+pub mod settings;
+pub mod stand_in;

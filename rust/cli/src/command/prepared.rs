@@ -1,0 +1,276 @@
+//! Prepares a command: adds the arguments and the variables with which it writes JSON lines.
+
+use super::cargo::{CargoCommand, Runner, values_of};
+use super::settings::names_other_program;
+use super::stand_in::{ACCEPT_OPTIONS, AS_RUNNER, AS_RUSTDOC, BOOTSTRAP, missing_options};
+use std::env;
+use std::ffi::OsString;
+use std::io::{self, IsTerminal};
+use std::process::Command;
+
+/// The variable without which nextest refuses to write JSON lines.
+const NEXTEST_JSON: &str = "NEXTEST_EXPERIMENTAL_LIBTEST_JSON";
+
+/// The variable that says when cargo uses colours.
+const CARGO_COLOR: &str = "CARGO_TERM_COLOR";
+
+/// The message if the harness cannot be made to accept its options without a variable for all of cargo.
+const COST: &str = "test-report: RUSTC_BOOTSTRAP is set for the whole of cargo, because your settings name a runner or \
+                    a rustdoc: packages whose build script watches this variable are compiled anew";
+
+/// A command and what is added to it.
+#[derive(Debug, PartialEq, Eq)]
+pub struct Prepared {
+    /// The program and its arguments.
+    pub words: Vec<OsString>,
+
+    /// The variables that are set for the command.
+    pub variables: Vec<(&'static str, OsString)>,
+
+    /// A message for the user.
+    pub message: Option<&'static str>,
+}
+
+/// How a stable toolchain's harness is made to accept `-Z unstable-options`.
+#[derive(Clone, Debug, PartialEq, Eq)]
+enum Acceptance {
+    /// By the program at this path, which cargo starts in place of the test programs and of rustdoc. It sets the
+    /// variable for these alone, and adds the options.
+    StandIn(String),
+
+    /// By the variable for the whole of cargo.
+    WholeCargo,
+
+    /// The user has set the variable.
+    Given,
+}
+
+/// Returns a command with what makes it write JSON lines, if it is a cargo that runs tests.
+pub fn prepare(words: &[OsString]) -> Prepared {
+    let mut prepared = match CargoCommand::of(words) {
+        Some(cargo) if cargo.runner == Runner::Nextest => with_nextest(&cargo),
+        Some(cargo) if writes_other_format(&cargo) => unchanged(words),
+        Some(cargo) => with_harness(&cargo, &acceptance_for(&cargo)),
+        None => unchanged(words),
+    };
+    if io::stderr().is_terminal() && env::var_os(CARGO_COLOR).is_none() {
+        prepared.variables.push((CARGO_COLOR, "always".into()));
+    }
+    prepared
+}
+
+impl Prepared {
+    /// Returns the command for the system. It cannot be started if there are no words.
+    pub fn command(&self) -> Command {
+        let program = self.words.first().cloned().unwrap_or_default();
+        let variables = self.variables.iter().map(|(name, value)| (name, value));
+        let mut command = Command::new(program);
+        command.args(self.words.iter().skip(1)).envs(variables);
+        command
+    }
+}
+
+/// Returns a command without additions.
+fn unchanged(words: &[OsString]) -> Prepared {
+    Prepared {
+        words: words.to_vec(),
+        variables: Vec::new(),
+        message: None,
+    }
+}
+
+/// Returns true if the user asks the harness for a format that is not JSON.
+fn writes_other_format(cargo: &CargoCommand) -> bool {
+    values_of(cargo.harness, "--format")
+        .iter()
+        .any(|format| *format != "json")
+}
+
+/// Returns how the harness is made to accept its options.
+fn acceptance_for(cargo: &CargoCommand) -> Acceptance {
+    if env::var_os(BOOTSTRAP).is_some() {
+        return Acceptance::Given;
+    }
+    let program = env::current_exe().ok();
+    match program.and_then(|path| path.into_os_string().into_string().ok()) {
+        Some(path) if !names_other_program(cargo) => Acceptance::StandIn(path),
+        _ => Acceptance::WholeCargo,
+    }
+}
+
+/// Returns a `cargo test` or `cargo bench` whose harness writes JSON lines.
+fn with_harness(cargo: &CargoCommand, acceptance: &Acceptance) -> Prepared {
+    let mut words = cargo.before.to_vec();
+    let mut prepared = unchanged(&[]);
+    match acceptance {
+        Acceptance::StandIn(path) => {
+            for setting in settings_for(path) {
+                words.extend(["--config".into(), setting.into()]);
+            }
+            prepared.variables = vec![(AS_RUSTDOC, "1".into())];
+        }
+        Acceptance::WholeCargo => {
+            prepared.variables = vec![(BOOTSTRAP, ACCEPT_OPTIONS.into())];
+            prepared.message = Some(COST);
+        }
+        Acceptance::Given => {}
+    }
+    words.extend_from_slice(cargo.subcommand);
+    if !cargo.own.iter().any(|word| word == "--no-fail-fast") {
+        words.push("--no-fail-fast".into());
+    }
+    words.extend_from_slice(cargo.own);
+    let mut harness = Vec::new();
+    // In cargo's message about a program that a signal ended, its arguments come before the name of the signal. So what
+    // stands in for the program adds the options.
+    if !matches!(acceptance, Acceptance::StandIn(_)) {
+        harness.extend(missing_options(cargo.harness).map(OsString::from));
+    }
+    harness.extend_from_slice(cargo.harness);
+    if !harness.is_empty() {
+        words.push("--".into());
+        words.extend(harness);
+    }
+    Prepared { words, ..prepared }
+}
+
+/// Returns the settings of cargo by which it starts the program at `path` in place of test programs and of rustdoc.
+fn settings_for(path: &str) -> [String; 2] {
+    // Strings of JSON are strings of TOML.
+    let runner = serde_json::json!([path, AS_RUNNER]);
+    let rustdoc = serde_json::json!(path);
+    [
+        format!("target.'cfg(all())'.runner={runner}"),
+        format!("build.rustdoc={rustdoc}"),
+    ]
+}
+
+/// Returns a `cargo nextest run` that writes JSON lines.
+fn with_nextest(cargo: &CargoCommand) -> Prepared {
+    let mut words = [cargo.before, cargo.subcommand].concat();
+    if values_of(cargo.own, "--message-format").is_empty() {
+        words.extend(["--message-format".into(), "libtest-json-plus".into()]);
+    }
+    words.extend_from_slice(cargo.own);
+    if !cargo.harness.is_empty() {
+        words.push("--".into());
+        words.extend_from_slice(cargo.harness);
+    }
+    Prepared {
+        words,
+        variables: vec![(NEXTEST_JSON, "1".into())],
+        message: None,
+    }
+}
+
+#[cfg(test)]
+mod tests {
+    use super::*;
+
+    /// Returns the words of a text.
+    fn words(text: &str) -> Vec<OsString> {
+        text.split_whitespace().map(OsString::from).collect()
+    }
+
+    /// Returns the words that a `cargo test` has if the user has set the variable.
+    fn harness_words(command: &str) -> Vec<OsString> {
+        let given = words(command);
+        let cargo = CargoCommand::of(&given).expect("the command runs tests");
+        with_harness(&cargo, &Acceptance::Given).words
+    }
+
+    #[test]
+    fn the_harness_gets_each_option_that_is_missing() {
+        let all = "-Z unstable-options --format json --report-time";
+        let cases = [
+            ("cargo test", format!("cargo test --no-fail-fast -- {all}")),
+            (
+                "cargo +x -q bench a --no-fail-fast -- b",
+                format!("cargo +x -q bench a --no-fail-fast -- {all} b"),
+            ),
+            (
+                "cargo t -- -Zunstable-options --format=json",
+                "cargo t --no-fail-fast -- --report-time -Zunstable-options --format=json".into(),
+            ),
+            (
+                "cargo test -- --report-time -Z unstable-options",
+                "cargo test --no-fail-fast -- --format json --report-time -Z unstable-options"
+                    .into(),
+            ),
+            (
+                "cargo test -- a -- --no-fail-fast",
+                format!("cargo test --no-fail-fast -- {all} a -- --no-fail-fast"),
+            ),
+        ];
+        for (command, wanted) in cases {
+            assert_eq!(harness_words(command), words(&wanted), "{command}");
+        }
+    }
+
+    #[test]
+    fn cargo_is_told_the_program_by_settings_before_the_subcommand() {
+        let given = words("cargo --locked test");
+        let cargo = CargoCommand::of(&given).expect("the command runs tests");
+        let prepared = with_harness(&cargo, &Acceptance::StandIn("/a b/\"c\\".into()));
+        let wanted = [
+            "cargo",
+            "--locked",
+            "--config",
+            r#"target.'cfg(all())'.runner=["/a b/\"c\\","--as-runner"]"#,
+            "--config",
+            r#"build.rustdoc="/a b/\"c\\""#,
+            "test",
+        ];
+        assert_eq!(prepared.words[..7], wanted);
+        assert_eq!(prepared.words[7..], ["--no-fail-fast"]);
+        assert_eq!(prepared.variables, [(AS_RUSTDOC, "1".into())]);
+        assert_eq!(prepared.message, None);
+    }
+
+    #[test]
+    fn the_user_is_told_what_the_variable_costs() {
+        let given = words("cargo test");
+        let cargo = CargoCommand::of(&given).expect("the command runs tests");
+        let prepared = with_harness(&cargo, &Acceptance::WholeCargo);
+        assert_eq!(prepared.words, harness_words("cargo test"));
+        assert_eq!(prepared.variables, [(BOOTSTRAP, ACCEPT_OPTIONS.into())]);
+        assert_eq!(prepared.message, Some(COST));
+    }
+
+    #[test]
+    fn another_format_is_left_to_the_user() {
+        for command in ["cargo test -- --format terse", "cargo t -- --format=pretty"] {
+            assert_eq!(prepare(&words(command)).words, words(command));
+        }
+    }
+
+    #[test]
+    fn nextest_gets_a_format_and_the_variable() {
+        let cases = [
+            (
+                "cargo nextest run a",
+                "cargo nextest run --message-format libtest-json-plus a",
+            ),
+            (
+                "cargo nextest r -- --exact a",
+                "cargo nextest r --message-format libtest-json-plus -- --exact a",
+            ),
+            (
+                "cargo nextest run --message-format=libtest-json",
+                "cargo nextest run --message-format=libtest-json",
+            ),
+        ];
+        for (command, wanted) in cases {
+            let prepared = prepare(&words(command));
+            assert_eq!(prepared.words, words(wanted));
+            assert_eq!(prepared.variables[0], (NEXTEST_JSON, "1".into()));
+        }
+    }
+
+    #[test]
+    fn another_command_is_unchanged() {
+        for command in ["sh -c true", "cargo build", "cargo test --no-run"] {
+            assert_eq!(prepare(&words(command)).words, words(command));
+        }
+    }
+}

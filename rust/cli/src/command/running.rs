@@ -1,0 +1,226 @@
+//! A command that runs, while the program reads what it writes.
+
+use super::end::CommandEnd;
+use std::io::{self, PipeReader, pipe};
+use std::process::{Child, Command};
+use std::thread;
+use std::time::{Duration, Instant};
+
+/// How long output is still read after the end of the command, from its end or from the last output on. A process in
+/// the background may keep the pipe open.
+const QUIET: Duration = Duration::from_secs(2);
+
+/// The longest time between two looks at the command.
+pub const LOOK: Duration = Duration::from_millis(100);
+
+/// The time between two looks at a command that was asked to end.
+const SHORT_LOOK: Duration = Duration::from_millis(5);
+
+/// A command that runs or has ended. If it is dropped while the command runs, the command is asked to end, and has two
+/// seconds to do so.
+#[derive(Debug)]
+pub struct RunningCommand {
+    child: Child,
+    end: Option<CommandEnd>,
+
+    /// When output last came, or the command ended.
+    last: Instant,
+}
+
+impl RunningCommand {
+    /// Starts a command. Returns it and what it writes to standard output and standard error, in one pipe, so that the
+    /// order stays. Its standard input, folder and variables are those of this program, unless `command` has others.
+    ///
+    /// Fails if the command cannot be started.
+    pub fn start(mut command: Command) -> io::Result<(RunningCommand, PipeReader)> {
+        let (output, writer) = pipe()?;
+        command.stdout(writer.try_clone()?).stderr(writer);
+        // The command is dropped at the end, and with it the ends of the pipe that this program has.
+        let child = command.spawn()?;
+        let running = RunningCommand {
+            child,
+            end: None,
+            last: Instant::now(),
+        };
+        Ok((running, output))
+    }
+
+    /// Notes that output came.
+    pub fn note_output(&mut self, now: Instant) {
+        self.last = now;
+    }
+
+    /// Returns how the command ended, or `None` if it runs.
+    ///
+    /// Fails if the system does not say.
+    pub fn end(&mut self) -> io::Result<Option<&CommandEnd>> {
+        if self.end.is_none() {
+            self.end = self.child.try_wait()?.map(CommandEnd::of);
+            if self.end.is_some() {
+                self.last = Instant::now();
+            }
+        }
+        Ok(self.end.as_ref())
+    }
+
+    /// Returns true if the command has ended and nothing came since for two seconds.
+    ///
+    /// Fails if the system does not say whether the command runs.
+    pub fn is_over(&mut self, now: Instant) -> io::Result<bool> {
+        let has_ended = self.end()?.is_some();
+        Ok(has_ended && now.saturating_duration_since(self.last) >= QUIET)
+    }
+
+    /// Asks the command to end, by SIGTERM, unless it has ended. Other systems end it.
+    pub fn terminate(&mut self) {
+        // A command that has been waited for has no number any more, and another process may have it.
+        if matches!(self.end(), Ok(None)) {
+            send_terminate(&mut self.child);
+        }
+    }
+}
+
+impl Drop for RunningCommand {
+    fn drop(&mut self) {
+        self.terminate();
+        let start = Instant::now();
+        while matches!(self.end(), Ok(None)) && start.elapsed() < QUIET {
+            thread::sleep(SHORT_LOOK);
+        }
+    }
+}
+
+#[cfg(unix)]
+mod signal {
+    use signal_hook::consts::SIGTERM;
+    use std::process::Child;
+
+    #[allow(
+        unsafe_code,
+        reason = "the standard library has no call that sends SIGTERM. This one takes two numbers and touches no memory"
+    )]
+    unsafe extern "C" {
+        /// Sends a signal to a process.
+        safe fn kill(process: i32, signal: i32) -> i32;
+    }
+
+    /// Sends SIGTERM to a child that was not waited for.
+    pub(super) fn send_terminate(child: &mut Child) {
+        // The number of a process is above 0, and fits.
+        if let Ok(process) = i32::try_from(child.id()) {
+            kill(process, SIGTERM);
+        }
+    }
+}
+
+#[cfg(not(unix))]
+mod signal {
+    use std::process::Child;
+
+    /// Ends a child. If that fails, it has ended already.
+    pub(super) fn send_terminate(child: &mut Child) {
+        let _ = child.kill();
+    }
+}
+
+use signal::send_terminate;
+
+#[cfg(all(test, unix))]
+mod tests {
+    use super::*;
+    use std::io::{BufRead, BufReader, Read};
+
+    /// How long a command may take to end.
+    const PATIENCE: Duration = Duration::from_secs(60);
+
+    /// Starts a script of the shell.
+    fn start(script: &str) -> (RunningCommand, PipeReader) {
+        let mut command = Command::new("sh");
+        command.args(["-c", script]);
+        RunningCommand::start(command).expect("a shell starts")
+    }
+
+    /// Returns how a command ends.
+    fn end_of(running: &mut RunningCommand) -> CommandEnd {
+        let start = Instant::now();
+        while start.elapsed() < PATIENCE {
+            if let Some(end) = running.end().expect("the command is a child") {
+                return end.clone();
+            }
+            thread::sleep(SHORT_LOOK);
+        }
+        panic!("the command does not end");
+    }
+
+    #[test]
+    fn both_streams_come_in_their_order() {
+        let (mut running, mut output) = start("echo a; echo b >&2; echo c; exit 7");
+        let mut text = String::new();
+        output.read_to_string(&mut text).expect("the pipe ends");
+        assert_eq!(text, "a\nb\nc\n");
+        assert_eq!(end_of(&mut running), CommandEnd::Status(7));
+    }
+
+    #[test]
+    fn a_command_that_runs_is_asked_to_end() {
+        let (mut running, _output) = start("exec sleep 100");
+        assert_eq!(running.end().expect("the command is a child"), None);
+        running.terminate();
+        assert_eq!(end_of(&mut running), CommandEnd::Signal(15));
+        running.terminate();
+    }
+
+    /// Starts a script, and returns when it has written a line.
+    fn start_and_read(script: &str) -> (RunningCommand, BufReader<PipeReader>) {
+        let (running, output) = start(script);
+        let mut output = BufReader::new(output);
+        let mut line = String::new();
+        output.read_line(&mut line).expect("the command writes");
+        assert_eq!(line, "a\n");
+        (running, output)
+    }
+
+    #[test]
+    fn a_command_that_is_dropped_is_asked_to_end_and_waited_for() {
+        let script = "trap 'sleep 1; echo ended; exit' TERM; echo a; sleep 20 & wait";
+        let (running, mut output) = start_and_read(script);
+        let start = Instant::now();
+        drop(running);
+        assert!(start.elapsed() >= QUIET / 2);
+        let mut line = String::new();
+        output.read_line(&mut line).expect("the command writes");
+        assert_eq!(line, "ended\n");
+    }
+
+    #[test]
+    fn a_command_that_does_not_end_is_left_alone() {
+        let (running, _output) = start_and_read("trap '' TERM; echo a; exec sleep 10");
+        let start = Instant::now();
+        drop(running);
+        assert!(start.elapsed() >= QUIET && start.elapsed() < 4 * QUIET);
+    }
+
+    #[test]
+    fn a_command_is_over_two_seconds_after_its_end_and_its_last_output() {
+        let (mut running, _output) = start("exit 0");
+        let before = Instant::now();
+        assert!(!running.is_over(before).expect("the command is a child"));
+        end_of(&mut running);
+        let second = Duration::from_secs(1);
+        let ended = Instant::now();
+        let is_over =
+            |running: &mut RunningCommand, now| running.is_over(now).expect("it is known");
+        assert!(!is_over(&mut running, before + second));
+        assert!(is_over(&mut running, ended + 2 * second));
+        running.note_output(ended + second);
+        assert!(!is_over(&mut running, ended + 2 * second));
+        assert!(is_over(&mut running, ended + 3 * second));
+    }
+
+    #[test]
+    fn a_command_that_is_not_there_cannot_be_started() {
+        let error = RunningCommand::start(Command::new("/no/such/program"))
+            .expect_err("there is no such program");
+        assert_eq!(error.kind(), io::ErrorKind::NotFound);
+    }
+}

@@ -1,0 +1,294 @@
+//! The program `test-report`, which `cargo-test-report` is too.
+
+use crate::command::end::CommandEnd;
+use crate::command::stand_in::stand_in;
+use crate::commands::{cargo_test_report, test_report};
+use crate::interrupt::Interrupt;
+use crate::output_files::{STANDARD_INPUT, refuse_conflicts, remove_old_files};
+use crate::program::{BAD_ARGUMENT, DEVICE_FAILED, Failure, KeepError, print_clap};
+use crate::progress_line::ProgressLine;
+use crate::replaced_file::{append, replace};
+use crate::run_input::{Ended, Input, PassOn, RunReader, Streams};
+use crate::standard_streams::{StandardOutput, check_output};
+use crate::test_report_engine::fault::Fault;
+use crate::test_report_engine::pieces::Pieces;
+use crate::test_report_engine::report::Report;
+use crate::test_report_engine::status::exit_status;
+use crate::test_report_forms::files::{FileForms, FileTexts};
+use crate::test_report_forms::form::Form;
+use crate::test_report_forms::github::GithubForm;
+use crate::test_report_forms::html::HtmlForm;
+use crate::test_report_forms::json_form::JsonForm;
+use crate::test_report_forms::junit::JunitForm;
+use crate::test_report_forms::markdown::MarkdownForm;
+use crate::test_report_forms::names::NamesForm;
+use crate::test_report_forms::options::Options;
+use crate::test_report_forms::text::TextForm;
+use clap::{ArgMatches, Command};
+use deodarsieve::RunOutcome;
+use std::cell::RefCell;
+use std::env;
+use std::ffi::OsString;
+use std::io::{self, ErrorKind, IsTerminal, Write};
+use std::process::ExitCode;
+
+/// The argument after which the command follows.
+const BEFORE_COMMAND: &str = "--";
+
+/// The exit status of a run whose command makes it fail.
+const COMMAND_FAILED: u8 = 1;
+
+/// Returns the value of an option that has a default.
+fn value<'a>(matches: &'a ArgMatches, name: &str) -> &'a str {
+    matches.get_one::<String>(name).map_or("", String::as_str)
+}
+
+/// Returns true if a variable of the environment has a value that is not empty.
+fn is_set(variable: &str) -> bool {
+    env::var_os(variable).is_some_and(|value| !value.is_empty())
+}
+
+/// Returns the options of the report.
+fn options_of(matches: &ArgMatches) -> Options {
+    Options {
+        limit: matches.get_one("limit").copied().unwrap_or_default(),
+        raw: matches.get_flag("raw"),
+        color: match value(matches, "color") {
+            "always" => true,
+            "never" => false,
+            _ => io::stdout().is_terminal() && !is_set("NO_COLOR"),
+        },
+        no_tests_pass: value(matches, "no-tests") == "pass",
+    }
+}
+
+/// Returns the state of the reading before the first file. It follows the progress of the run if a line on
+/// standard error shows it.
+fn pieces(matches: &ArgMatches) -> Pieces {
+    let shows_progress = match value(matches, "progress") {
+        "always" => true,
+        "never" => false,
+        _ => io::stderr().is_terminal(),
+    };
+    if shows_progress {
+        Pieces::with_progress()
+    } else {
+        Pieces::without_progress()
+    }
+}
+
+/// Returns which lines that are no events are passed on to standard error.
+fn pass_on(matches: &ArgMatches) -> PassOn {
+    match value(matches, "others") {
+        "always" => PassOn::Always,
+        "never" => PassOn::Never,
+        _ => PassOn::Auto,
+    }
+}
+
+/// Returns the forms of the files that the arguments ask for.
+fn file_forms(matches: &ArgMatches, options: Options) -> FileForms {
+    FileForms {
+        junit: matches
+            .contains_id("junit")
+            .then(|| JunitForm::new(options)),
+        html: matches.contains_id("html").then(|| HtmlForm::new(options)),
+        markdown: matches
+            .contains_id("markdown")
+            .then(|| MarkdownForm::new(options)),
+        json: matches.contains_id("json").then(|| JsonForm::new(options)),
+    }
+}
+
+/// Writes the files that the arguments ask for.
+fn write_files(matches: &ArgMatches, texts: &FileTexts) -> Result<(), Failure> {
+    let files = [
+        (
+            "junit",
+            &texts.junit,
+            replace as fn(&str, &str) -> io::Result<()>,
+        ),
+        ("html", &texts.html, replace),
+        ("markdown", &texts.markdown, append),
+        ("json", &texts.json, replace),
+    ];
+    for (name, text, write) in files {
+        if let (Some(path), Some(text)) = (matches.get_one::<String>(name), text) {
+            write(path, text).map_err(|error| Failure::unwritten(path, error))?;
+        }
+    }
+    Ok(())
+}
+
+/// Makes the first Ctrl-C or SIGTERM not end the program.
+fn catch_first_interrupt() -> Result<Interrupt, Failure> {
+    Interrupt::catch_first().map_err(|error| {
+        let message = "Ctrl-C cannot be caught";
+        Failure::new(DEVICE_FAILED, message).caused_by(Some(error))
+    })
+}
+
+/// Writes the report to standard output in a form, and then the files. Returns the exit status, which is that of a
+/// failed device if a line that is no event could not be passed on. If the reader of standard output has gone, no
+/// message is written to standard error.
+fn report_in<F: Form>(
+    matches: &ArgMatches,
+    input: &Input,
+    options: Options,
+    form: F,
+) -> Result<ExitCode, Failure> {
+    let report = Report::with_files(form, file_forms(matches, options));
+    let pieces = pieces(matches);
+    let interrupt = catch_first_interrupt()?;
+    let has_reader = pieces.progress().is_some() || io::stderr().is_terminal();
+    let line = RefCell::new(ProgressLine::new(io::stderr()));
+    let mut streams = Streams::new(KeepError::new(StandardOutput::lock()), &line);
+    let pass_on = pass_on(matches);
+    let reader = RunReader::new(report, pieces, &mut streams, pass_on, interrupt, has_reader);
+    let ended = reader.report(input);
+    line.borrow_mut().hide();
+    let Streams { output, others, .. } = streams;
+    match (ended, output.into_writer().into_error()) {
+        (Ok(ended), _) => {
+            write_files(matches, &ended.texts)?;
+            let status = status_of(&ended, options);
+            let status = if others.has_failed() {
+                DEVICE_FAILED
+            } else {
+                status
+            };
+            Ok(ExitCode::from(status))
+        }
+        (Err(_), Some(error)) if error.kind() == ErrorKind::BrokenPipe => {
+            Ok(ExitCode::from(DEVICE_FAILED))
+        }
+        (Err(failure), Some(error)) => Err(failure.caused_by(Some(error))),
+        (Err(failure), None) => Err(failure),
+    }
+}
+
+/// Returns the exit status of a run. If its command makes it fail and the report does not say so, the reason is
+/// written to standard error.
+fn status_of(ended: &Ended, options: Options) -> u8 {
+    let outcome = ended.run.outcome;
+    let is_explained = matches!(outcome, RunOutcome::Failed { .. });
+    let problem = |end: &CommandEnd| end.problem(is_explained);
+    match ended.command.as_ref().and_then(problem) {
+        Some(problem) => {
+            // If standard error cannot be written, the exit status still says that the run failed.
+            let _ = writeln!(io::stderr(), "test-report: {problem}");
+            COMMAND_FAILED
+        }
+        None => exit_status(outcome, options.no_tests_pass),
+    }
+}
+
+/// Makes sure, before anything is read, that the report can be written to standard output, that it does not mix with
+/// the files, and that no old file is taken for a new one.
+fn prepare(matches: &ArgMatches, input: &Input) -> Result<(), Failure> {
+    refuse_conflicts(matches, input.files())?;
+    remove_old_files(matches)?;
+    check_output().map_err(|error| Failure::from(Fault::Write).caused_by(Some(error)))
+}
+
+/// Writes the report that the arguments ask for, and returns the exit status.
+fn report_of(matches: &ArgMatches, input: &Input) -> Result<ExitCode, Failure> {
+    prepare(matches, input)?;
+    let options = options_of(matches);
+    match value(matches, "format") {
+        "github" => report_in(matches, input, options, GithubForm::new(options)),
+        "names" => report_in(matches, input, options, NamesForm),
+        "junit" => report_in(matches, input, options, JunitForm::new(options)),
+        "html" => report_in(matches, input, options, HtmlForm::new(options)),
+        "markdown" => report_in(matches, input, options, MarkdownForm::new(options)),
+        "json" => report_in(matches, input, options, JsonForm::new(options)),
+        _ => report_in(matches, input, options, TextForm::new(options)),
+    }
+}
+
+/// Returns what `test-report` reads: the words after `--` are a command, and otherwise there are files.
+fn input_of(matches: &ArgMatches) -> Input {
+    if let Some(words) = matches.get_many::<OsString>("command") {
+        return Input::Command(words.cloned().collect());
+    }
+    match matches.get_many::<String>("file") {
+        Some(files) if files.len() > 0 => Input::Files(files.cloned().collect()),
+        _ => Input::Files(vec![STANDARD_INPUT.to_string()]),
+    }
+}
+
+/// Returns the command of `cargo-test-report`, which reads `cargo test` with the words after `--`. cargo names itself
+/// in a variable.
+fn cargo_test(matches: &ArgMatches) -> Input {
+    let cargo = env::var_os("CARGO").unwrap_or_else(|| "cargo".into());
+    let words = matches
+        .get_many::<OsString>("argument")
+        .into_iter()
+        .flatten();
+    let words = [cargo, "test".into()].into_iter().chain(words.cloned());
+    Input::Command(words.collect())
+}
+
+/// Returns the arguments without the first one, if it is the program's name as a subcommand: cargo starts
+/// `cargo-test-report test-report ..` for `cargo test-report ..`.
+fn without_subcommand(mut arguments: Vec<OsString>) -> Vec<OsString> {
+    if arguments.get(1).is_some_and(|word| word == "test-report") {
+        arguments.remove(1);
+    }
+    arguments
+}
+
+/// Refuses arguments that are not UTF-8. The words of a command may have any bytes.
+fn refuse_other_text(arguments: &[OsString]) -> Result<(), Failure> {
+    let mut own = arguments.iter().take_while(|word| *word != BEFORE_COMMAND);
+    if own.all(|word| word.to_str().is_some()) {
+        Ok(())
+    } else {
+        Err(Failure::new(BAD_ARGUMENT, "an argument is not UTF-8"))
+    }
+}
+
+/// Refuses arguments that end with `--`, where a command is missing.
+fn refuse_no_command(arguments: &[OsString]) -> Result<(), Failure> {
+    let at = arguments.iter().position(|word| word == BEFORE_COMMAND);
+    if at.is_some_and(|at| at + 1 == arguments.len()) {
+        return Err(Failure::new(BAD_ARGUMENT, "there is no command after `--`"));
+    }
+    Ok(())
+}
+
+/// Does what the arguments of a program ask for, and returns the exit status.
+fn run(
+    program: Command,
+    arguments: Vec<OsString>,
+    input_of: fn(&ArgMatches) -> Input,
+) -> Result<ExitCode, Failure> {
+    match program.try_get_matches_from(arguments) {
+        Ok(matches) => report_of(&matches, &input_of(&matches)),
+        Err(message) => print_clap(&message),
+    }
+}
+
+/// Returns the exit status of `test-report` with these arguments, the first of which is the program's name.
+pub fn test_report_with(arguments: Vec<OsString>) -> Result<ExitCode, Failure> {
+    refuse_other_text(&arguments)?;
+    refuse_no_command(&arguments)?;
+    run(test_report(), arguments, input_of)
+}
+
+/// Returns the exit status of `cargo-test-report` with these arguments, the first of which is the program's name.
+pub fn cargo_test_report_with(arguments: Vec<OsString>) -> Result<ExitCode, Failure> {
+    let arguments = without_subcommand(arguments);
+    refuse_other_text(&arguments)?;
+    run(cargo_test_report(), arguments, cargo_test)
+}
+
+/// Runs a program with the arguments of this process, and returns the exit status. If cargo started the process in
+/// place of a test program or of rustdoc, it becomes that one.
+pub fn exit_code(program: fn(Vec<OsString>) -> Result<ExitCode, Failure>) -> ExitCode {
+    let arguments: Vec<_> = env::args_os().collect();
+    let own = arguments.get(1..).unwrap_or_default();
+    stand_in(own)
+        .unwrap_or_else(|| program(arguments))
+        .unwrap_or_else(|failure| failure.exit("test-report: "))
+}

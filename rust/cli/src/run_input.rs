@@ -1,0 +1,333 @@
+//! Reads the files of a run, or what its command writes, and shows the progress meanwhile.
+
+use crate::command::end::CommandEnd;
+use crate::command::prepared::prepare;
+use crate::command::running::{LOOK, RunningCommand};
+use crate::interrupt::Interrupt;
+use crate::others::Others;
+use crate::output_files::STANDARD_INPUT;
+use crate::program::{DEVICE_FAILED, Failure};
+use crate::program_io::std_device::{StdSink, StdSource};
+use crate::progress_line::{LONGEST_PAUSE, Output, ProgressLine};
+use crate::reading::Reading;
+use crate::standard_streams::{StandardError, StandardInput};
+use crate::test_report_engine::fault::Fault;
+use crate::test_report_engine::pieces::Pieces;
+use crate::test_report_engine::report::Report;
+use crate::test_report_forms::files::FileTexts;
+use crate::test_report_forms::form::Form;
+use crate::test_report_run::note::RunEnd;
+use std::cell::RefCell;
+use std::ffi::OsString;
+use std::fs::File;
+use std::io::{self, Read, Stderr, Write};
+use std::thread;
+use std::time::{Duration, Instant};
+
+/// The message after Ctrl-C, if the input stays open.
+const STILL_READING: &str =
+    "test-report: the summary follows at the end of the input; a second Ctrl-C ends without it";
+
+/// The message after Ctrl-C, if the command does not end.
+const STILL_RUNNING: &str =
+    "test-report: the summary follows at the end of the command; a second Ctrl-C ends without it";
+
+/// The time between two looks at a command that has closed its output and has not ended.
+const SHORT_LOOK: Duration = Duration::from_millis(5);
+
+/// What a run is read from.
+#[derive(Clone, Debug, PartialEq, Eq)]
+pub enum Input {
+    /// These files, one after another. One is standard input.
+    Files(Vec<String>),
+
+    /// The output of this command, and its arguments.
+    Command(Vec<OsString>),
+}
+
+impl Input {
+    /// Returns the files that are read.
+    pub fn files(&self) -> &[String] {
+        match self {
+            Input::Files(files) => files,
+            Input::Command(_) => &[],
+        }
+    }
+}
+
+/// Which lines that are no events are passed on to standard error.
+#[derive(Clone, Copy, Debug, PartialEq, Eq)]
+pub enum PassOn {
+    /// Those of standard input and of a command, but not those of files.
+    Auto,
+    Always,
+    Never,
+}
+
+impl PassOn {
+    /// Returns true if the lines of a file are passed on.
+    fn of_file(self, path: &str) -> bool {
+        match self {
+            PassOn::Auto => path == STANDARD_INPUT,
+            PassOn::Always => true,
+            PassOn::Never => false,
+        }
+    }
+
+    /// Returns true if the lines of a command are passed on.
+    fn of_command(self) -> bool {
+        self != PassOn::Never
+    }
+}
+
+/// The standard streams to which the program writes while it reads.
+pub struct Streams<'a, W> {
+    /// The line of progress, which both hide before they write.
+    pub line: &'a RefCell<ProgressLine<Stderr>>,
+
+    /// Standard output, for the report.
+    pub output: Output<'a, W>,
+
+    /// Standard error, for the lines that are no events.
+    pub others: Others<Output<'a, StandardError>>,
+}
+
+impl<'a, W: Write> Streams<'a, W> {
+    /// Returns standard error, and this writer as standard output.
+    pub fn new(writer: W, line: &'a RefCell<ProgressLine<Stderr>>) -> Streams<'a, W> {
+        Streams {
+            line,
+            output: Output::new(writer, line),
+            others: Others::new(Output::new(StandardError::get(), line)),
+        }
+    }
+}
+
+/// The end of a run: its outcome, the texts of the files that the arguments ask for, and the end of its command if it
+/// had one.
+pub struct Ended {
+    pub run: RunEnd,
+    pub texts: FileTexts,
+    pub command: Option<CommandEnd>,
+}
+
+/// A report while its run is read.
+pub struct RunReader<'a, 'line, F: Form, W: Write> {
+    report: Report<F>,
+    pieces: Pieces,
+    streams: &'a mut Streams<'line, W>,
+    pass_on: PassOn,
+    interrupt: Interrupt,
+
+    /// The message after Ctrl-C, until it was written. It is absent from the start if nobody would read it.
+    message: Option<&'static str>,
+}
+
+impl<'a, 'line, F: Form, W: Write> RunReader<'a, 'line, F, W> {
+    /// Returns a report that has read nothing. `has_reader` is true if a message on standard error would be read.
+    pub fn new(
+        report: Report<F>,
+        pieces: Pieces,
+        streams: &'a mut Streams<'line, W>,
+        pass_on: PassOn,
+        interrupt: Interrupt,
+        has_reader: bool,
+    ) -> RunReader<'a, 'line, F, W> {
+        RunReader {
+            report,
+            pieces,
+            streams,
+            pass_on,
+            interrupt,
+            message: has_reader.then_some(STILL_READING),
+        }
+    }
+
+    /// Reads the whole run, and writes the report.
+    ///
+    /// Fails if a read or a write does.
+    pub fn report(mut self, input: &Input) -> Result<Ended, Failure> {
+        let command = match input {
+            Input::Files(files) => {
+                for path in files {
+                    self.read_file(path)?;
+                }
+                None
+            }
+            Input::Command(words) => Some(self.run_command(words)?),
+        };
+        let texts = self.report.file_texts()?;
+        let run = self
+            .report
+            .finish(&mut StdSink::new(&mut self.streams.output))?;
+        Ok(Ended {
+            run,
+            texts,
+            command,
+        })
+    }
+
+    /// Reads a file of the run.
+    fn read_file(&mut self, path: &str) -> Result<(), Failure> {
+        self.streams.others.are_wanted = self.pass_on.of_file(path);
+        if path == STANDARD_INPUT {
+            return self.read(StandardInput::get());
+        }
+        match File::open(path) {
+            Ok(file) => self.read(file),
+            Err(error) => {
+                let message = format!("{path} cannot be opened");
+                Err(Failure::new(DEVICE_FAILED, message).caused_by(Some(error)))
+            }
+        }
+    }
+
+    /// Reads a file of the run to its end.
+    fn read(&mut self, reader: impl Read + Send + 'static) -> Result<(), Failure> {
+        let reading = Reading::start(reader).map_err(unread)?;
+        loop {
+            if let Some(piece) = self.next_piece(&reading, None)? {
+                let is_end = piece.is_empty();
+                self.take_piece(&piece)?;
+                if is_end {
+                    return Ok(());
+                }
+            }
+            self.draw();
+        }
+    }
+
+    /// Runs the command of the run, and reads what it writes.
+    fn run_command(&mut self, words: &[OsString]) -> Result<CommandEnd, Failure> {
+        self.streams.others.are_wanted = self.pass_on.of_command();
+        self.message = self.message.map(|_| STILL_RUNNING);
+        let prepared = prepare(words);
+        if let Some(message) = prepared.message {
+            self.streams.line.borrow_mut().say(message);
+        }
+        let end = match RunningCommand::start(prepared.command()) {
+            Ok((mut command, output)) => {
+                let reading = Reading::start(output).map_err(unread)?;
+                self.read_output(&reading, &mut command)?;
+                self.end_of(&mut command)?
+            }
+            Err(error) => CommandEnd::NotStarted {
+                error: error.to_string(),
+            },
+        };
+        self.take_end(&end)?;
+        Ok(end)
+    }
+
+    /// Reads what a command writes, until the pipe ends or the command is over.
+    fn read_output(
+        &mut self,
+        reading: &Reading,
+        command: &mut RunningCommand,
+    ) -> Result<(), Failure> {
+        loop {
+            if let Some(piece) = self.next_piece(reading, Some(LOOK))? {
+                if piece.is_empty() {
+                    return Ok(());
+                }
+                self.take_piece(&piece)?;
+                command.note_output(Instant::now());
+            }
+            self.pass_signal_on(command);
+            if command.is_over(Instant::now()).map_err(not_waited)? {
+                return Ok(());
+            }
+            self.draw();
+        }
+    }
+
+    /// Waits for the end of a command whose output has ended.
+    fn end_of(&mut self, command: &mut RunningCommand) -> Result<CommandEnd, Failure> {
+        loop {
+            if let Some(end) = command.end().map_err(not_waited)? {
+                return Ok(end.clone());
+            }
+            thread::sleep(SHORT_LOOK);
+            self.pass_signal_on(command);
+            self.say_once();
+            self.draw();
+        }
+    }
+
+    /// Passes the end of a command to the report, which has no place for how it ended. So the caller has to write
+    /// [`CommandEnd::problem`]. A command that was not started has no output that could end.
+    fn take_end(&mut self, end: &CommandEnd) -> Result<(), Fault> {
+        match end {
+            CommandEnd::NotStarted { .. } => Ok(()),
+            CommandEnd::Signal(_) | CommandEnd::Status(_) => self.take_piece(&[]),
+        }
+    }
+
+    /// Returns the next piece, or `None` if something else is to be done first, at latest after `longest`.
+    fn next_piece(
+        &mut self,
+        reading: &Reading,
+        longest: Option<Duration>,
+    ) -> Result<Option<Vec<u8>>, Failure> {
+        let line = self.streams.line.borrow().time_until_due(Instant::now());
+        let message = self.message.map(|_| LONGEST_PAUSE);
+        let wait = line.or(message).into_iter().chain(longest).min();
+        let piece = reading.next_piece(wait).map_err(unread)?;
+        if piece.is_none() {
+            self.say_once();
+        }
+        Ok(piece)
+    }
+
+    /// Passes a piece of a file to the report. An empty piece is the end of the file.
+    fn take_piece(&mut self, mut piece: &[u8]) -> Result<(), Fault> {
+        loop {
+            let mut source = StdSource::new(&mut piece);
+            let mut sink = StdSink::new(&mut self.streams.output);
+            let mut others = StdSink::new(&mut self.streams.others);
+            self.report
+                .read_piece(&mut source, &mut self.pieces, &mut sink, &mut others)?;
+            if piece.is_empty() {
+                break;
+            }
+        }
+        if self.pieces.progress().is_some() {
+            self.streams.line.borrow_mut().note_input();
+        }
+        Ok(())
+    }
+
+    /// Sends SIGTERM on to a command. Ctrl-C on a terminal reaches the command by itself.
+    fn pass_signal_on(&self, command: &mut RunningCommand) {
+        if self.interrupt.take_terminate() {
+            command.terminate();
+        }
+    }
+
+    /// Writes the message after Ctrl-C, once.
+    fn say_once(&mut self) {
+        if self.interrupt.has_come()
+            && let Some(message) = self.message.take()
+        {
+            self.streams.line.borrow_mut().say(message);
+        }
+    }
+
+    /// Draws the line of progress if it is due.
+    fn draw(&mut self) {
+        if let Some(progress) = self.pieces.progress() {
+            let mut line = self.streams.line.borrow_mut();
+            line.refresh(Instant::now(), || progress.text());
+        }
+    }
+}
+
+/// Returns the failure of a read.
+fn unread(error: io::Error) -> Failure {
+    Failure::from(Fault::Read).caused_by(Some(error))
+}
+
+/// Returns the failure to learn whether a command has ended.
+fn not_waited(error: io::Error) -> Failure {
+    Failure::new(DEVICE_FAILED, "the command cannot be waited for").caused_by(Some(error))
+}

@@ -1,0 +1,209 @@
+//! `test-report -- cargo test` and `cargo test-report`, with a real cargo.
+#![cfg(unix)]
+
+mod common;
+
+use common::{Folder, command};
+use std::fs;
+use std::path::Path;
+use std::process::{Command, Output};
+
+/// The files of a package without dependencies. Each run of its build script adds a line to a file.
+const PACKAGE: [(&str, &str); 4] = [
+    (
+        "Cargo.toml",
+        "[package]\nname = \"money\"\nversion = \"0.1.0\"\nedition = \"2024\"\n\n[workspace]\n",
+    ),
+    (
+        "build.rs",
+        r#"use std::io::Write;
+fn main() {
+    println!("cargo::rerun-if-env-changed=RUSTC_BOOTSTRAP");
+    let mut file = std::fs::OpenOptions::new().create(true).append(true).open("runs").unwrap();
+    writeln!(file, "run").unwrap();
+}
+"#,
+    ),
+    (
+        "src/lib.rs",
+        r#"//! Counts money.
+//!
+//! ```
+//! assert_eq!(money::cents(2), 200);
+//! ```
+//!
+//! ```compile_fail,E0554
+//! #![feature(never_type)]
+//! ```
+
+/// Returns the cents of an amount.
+pub fn cents(amount: u64) -> u64 {
+    amount * 100
+}
+
+#[test]
+fn counts() {
+    assert_eq!(cents(1), 100);
+}
+
+#[test]
+fn fails() {
+    panic!("no money");
+}
+
+#[test]
+fn sees_no_change() {
+    let variables = ["TEST_REPORT_AS_RUSTDOC", "RUSTDOC"];
+    assert!(variables.iter().all(|name| std::env::var_os(name).is_none()));
+}
+"#,
+    ),
+    (
+        "tests/it.rs",
+        "#[test]\nfn is_killed() {\n    std::process::abort();\n}\n",
+    ),
+];
+
+/// The report of the package's tests, without times.
+const NAMES: &str = "fails\nis_killed\n";
+
+/// Writes the package to a folder.
+fn write_package(folder: &Folder) {
+    for (name, text) in PACKAGE {
+        let path = folder.0.join(name);
+        fs::create_dir_all(path.parent().expect("a file is in a folder")).expect("it is new");
+        fs::write(path, text).expect("the folder is there");
+    }
+}
+
+/// Runs a command in a folder, as a user would who has set none of these variables.
+fn run_in(folder: &Path, command: &mut Command) -> Output {
+    for name in [
+        "CARGO_TARGET_DIR",
+        "RUSTC_BOOTSTRAP",
+        "RUSTDOC",
+        "CARGO_TERM_COLOR",
+    ] {
+        command.env_remove(name);
+    }
+    command.env("CARGO_NET_OFFLINE", "true").current_dir(folder);
+    command.output().expect("the program runs")
+}
+
+/// Runs `test-report` with the arguments, in a folder.
+fn report(folder: &Folder, arguments: &[&str]) -> Output {
+    run_in(&folder.0, &mut command("test-report", arguments))
+}
+
+/// Returns how often the build script of the package has run.
+fn builds(folder: &Folder) -> usize {
+    let runs = fs::read_to_string(folder.0.join("runs")).expect("the build script has run");
+    runs.lines().count()
+}
+
+/// Asserts the standard output and the standard error of a run whose tests fail.
+fn assert_failed(output: &Output, stdout: &str, stderr: &str) {
+    assert_eq!(String::from_utf8_lossy(&output.stdout), stdout);
+    assert_eq!(String::from_utf8_lossy(&output.stderr), stderr);
+    assert_eq!(output.status.code(), Some(1));
+}
+
+/// Asserts that cargo's messages on standard error name test programs and nothing that was compiled.
+fn assert_nothing_compiled(output: &Output) {
+    let messages = String::from_utf8_lossy(&output.stderr);
+    assert!(
+        messages.contains("Running") && !messages.contains("Compiling"),
+        "{messages}"
+    );
+}
+
+#[test]
+fn nothing_is_compiled_again_and_documentation_tests_are_run() {
+    let folder = Folder::new("again");
+    write_package(&folder);
+    let mut cargo_test = Command::new(env!("CARGO"));
+    run_in(&folder.0, cargo_test.args(["test", "--no-fail-fast"]));
+    let output = report(&folder, &["--format", "names", "--", env!("CARGO"), "test"]);
+    assert_eq!(String::from_utf8_lossy(&output.stdout), NAMES);
+    assert_eq!(output.status.code(), Some(1));
+    assert_nothing_compiled(&output);
+    let output = run_in(&folder.0, Command::new(env!("CARGO")).arg("test"));
+    assert_nothing_compiled(&output);
+    assert_eq!(builds(&folder), 1);
+    let output = report(&folder, &["--", env!("CARGO"), "test"]);
+    let text = String::from_utf8_lossy(&output.stdout);
+    let summary = " 6 tests run: 4 passed (0 flaky), 2 failed (0 timed out, 1 crashed), ";
+    assert!(text.contains(summary), "{text}");
+    assert!(text.contains("money (doc tests)"), "{text}");
+    assert!(text.contains("(signal: 6"), "{text}");
+}
+
+#[test]
+fn a_runner_of_the_user_is_used_and_its_cost_is_told() {
+    let folder = Folder::new("runner");
+    write_package(&folder);
+    let runner = "target.'cfg(all())'.runner=['env', 'RUNNER=own']";
+    let arguments = [
+        "--format",
+        "names",
+        "--others",
+        "never",
+        "--",
+        env!("CARGO"),
+        "test",
+        "--config",
+        runner,
+    ];
+    let output = report(&folder, &arguments);
+    let told = "test-report: RUSTC_BOOTSTRAP is set for the whole of cargo, because your settings name a runner or a \
+                rustdoc: packages whose build script watches this variable are compiled anew\n";
+    assert_failed(&output, NAMES, told);
+}
+
+#[test]
+fn a_package_that_does_not_compile_is_a_failure_of_cargo() {
+    let folder = Folder::new("broken");
+    write_package(&folder);
+    fs::write(folder.0.join("tests/it.rs"), "fn main() { none() }\n").expect("it is a file");
+    let output = report(
+        &folder,
+        &["--format", "github", "--", env!("CARGO"), "test"],
+    );
+    let text = String::from_utf8_lossy(&output.stdout);
+    assert!(
+        text.starts_with("::error::cargo: error: could not compile `money` (test \"it\") "),
+        "{text}"
+    );
+    assert_eq!(output.status.code(), Some(1));
+    let messages = String::from_utf8_lossy(&output.stderr);
+    assert!(messages.contains("error[E0425]: cannot find"), "{messages}");
+}
+
+#[test]
+fn cargo_starts_the_report_as_its_subcommand() {
+    let folder = Folder::new("subcommand");
+    write_package(&folder);
+    let lists: [&[&str]; 2] = [
+        &["test-report", "--format", "names", "--others", "never"],
+        &["--format", "names", "--others", "never"],
+    ];
+    for arguments in lists {
+        let arguments = &[arguments, &["--", "--lib", "fail"]].concat();
+        let output = run_in(&folder.0, &mut command("cargo-test-report", arguments));
+        assert_failed(&output, "fails\n", "");
+    }
+    for arguments in [&["test-report", "file.jsonl"][..], &["--nothing"]] {
+        let output = run_in(&folder.0, &mut command("cargo-test-report", arguments));
+        assert!(output.stderr.starts_with(b"error: "), "{arguments:?}");
+        assert_eq!(output.status.code(), Some(2), "{arguments:?}");
+    }
+    let output = run_in(
+        &folder.0,
+        &mut command("cargo-test-report", &["test-report", "--help"]),
+    );
+    let help = String::from_utf8_lossy(&output.stdout);
+    assert!(
+        help.contains("Usage: cargo test-report [OPTIONS] [-- [ARG]...]"),
+        "{help}"
+    );
+}
