@@ -6,7 +6,7 @@ from report_reading.events import CargoFailure, Damage, Heading, KnownLine, Suit
 from report_reading.events import events_of
 from report_reading.open_suites import OpenSuites
 from report_reading.suites import CRASHED, FAILURES, FINISHED, MOST_TIME, OUTCOMES, PASSED, TIMED_OUT, Suite, Test
-from report_reading.texts import shown_name, shown_text
+from report_reading.texts import shown_line, shown_name
 
 
 @dataclass
@@ -128,12 +128,12 @@ class Run:
             return
         before = self.explained_before_file if event.kind == "run" else self.explained_before_failure
         if event.kind == "build" or before == self.explanations:
-            self.disagree(f"cargo: {shown_text(event.line)}")
+            self.disagree(f"cargo: {shown_line(event.line)}")
         self.explained_before_failure = self.explanations
 
     def on_damage(self, event):
         """Takes a damaged line that says that a test or a suite failed."""
-        self.disagree(f"a damaged line says that a test or a suite failed: {shown_name(event.text)}")
+        self.disagree(f"a damaged line says that a test or a suite failed: {shown_line(event.text)}")
 
     def close(self, suite, ended_early):
         """Ends a suite: first its failed tests become known, then its disagreement, then its tests not run."""

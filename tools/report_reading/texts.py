@@ -5,6 +5,10 @@ import re
 ANYWHERE = "\x0b-\x1f\x7f-\x9f\u061c\u200e\u200f\u202a-\u202e\u2066-\u2069"
 HIDDEN_IN_NAMES = re.compile(f"[\x00-\x0a{ANYWHERE}]")
 HIDDEN_IN_TEXT = re.compile(f"[\x00-\x08{ANYWHERE}]")
+WHITE = "\t\x0b\x0c\r \x85\xa0\u1680\u2000-\u200a\u2028\u2029\u202f\u205f\u3000"
+COLON_AT_FRONT = re.compile(f"^([{WHITE}]*):", re.MULTILINE)
+HASH_OF_COMMAND = re.compile(r"#(?=#(?:vso|teamcity)?\[)")
+NAME_LIMIT = 1024
 HEADS = {"failed": "FAIL", "timed out": "TIMEOUT", "crashed": "CRASH"}
 
 
@@ -13,13 +17,26 @@ def escaped(found):
     return f"\\u{{{ord(found[0]):x}}}"
 
 
+def without_commands(text):
+    """Returns a text with escapes for what begins a command of a CI system."""
+    return HASH_OF_COMMAND.sub(escaped, COLON_AT_FRONT.sub(r"\1\\u{3a}", text))
+
+
+def shown_line(text):
+    """Returns a text as reports show it in one line, with escapes for commands, control characters and bidirectional controls."""
+    return HIDDEN_IN_NAMES.sub(escaped, without_commands(text))
+
+
 def shown_name(name):
-    """Returns a name as reports show it, with escapes for control characters and bidirectional controls."""
-    return HIDDEN_IN_NAMES.sub(escaped, name)
+    """Returns the name of a suite or a test as reports show it: at most its first 1,024 bytes."""
+    data = name.encode("utf-8", "surrogatepass")
+    if len(data) <= NAME_LIMIT:
+        return shown_line(name)
+    return shown_line(data[:NAME_LIMIT].decode("utf-8", "ignore")) + ".."
 
 
 def shown_text(text):
-    """Returns a text as reports show it: with the same escapes, except of tabs and line feeds."""
+    """Returns a text with escapes for control characters except tabs and line feeds, and for bidirectional controls."""
     return HIDDEN_IN_TEXT.sub(escaped, text)
 
 

@@ -7,6 +7,7 @@ use bstr::ByteSlice;
 use deodarsieve_cli::program_io::std_device::{StdSink, StdSource};
 use deodarsieve_cli::run_digest_engine::count::count;
 use deodarsieve_cli::run_digest_engine::extract::extract;
+use deodarsieve_cli::test_report_engine::others::Nowhere;
 use deodarsieve_cli::test_report_engine::report::Report;
 use deodarsieve_cli::test_report_forms::files::FileForms;
 use deodarsieve_cli::test_report_forms::html::HtmlForm;
@@ -121,7 +122,7 @@ fn reported_with(files: fn() -> FileForms, lines: String, expected: String) -> W
             let mut sink = StdSink::new(&mut written);
             let mut report = Report::with_files(TextForm::new(OPTIONS), files());
             report
-                .read_file(&mut source, &mut sink)
+                .read_file(&mut source, &mut sink, &mut Nowhere::new())
                 .expect("the run is read");
             black_box(report.file_texts().expect("the files have texts"));
             report.finish(&mut sink).expect("the report ends");

@@ -5,6 +5,7 @@ use deodarsieve::RunOutcome;
 use deodarsieve_cli::program_io::device::{Sink, Source};
 use deodarsieve_cli::program_io::memory_device::{MemorySink, MemorySource};
 use deodarsieve_cli::test_report_engine::fault::Fault;
+use deodarsieve_cli::test_report_engine::others::Nowhere;
 use deodarsieve_cli::test_report_engine::report::Report;
 use deodarsieve_cli::test_report_forms::form::Form;
 use deodarsieve_cli::test_report_forms::options::Options;
@@ -67,7 +68,7 @@ pub(crate) fn reported<F: Form, R: Source, W: Sink>(
     sink: &mut W,
 ) -> Result<RunEnd, Fault> {
     let mut report = Report::new(form);
-    report.read_file(source, sink)?;
+    report.read_file(source, sink, &mut Nowhere::new())?;
     report.finish(sink)
 }
 

@@ -5,6 +5,7 @@ use crate::test_report_engine_tests::devices::{OPTIONS, RUN, report_of_run, repo
 use deodarsieve::RunOutcome;
 use deodarsieve_cli::program_io::memory_device::{MemorySink, MemorySource};
 use deodarsieve_cli::test_report_engine::fault::Fault;
+use deodarsieve_cli::test_report_engine::others::Nowhere;
 use deodarsieve_cli::test_report_engine::report::Report;
 use deodarsieve_cli::test_report_forms::files::FileForms;
 use deodarsieve_cli::test_report_forms::form::Form;
@@ -120,7 +121,7 @@ fn has_files() -> Result<bool, Fault> {
     let mut source = MemorySource::new(RUN.as_bytes(), None);
     let mut sink = MemorySink::new(&mut buffer, None);
     let mut report = Report::with_files(NamesForm, all_files());
-    report.read_file(&mut source, &mut sink)?;
+    report.read_file(&mut source, &mut sink, &mut Nowhere::new())?;
     let texts = report.file_texts()?;
     let end = report.finish(&mut sink)?;
     let page = match &texts.html {
@@ -156,8 +157,16 @@ fn is_one_run() -> Result<bool, Fault> {
     let mut sink = MemorySink::new(&mut buffer, None);
     let mut report = Report::new(NamesForm);
     let cut = RUN.rfind("{").and_then(|at| RUN.get(..at)).unwrap_or("");
-    report.read_file(&mut MemorySource::new(cut.as_bytes(), None), &mut sink)?;
-    report.read_file(&mut MemorySource::new(RUN.as_bytes(), None), &mut sink)?;
+    report.read_file(
+        &mut MemorySource::new(cut.as_bytes(), None),
+        &mut sink,
+        &mut Nowhere::new(),
+    )?;
+    report.read_file(
+        &mut MemorySource::new(RUN.as_bytes(), None),
+        &mut sink,
+        &mut Nowhere::new(),
+    )?;
     let end = report.finish(&mut sink)?;
     Ok(sink.written() == b"a\na\n".as_slice() && end.stats.failed == 2 && end.not_run == 2)
 }
@@ -165,4 +174,35 @@ fn is_one_run() -> Result<bool, Fault> {
 #[test]
 fn several_files_are_one_run() {
     assert!(is_one_run() == Ok(true));
+}
+
+/// A run in which a test fails. Three of its lines are no events: the first line, text in front of an event, and the
+/// last line, which has no line feed.
+const MIXED: &str = r#"warning: unused
+{"type":"suite","event":"started","test_count":1}
+adding {"type":"test","event":"started","name":"a"}
+{"type":"test","event":"failed","name":"a","message":"why"}
+{"type":"suite","event":"failed"}
+bye"#;
+
+/// Returns true if this is passed on of [`MIXED`] to a sink of which this call fails, and the report is whole.
+fn passes_on(fails: Option<usize>, wanted: &str) -> Result<bool, Fault> {
+    let (mut names, mut passed) = ([0; 100], [0; 100]);
+    let mut source = MemorySource::new(MIXED.as_bytes(), None);
+    let mut sink = MemorySink::new(&mut names, None);
+    let mut others = MemorySink::new(&mut passed, fails);
+    let mut report = Report::new(NamesForm);
+    report.read_file(&mut source, &mut sink, &mut others)?;
+    let end = report.finish(&mut sink)?;
+    Ok(sink.written() == b"a\n".as_slice()
+        && end.stats.failed == 1
+        && others.written() == wanted.as_bytes())
+}
+
+#[test]
+fn lines_that_are_no_events_are_passed_on() {
+    let all = "warning: unused\nadding \nbye\n";
+    assert!(passes_on(None, all) == Ok(true));
+    // Each line is a write and a flush.
+    assert!(passes_on(Some(2), "warning: unused\n") == Ok(true));
 }

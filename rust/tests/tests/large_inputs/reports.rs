@@ -2,6 +2,7 @@
 //! that run at once.
 
 use deodarsieve_cli::program_io::memory_device::{MemorySink, MemorySource};
+use deodarsieve_cli::test_report_engine::others::Nowhere;
 use deodarsieve_cli::test_report_engine::report::Report;
 use deodarsieve_cli::test_report_forms::options::Options;
 use deodarsieve_cli::test_report_forms::text::TextForm;
@@ -23,7 +24,7 @@ fn reported(input: &str) -> String {
     let mut sink = MemorySink::new(&mut buffer, None);
     let mut report = Report::new(form);
     report
-        .read_file(&mut source, &mut sink)
+        .read_file(&mut source, &mut sink, &mut Nowhere::new())
         .expect("the run is read");
     report.finish(&mut sink).expect("the report ends");
     String::from_utf8(sink.written().to_vec()).expect("the report is UTF-8")

@@ -175,6 +175,22 @@ done { "type": "test", "event": "ok", "name": "a" }
             outcome: "failed",
         },
         Case {
+            name: "names and output that a CI system takes for commands",
+            lines: r###"{"type":"suite","event":"started","test_count":1,"nextest":{"crate":":","test_binary":"x"}}
+{"type":"test","event":"started","name":":::x$##[group]"}
+{"type":"test","event":"failed","name":":::x$##[group]","message":"::error::x\n \t:x\n\u3000::x\nx ::y ##vso[a] ##teamcity[b] ###[c ##d"}
+{"type":"test","event":"ok","name":" \n\u2028::x"}
+{"type":"test","event":"ok","name":"x::y#["}
+"###,
+            notes: "FAIL \\u{3a}::x \\u{23}#[group]\n    \\u{3a}:error::x\n     \t\\u{3a}x\n    \u{3000}\\u{3a}:x\n    \
+                x ::y \\u{23}#vso[a] \\u{23}#teamcity[b] #\\u{23}#[c ##d\n \
+                \\u{a}\u{2028}\\u{3a}:x ended ok, and had not started\nx::y#[ ended ok, and had not started\n\
+                \\u{3a}::x ended early\n",
+            summary: "1 tests run: 0 passed (0 flaky), 1 failed (0 timed out, 0 crashed), 0 skipped, 0 not run",
+            list: "        FAIL \\u{3a}::x \\u{23}#[group]: \\u{3a}:error::x\n",
+            outcome: "failed",
+        },
+        Case {
             name: "names with control characters",
             lines: r#"{"type":"suite","event":"started","test_count":2}
 {"type":"test","event":"started","name":"a\n\u001b[2J\"b"}

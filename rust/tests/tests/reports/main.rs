@@ -6,6 +6,7 @@ mod shown;
 
 use deodarsieve::RunOutcome;
 use deodarsieve_cli::program_io::memory_device::{MemorySink, MemorySource};
+use deodarsieve_cli::test_report_engine::others::Nowhere;
 use deodarsieve_cli::test_report_engine::report::Report;
 use deodarsieve_cli::test_report_forms::form::Form;
 use deodarsieve_cli::test_report_forms::options::Options;
@@ -27,7 +28,7 @@ fn reported<F: Form>(form: F, files: &[&str]) -> (String, bool) {
     for file in files {
         let mut source = MemorySource::new(file.as_bytes(), None);
         report
-            .read_file(&mut source, &mut sink)
+            .read_file(&mut source, &mut sink, &mut Nowhere::new())
             .expect("the file is read");
     }
     let end = report.finish(&mut sink).expect("the report ends");
