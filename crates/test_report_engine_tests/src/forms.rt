@@ -197,7 +197,7 @@ adding {"type":"test","event":"started","name":"a"}
 {"type":"suite","event":"failed"}
 bye"#;
 
-/// Returns true if this is passed on of [`MIXED`] to a sink of which this call fails, and the report is whole.
+/// Returns true if a second sink that fails at this call gets only this text of [`MIXED`], and the report is whole.
 fn passes_on(alloc: Global, fails: Option<usize>, wanted: &str) -> Result<bool, Fault> {
     let (mut names, mut passed) = ([0; 100], [0; 100]);
     let mut source = MemorySource::new(MIXED.as_bytes(), None);

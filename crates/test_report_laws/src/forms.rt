@@ -15,7 +15,7 @@ pub fn only_commands()
 {}
 
 /// Whatever the input has, no line that `text` without `raw` or `names` writes is a command of a CI system: after white
-/// space at its front no line begins with `::`, and no line has two `#` and `[`, `vso[` or `teamcity[` behind them.
+/// space at its front no line begins with `::`, and no line has two `#` and `[`, `vso[` or `teamcity[` after them.
 pub fn no_commands()
     ensures text { TextHasNoCommands }
     ensures names { NamesHasNoCommands }

@@ -49,7 +49,7 @@ own = numerals_by_value (AllDigits 10) tells_digits
 decimal-lacks : (n : ℕ) → n ≤ 1000 → Lacks 35 (decimal n)
 decimal-lacks n few = not_in_digits own (decimal n) 35 (digits_decimal own n (omega arith)) (λ in_range. omega arith)
 
--- what stands behind the last `#`
+-- what stands after the last `#`
 cut-last : (written front back : List ℕ) → SplitsAroundMatch (RFindsChar 35) written front back
     → (written ≡ front ++ 35 ∷ back) × Lacks 35 back
 cut-last written front back h =
@@ -61,7 +61,7 @@ cut-last written front back h =
 false-from : (b : Bool) → (b ≡ true → ⊥) → b ≡ false
 false-from b other = ⊎_elim (λ is. absurd (other is)) (λ is. is) (cases_Bool b)
 
--- that number stands behind the last `#`
+-- that number stands after the last `#`
 number-behind : (written front back : List ℕ) (n : ℕ) → SplitsAroundMatch (RFindsChar 35) written front back → n ≤ 1000
     → ends_in_number written n ≡ true → back ≡ decimal n
 number-behind written front back n h few is =
@@ -76,14 +76,14 @@ split-none written none =
     let ends = (ends_is Decides-eqb written (35 ∷ decimal n) _ refl).0 is in
     lacks-later 35 _ (decimal n) (subst (Lacks 35) ends (λ i inside. NoCharPasses-char 35 written i none (omega arith) inside)))))
 
--- a name with no number behind its last `#`
+-- a name with no number after its last `#`
 pub split-other : (written front back : List ℕ) → SplitsAroundMatch (RFindsChar 35) written front back
     → ((n : ℕ) → ¬ CountsAttempts back n) → split_of written ≡ None
 split-other written front back h other =
     ap (option_map (split_at written)) (attempts-none written (λ n low few. false-from _ (λ is.
     other n (low, few, number-behind written front back n h few is))))
 
--- a name with a number behind its last `#`
+-- a name with a number after its last `#`
 pub split-some : (written front back : List ℕ) (n : ℕ) → SplitsAroundMatch (RFindsChar 35) written front back
     → CountsAttempts back n → split_of written ≡ Some (front, n)
 split-some written front back n h counts =

@@ -55,12 +55,12 @@ longest-drop most [] line more few = absurd (omega arith)
 longest-drop most (x ∷ lines) line more few =
     sym (longest-next most x (lines ++ line ∷ []) (omega (arith, length-joined (x ∷ lines) line)))
 
--- one more line behind others
+-- one more line after others
 pub line-more : (lines after : List (String Global)) (kept : String Global) (line : List ℕ) → string_bytes kept ≡ line → after ≡ lines ++ kept ∷ []
     → map string_bytes after ≡ map string_bytes lines ++ line ∷ []
 line-more lines after kept line is more = rw (more, map-append string_bytes lines (kept ∷ []), is) refl
 
--- one more line behind those that are joined
+-- one more line after those that are joined
 joined-more : (x : List ℕ) (lines : List (List ℕ)) (line : List ℕ) → joined (x ∷ lines ++ line ∷ []) ≡ joined (x ∷ lines) ++ (10 ∷ line)
 joined-more x [] line = refl
 joined-more x (y ∷ lines) line =

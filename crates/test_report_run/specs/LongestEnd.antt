@@ -23,7 +23,7 @@ most_bytes = 16384
 abbrev pub joined : List (List ℕ) → List ℕ
 joined lines = join_with_byte 10 lines
 
--- how many bytes lines have, with a line feed behind each
+-- how many bytes lines have, with a line feed after each
 abbrev pub size_of : List (List ℕ) → ℕ
 size_of lines = sum_by (λ line. length line + 1) lines
 

@@ -12,14 +12,14 @@ use Rattle.test_report_run.specs.declared.others.Stage.{Stage}
 use Rattle.test_report_run.specs.declared.others.Stage.TheVariants as stage
 use Rattle.test_report_run.specs.declared.others.Stage.TheVariants.{Over, Failed, CausedBy}
 
--- a failure that cargo reported: how many headings came before it, and the line after the first `Caused by:` behind it: at most 200 bytes
+-- a failure that cargo reported: how many headings came before it, and at most 200 bytes of the line that follows the first `Caused by:` after it
 pub record ReportedView : Type 0 where
   pub headings : ℕ
   pub cause : Option (List ℕ)
 
 -- what is kept of these lines
 pub record OthersView : Type 0 where
-  -- the prints before the first heading or failure, and between two of them; and those behind the last one
+  -- the prints before the first heading or failure, and between two of them; and those after the last one
   pub past : List PrintsView
   pub prints : PrintsView
   -- how many headings came; the failures before the last one; and the last one
@@ -58,7 +58,7 @@ stage_after Over plain = stage.Over
 stage_after Failed plain = if says_caused_by plain then stage.CausedBy else stage.Failed
 stage_after CausedBy plain = stage.Over
 
--- the last failure after a print: right behind `Caused by:` the print is its cause
+-- the last failure after a print: right after `Caused by:` the print is its cause
 abbrev pub with_cause : Stage → Option ReportedView → List ℕ → Option ReportedView
 with_cause Over failure line = failure
 with_cause Failed failure line = failure
@@ -102,7 +102,7 @@ event_place o = record { failures = length (all_failures o); headings = o.headin
 abbrev pub part_at : OthersView → ℕ → PrintsView
 part_at o part = slice_index_or o.past part o.prints
 
--- the text of the prints from a place on, up to the first heading or failure behind it: the longest end that fits
+-- the text of the prints from a place on, up to the first heading or failure after it: the longest end that fits
 abbrev pub prints_from : OthersView → PrintPlace → List ℕ
 prints_from o at = text_from (part_at o at.part) at.print
 
@@ -110,6 +110,6 @@ prints_from o at = text_from (part_at o at.part) at.print
 abbrev pub last_prints_from : OthersView → PrintPlace → List (List ℕ)
 last_prints_from o at = last_from (part_at o at.part) at.print
 
--- the cause of the first failure behind an event, unless a heading came between them
+-- the cause of the first failure after an event, unless a heading came between them
 abbrev pub cause_behind : OthersView → EventPlace → Option (List ℕ)
 cause_behind o at = option_and_then (λ f. if f.headings == at.headings then f.cause else None) (slice_get (all_failures o) at.failures)

@@ -16,7 +16,7 @@ pub(crate) const MOST_BYTES: usize = 16_384;
 pub(crate) struct LongestEnd {
     lines: VecDeque<String>,
 
-    /// The number of bytes of the lines, with a line feed behind each.
+    /// The number of bytes of the lines, with a line feed after each.
     bytes: usize,
 
     ghost counted: { bytes ≡ size_of (map string_bytes lines.items) },
@@ -34,7 +34,7 @@ impl LongestEnd {
         }
     }
 
-    /// Adds a line behind the others, and drops as many of the first ones as must go.
+    /// Adds a line after the others, and drops as many of the first ones as must go.
     pub(crate) fn take_line(&mut self, alloc: Global, line: &str) -> Result<(), AllocError>
         ensures { OnOk result (map string_bytes self.new.lines.items ≡ with_kept (map string_bytes self.old.lines.items) line.now) }
     {
@@ -46,7 +46,7 @@ impl LongestEnd {
         Ok(())
     }
 
-    /// Drops as many of the first lines as must go so that a line of `size` bytes fits behind them.
+    /// Drops as many of the first lines as must go so that a line of `size` bytes fits after them.
     fn make_room(&mut self, size: usize)
         requires { size ≤ most_bytes }
         ensures room { self.new.bytes + size ≤ most_bytes }

@@ -42,20 +42,20 @@ pub(crate) struct Reported {
     /// The number of headings that came before it.
     headings: usize,
 
-    /// The line after the first `Caused by:` behind it, or its first 200 bytes, in which cargo names the cause.
+    /// The line in which cargo names the cause, or its first 200 bytes. It follows the first `Caused by:` after the failure.
     cause: Option<String>,
 }
 
 /// How far the search for the cause of the last failure is.
 #[derive(Clone, Copy, Debug, PartialEq, Eq)]
 enum Stage {
-    /// There is nothing to search for: no failure came, the cause is known, or a heading came behind the failure.
+    /// There is nothing to search for: no failure came, the cause is known, or a heading came after the failure.
     Over,
 
     /// Behind the failure, before the line `Caused by:`.
     Failed,
 
-    /// Right behind the line `Caused by:`.
+    /// Right after the line `Caused by:`.
     CausedBy,
 }
 
@@ -65,7 +65,7 @@ pub(crate) struct Others {
     /// The prints before the first heading or failure of cargo, and between two of them.
     past: Vec<Prints>,
 
-    /// The prints behind the last heading or failure.
+    /// The prints after the last heading or failure.
     prints: Prints,
 
     headings: usize,
@@ -148,7 +148,7 @@ impl Others {
         Ok(())
     }
 
-    /// Ends the prints behind the last heading or failure.
+    /// Ends the prints after the last heading or failure.
     fn end_part(&mut self, alloc: Global) -> Result<(), AllocError>
         ensures { OnOk result (others_view self.new ≡ record (others_view self.old) {
           past = (others_view self.old).past ++ (others_view self.old).prints ∷ [];
@@ -184,14 +184,14 @@ impl Others {
         }
     }
 
-    /// Returns the prints of a part: those between two headings or failures, or behind the last one.
+    /// Returns the prints of a part: those between two headings or failures, or after the last one.
     fn part_at(&self, part: usize) -> &Prints
         ensures { prints_view result.now ≡ spec.part_at (others_view self.now) part }
     {
         self.past.get(part).unwrap_or(&self.prints)
     }
 
-    /// Returns the text of the prints from a place on, up to the first heading or failure behind it: the longest end
+    /// Returns the text of the prints from a place on, up to the first heading or failure after it: the longest end
     /// that fits.
     pub(crate) fn prints_from(&self, alloc: Global, at: PrintPlace) -> Result<String, AllocError>
         ensures { IfOk result (λ text. string_bytes text ≡ spec.prints_from (others_view self.now) at) }
@@ -210,7 +210,7 @@ impl Others {
         self.part_at(at.part).last_from(alloc, at.print)
     }
 
-    /// Returns the cause of the first failure behind an event, unless a heading came between them.
+    /// Returns the cause of the first failure after an event, unless a heading came between them.
     pub(crate) fn cause_behind(
         &self,
         alloc: Global,

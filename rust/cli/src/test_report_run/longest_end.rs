@@ -13,7 +13,7 @@ pub(crate) const MOST_BYTES: usize = 16_384;
 pub(crate) struct LongestEnd {
     lines: VecDeque<String>,
 
-    /// The number of bytes of the lines, with a line feed behind each.
+    /// The number of bytes of the lines, with a line feed after each.
     bytes: usize,
 }
 
@@ -26,7 +26,7 @@ impl LongestEnd {
         }
     }
 
-    /// Adds a line behind the others, and drops as many of the first ones as must go.
+    /// Adds a line after the others, and drops as many of the first ones as must go.
     pub(crate) fn take_line(&mut self, line: &str) {
         let line = start_of(line, MOST_BYTES);
         let kept = String::from(line);
@@ -35,7 +35,7 @@ impl LongestEnd {
         self.bytes += line.len() + 1;
     }
 
-    /// Drops as many of the first lines as must go so that a line of `size` bytes fits behind them.
+    /// Drops as many of the first lines as must go so that a line of `size` bytes fits after them.
     fn make_room(&mut self, size: usize) {
         while self.bytes + size > MOST_BYTES {
             self.drop_first();

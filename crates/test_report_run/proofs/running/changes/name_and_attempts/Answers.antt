@@ -1,4 +1,4 @@
--- The name stands before the last `#`, and the number behind it.
+-- The name stands before the last `#`, and the number after it.
 use Rattle.std.proofs.Common.{sym}
 use Rattle.test_report_run.proofs.Attempts.{split-none, split-other, split-some}
 use Rattle.test_report_run.proofs.running.changes.name_and_attempts.Goals as goal
