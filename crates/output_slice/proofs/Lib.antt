@@ -4,6 +4,7 @@ mod CharLemmas
 mod HeadLemmas
 mod SearchLemmas
 mod TakenLemmas
+mod FirstLemmas
 mod TrimLemmas
 mod DivisionLemmas
 mod SameLemmas

@@ -1,5 +1,6 @@
 pub mod Head
 pub mod Taken
+pub mod First
 pub mod Cut
 pub mod Lines
 pub mod Slices

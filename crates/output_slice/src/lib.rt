@@ -17,6 +17,7 @@
 #![tactic(auto)]
 
 pub mod byte_source;
+pub mod first_head;
 pub mod heuristics;
 pub mod last_head;
 pub mod laws;

@@ -6,7 +6,7 @@ ghost use Rattle.output_slice.specs.Head.{IsHead};
 ghost use Rattle.output_slice.specs.Taken.{IsLastTaken, IsTaken, last_of};
 
 mod characters;
-mod ends;
+pub(crate) mod ends;
 pub(crate) mod quotes;
 
 use crate::byte_source::ByteSource;

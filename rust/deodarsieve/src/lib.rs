@@ -269,7 +269,8 @@ pub mod time {
 pub mod counted {
     pub use crate::decimal_digits::is_decimal_digit;
     pub use crate::output_slice::{
-        ByteSource, CountedBytes, HeadSpan, last_head::last_head, last_panic_head,
+        ByteSource, CountedBytes, HeadSpan, first_head::first_head, last_head::last_head,
+        last_panic_head,
     };
 }
 

@@ -18,6 +18,7 @@
 //! ```
 
 pub mod byte_source;
+pub mod first_head;
 pub mod heuristics;
 pub mod last_head;
 mod lines;

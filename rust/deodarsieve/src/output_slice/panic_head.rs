@@ -2,7 +2,7 @@
 //! The search for panic heads, which reads each byte through a counter.
 
 mod characters;
-mod ends;
+pub(crate) mod ends;
 pub(crate) mod quotes;
 
 use crate::output_slice::byte_source::ByteSource;
