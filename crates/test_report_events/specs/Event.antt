@@ -36,7 +36,16 @@ pub record TestEndView : Type 0 where
   -- the time, in microseconds
   pub time : Option ℕ
 
--- what a line says
+-- how a command ended
+pub data CommandView : Type 0 where
+  -- the command could not be started, and the system says why
+  NotStarted : List ℕ → CommandView
+  -- a signal with this number ended it
+  BySignal : ℕ → CommandView
+  -- it ended with this exit status
+  WithStatus : ℕ → CommandView
+
+-- what a line says, or what is known of the command whose output the lines are: no line says the last two
 pub data EventView : Type 0 where
   -- a suite with this key and number of tests starts
   SuiteStarts : Option (List ℕ) → Option ℕ → EventView
@@ -56,6 +65,10 @@ pub data EventView : Type 0 where
   Prints : List ℕ → List ℕ → EventView
   -- a damaged line says that a test or a suite failed: its text
   DamagedLine : List ℕ → EventView
+  -- the command starts whose output the next lines are
+  CommandStarts : EventView
+  -- the command has ended
+  CommandOver : CommandView → EventView
 
 -- the text of a key: `CRATE::BINARY`, and `@stress-N` if there is an index
 abbrev pub key_text : List ℕ → List ℕ → Option ℕ → List ℕ

@@ -1,6 +1,7 @@
 pub mod Attempts
 pub mod Boundaries
 pub mod Ends
+pub mod FileEnds
 pub mod Finishes
 pub mod FirstTests
 pub mod Firsts

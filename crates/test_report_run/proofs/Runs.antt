@@ -1,7 +1,7 @@
 -- The steps of a run.
 use Rattle.std.proofs.Common.{Box, Global, String, is_some, ◌==◌, ◌≡◌, ◌∙◌, ◌++◌, ◌<◌, ◌+◌, [], ◌∷◌, Bool, List, ℕ, Option, None, Some, ap, arith, cond, false, nat_lt, not, option_and_then, get_or, length, map, option_map, refl, sym, true}
 use Rattle.std.specs.Box.{with_value}
-use Rattle.std.specs.List.{fold, position, remove}
+use Rattle.std.specs.List.{position, remove}
 use Rattle.std.specs.Option.{option_map_or, option_or}
 use Rattle.std.proofs.Math.ListN.{set}
 use Rattle.std.proofs.lemmas.List.{get_or-map, get_or-set_same, map-set}
@@ -10,10 +10,10 @@ use Rattle.test_report_run.specs.Note.{NoteView, text_view}
 use Rattle.test_report_run.specs.Others.{event_place}
 use Rattle.test_report_run.specs.Over.{early_notes, last_notes}
 use Rattle.test_report_run.proofs.Places.{remove-set}
-use Rattle.test_report_run.specs.Run.{RunState, Step, all_ended_early, ended_at, ended_early, heard, last_place, names_in, opened, running_ends, started_again, step, stray_ends, suite_at, suite_place, test_over, with_suite_at, without_tests}
+use Rattle.test_report_run.specs.Run.{RunState, Step, ended_at, ended_early, heard, last_place, names_in, opened, running_ends, started_again, step, stray_ends, suite_at, suite_place, test_over, with_suite_at, without_tests}
 use Rattle.test_report_run.specs.Running.{RunningView, ended_at as test_at}
 use Rattle.test_report_run.specs.Name.{before_dollar}
-use Rattle.test_report_run.specs.Suite.{SuiteState, has_key, joined_by, outside_start, state_of, with_line}
+use Rattle.test_report_run.specs.Suite.{SuiteState, has_key, joined_by, state_of, with_line}
 use Rattle.test_report_run.specs.declared.others.EventPlace.{EventPlace}
 use Rattle.test_report_run.specs.declared.suite.Suite.{Suite}
 
@@ -61,25 +61,6 @@ suite-over r r1 r2 e at s inside over line out left =
     ap (λ b. cond b (step (without_tests old w) (last_notes w (names_in old w))) (step (with_suite_at r (Some at) w) [])) over
     ∙ sym (ap (λ (x : RunState). step (without_tests x s) (last_notes s (names_in x s))) rest
     ∙ ap (λ (x : SuiteState). step (without_tests old x) (last_notes x (names_in old x))) is)
-
--- the tests outside of a suite stay while suites end early
-pub outside-stays : (t : Step) (suites : List SuiteState) → (fold ended_early t suites).run.outside ≡ t.run.outside
-outside-stays t [] = refl
-outside-stays t (s ∷ suites) = outside-stays (ended_early t s) suites
-
--- all suites of a file end early
-pub file-end : (r r1 r2 : RunState) (n1 n2 : List NoteView) (s : SuiteState) → step r1 n1 ≡ fold ended_early (step (record r { suites = [] }) []) r.suites
-    → s ≡ r1.outside → step r2 n2 ≡ ended_early (step (record r1 { outside = outside_start }) n1) s → step r2 n2 ≡ all_ended_early r
-file-end r r1 r2 n1 n2 s suites is end =
-    end ∙ ap (λ x. ended_early (step (record r1 { outside = outside_start }) n1) x)
-    (is ∙ ap (λ (t : Step). t.run.outside) suites ∙ outside-stays (step (record r { suites = [] }) []) r.suites)
-    ∙ ap (λ (t : Step). ended_early (step (record (t.run) { outside = outside_start }) t.notes) r.outside) suites
-
--- one more suite ends early
-pub suites-more : (t : Step) (suites : List (Box Suite Global)) (one : Box Suite Global)
-    → fold ended_early t (map boxed_state (suites ++ one ∷ [])) ≡ ended_early (fold ended_early t (map boxed_state suites)) (boxed_state one)
-suites-more t [] one = refl
-suites-more t (s ∷ suites) one = suites-more (ended_early t (boxed_state s)) suites one
 
 -- a suite without a key ends early when another one starts
 pub no-key : (key : Option (String Global)) → is_some key ≡ false → is_some (text_view key) ≡ false

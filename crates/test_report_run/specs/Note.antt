@@ -2,7 +2,11 @@
 use Rattle.std.specs.Prelude.{ℕ, List, Bool, map, Option, option_map, String, string_bytes}
 use Rattle.std.specs.declared.alloc.Global.{Global}
 use Rattle.run_events_stats.specs.declared.stats.RunStats.{RunStats}
+use Rattle.test_report_events.specs.Event.{BySignal, CommandView, NotStarted, WithStatus}
 use Rattle.test_report_events.specs.declared.event.TestResult.{TestResult}
+use Rattle.test_report_run.specs.declared.note.CargoReport.{CargoReport}
+use Rattle.test_report_run.specs.declared.note.CommandEnd.{CommandEnd}
+use Rattle.test_report_run.specs.declared.note.CommandEnd.TheVariants as command
 use Rattle.test_report_run.specs.declared.note.Crash.{Crash}
 use Rattle.test_report_run.specs.declared.note.Disagreement.{Disagreement}
 use Rattle.test_report_run.specs.declared.note.Disagreement.TheVariants as disagreement
@@ -56,6 +60,12 @@ pub record TestNoteView : Type 0 where
   pub ended : Option ℕ
   pub outcome : OutcomeView
 
+-- a failure of cargo: its line, and what may say why: the prints before it, and the line in which cargo names the cause
+pub record CargoView : Type 0 where
+  pub line : List ℕ
+  pub prints : List ℕ
+  pub cause : Option (List ℕ)
+
 -- a contradiction between lines
 pub data DisagreementView : Type 0 where
   EndsEarly : List ℕ → DisagreementView
@@ -63,9 +73,10 @@ pub data DisagreementView : Type 0 where
   StrayEnds : List ℕ → TestResult → DisagreementView
   StraySuiteEnds : Option (List ℕ) → Bool → DisagreementView
   StartsOutside : ℕ → DisagreementView
-  CargoSays : List ℕ → DisagreementView
+  CargoSays : CargoView → DisagreementView
   IsDamaged : List ℕ → DisagreementView
   HasNoEvent : DisagreementView
+  CommandFails : CommandView → DisagreementView
 
 -- a suite that is over
 pub record SuiteNoteView : Type 0 where
@@ -132,6 +143,16 @@ test_view t = record {
   outcome = outcome_view t.outcome;
 }
 
+-- what a failure of cargo says
+abbrev pub cargo_view : CargoReport → CargoView
+cargo_view r = record { line = string_bytes r.line; prints = string_bytes r.prints; cause = text_view r.cause }
+
+-- how a command ended
+abbrev pub command_view : CommandEnd → CommandView
+command_view (command.NotStarted error) = NotStarted (string_bytes error)
+command_view (command.Signal number) = BySignal number
+command_view (command.Status code) = WithStatus code
+
 -- what a disagreement says
 abbrev pub disagreement_view : Disagreement → DisagreementView
 disagreement_view (disagreement.EndedEarly suite) = EndsEarly (string_bytes suite)
@@ -139,9 +160,10 @@ disagreement_view (disagreement.LastLine suite said passed failed) = SaysOther (
 disagreement_view (disagreement.StrayEnd name outcome) = StrayEnds (string_bytes name) outcome
 disagreement_view (disagreement.StraySuiteEnd key failed) = StraySuiteEnds (text_view key) failed
 disagreement_view (disagreement.OutsideSuite started) = StartsOutside started
-disagreement_view (disagreement.Cargo line) = CargoSays (string_bytes line)
+disagreement_view (disagreement.Cargo report) = CargoSays (cargo_view report)
 disagreement_view (disagreement.Damaged text) = IsDamaged (string_bytes text)
 disagreement_view disagreement.NoEvent = HasNoEvent
+disagreement_view (disagreement.Command end) = CommandFails (command_view end)
 
 -- what the note of a suite says
 abbrev pub suite_view : SuiteNote → SuiteNoteView

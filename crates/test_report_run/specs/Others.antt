@@ -12,10 +12,12 @@ use Rattle.test_report_run.specs.declared.others.Stage.{Stage}
 use Rattle.test_report_run.specs.declared.others.Stage.TheVariants as stage
 use Rattle.test_report_run.specs.declared.others.Stage.TheVariants.{Over, Failed, CausedBy}
 
--- a failure that cargo reported: how many headings came before it, and at most 200 bytes of the line that follows the first `Caused by:` after it
+-- a failure that cargo reported: how many headings came before it, and at most 200 bytes of the line that follows the first `Caused by:` after it, and
+-- of the plain text of this line
 pub record ReportedView : Type 0 where
   pub headings : ℕ
   pub cause : Option (List ℕ)
+  pub plain_cause : Option (List ℕ)
 
 -- what is kept of these lines
 pub record OthersView : Type 0 where
@@ -31,7 +33,7 @@ pub record OthersView : Type 0 where
 
 -- what is kept of a failure
 abbrev pub reported_view : Reported → ReportedView
-reported_view r = record { headings = r.headings; cause = text_view r.cause }
+reported_view r = record { headings = r.headings; cause = text_view r.cause; plain_cause = text_view r.plain_cause }
 
 -- what is kept
 abbrev pub others_view : Others → OthersView
@@ -59,16 +61,17 @@ stage_after Failed plain = if says_caused_by plain then stage.CausedBy else stag
 stage_after CausedBy plain = stage.Over
 
 -- the last failure after a print: right after `Caused by:` the print is its cause
-abbrev pub with_cause : Stage → Option ReportedView → List ℕ → Option ReportedView
-with_cause Over failure line = failure
-with_cause Failed failure line = failure
-with_cause CausedBy failure line = option_map {T = ReportedView} {U = ReportedView} (λ f. record f { cause = Some (cut line) }) failure
+abbrev pub with_cause : Stage → Option ReportedView → List ℕ → List ℕ → Option ReportedView
+with_cause Over failure line plain = failure
+with_cause Failed failure line plain = failure
+with_cause CausedBy failure line plain = option_map {T = ReportedView} {U = ReportedView}
+    (λ f. record f { cause = Some (cut line); plain_cause = Some (cut plain) }) failure
 
 -- after a print
 abbrev pub after_print : OthersView → List ℕ → List ℕ → OthersView
 after_print o line plain = record o {
   prints = with_print o.prints line;
-  last_failure = with_cause o.stage o.last_failure line;
+  last_failure = with_cause o.stage o.last_failure line plain;
   stage = stage_after o.stage plain;
 }
 
@@ -82,7 +85,7 @@ after_failure o = record o {
   past = o.past ++ o.prints ∷ [];
   prints = no_prints;
   failures = o.failures ++ option_to_list o.last_failure;
-  last_failure = Some record { headings = o.headings; cause = None };
+  last_failure = Some record { headings = o.headings; cause = None; plain_cause = None };
   stage = stage.Failed;
 }
 
@@ -93,6 +96,10 @@ print_place o = record { part = length o.past; print = o.prints.count }
 -- all failures
 abbrev pub all_failures : OthersView → List ReportedView
 all_failures o = o.failures ++ option_to_list o.last_failure
+
+-- the plain text of the cause of the last failure
+abbrev pub last_cause : OthersView → Option (List ℕ)
+last_cause o = option_and_then (λ f. f.plain_cause) o.last_failure
 
 -- the place of an event: how many failures and headings came before it
 abbrev pub event_place : OthersView → EventPlace

@@ -1,17 +1,18 @@
 -- A run, line by line.
-use Rattle.std.specs.Prelude.{◌+◌, ◌-◌, ◌++◌, ◌==◌, ◌∷◌, ◌||◌, ◌&&◌, [], ℕ, List, Bool, true, false, filter, is_some, length, map, nat_lt, not, if◌then◌else◌, slice_index_or, slice_set, Option, Some, None, option_and_then}
+use Rattle.std.specs.Prelude.{◌+◌, ◌-◌, ◌++◌, ◌==◌, ◌∷◌, ◌||◌, ◌&&◌, [], ℕ, List, Bool, true, false, filter, is_some, length, map, nat_lt, not, if◌then◌else◌, slice_index_or, slice_set, Option, Some, None, option_and_then, option_map}
 use Rattle.std.specs.List.{count_by, fold, position, remove}
 use Rattle.std.specs.Option.{option_map_or, option_or}
-use Rattle.test_report_events.specs.Event.{EventView, SuiteEndView, TestEndView, SuiteStarts, SuiteEnds, TestStarts, TestEnds, OtherLine, HeadingLine, CargoFails, Prints, DamagedLine}
+use Rattle.test_report_events.specs.Event.{BySignal, CommandView, EventView, NotStarted, SuiteEndView, TestEndView, SuiteStarts, SuiteEnds, TestStarts, TestEnds, OtherLine, HeadingLine, CargoFails, Prints, DamagedLine, CommandStarts, CommandOver, WithStatus}
 use Rattle.test_report_events.specs.declared.event.CargoFailure.{CargoFailure}
 use Rattle.test_report_events.specs.declared.event.CargoFailure.TheVariants.{Build, Tests, Run}
 use Rattle.test_report_events.specs.declared.event.TestResult.TheVariants.{Ok, Failed, Ignored}
 use Rattle.test_report_run.specs.Ended.{after_end, after_stray, end_notes, stray_notes}
 use Rattle.test_report_run.specs.Headings.{NamedPaths, headings_of, shown_by, with_heading}
-use Rattle.test_report_run.specs.Note.{CargoSays, Disagrees, Fails, HasNoEvent, IsDamaged, IsNotRun, IsSkipped, NoteView, OutcomeView, Passes, StrayEnds, StraySuiteEnds, SuiteIs, TestIs, text_view}
+use Rattle.test_report_run.specs.LongestEnd.{joined, with_kept}
+use Rattle.test_report_run.specs.Note.{CargoSays, CargoView, CommandFails, Disagrees, DisagreementView, EndsEarly, Fails, HasNoEvent, IsDamaged, IsNotRun, IsSkipped, NoteView, OutcomeView, Passes, SaysOther, StartsOutside, StrayEnds, StraySuiteEnds, SuiteIs, TestIs, cargo_view, command_view, text_view}
 use Rattle.test_report_run.specs.Over.{early_notes, last_notes}
-use Rattle.test_report_run.specs.Others.{OthersView, after_failure, after_heading, after_print, event_place, no_others, others_view}
-use Rattle.test_report_run.specs.Prints.{cut}
+use Rattle.test_report_run.specs.Others.{OthersView, after_failure, after_heading, after_print, event_place, last_cause, no_others, others_view}
+use Rattle.test_report_run.specs.Prints.{cut, lines_of}
 use Rattle.test_report_run.specs.Running.{RunningView, is_of, is_same, place_of_end, running_at, tests_of}
 use Rattle.test_report_run.specs.Name.{before_dollar}
 use Rattle.test_report_run.specs.Suite.{OverView, SuiteState, has_key, joined_by, outside_start, state_of, suite_start, with_line, with_start}
@@ -32,6 +33,14 @@ pub record RunState : Type 0 where
   pub has_event : Bool
   -- the lines of the file that are no events
   pub others : OthersView
+  -- the plain text of the prints after the last heading, event or failure of cargo: the longest end of them that fits
+  pub recent : List (List ℕ)
+  -- the last failure of cargo that disagrees, until what may say why is read; and those that wait for the end of the command
+  pub reported : Option CargoView
+  pub held : List CargoView
+  -- the lines are the output of a command, and how it ended
+  pub of_command : Bool
+  pub command : Option CommandView
   -- the tests that run, how many tests started, and how many ended
   pub running : List RunningView
   pub tests_started : ℕ
@@ -39,7 +48,8 @@ pub record RunState : Type 0 where
   -- the sums over the suites that are over, and how many lines disagree
   pub totals : RunEnd
   pub disagreements : ℕ
-  -- how many tests failed and lines disagree: now, when the file began, and at the last failure of cargo that counted
+  -- how many tests failed and lines disagree, with the failures of cargo that are not known yet: now, when the file began, and at the last failure of
+  -- cargo that counted
   pub causes : ℕ
   pub causes_at_file : ℕ
   pub causes_at_cargo : ℕ
@@ -54,6 +64,11 @@ run_state r = record {
   heading = text_view r.heading;
   has_event = r.has_event;
   others = others_view r.others;
+  recent = lines_of r.recent;
+  reported = option_map cargo_view r.reported;
+  held = map cargo_view r.held.items;
+  of_command = r.of_command;
+  command = option_map command_view r.command;
   running = tests_of r.running;
   tests_started = r.running.started;
   ended = r.ended;
@@ -74,6 +89,11 @@ run_start = record {
   heading = None;
   has_event = false;
   others = no_others;
+  recent = [];
+  reported = None;
+  held = [];
+  of_command = false;
+  command = None;
   running = [];
   tests_started = 0;
   ended = 0;
@@ -245,10 +265,51 @@ is_explained r Tests = nat_lt r.causes_at_cargo r.causes
 is_explained r Run = nat_lt r.causes_at_file r.causes
 
 -- a failure of cargo disagrees if no suite is open and nothing explains it
-abbrev pub cargo_notes : RunState → CargoFailure → List ℕ → List NoteView
-cargo_notes r f line = if length r.suites == 0 && not (is_explained r f) then Disagrees (CargoSays line) ∷ [] else []
+abbrev pub disagrees : RunState → CargoFailure → Bool
+disagrees r f = length r.suites == 0 && not (is_explained r f)
 
--- the run after a line, before its notes are counted, and its notes
+-- the run with a failure of cargo that disagrees. It counts from now on
+abbrev pub with_report : RunState → List ℕ → RunState
+with_report r line = record r { reported = Some (record { line = line; prints = joined r.recent; cause = None }); causes = r.causes + 1 }
+
+-- a failure of cargo
+abbrev pub cargo_fails : RunState → CargoFailure → List ℕ → RunState
+cargo_fails r f line = record (if disagrees r f then with_report r line else r) { others = after_failure r.others }
+
+-- a print
+abbrev pub printed : RunState → List ℕ → List ℕ → RunState
+printed r line plain = record r { others = after_print r.others line plain; recent = with_kept r.recent plain }
+
+-- all that may say why cargo failed was read: the failure becomes known, or waits for the end of the command
+abbrev pub report_told : RunState → CargoView → Step
+report_told r report =
+    let whole = record report { cause = last_cause r.others } in
+    if r.of_command then step (record r { reported = None; held = r.held ++ whole ∷ [] }) []
+    else step (record r { reported = None }) (Disagrees (CargoSays whole) ∷ [])
+
+-- the same, if there is such a failure
+abbrev pub settled : RunState → Step
+settled r = option_map_or (report_told r) r.reported (step r [])
+
+-- a heading, an event or a failure comes after all that may say why cargo failed before it
+abbrev pub is_after_report : EventView → Bool
+is_after_report (SuiteStarts key count) = true
+is_after_report (SuiteEnds e) = true
+is_after_report (TestStarts name) = true
+is_after_report (TestEnds e) = true
+is_after_report OtherLine = true
+is_after_report (HeadingLine name path) = true
+is_after_report (CargoFails f line plain) = true
+is_after_report (Prints line plain) = false
+is_after_report (DamagedLine text) = false
+is_after_report CommandStarts = false
+is_after_report (CommandOver end) = false
+
+-- the run before a line, and what becomes known before what the line itself makes known
+abbrev pub settled_at : RunState → EventView → Step
+settled_at r e = if is_after_report e then settled r else step r []
+
+-- the run after a line, before its notes are counted, and its own notes
 abbrev pub told : RunState → EventView → Step
 told r (SuiteStarts key count) = suite_starts r key count
 told r (SuiteEnds e) = suite_ends r e
@@ -256,9 +317,11 @@ told r (TestStarts name) = step (test_starts r name) []
 told r (TestEnds e) = let t = test_ends r e in step (record (t.run) { ended = t.run.ended + 1 }) t.notes
 told r OtherLine = step r []
 told r (HeadingLine name path) = step (headed r name path) []
-told r (CargoFails f line plain) = step (record r { others = after_failure r.others }) (cargo_notes r f plain)
-told r (Prints line plain) = step (record r { others = after_print r.others line plain }) []
+told r (CargoFails f line plain) = step (cargo_fails r f plain) []
+told r (Prints line plain) = step (printed r line plain) []
 told r (DamagedLine text) = step r (Disagrees (IsDamaged (cut text)) ∷ [])
+told r CommandStarts = step (record r { of_command = true }) []
+told r (CommandOver end) = step (record r { command = Some end }) []
 
 -- the test failed
 abbrev pub has_failed : OutcomeView → Bool
@@ -284,6 +347,25 @@ is_disagreement (SuiteIs s) = false
 abbrev pub is_cause : NoteView → Bool
 is_cause note = is_failed_test note || is_disagreement note
 
+-- a disagreement is counted when it becomes known. Failures of cargo are counted at their lines, and that a file has no event explains nothing
+abbrev pub is_new_disagreement : DisagreementView → Bool
+is_new_disagreement (EndsEarly suite) = true
+is_new_disagreement (SaysOther suite said passed failed) = true
+is_new_disagreement (StrayEnds name how) = true
+is_new_disagreement (StraySuiteEnds key failed) = true
+is_new_disagreement (StartsOutside n) = true
+is_new_disagreement (CargoSays report) = false
+is_new_disagreement (IsDamaged text) = true
+is_new_disagreement HasNoEvent = false
+is_new_disagreement (CommandFails end) = true
+
+-- the note is of a failed test, or of a disagreement that is counted when it becomes known
+abbrev pub is_new_cause : NoteView → Bool
+is_new_cause (TestIs t) = has_failed t.outcome
+is_new_cause (Disagrees d) = is_new_disagreement d
+is_new_cause (IsNotRun suite n of) = false
+is_new_cause (SuiteIs s) = false
+
 -- the sums with one more note: that of a suite which is over adds to them
 abbrev pub with_note : RunEnd → NoteView → RunEnd
 with_note e (TestIs t) = e
@@ -296,28 +378,34 @@ abbrev pub learned : RunState → List NoteView → RunState
 learned r notes = record r {
   totals = fold with_note r.totals notes;
   disagreements = r.disagreements + count_by is_disagreement notes;
-  causes = r.causes + count_by is_cause notes;
+  causes = r.causes + count_by is_new_cause notes;
 }
 
 -- the run remembers that a line was an event of a harness, and how many causes there were at a failure of cargo that counted
 abbrev pub marked : RunState → EventView → RunState
-marked r (CargoFails f line plain) = if length r.suites == 0 then record r { causes_at_cargo = r.causes } else r
-marked r (SuiteStarts key count) = record r { has_event = true }
-marked r (SuiteEnds e) = record r { has_event = true }
-marked r (TestStarts name) = record r { has_event = true }
-marked r (TestEnds e) = record r { has_event = true }
-marked r OtherLine = record r { has_event = true }
-marked r (HeadingLine name path) = r
+marked r (CargoFails f line plain) = record r { recent = []; causes_at_cargo = if length r.suites == 0 then r.causes else r.causes_at_cargo }
+marked r (SuiteStarts key count) = record r { recent = []; has_event = true }
+marked r (SuiteEnds e) = record r { recent = []; has_event = true }
+marked r (TestStarts name) = record r { recent = []; has_event = true }
+marked r (TestEnds e) = record r { recent = []; has_event = true }
+marked r OtherLine = record r { recent = []; has_event = true }
+marked r (HeadingLine name path) = record r { recent = [] }
 marked r (Prints line plain) = r
 marked r (DamagedLine text) = r
+marked r CommandStarts = r
+marked r (CommandOver end) = r
+
+-- the run after a line, before its notes are counted, and what the line makes known
+abbrev pub told_at : RunState → EventView → Step
+told_at r e = let before = settled_at r e in let own = told before.run e in step own.run (before.notes ++ own.notes)
 
 -- what a line makes known
 abbrev pub notes_at : RunState → EventView → List NoteView
-notes_at r e = (told r e).notes
+notes_at r e = (told_at r e).notes
 
 -- the run after a line
 abbrev pub after : RunState → EventView → RunState
-after r e = marked (learned (told r e).run (told r e).notes) e
+after r e = marked (learned (told_at r e).run (told_at r e).notes) e
 
 -- what events make known, one after the other
 abbrev pub notes_of : RunState → List EventView → List NoteView
@@ -328,9 +416,31 @@ notes_of r (e ∷ events) = notes_at r e ++ notes_of (after r e) events
 abbrev pub run_after : RunState → List EventView → RunState
 run_after r events = fold after r events
 
--- a file disagrees if it has no event of a harness, and nothing failed or disagreed in it
+-- the command ended with status 0
+abbrev pub ended_well : Option CommandView → Bool
+ended_well None = false
+ended_well (Some (NotStarted error)) = false
+ended_well (Some (BySignal number)) = false
+ended_well (Some (WithStatus code)) = code == 0
+
+-- the command could not be started
+abbrev pub was_not_started : Option CommandView → Bool
+was_not_started None = false
+was_not_started (Some (NotStarted error)) = true
+was_not_started (Some (BySignal number)) = false
+was_not_started (Some (WithStatus code)) = false
+
+-- The failures of cargo that wait for the end of the command become known, unless it ended with status 0: then they were prints.
+abbrev pub held_told : RunState → Step
+held_told r =
+    if ended_well r.command then step (record r { held = []; causes = r.causes - length r.held }) []
+    else step (record r { held = [] }) (map (λ report. Disagrees (CargoSays report)) r.held)
+
+-- a file disagrees if it has no event of a harness, nothing failed or disagreed in it, and the end of its command says no more
 abbrev pub no_event_notes : RunState → List NoteView
-no_event_notes r = if not r.has_event && not (nat_lt r.causes_at_file r.causes) then Disagrees HasNoEvent ∷ [] else []
+no_event_notes r =
+    if not r.has_event && (not (nat_lt r.causes_at_file r.causes) && not (ended_well r.command || was_not_started r.command))
+    then Disagrees HasNoEvent ∷ [] else []
 
 -- the open suites end early, and then the tests outside of a suite
 abbrev pub all_ended_early : RunState → Step
@@ -338,26 +448,48 @@ all_ended_early r =
     let suites = fold ended_early (step (record r { suites = [] }) []) r.suites in
     ended_early (step (record (suites.run) { outside = outside_start }) suites.notes) r.outside
 
--- the end of a file
+-- the failures of cargo that are not known yet become known, or were prints
+abbrev pub reports_told : RunState → Step
+reports_told r = let last = settled r in let held = held_told last.run in step held.run (last.notes ++ held.notes)
+
+-- the end of a file, but for what the end of its command says
 abbrev pub file_end : RunState → Step
-file_end r = let t = all_ended_early r in step t.run (t.notes ++ no_event_notes t.run)
+file_end r =
+    let reports = reports_told r in
+    let suites = all_ended_early reports.run in
+    step suites.run (reports.notes ++ (suites.notes ++ no_event_notes suites.run))
+
+-- a command disagrees that could not be started, that ended by a signal, or that ended with a status above 0 if nothing says why
+abbrev pub command_fails : ℕ → CommandView → Bool
+command_fails causes (NotStarted error) = true
+command_fails causes (BySignal number) = true
+command_fails causes (WithStatus code) = not (code == 0) && causes == 0
+
+-- what the end of the command says
+abbrev pub command_notes : RunState → List NoteView
+command_notes r = option_map_or (λ end. if command_fails r.causes end then Disagrees (CommandFails end) ∷ [] else []) r.command []
 
 -- what the end of a file makes known
 abbrev pub file_notes : RunState → List NoteView
-file_notes r = (file_end r).notes
+file_notes r = let t = file_end r in t.notes ++ command_notes (learned t.run t.notes)
+
+-- the run before the first line of a file
+abbrev pub begun : RunState → RunState
+begun r = record r {
+  headings = [];
+  heading = None;
+  has_event = false;
+  others = no_others;
+  recent = [];
+  of_command = false;
+  command = None;
+  causes_at_file = r.causes;
+  causes_at_cargo = r.causes;
+}
 
 -- the run after the end of a file
 abbrev pub after_file : RunState → RunState
-after_file r =
-    let over = learned (file_end r).run (file_end r).notes in
-    record over {
-      headings = [];
-      heading = None;
-      has_event = false;
-      others = no_others;
-      causes_at_file = over.causes;
-      causes_at_cargo = over.causes;
-    }
+after_file r = begun (learned (file_end r).run (file_notes r))
 
 -- the sums and the outcome
 abbrev pub end_of : RunState → RunEnd

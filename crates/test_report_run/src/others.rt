@@ -44,6 +44,9 @@ pub(crate) struct Reported {
 
     /// The line in which cargo names the cause, or its first 200 bytes. It follows the first `Caused by:` after the failure.
     cause: Option<String>,
+
+    /// The same of the plain text of this line.
+    plain_cause: Option<String>,
 }
 
 /// How far the search for the cause of the last failure is.
@@ -104,20 +107,21 @@ impl Others {
     {
         self.prints.take_print(alloc, line)?;
         if self.stage == Stage::CausedBy {
-            self.keep_cause(alloc, line)?;
+            self.keep_cause(alloc, line, plain)?;
         }
         self.stage = stage_after(self.stage, plain);
         Ok(())
     }
 
     /// Keeps the cause of the last failure.
-    fn keep_cause(&mut self, alloc: Global, line: &str) -> Result<(), AllocError>
+    fn keep_cause(&mut self, alloc: Global, line: &str, plain: &str) -> Result<(), AllocError>
         ensures { OnOk result (others_view self.new ≡ record (others_view self.old) {
-          last_failure = spec.with_cause stage.CausedBy (others_view self.old).last_failure line.now;
+          last_failure = spec.with_cause stage.CausedBy (others_view self.old).last_failure line.now plain.now;
         }) }
     {
         if let Some(failure) = &mut self.last_failure {
             failure.cause = Some(String::from_str(alloc, shortened(line))?);
+            failure.plain_cause = Some(String::from_str(alloc, shortened(plain))?);
         }
         Ok(())
     }
@@ -140,6 +144,7 @@ impl Others {
         let failure = Reported {
             headings: self.headings,
             cause: None,
+            plain_cause: None,
         };
         if let Some(before) = std::mem::replace(&mut self.last_failure, Some(failure)) {
             self.failures.push(before)?;
@@ -223,6 +228,21 @@ impl Others {
                 Some(cause) => Ok(Some(cause.clone()?)),
                 None => Ok(None),
             },
+            _ => Ok(None),
+        }
+    }
+
+    /// Returns the plain text of the cause of the last failure.
+    pub(crate) fn last_cause(&self) -> Result<Option<String>, AllocError>
+        ensures { IfOk result (λ cause. text_view cause ≡ spec.last_cause (others_view self.now)) }
+    {
+        match &self.last_failure {
+            Some(
+                Reported {
+                    plain_cause: Some(cause),
+                    ..
+                },
+            ) => Ok(Some(cause.clone()?)),
             _ => Ok(None),
         }
     }

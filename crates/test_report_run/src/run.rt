@@ -1,19 +1,21 @@
 //! A test run that is followed line by line.
 
-ghost use Rattle.std.specs.Prelude.{◌≡◌, ◌++◌, ◌∷◌, [], IfOk, OnOk, map, option_map, option_to_list};
+ghost use Rattle.std.specs.Prelude.{◌≡◌, ◌++◌, ◌∷◌, [], IfOk, OnOk, if◌then◌else◌, map, option_map, option_to_list};
 ghost use Rattle.test_report_events.specs.Content.{events_of};
 ghost use Rattle.test_report_events.specs.Event.{event_view};
-ghost use Rattle.test_report_run.specs.Note.{note_view};
+ghost use Rattle.test_report_run.specs.Note.{disagreement_view, note_view};
 ghost use Rattle.test_report_run.specs.Run as spec;
 ghost use Rattle.test_report_run.specs.Run.{run_state};
 
+mod command;
 mod lines;
 mod suites;
 mod test_lines;
 
 use crate::error::{RunError, one_more};
 use crate::headings::Headings;
-use crate::note::{Disagreement, Note, RunEnd, TestOutcome};
+use crate::longest_end::LongestEnd;
+use crate::note::{CargoReport, CommandEnd, Disagreement, Note, RunEnd, TestOutcome};
 use crate::others::Others;
 use crate::run::lines::push_damaged;
 use crate::running::Running;
@@ -45,13 +47,29 @@ pub struct TestRun {
     /// The lines of the file that are no events of a harness.
     others: Others,
 
+    /// The plain text of the prints after the last heading, event or failure of cargo.
+    recent: LongestEnd,
+
+    /// The last failure of cargo that disagrees, until what may say why is read.
+    reported: Option<CargoReport>,
+
+    /// The failures of cargo that wait for the end of the command.
+    held: Vec<CargoReport>,
+
+    /// True if the lines are the output of a command.
+    of_command: bool,
+
+    /// How the command ended.
+    command: Option<CommandEnd>,
+
     running: Running,
     ended: usize,
     totals: Totals,
     disagreements: usize,
 
     /// The number of failed tests and disagreements until now, until the file began, and until the last
-    /// failure of cargo outside of a suite. They decide whether a failure of cargo is explained.
+    /// failure of cargo outside of a suite. They decide whether a failure of cargo is explained. Failures of cargo
+    /// are counted before they become known.
     causes: usize,
     causes_at_file: usize,
     causes_at_cargo: usize,
@@ -70,6 +88,11 @@ impl TestRun {
             heading: None,
             has_event: false,
             others: Others::new(alloc),
+            recent: LongestEnd::new(alloc),
+            reported: None,
+            held: Vec::new(alloc),
+            of_command: false,
+            command: None,
             running: Running::new(alloc),
             ended: 0,
             totals: Totals::new(),
@@ -109,34 +132,57 @@ impl TestRun {
             ≡ spec.after (run_state self.old) (event_view event.entry)) }
     {
         let mut notes = Vec::new(alloc);
+        self.settle_at(event, &mut notes)?;
         self.tell(alloc, event, &mut notes)?;
         self.learn(&notes)?;
-        self.mark(event);
+        self.mark(alloc, event);
         Ok(notes)
     }
 
-    /// Ends the file, and returns the notes that this makes known. Suites that are still open end early: their
-    /// running tests crashed. After an error the run must not be used.
+    /// Ends the file, or the output of a command, and returns the notes that this makes known. Suites that are
+    /// still open end early: their running tests crashed. After an error the run must not be used.
     pub fn end_file(&mut self, alloc: Global) -> Result<Vec<Note>, RunError>
         ensures tells { IfOk result (λ notes. map note_view notes.items
             ≡ spec.file_notes (run_state self.old)) }
         ensures takes { OnOk result (run_state self.new ≡ spec.after_file (run_state self.old)) }
     {
         let mut notes = Vec::new(alloc);
-        for suite in std::mem::replace(&mut self.suites, Vec::new(alloc)) {
-            self.end_early(alloc, Box::into_inner(suite), &mut notes)?;
-        }
-        let outside = std::mem::replace(&mut self.outside, Suite::outside(alloc));
-        self.end_early(alloc, outside, &mut notes)?;
+        self.settle(&mut notes)?;
+        self.tell_held(alloc, &mut notes)?;
+        self.end_suites(alloc, &mut notes)?;
         self.push_no_event(&mut notes)?;
         self.learn(&notes)?;
+        self.end_command(&mut notes)?;
+        self.begin_file(alloc);
+        Ok(notes)
+    }
+
+    /// Ends the open suites early, and then the tests outside of a suite.
+    fn end_suites(&mut self, alloc: Global, notes: &mut Vec<Note>) -> Result<(), RunError>
+        ensures takes { OnOk result (run_state self.new ≡ (spec.all_ended_early (run_state self.old)).run) }
+        ensures tells { OnOk result (map note_view notes.new.items ≡ map note_view notes.old.items
+            ++ (spec.all_ended_early (run_state self.old)).notes) }
+    {
+        for suite in std::mem::replace(&mut self.suites, Vec::new(alloc)) {
+            self.end_early(alloc, Box::into_inner(suite), notes)?;
+        }
+        let outside = std::mem::replace(&mut self.outside, Suite::outside(alloc));
+        self.end_early(alloc, outside, notes)
+    }
+
+    /// Forgets what is kept of the lines of a file, before the next one.
+    fn begin_file(&mut self, alloc: Global)
+        ensures { run_state self.new ≡ spec.begun (run_state self.old) }
+    {
         self.headings = Headings::new(alloc);
         self.heading = None;
         self.has_event = false;
         self.others = Others::new(alloc);
+        self.recent = LongestEnd::new(alloc);
+        self.of_command = false;
+        self.command = None;
         self.causes_at_file = self.causes;
         self.causes_at_cargo = self.causes;
-        Ok(notes)
     }
 
     /// Returns the sums and the outcome of the whole run. Call it after `end_file` of the last file.
@@ -160,6 +206,19 @@ impl TestRun {
     {
         if let Some(event) = event {
             notes.append(&mut self.on_event(alloc, event)?)?;
+        }
+        Ok(())
+    }
+
+    /// Makes the last failure of cargo known if an event comes after all that may say why.
+    fn settle_at(&mut self, event: Event<'_>, notes: &mut Vec<Note>) -> Result<(), AllocError>
+        ensures takes { OnOk result (run_state self.new
+            ≡ (spec.settled_at (run_state self.old) (event_view event.entry)).run) }
+        ensures tells { OnOk result (map note_view notes.new.items ≡ map note_view notes.old.items
+            ++ (spec.settled_at (run_state self.old) (event_view event.entry)).notes) }
+    {
+        if is_after_report(event) {
+            self.settle(notes)?;
         }
         Ok(())
     }
@@ -190,19 +249,20 @@ impl TestRun {
             Event::Other => Ok(()),
             Event::Heading { suite, path } => self.on_heading(alloc, suite, path),
             Event::CargoFailed { failure, plain, .. } => {
-                self.on_cargo_failed(alloc, failure, plain, notes)
+                self.on_cargo_failed(alloc, failure, plain)
             }
-            Event::Print { line, plain } => self.others.on_print(alloc, line, plain),
+            Event::Print { line, plain } => self.on_print(alloc, line, plain),
             Event::Damaged { text } => push_damaged(alloc, text, notes),
         }
     }
 
-    /// Adds a disagreement if no line of the file is an event of a harness, and nothing failed or disagreed in it.
+    /// Adds a disagreement if no line of the file is an event of a harness, nothing failed or disagreed in it, and
+    /// the end of its command says no more.
     fn push_no_event(&self, notes: &mut Vec<Note>) -> Result<(), AllocError>
         ensures { OnOk result (map note_view notes.new.items ≡ map note_view notes.old.items
             ++ spec.no_event_notes (run_state self.now)) }
     {
-        let explained = self.causes > self.causes_at_file;
+        let explained = self.causes > self.causes_at_file || self.command_says_more();
         if !self.has_event && !explained {
             notes.push(Note::Disagreement(Disagreement::NoEvent))?;
         }
@@ -211,9 +271,10 @@ impl TestRun {
 
     /// Stores that a line is an event of a harness, and the number of causes if cargo reports a failure outside
     /// of a suite.
-    fn mark(&mut self, event: Event<'_>)
+    fn mark(&mut self, alloc: Global, event: Event<'_>)
         ensures { run_state self.new ≡ spec.marked (run_state self.old) (event_view event.entry) }
     {
+        self.forget_prints(alloc, event);
         match event {
             Event::SuiteStarted { .. }
             | Event::SuiteEnded(_)
@@ -229,6 +290,16 @@ impl TestRun {
         }
     }
 
+    /// Forgets the prints before an event after which they cannot say why cargo fails.
+    fn forget_prints(&mut self, alloc: Global, event: Event<'_>)
+        ensures { run_state self.new ≡ (if spec.is_after_report (event_view event.entry)
+            then record (run_state self.old) { recent = [] } else run_state self.old) }
+    {
+        if is_after_report(event) {
+            self.recent = LongestEnd::new(alloc);
+        }
+    }
+
     /// Adds notes to the sums.
     fn learn(&mut self, notes: &[Note]) -> Result<(), RunError>
         ensures { OnOk result (run_state self.new
@@ -241,7 +312,7 @@ impl TestRun {
     }
 
     /// Adds a note to the sums.
-    fn learn_note(&mut self, note: &Note) -> Result<(), RunError>
+    pub(crate) fn learn_note(&mut self, note: &Note) -> Result<(), RunError>
         ensures { OnOk result (run_state self.new
             ≡ spec.learned (run_state self.old) (note_view note.now ∷ [])) }
     {
@@ -251,13 +322,30 @@ impl TestRun {
                     self.causes = one_more(self.causes)?;
                 }
             }
-            Note::Disagreement(_) => {
-                self.causes = one_more(self.causes)?;
+            Note::Disagreement(disagreement) => {
                 self.disagreements = one_more(self.disagreements)?;
+                if is_new(disagreement) {
+                    self.causes = one_more(self.causes)?;
+                }
             }
             Note::NotRun(_) => {}
             Note::Suite(suite) => self.totals.add(suite)?,
         }
         Ok(())
     }
+}
+
+/// Returns true if a disagreement is counted among the causes when it becomes known. A failure of cargo is counted at
+/// its line, and that a file has no event explains nothing.
+fn is_new(disagreement: &Disagreement) -> bool
+    ensures { result ≡ spec.is_new_disagreement (disagreement_view disagreement.now) }
+{
+    !matches!(disagreement, Disagreement::Cargo(_) | Disagreement::NoEvent)
+}
+
+/// Returns true if an event, a heading or a failure comes after all that may say why cargo failed before it.
+fn is_after_report(event: Event<'_>) -> bool
+    ensures { result ≡ spec.is_after_report (event_view event.entry) }
+{
+    !matches!(event, Event::Print { .. } | Event::Damaged { .. })
 }

@@ -1,15 +1,14 @@
-//! Headings, failures of cargo, and damaged lines.
+//! Headings, failures of cargo, prints, and damaged lines.
 
 ghost use Rattle.std.specs.Prelude.{◌≡◌, ◌++◌, ◌∷◌, [], OnOk, map, option_map};
 ghost use Rattle.test_report_run.specs.Note.{Disagrees, IsDamaged, note_view};
-ghost use Rattle.test_report_run.specs.Others.{after_failure};
 ghost use Rattle.test_report_run.specs.Prints.{cut};
 ghost use Rattle.test_report_run.specs.Run as spec;
 ghost use Rattle.test_report_run.specs.Run.{run_state};
 
 use crate::cuts::shortened;
-use crate::error::RunError;
-use crate::note::{Disagreement, Note};
+use crate::error::{RunError, one_more};
+use crate::note::{CargoReport, Disagreement, Note};
 use crate::run::TestRun;
 use std::alloc::{AllocError, Global};
 use test_report_events::event::CargoFailure;
@@ -30,46 +29,70 @@ impl TestRun {
         Ok(())
     }
 
-    /// Takes a line in which cargo or nextest reports a failure.
+    /// Takes a print.
+    pub(crate) fn on_print(
+        &mut self,
+        alloc: Global,
+        line: &str,
+        plain: &str,
+    ) -> Result<(), RunError>
+        ensures { OnOk result (run_state self.new ≡ spec.printed (run_state self.old) line.now plain.now) }
+    {
+        self.others.on_print(alloc, line, plain)?;
+        self.recent.take_line(alloc, plain)?;
+        Ok(())
+    }
+
+    /// Takes a line in which cargo or nextest reports a failure. If it disagrees, it counts from now on.
     pub(crate) fn on_cargo_failed(
         &mut self,
         alloc: Global,
         failure: CargoFailure,
         plain: &str,
-        notes: &mut Vec<Note>,
     ) -> Result<(), RunError>
-        ensures takes { OnOk result (run_state self.new ≡ record (run_state self.old) {
-          others = after_failure (run_state self.old).others;
-        }) }
-        ensures tells { OnOk result (map note_view notes.new.items ≡ map note_view notes.old.items
-            ++ spec.cargo_notes (run_state self.old) failure plain.now) }
+        ensures { OnOk result (run_state self.new ≡ spec.cargo_fails (run_state self.old) failure plain.now) }
     {
-        self.count_cargo_failed(alloc, failure, plain, notes)?;
+        let disagrees = self.disagrees(failure);
         self.others.on_failure(alloc)?;
+        if disagrees {
+            self.causes = one_more(self.causes)?;
+            self.reported = Some(CargoReport {
+                line: String::from_str(alloc, plain)?,
+                prints: self.recent.text(alloc, 0)?,
+                cause: None,
+            });
+        }
         Ok(())
     }
 
-    /// Appends a disagreement if no suite is open, and no failed test or earlier disagreement explains this
-    /// failure of cargo or nextest. A failed build is never explained.
-    fn count_cargo_failed(
-        &self,
-        alloc: Global,
-        failure: CargoFailure,
-        line: &str,
-        notes: &mut Vec<Note>,
-    ) -> Result<(), RunError>
-        ensures { OnOk result (map note_view notes.new.items ≡ map note_view notes.old.items
-            ++ spec.cargo_notes (run_state self.now) failure line.now) }
+    /// Returns true if no suite is open, and no failed test or earlier disagreement explains this failure of cargo
+    /// or nextest. A failed build is never explained.
+    fn disagrees(&self, failure: CargoFailure) -> bool
+        ensures { result ≡ spec.disagrees (run_state self.now) failure }
     {
         let explained = match failure {
             CargoFailure::Build => false,
             CargoFailure::Tests => self.causes > self.causes_at_cargo,
             CargoFailure::Run => self.causes > self.causes_at_file,
         };
-        if self.suites.is_empty() && !explained {
-            notes.push(Note::Disagreement(Disagreement::Cargo {
-                line: String::from_str(alloc, line)?,
-            }))?;
+        self.suites.is_empty() && !explained
+    }
+
+    /// Makes the last failure of cargo known, if it is not yet, with the cause that was read after it. In the output of
+    /// a command it waits for the end of the command.
+    pub(crate) fn settle(&mut self, notes: &mut Vec<Note>) -> Result<(), AllocError>
+        ensures takes { OnOk result (run_state self.new ≡ (spec.settled (run_state self.old)).run) }
+        ensures tells { OnOk result (map note_view notes.new.items ≡ map note_view notes.old.items
+            ++ (spec.settled (run_state self.old)).notes) }
+    {
+        let Some(mut report) = self.reported.take() else {
+            return Ok(());
+        };
+        report.cause = self.others.last_cause()?;
+        if self.of_command {
+            self.held.push(report)?;
+        } else {
+            notes.push(Note::Disagreement(Disagreement::Cargo(report)))?;
         }
         Ok(())
     }

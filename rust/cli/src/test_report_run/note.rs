@@ -11,7 +11,8 @@ pub enum Note {
     /// A test passed, failed or was skipped.
     Test(TestNote),
 
-    /// Lines of the run contradict each other, a damaged line says a failure, or a file has no event.
+    /// Lines of the run contradict each other, a damaged line says a failure, a file has no event, or the command
+    /// of the run failed.
     Disagreement(Disagreement),
 
     /// Some tests of a suite did not run.
@@ -111,8 +112,8 @@ pub struct Crash {
     pub last: Vec<String>,
 }
 
-/// A contradiction between lines of a run. A damaged line that says a failure, and a file without an event of a
-/// harness, count as contradictions, too.
+/// A contradiction between lines of a run. A damaged line that says a failure, a file without an event of a
+/// harness, and the end of a command that failed count as contradictions, too.
 #[derive(Clone, Debug)]
 pub enum Disagreement {
     /// A suite has no last line, and none of its tests crashed.
@@ -161,10 +162,7 @@ pub enum Disagreement {
     },
 
     /// Cargo or nextest reports a failure that nothing else explains.
-    Cargo {
-        /// The line that says so.
-        line: String,
-    },
+    Cargo(CargoReport),
 
     /// A damaged line says that a test or a suite failed.
     Damaged {
@@ -174,6 +172,47 @@ pub enum Disagreement {
 
     /// No line of a file is an event of a harness, and nothing failed or disagreed in it.
     NoEvent,
+
+    /// The command of the run could not be started, ended by a signal, or ended with a status above 0 although
+    /// nothing failed or disagreed.
+    Command(CommandEnd),
+}
+
+/// A failure that cargo or nextest reports.
+#[derive(Clone, Debug)]
+pub struct CargoReport {
+    /// The line of the failure, as a terminal shows it.
+    pub line: String,
+
+    /// The text of the prints before it, after the last heading, event or failure, as a terminal shows them: the
+    /// longest end of them that has at most 16,384 bytes.
+    pub prints: String,
+
+    /// The line after the first `Caused by:` that comes after the failure and before the next heading, event or
+    /// failure, or its first 200 bytes, as a terminal shows it.
+    pub cause: Option<String>,
+}
+
+/// How a command ended.
+#[derive(Clone, Debug)]
+pub enum CommandEnd {
+    /// The command could not be started.
+    NotStarted {
+        /// What the system says about it.
+        error: String,
+    },
+
+    /// A signal ended the command.
+    Signal {
+        /// The number of the signal.
+        number: u32,
+    },
+
+    /// The command ended with an exit status.
+    Status {
+        /// The exit status.
+        code: u32,
+    },
 }
 
 /// The numbers and the verdict in the last line of a suite. If it has several, their numbers are added.

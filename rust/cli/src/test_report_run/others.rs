@@ -36,6 +36,9 @@ pub(crate) struct Reported {
 
     /// The line in which cargo names the cause, or its first 200 bytes. It follows the first `Caused by:` after the failure.
     cause: Option<String>,
+
+    /// The same of the plain text of this line.
+    plain_cause: Option<String>,
 }
 
 /// How far the search for the cause of the last failure is.
@@ -86,16 +89,17 @@ impl Others {
     pub(crate) fn on_print(&mut self, line: &str, plain: &str) -> Result<(), RunError> {
         self.prints.take_print(line)?;
         if self.stage == Stage::CausedBy {
-            self.keep_cause(line);
+            self.keep_cause(line, plain);
         }
         self.stage = stage_after(self.stage, plain);
         Ok(())
     }
 
     /// Keeps the cause of the last failure.
-    fn keep_cause(&mut self, line: &str) {
+    fn keep_cause(&mut self, line: &str, plain: &str) {
         if let Some(failure) = &mut self.last_failure {
             failure.cause = Some(String::from(shortened(line)));
+            failure.plain_cause = Some(String::from(shortened(plain)));
         }
     }
 
@@ -113,6 +117,7 @@ impl Others {
         let failure = Reported {
             headings: self.headings,
             cause: None,
+            plain_cause: None,
         };
         if let Some(before) = std::mem::replace(&mut self.last_failure, Some(failure)) {
             self.failures.push(before);
@@ -166,6 +171,17 @@ impl Others {
     pub(crate) fn cause_behind(&self, at: EventPlace) -> Option<String> {
         match self.failure_at(at.failures) {
             Some(failure) if failure.headings == at.headings => failure.cause.clone(),
+            _ => None,
+        }
+    }
+
+    /// Returns the plain text of the cause of the last failure.
+    pub(crate) fn last_cause(&self) -> Option<String> {
+        match &self.last_failure {
+            Some(Reported {
+                plain_cause: Some(cause),
+                ..
+            }) => Some(cause.clone()),
             _ => None,
         }
     }

@@ -1,6 +1,7 @@
 // Made by tools/erase from crates/test_report_run/src/run.rt. Do not edit.
 //! A test run that is followed line by line.
 
+mod command;
 mod lines;
 mod suites;
 mod test_lines;
@@ -9,7 +10,10 @@ use crate::test_report_events::event::Event;
 use crate::test_report_events::line::Line;
 use crate::test_report_run::error::{RunError, one_more};
 use crate::test_report_run::headings::Headings;
-use crate::test_report_run::note::{Disagreement, Note, RunEnd, TestOutcome};
+use crate::test_report_run::longest_end::LongestEnd;
+use crate::test_report_run::note::{
+    CargoReport, CommandEnd, Disagreement, Note, RunEnd, TestOutcome,
+};
 use crate::test_report_run::others::Others;
 use crate::test_report_run::run::lines::push_damaged;
 use crate::test_report_run::running::Running;
@@ -38,13 +42,29 @@ pub struct TestRun {
     /// The lines of the file that are no events of a harness.
     others: Others,
 
+    /// The plain text of the prints after the last heading, event or failure of cargo.
+    recent: LongestEnd,
+
+    /// The last failure of cargo that disagrees, until what may say why is read.
+    reported: Option<CargoReport>,
+
+    /// The failures of cargo that wait for the end of the command.
+    held: Vec<CargoReport>,
+
+    /// True if the lines are the output of a command.
+    of_command: bool,
+
+    /// How the command ended.
+    command: Option<CommandEnd>,
+
     running: Running,
     ended: usize,
     totals: Totals,
     disagreements: usize,
 
     /// The number of failed tests and disagreements until now, until the file began, and until the last
-    /// failure of cargo outside of a suite. They decide whether a failure of cargo is explained.
+    /// failure of cargo outside of a suite. They decide whether a failure of cargo is explained. Failures of cargo
+    /// are counted before they become known.
     causes: usize,
     causes_at_file: usize,
     causes_at_cargo: usize,
@@ -61,6 +81,11 @@ impl TestRun {
             heading: None,
             has_event: false,
             others: Others::new(),
+            recent: LongestEnd::new(),
+            reported: None,
+            held: Vec::new(),
+            of_command: false,
+            command: None,
             running: Running::new(),
             ended: 0,
             totals: Totals::new(),
@@ -90,30 +115,47 @@ impl TestRun {
     /// After an error the run must not be used: a part of the event may be counted.
     pub fn on_event(&mut self, event: Event<'_>) -> Result<Vec<Note>, RunError> {
         let mut notes = Vec::new();
+        self.settle_at(event, &mut notes);
         self.tell(event, &mut notes)?;
         self.learn(&notes)?;
         self.mark(event);
         Ok(notes)
     }
 
-    /// Ends the file, and returns the notes that this makes known. Suites that are still open end early: their
-    /// running tests crashed. After an error the run must not be used.
+    /// Ends the file, or the output of a command, and returns the notes that this makes known. Suites that are
+    /// still open end early: their running tests crashed. After an error the run must not be used.
     pub fn end_file(&mut self) -> Result<Vec<Note>, RunError> {
         let mut notes = Vec::new();
-        for suite in std::mem::take(&mut self.suites) {
-            self.end_early(*suite, &mut notes)?;
-        }
-        let outside = std::mem::replace(&mut self.outside, Suite::outside());
-        self.end_early(outside, &mut notes)?;
+        self.settle(&mut notes);
+        self.tell_held(&mut notes);
+        self.end_suites(&mut notes)?;
         self.push_no_event(&mut notes);
         self.learn(&notes)?;
+        self.end_command(&mut notes)?;
+        self.begin_file();
+        Ok(notes)
+    }
+
+    /// Ends the open suites early, and then the tests outside of a suite.
+    fn end_suites(&mut self, notes: &mut Vec<Note>) -> Result<(), RunError> {
+        for suite in std::mem::take(&mut self.suites) {
+            self.end_early(*suite, notes)?;
+        }
+        let outside = std::mem::replace(&mut self.outside, Suite::outside());
+        self.end_early(outside, notes)
+    }
+
+    /// Forgets what is kept of the lines of a file, before the next one.
+    fn begin_file(&mut self) {
         self.headings = Headings::new();
         self.heading = None;
         self.has_event = false;
         self.others = Others::new();
+        self.recent = LongestEnd::new();
+        self.of_command = false;
+        self.command = None;
         self.causes_at_file = self.causes;
         self.causes_at_cargo = self.causes;
-        Ok(notes)
     }
 
     /// Returns the sums and the outcome of the whole run. Call it after `end_file` of the last file.
@@ -127,6 +169,13 @@ impl TestRun {
             notes.append(&mut self.on_event(event)?);
         }
         Ok(())
+    }
+
+    /// Makes the last failure of cargo known if an event comes after all that may say why.
+    fn settle_at(&mut self, event: Event<'_>, notes: &mut Vec<Note>) {
+        if is_after_report(event) {
+            self.settle(notes);
+        }
     }
 
     /// Takes an event, except that its notes are not added to the sums.
@@ -144,17 +193,16 @@ impl TestRun {
             } => self.on_test_ended(name, end, details, notes),
             Event::Other => Ok(()),
             Event::Heading { suite, path } => self.on_heading(suite, path),
-            Event::CargoFailed { failure, plain, .. } => {
-                self.on_cargo_failed(failure, plain, notes)
-            }
-            Event::Print { line, plain } => self.others.on_print(line, plain),
+            Event::CargoFailed { failure, plain, .. } => self.on_cargo_failed(failure, plain),
+            Event::Print { line, plain } => self.on_print(line, plain),
             Event::Damaged { text } => push_damaged(text, notes),
         }
     }
 
-    /// Adds a disagreement if no line of the file is an event of a harness, and nothing failed or disagreed in it.
+    /// Adds a disagreement if no line of the file is an event of a harness, nothing failed or disagreed in it, and
+    /// the end of its command says no more.
     fn push_no_event(&self, notes: &mut Vec<Note>) {
-        let explained = self.causes > self.causes_at_file;
+        let explained = self.causes > self.causes_at_file || self.command_says_more();
         if !self.has_event && !explained {
             notes.push(Note::Disagreement(Disagreement::NoEvent));
         }
@@ -163,6 +211,7 @@ impl TestRun {
     /// Stores that a line is an event of a harness, and the number of causes if cargo reports a failure outside
     /// of a suite.
     fn mark(&mut self, event: Event<'_>) {
+        self.forget_prints(event);
         match event {
             Event::SuiteStarted { .. }
             | Event::SuiteEnded(_)
@@ -178,6 +227,13 @@ impl TestRun {
         }
     }
 
+    /// Forgets the prints before an event after which they cannot say why cargo fails.
+    fn forget_prints(&mut self, event: Event<'_>) {
+        if is_after_report(event) {
+            self.recent = LongestEnd::new();
+        }
+    }
+
     /// Adds notes to the sums.
     fn learn(&mut self, notes: &[Note]) -> Result<(), RunError> {
         for note in notes {
@@ -187,20 +243,33 @@ impl TestRun {
     }
 
     /// Adds a note to the sums.
-    fn learn_note(&mut self, note: &Note) -> Result<(), RunError> {
+    pub(crate) fn learn_note(&mut self, note: &Note) -> Result<(), RunError> {
         match note {
             Note::Test(test) => {
                 if matches!(test.outcome, TestOutcome::Failed(_)) {
                     self.causes = one_more(self.causes)?;
                 }
             }
-            Note::Disagreement(_) => {
-                self.causes = one_more(self.causes)?;
+            Note::Disagreement(disagreement) => {
                 self.disagreements = one_more(self.disagreements)?;
+                if is_new(disagreement) {
+                    self.causes = one_more(self.causes)?;
+                }
             }
             Note::NotRun(_) => {}
             Note::Suite(suite) => self.totals.add(suite)?,
         }
         Ok(())
     }
+}
+
+/// Returns true if a disagreement is counted among the causes when it becomes known. A failure of cargo is counted at
+/// its line, and that a file has no event explains nothing.
+fn is_new(disagreement: &Disagreement) -> bool {
+    !matches!(disagreement, Disagreement::Cargo(_) | Disagreement::NoEvent)
+}
+
+/// Returns true if an event, a heading or a failure comes after all that may say why cargo failed before it.
+fn is_after_report(event: Event<'_>) -> bool {
+    !matches!(event, Event::Print { .. } | Event::Damaged { .. })
 }

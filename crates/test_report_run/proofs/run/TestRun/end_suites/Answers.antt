@@ -1,0 +1,48 @@
+-- The open suites end early, and then the tests outside of a suite.
+use Rattle.std.proofs.Common.{◌≡◌, ◌∙◌, [], Box, Global, Vec, ap, arith, map, map-id, refl, sym}
+use Rattle.std.specs.List.{fold}
+use Rattle.std.proofs.lemmas.Iterator.Consumers.{YieldsList-end}
+use Rattle.std.proofs.lemmas.Iterator.Adapters.{YieldsList-from_vec}
+use Rattle.std.proofs.lemmas.Result.{on_ok_weaker}
+use Rattle.test_report_run.specs.Note.{note_view}
+use Rattle.test_report_run.specs.Run.{Step, ended_early, run_state, step}
+use Rattle.test_report_run.specs.Suite.{state_of}
+use Rattle.test_report_run.specs.declared.suite.Suite.{Suite}
+use Rattle.test_report_run.proofs.FileEnds.{suites-more, suites-taken}
+use Rattle.test_report_run.proofs.Runs.{boxed_state}
+use Rattle.test_report_run.proofs.run.TestRun.end_suites.Goals as goal
+
+pub loop-suite-preserved : goal.loop-suite-preserved
+loop-suite-preserved c =
+    let start : Step = step (record (run_state c.args.self.now) { suites = [] }) (map note_view c.args.notes.now.items) in
+    c.in_ok-end_early.ensures ∙ ap (λ (t : Step). ended_early t (state_of c.into_inner.result)) c.loop-suite.invariant
+    ∙ ap (λ (s : Suite). ended_early (fold ended_early start (map boxed_state c.loop-suite.yielded)) (state_of s)) c.into_inner.ensures
+    ∙ sym (suites-more start c.loop-suite.yielded c.in-Some.suite)
+
+pub returns-clause-takes : goal.returns-clause-takes
+returns-clause-takes c =
+    let gives = c.into_iter-suite-iterator.ensures.into_iter_gives in
+    let given = c.replace-suite-items.result in
+    let end = YieldsList-end (YieldsList-from_vec given.items gives.0 (omega (arith, gives.1, given.ok))) c.loop-suite.yielded _ c.loop-suite.yielded_by
+    _ c.next.new.self c.in-None.is c.next.ensures.steps in
+    let all : c.loop-suite.yielded ≡ c.args.self.now.suites.items =
+    sym (map-id c.loop-suite.yielded) ∙ end.0 ∙ ap (λ (v : Vec (Box Suite Global) Global). v.items) c.replace-suite-items.ensures.value in
+    on_ok_weaker c.end_early-2.result
+    (λ e. ap (λ (t : Step). t.run) (suites-taken (run_state c.args.self.now) (run_state c.loop-suite.self) _ (map note_view c.args.notes.now.items)
+    (map note_view c.loop-suite.notes.items) _ c.loop-suite.yielded c.args.self.now.suites.items (state_of c.replace-outside.new.dest)
+    (state_of c.replace-outside.result) c.loop-suite.invariant all refl (ap state_of c.replace-outside.ensures.value)
+    (ap state_of c.replace-outside.ensures.after ∙ c.outside.ensures) e)) c.end_early-2.ensures
+
+pub returns-clause-tells : goal.returns-clause-tells
+returns-clause-tells c =
+    let gives = c.into_iter-suite-iterator.ensures.into_iter_gives in
+    let given = c.replace-suite-items.result in
+    let end = YieldsList-end (YieldsList-from_vec given.items gives.0 (omega (arith, gives.1, given.ok))) c.loop-suite.yielded _ c.loop-suite.yielded_by
+    _ c.next.new.self c.in-None.is c.next.ensures.steps in
+    let all : c.loop-suite.yielded ≡ c.args.self.now.suites.items =
+    sym (map-id c.loop-suite.yielded) ∙ end.0 ∙ ap (λ (v : Vec (Box Suite Global) Global). v.items) c.replace-suite-items.ensures.value in
+    on_ok_weaker c.end_early-2.result
+    (λ e. ap (λ (t : Step). t.notes) (suites-taken (run_state c.args.self.now) (run_state c.loop-suite.self) _ (map note_view c.args.notes.now.items)
+    (map note_view c.loop-suite.notes.items) _ c.loop-suite.yielded c.args.self.now.suites.items (state_of c.replace-outside.new.dest)
+    (state_of c.replace-outside.result) c.loop-suite.invariant all refl (ap state_of c.replace-outside.ensures.value)
+    (ap state_of c.replace-outside.ensures.after ∙ c.outside.ensures) e)) c.end_early-2.ensures

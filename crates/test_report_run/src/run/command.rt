@@ -1,0 +1,124 @@
+//! The command whose output the lines of a run are.
+
+ghost use Rattle.std.specs.Prelude.{◌≡◌, ◌++◌, ◌||◌, IfOk, OnOk, map, option_map};
+ghost use Rattle.test_report_events.specs.Event.{CommandOver, CommandStarts};
+ghost use Rattle.test_report_run.specs.Note.{CargoSays, Disagrees, cargo_view, command_view, note_view};
+ghost use Rattle.test_report_run.specs.Run as spec;
+ghost use Rattle.test_report_run.specs.Run.{run_state};
+
+use crate::error::RunError;
+use crate::note::{CargoReport, CommandEnd, Disagreement, Note};
+use crate::run::TestRun;
+use std::alloc::{AllocError, Global};
+
+impl TestRun {
+    /// Notes that the next lines, up to the next call of `end_file`, are the output of a command. Failures that cargo
+    /// reports in them wait for the end of the command: if it ended with status 0, they were prints.
+    pub fn on_command_started(&mut self)
+        ensures takes { run_state self.new ≡ spec.after (run_state self.old) CommandStarts }
+    {
+        self.of_command = true;
+    }
+
+    /// Notes how the command ended whose output was read. Call it before `end_file`, which returns what this makes
+    /// known. The only error is that memory runs out.
+    pub fn on_command_ended(&mut self, end: &CommandEnd) -> Result<(), AllocError>
+        ensures takes { OnOk result (run_state self.new
+            ≡ spec.after (run_state self.old) (CommandOver (command_view end.now))) }
+    {
+        self.command = Some(copied(end)?);
+        Ok(())
+    }
+
+    /// Makes the failures of cargo known that wait for the end of the command. If it ended with status 0, they were
+    /// prints.
+    pub(crate) fn tell_held(
+        &mut self,
+        alloc: Global,
+        notes: &mut Vec<Note>,
+    ) -> Result<(), AllocError>
+        ensures takes { OnOk result (run_state self.new ≡ (spec.held_told (run_state self.old)).run) }
+        ensures tells { OnOk result (map note_view notes.new.items ≡ map note_view notes.old.items
+            ++ (spec.held_told (run_state self.old)).notes) }
+    {
+        let held = std::mem::replace(&mut self.held, Vec::new(alloc));
+        if self.command_ended_well() {
+            self.causes = self.causes.saturating_sub(held.len());
+            Ok(())
+        } else {
+            push_reports(held, notes)
+        }
+    }
+
+    /// Returns true if the command ended with status 0.
+    fn command_ended_well(&self) -> bool
+        ensures { result ≡ spec.ended_well (option_map command_view self.now.command) }
+    {
+        matches!(self.command, Some(CommandEnd::Status { code: 0 }))
+    }
+
+    /// Returns true if the end of the command says more than that no line is an event: it ended with status 0, or could
+    /// not be started.
+    pub(crate) fn command_says_more(&self) -> bool
+        ensures { result ≡ (spec.ended_well (option_map command_view self.now.command)
+            || spec.was_not_started (option_map command_view self.now.command)) }
+    {
+        matches!(
+            self.command,
+            Some(CommandEnd::Status { code: 0 } | CommandEnd::NotStarted { .. })
+        )
+    }
+
+    /// Adds a disagreement if the command failed and nothing says why, and counts it.
+    pub(crate) fn end_command(&mut self, notes: &mut Vec<Note>) -> Result<(), RunError>
+        ensures takes { OnOk result (record (run_state self.new) { command = (run_state self.old).command }
+            ≡ spec.learned (run_state self.old) (spec.command_notes (run_state self.old))) }
+        ensures tells { OnOk result (map note_view notes.new.items ≡ map note_view notes.old.items
+            ++ spec.command_notes (run_state self.old)) }
+    {
+        let Some(end) = self.command.take() else {
+            return Ok(());
+        };
+        if command_fails(self.causes, &end) {
+            let note = Note::Disagreement(Disagreement::Command(end));
+            self.learn_note(&note)?;
+            notes.push(note)?;
+        }
+        Ok(())
+    }
+}
+
+/// Appends failures of cargo that disagree.
+fn push_reports(reports: Vec<CargoReport>, notes: &mut Vec<Note>) -> Result<(), AllocError>
+    ensures { OnOk result (map note_view notes.new.items ≡ map note_view notes.old.items
+        ++ map (λ report. Disagrees (CargoSays report)) (map cargo_view reports.items)) }
+{
+    for report in reports {
+        notes.push(Note::Disagreement(Disagreement::Cargo(report)))?;
+    }
+    Ok(())
+}
+
+/// Returns true if a command could not be started, ended by a signal, or ended with a status above 0 although nothing
+/// failed or disagreed. `causes` is the number of failed tests and disagreements.
+fn command_fails(causes: usize, end: &CommandEnd) -> bool
+    ensures { result ≡ spec.command_fails causes (command_view end.now) }
+{
+    match end {
+        CommandEnd::NotStarted { .. } | CommandEnd::Signal { .. } => true,
+        CommandEnd::Status { code } => *code != 0 && causes == 0,
+    }
+}
+
+/// Returns a copy of how a command ended.
+fn copied(end: &CommandEnd) -> Result<CommandEnd, AllocError>
+    ensures { IfOk result (λ copy. command_view copy ≡ command_view end.now) }
+{
+    match end {
+        CommandEnd::NotStarted { error } => Ok(CommandEnd::NotStarted {
+            error: error.clone()?,
+        }),
+        CommandEnd::Signal { number } => Ok(CommandEnd::Signal { number: *number }),
+        CommandEnd::Status { code } => Ok(CommandEnd::Status { code: *code }),
+    }
+}

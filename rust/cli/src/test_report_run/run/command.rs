@@ -1,0 +1,85 @@
+// Made by tools/erase from crates/test_report_run/src/run/command.rt. Do not edit.
+//! The command whose output the lines of a run are.
+
+use crate::test_report_run::error::RunError;
+use crate::test_report_run::note::{CargoReport, CommandEnd, Disagreement, Note};
+use crate::test_report_run::run::TestRun;
+
+impl TestRun {
+    /// Notes that the next lines, up to the next call of `end_file`, are the output of a command. Failures that cargo
+    /// reports in them wait for the end of the command: if it ended with status 0, they were prints.
+    pub fn on_command_started(&mut self) {
+        self.of_command = true;
+    }
+
+    /// Notes how the command ended whose output was read. Call it before `end_file`, which returns what this makes
+    /// known. The only error is that memory runs out.
+    pub fn on_command_ended(&mut self, end: &CommandEnd) {
+        self.command = Some(copied(end));
+    }
+
+    /// Makes the failures of cargo known that wait for the end of the command. If it ended with status 0, they were
+    /// prints.
+    pub(crate) fn tell_held(&mut self, notes: &mut Vec<Note>) {
+        let held = std::mem::take(&mut self.held);
+        if self.command_ended_well() {
+            self.causes = self.causes.saturating_sub(held.len());
+        } else {
+            push_reports(held, notes);
+        }
+    }
+
+    /// Returns true if the command ended with status 0.
+    fn command_ended_well(&self) -> bool {
+        matches!(self.command, Some(CommandEnd::Status { code: 0 }))
+    }
+
+    /// Returns true if the end of the command says more than that no line is an event: it ended with status 0, or could
+    /// not be started.
+    pub(crate) fn command_says_more(&self) -> bool {
+        matches!(
+            self.command,
+            Some(CommandEnd::Status { code: 0 } | CommandEnd::NotStarted { .. })
+        )
+    }
+
+    /// Adds a disagreement if the command failed and nothing says why, and counts it.
+    pub(crate) fn end_command(&mut self, notes: &mut Vec<Note>) -> Result<(), RunError> {
+        let Some(end) = self.command.take() else {
+            return Ok(());
+        };
+        if command_fails(self.causes, &end) {
+            let note = Note::Disagreement(Disagreement::Command(end));
+            self.learn_note(&note)?;
+            notes.push(note);
+        }
+        Ok(())
+    }
+}
+
+/// Appends failures of cargo that disagree.
+fn push_reports(reports: Vec<CargoReport>, notes: &mut Vec<Note>) {
+    for report in reports {
+        notes.push(Note::Disagreement(Disagreement::Cargo(report)));
+    }
+}
+
+/// Returns true if a command could not be started, ended by a signal, or ended with a status above 0 although nothing
+/// failed or disagreed. `causes` is the number of failed tests and disagreements.
+fn command_fails(causes: usize, end: &CommandEnd) -> bool {
+    match end {
+        CommandEnd::NotStarted { .. } | CommandEnd::Signal { .. } => true,
+        CommandEnd::Status { code } => *code != 0 && causes == 0,
+    }
+}
+
+/// Returns a copy of how a command ended.
+fn copied(end: &CommandEnd) -> CommandEnd {
+    match end {
+        CommandEnd::NotStarted { error } => CommandEnd::NotStarted {
+            error: error.clone(),
+        },
+        CommandEnd::Signal { number } => CommandEnd::Signal { number: *number },
+        CommandEnd::Status { code } => CommandEnd::Status { code: *code },
+    }
+}
