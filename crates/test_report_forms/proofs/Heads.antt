@@ -1,5 +1,5 @@
 -- The end of the head of a panic, where a text may be cut.
-use Rattle.std.proofs.Common.{◌≡◌, ◌∙◌, ◌==◌, ap, sym, ℕ, Result, Ok, Err, IfOk, string_bytes, option_and_then, ◌+◌, ◌-◌, ◌<◌, ◌≤◌, List, ◌++◌, codes, Option, Some, length, length-append, length-take-le, length-drop, take, drop, get_or, get_or-take, get_or-drop, arith, subst, append_assoc}
+use Rattle.std.proofs.Common.{◌≡◌, ◌∙◌, ◌==◌, ap, sym, ℕ, Result, Ok, Err, IfOk, IfSome, string_bytes, option_and_then, ◌+◌, ◌-◌, ◌<◌, ◌≤◌, List, ◌++◌, codes, Option, Some, None, length, length-append, length-take-le, length-drop, take, drop, get_or, get_or-take, get_or-drop, arith, subst, append_assoc}
 use Rattle.std.proofs.Math.Logic.{⊎_elim}
 use Rattle.std.proofs.lemmas.List.{get_or-append-add}
 use Rattle.std.proofs.lemmas.Option.{get_or_from_slice_get, slice_get_within}
@@ -8,11 +8,13 @@ use Rattle.std.specs.List.{after_first}
 use Rattle.std.specs.Option.{option_map_or}
 use Rattle.std.specs.Str.{IsCharBoundary, IsUtf8}
 use Rattle.std.specs.declared.string.String.{String}
+use Rattle.output_slice.specs.First.{IsFirstTaken}
 use Rattle.output_slice.specs.Head.{IsHead}
 use Rattle.output_slice.specs.Taken.{IsLastTaken}
 use Rattle.output_slice.specs.declared.panic_head.HeadSpan.{HeadSpan}
-use Rattle.test_report_forms.specs.Place.{first_line}
-use Rattle.test_report_forms.specs.Why.{IsShort, panic_words, short_of, with_next}
+use Rattle.test_report_forms.specs.Explanation.{FoundView, IsFoundIn}
+use Rattle.test_report_forms.specs.Lines.{first_line}
+use Rattle.test_report_forms.specs.Short.{IsShort, panic_words, short_of, with_next}
 
 -- the last taken head is a head
 pub last-head : (b : List ℕ) (h : HeadSpan) → IsLastTaken b (Some h) → IsHead b h.start h.stop
@@ -51,13 +53,36 @@ head-words b s e h = ⊎_elim
 pub last-words : (b : List ℕ) (h : HeadSpan) → IsLastTaken b (Some h) → EndsAt b (codes "panicked at ") h.stop
 last-words b h is = head-words b h.start h.stop (last-head b h is)
 
--- a text may be cut behind a head, and in front of its words
-pub behind-head : (b : List ℕ) (h : HeadSpan) → IsUtf8 b → IsLastTaken b (Some h) → IsCharBoundary b h.stop
-behind-head b h utf8 is =
-    let w = last-words b h is in
-    let e : h.stop - 1 + 1 ≡ h.stop = omega (arith, w.room) in
-    let last : get_or b (h.stop - 1) 0 ≡ 32 = ap (λ i. get_or b i 0) (omega (arith, w.room)) ∙ w.reads 11 (omega arith) in
-    subst (IsCharBoundary b) e (IsCharBoundary-after_ascii b (h.stop - 1) utf8 (omega (arith, w.room, w.within)) (omega (arith, last)))
+-- the first taken head is a head
+pub first-head : (b : List ℕ) (h : HeadSpan) → IsFirstTaken b (Some h) → IsHead b h.start h.stop
+first-head b h l =
+    let within = slice_get_within l.0 0 h (sym l.2) in
+    rw (get_or_from_slice_get l.0 0 h h (sym l.2)) at (l.1.heads 0 h within)
+
+-- what is found in an output are heads
+pub found-first : (b : List ℕ) (f : FoundView) (h : HeadSpan) → IsFoundIn b f → f.first ≡ Some h → IsHead b h.start h.stop
+found-first b f h is e = first-head b h (subst (IsFirstTaken b) e is.first)
+
+pub found-last : (b : List ℕ) (f : FoundView) (h : HeadSpan) → IsFoundIn b f → f.last ≡ Some h → IsHead b h.start h.stop
+found-last b f h is e = last-head b h (subst (IsLastTaken b) e is.last)
+
+pub last-some : (b : List ℕ) (found : Option HeadSpan) → IsLastTaken b found → IfSome found (λ h. IsHead b h.start h.stop)
+last-some b None l = tt
+last-some b (Some h) l = last-head b h l
+
+-- a text may be cut behind a head, in front of it, and in front of its words
+pub behind-head : (b : List ℕ) (s e : ℕ) → IsUtf8 b → IsHead b s e → IsCharBoundary b e
+behind-head b s e utf8 is =
+    let w = head-words b s e is in
+    let next : e - 1 + 1 ≡ e = omega (arith, w.room) in
+    let last : get_or b (e - 1) 0 ≡ 32 = ap (λ i. get_or b i 0) (omega (arith, w.room)) ∙ w.reads 11 (omega arith) in
+    subst (IsCharBoundary b) next (IsCharBoundary-after_ascii b (e - 1) utf8 (omega (arith, w.room, w.within)) (omega (arith, last)))
+
+pub before-head : (b : List ℕ) (s e : ℕ) → IsHead b s e → IsCharBoundary b s
+before-head b s e is =
+    let low : s < length b = omega (arith, is.opening.fits) in
+    let first : get_or b s 0 ≡ 116 = ap (λ i. get_or b i 0) (omega arith) ∙ is.opening.reads 0 (omega arith) in
+    IsCharBoundary-before_ascii b s low (omega (arith, first))
 
 pub before-words : (b : List ℕ) (h : HeadSpan) → IsLastTaken b (Some h) → IsCharBoundary b (h.stop - 12)
 before-words b h is =

@@ -5,7 +5,7 @@ use Rattle.std.proofs.lemmas.Bool.{and_parts, cases_Bool}
 use Rattle.std.specs.Str.Pattern.{FindsText, LacksTextAt}
 use Rattle.std.specs.Str.Replace.{ReplacesMatches}
 use Rattle.std.specs.declared.string.String.{String}
-use Rattle.test_report_forms.specs.Why.{without_returns}
+use Rattle.test_report_forms.specs.Lines.{without_returns}
 
 abbrev pub crlf : List ℕ
 crlf = 13 ∷ 10 ∷ []

@@ -37,7 +37,7 @@ HtmlKnows form entries = IsModelOf form.model entries
 
 -- what the form for a browser writes at the end
 abbrev pub html_last : HtmlForm → List EntryView → RunEnd → List ℕ
-html_last form entries end = html_of form.model.limit entries end
+html_last form entries end = html_of form.model.options entries end
 
 -- the form for a summary has taken these entries
 abbrev pub MarkdownKnows : MarkdownForm → List EntryView → Type 0
@@ -45,15 +45,15 @@ MarkdownKnows form entries = IsModelOf form.model entries
 
 -- what the form for a summary writes at the end
 abbrev pub markdown_last : MarkdownForm → List EntryView → RunEnd → List ℕ
-markdown_last form entries end = markdown_of form.model.limit entries end
+markdown_last form entries end = markdown_of form.model.options entries end
 
 -- the form for other programs has taken these entries
 abbrev pub JsonKnows : JsonForm → List EntryView → Type 0
-JsonKnows form entries = IsStateOf form (json_state form.limit entries)
+JsonKnows form entries = IsStateOf form (json_state form.options entries)
 
 -- what the form for other programs writes at the end
 abbrev pub json_last : JsonForm → List EntryView → RunEnd → List ℕ
-json_last form entries end = json_written form.limit entries end
+json_last form entries end = json_written form.options entries end
 
 -- each of the forms has taken these entries
 pub record FilesKnow (forms : FileForms) (entries : List EntryView) : Type 0 where

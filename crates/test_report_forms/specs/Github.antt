@@ -6,11 +6,13 @@ use Rattle.std.specs.Option.{option_map_or}
 use Rattle.std.specs.Str.{chars}
 use Rattle.test_report_forms.specs.Entry.{EntryView, TestFailed}
 use Rattle.test_report_forms.specs.Model.{cause_line}
-use Rattle.test_report_forms.specs.Shown.{limited, shown_line}
+use Rattle.test_report_forms.specs.Shown.{shown_line}
+use Rattle.test_report_forms.specs.ShownWhy.{ShownWhyView, limited_why, shown_why}
 use Rattle.test_report_forms.specs.Title.{title}
 use Rattle.test_report_forms.specs.Why.{PlaceView, WhyView}
 use Rattle.test_report_forms.specs.Words.{outcome_word, summary_line}
-use Rattle.test_report_run.specs.Note.{TestNoteView}
+use Rattle.test_report_forms.specs.declared.options.Options.{Options}
+use Rattle.test_report_run.specs.Note.{FailureView, TestNoteView}
 use Rattle.test_report_run.specs.declared.note.RunEnd.{RunEnd}
 
 -- a character of a message
@@ -47,21 +49,21 @@ unfoldable pub title_property : TestNoteView → List ℕ
 title_property t = codes "title=" ++ property (title t)
 
 -- the message that says why a test failed
-unfoldable pub why_message : ℕ → List ℕ → List ℕ
-why_message limit why = codes "::" ++ (message (limited why limit) ++ codes "\n")
+unfoldable pub why_message : ℕ → ShownWhyView → List ℕ
+why_message limit why = codes "::" ++ (message (limited_why why limit) ++ codes "\n")
 
 -- the annotation of a failed test
-unfoldable pub failed_command : ℕ → TestNoteView → WhyView → List ℕ
-failed_command limit t w = codes "::error " ++ (properties w.place ++ (title_property t ++ why_message limit w.text))
+unfoldable pub failed_command : Options → TestNoteView → FailureView → WhyView → List ℕ
+failed_command o t f w = codes "::error " ++ (properties w.place ++ (title_property t ++ why_message o.limit (shown_why o t f w)))
 
 -- an annotation without a place
 unfoldable pub error_command : List ℕ → List ℕ
 error_command text = codes "::error::" ++ (message text ++ codes "\n")
 
 -- what is written of an entry: the annotation of a failed test or of a cause
-abbrev pub github_line : ℕ → EntryView → List ℕ
-github_line limit (TestFailed t f w) = failed_command limit t w
-github_line limit e = option_map_or error_command (cause_line e) []
+abbrev pub github_line : Options → EntryView → List ℕ
+github_line o (TestFailed t f w) = failed_command o t f w
+github_line o e = option_map_or error_command (cause_line e) []
 
 -- what is written at the end
 unfoldable pub github_last : RunEnd → List ℕ

@@ -16,6 +16,7 @@ use Rattle.test_report_forms.specs.Model.{FailedView, RowView}
 use Rattle.test_report_forms.specs.Values.{failed_values, one_text, suite_values, values_of_run}
 use Rattle.test_report_forms.specs.declared.page_template.TheConstants.{PAGE}
 use Rattle.test_report_run.specs.declared.note.RunEnd.{RunEnd}
+use Rattle.test_report_forms.specs.declared.options.Options.{Options}
 
 -- the template of the page
 unfoldable pub page_parts : Parts
@@ -26,8 +27,8 @@ unfoldable pub page_text : Values → List ℕ
 page_text values = codes "<!DOCTYPE html>\n" ++ (parts_text page_parts values ++ codes "\n")
 
 -- what is written at the end of a run with these entries
-unfoldable pub html_of : ℕ → List EntryView → RunEnd → List ℕ
-html_of limit entries end = page_text (values_of_run limit entries end)
+unfoldable pub html_of : Options → List EntryView → RunEnd → List ℕ
+html_of o entries end = page_text (values_of_run o entries end)
 
 -- the holes for a bar
 abbrev pub bar_holes : List (List ℕ) → List HoleView

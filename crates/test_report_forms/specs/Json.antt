@@ -11,6 +11,7 @@ use Rattle.test_report_forms.specs.Suites.{SuiteOf, added_to, map_cases, open_of
 use Rattle.test_report_forms.specs.declared.json_form.JsonForm.{JsonForm}
 use Rattle.test_report_run.specs.Note.{SuiteNoteView}
 use Rattle.test_report_run.specs.declared.note.RunEnd.{RunEnd}
+use Rattle.test_report_forms.specs.declared.options.Options.{Options}
 
 -- what is known of the entries: the open suites with their tests, the suites that are over, and the problems
 pub record JsonState : Type 0 where
@@ -43,17 +44,17 @@ abbrev pub end_suite : JsonState → SuiteNoteView → JsonState
 end_suite j s = option_map_or (close j s) (suite_over s.name j.suites) (record j { suites = without_first s.name j.suites })
 
 -- what an entry adds
-unfoldable pub json_entry : ℕ → JsonState → EntryView → JsonState
-json_entry limit j (TestPassed t) = add_test j t.suite (test_json t (codes "passed"))
-json_entry limit j (TestSkipped t) = add_test j t.suite (test_json t (codes "skipped"))
-json_entry limit j (TestFailed t f w) = add_test j t.suite (failed_json t f w limit)
-json_entry limit j (LinesDisagree d) = on_cause j (LinesDisagree d)
-json_entry limit j (SuiteNotRun suite n of) = on_cause j (SuiteNotRun suite n of)
-json_entry limit j (SuiteOver s) = end_suite j s
+unfoldable pub json_entry : Options → JsonState → EntryView → JsonState
+json_entry o j (TestPassed t) = add_test j t.suite (test_json t (codes "passed"))
+json_entry o j (TestSkipped t) = add_test j t.suite (test_json t (codes "skipped"))
+json_entry o j (TestFailed t f w) = add_test j t.suite (failed_json t f w o)
+json_entry o j (LinesDisagree d) = on_cause j (LinesDisagree d)
+json_entry o j (SuiteNotRun suite n of) = on_cause j (SuiteNotRun suite n of)
+json_entry o j (SuiteOver s) = end_suite j s
 
 -- what is known of a list of entries
-abbrev pub json_state : ℕ → List EntryView → JsonState
-json_state limit entries = fold (json_entry limit) json_start entries
+abbrev pub json_state : Options → List EntryView → JsonState
+json_state o entries = fold (json_entry o) json_start entries
 
 -- all suites: those that are over, in the order in which they ended, and those that no entry has ended
 abbrev pub all_suites : JsonState → List Json
@@ -63,17 +64,17 @@ all_suites j = j.over ++ map open_suite_json j.suites
 abbrev pub json_of_state : JsonState → RunEnd → Json
 json_of_state j end = report_json end (all_suites j) j.problems
 
--- the report of a run with these entries, with at most `limit` bytes of each reason
-unfoldable pub json_of : ℕ → List EntryView → RunEnd → Json
-json_of limit entries end = json_of_state (json_state limit entries) end
+-- the report of a run with these entries
+unfoldable pub json_of : Options → List EntryView → RunEnd → Json
+json_of o entries end = json_of_state (json_state o entries) end
 
 -- a report as it is written: on one line
 unfoldable pub json_line : Json → List ℕ
 json_line j = hidden (json_text j) ++ codes "\n"
 
 -- what is written at the end of a run with these entries
-unfoldable pub json_written : ℕ → List EntryView → RunEnd → List ℕ
-json_written limit entries end = json_line (json_of limit entries end)
+unfoldable pub json_written : Options → List EntryView → RunEnd → List ℕ
+json_written o entries end = json_line (json_of o entries end)
 
 -- the texts that are kept are of these values
 abbrev pub AreTextsOf : List (List ℕ) → List Json → Type 0

@@ -13,6 +13,8 @@ use Rattle.test_report_forms.specs.Why.{WhyView}
 use Rattle.test_report_forms.specs.Words.{outcome_word}
 use Rattle.test_report_run.specs.Note.{FailureView, HasCrashed, HasFailed, HasNoEnd, HasTimedOut, IsFlaky, KindView, SuiteNoteView, TestNoteView}
 use Rattle.test_report_run.specs.declared.note.RunEnd.{RunEnd}
+use Rattle.test_report_forms.specs.ShownWhy.{ShownWhyView, hidden_note, shown_why}
+use Rattle.test_report_forms.specs.declared.options.Options.{Options}
 
 -- a member that is a text
 abbrev pub text_member : List ℕ → List ℕ → List Member
@@ -58,9 +60,9 @@ place_json p = object_of ((text_member (codes "file") p.file ++ text_member (cod
 abbrev pub place_member : Option PlaceView → List Member
 place_member place = map (λ p. (codes "place", place_json p)) (option_to_list place)
 
--- at most `limit` bytes of a text, and the number of bytes that are left out
-unfoldable pub cut : List ℕ → ℕ → List ℕ
-cut text limit = front text limit ++ more_note (more_bytes text limit)
+-- at most `limit` bytes of why a test failed, the number of bytes that are left out, and the number of lines that are not shown
+unfoldable pub cut : ShownWhyView → ℕ → List ℕ
+cut w limit = front w.text limit ++ (more_note (more_bytes w.text limit) ++ hidden_note w.hidden)
 
 -- the members of each test
 unfoldable pub test_members : TestNoteView → List ℕ → List Member
@@ -72,11 +74,11 @@ test_members t result =
 unfoldable pub test_json : TestNoteView → List ℕ → Json
 test_json t result = object_of (test_members t result)
 
--- a test that failed, with at most `limit` bytes of each reason, and with all of its output
-unfoldable pub failed_json : TestNoteView → FailureView → WhyView → ℕ → Json
-failed_json t f w limit = object_of (
-    (((test_members t (result_word f.kind) ++ place_member w.place) ++ text_member (codes "short") (front w.short limit))
-    ++ text_member (codes "why") (cut w.text limit)) ++ option_member (codes "output") f.stdout)
+-- a test that failed, with all of its output
+unfoldable pub failed_json : TestNoteView → FailureView → WhyView → Options → Json
+failed_json t f w o = object_of (
+    (((test_members t (result_word f.kind) ++ place_member w.place) ++ text_member (codes "short") (front w.short o.limit))
+    ++ text_member (codes "why") (cut (shown_why o t f w) o.limit)) ++ option_member (codes "output") f.stdout)
 
 -- a suite with these tests
 unfoldable pub suite_json : SuiteNoteView → List Json → Json

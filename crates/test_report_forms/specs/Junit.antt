@@ -55,17 +55,17 @@ abbrev pub end_suite : JunitState → Option (List ℕ) → Option ℕ → Junit
 end_suite j name time = option_map_or (close (without_suite j name) time) (suite_over name j.suites) (without_suite j name)
 
 -- what an entry adds
-unfoldable pub junit_entry : ℕ → JunitState → EntryView → JunitState
-junit_entry limit j (TestPassed t) = add_case j t.suite (passed_case t)
-junit_entry limit j (TestSkipped t) = add_case j t.suite (skipped_case t)
-junit_entry limit j (TestFailed t f w) = add_case j t.suite (failed_case t f w limit)
-junit_entry limit j (LinesDisagree d) = option_map_or (add_cause j) (cause_of_entry (LinesDisagree d)) j
-junit_entry limit j (SuiteNotRun suite n of) = option_map_or (add_cause j) (cause_of_entry (SuiteNotRun suite n of)) j
-junit_entry limit j (SuiteOver s) = end_suite j s.name s.time
+unfoldable pub junit_entry : Options → JunitState → EntryView → JunitState
+junit_entry o j (TestPassed t) = add_case j t.suite (passed_case t)
+junit_entry o j (TestSkipped t) = add_case j t.suite (skipped_case t)
+junit_entry o j (TestFailed t f w) = add_case j t.suite (failed_case t f w o)
+junit_entry o j (LinesDisagree d) = option_map_or (add_cause j) (cause_of_entry (LinesDisagree d)) j
+junit_entry o j (SuiteNotRun suite n of) = option_map_or (add_cause j) (cause_of_entry (SuiteNotRun suite n of)) j
+junit_entry o j (SuiteOver s) = end_suite j s.name s.time
 
 -- what is kept of a list of entries
 abbrev pub junit_state : Options → List EntryView → JunitState
-junit_state options entries = fold (junit_entry options.limit) junit_start entries
+junit_state options entries = fold (junit_entry options) junit_start entries
 
 -- the test case that says that no test ran
 abbrev pub no_tests_case : CaseView

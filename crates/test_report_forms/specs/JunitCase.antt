@@ -3,12 +3,14 @@ use Rattle.std.specs.Prelude.{◌-◌, [], ℕ, Bool, true, false, not, List, co
 use Rattle.test_report_forms.specs.Model.{FailedView, shown_failure_of, suite_name}
 use Rattle.test_report_forms.specs.Shown.{shown_name}
 use Rattle.test_report_forms.specs.Title.{title_name}
-use Rattle.test_report_forms.specs.Why.{WhyView, without_returns}
+use Rattle.test_report_forms.specs.Lines.{without_returns}
+use Rattle.test_report_forms.specs.Why.{WhyView}
 use Rattle.test_report_forms.specs.declared.junit_case.Case.{Case}
 use Rattle.test_report_forms.specs.declared.junit_case.CaseKind.{CaseKind}
 use Rattle.test_report_forms.specs.declared.junit_case.CaseKind.TheVariants as kind
 use Rattle.test_report_forms.specs.declared.junit_case.Reason.{Reason}
 use Rattle.test_report_run.specs.Note.{FailureView, HasCrashed, HasFailed, HasNoEnd, HasTimedOut, IsFlaky, KindView, TestNoteView, text_view}
+use Rattle.test_report_forms.specs.declared.options.Options.{Options}
 
 -- why a test case failed: an error or a failure, with its short reason, its type and its long reason, and the output of the test
 pub record ReasonView : Type 0 where
@@ -89,9 +91,9 @@ failed_reason failed f = record {
   output = option_map without_returns f.stdout;
 }
 
--- the test case of a test that failed, with at most `limit` bytes of each reason
-abbrev pub failed_case : TestNoteView → FailureView → WhyView → ℕ → CaseView
-failed_case t f w limit = test_case t (FailedCase (failed_reason (shown_failure_of t f.kind w limit) f))
+-- the test case of a test that failed
+abbrev pub failed_case : TestNoteView → FailureView → WhyView → Options → CaseView
+failed_case t f w o = test_case t (FailedCase (failed_reason (shown_failure_of t f w o) f))
 
 -- the name of the run, and of the suite of causes that name no suite
 abbrev pub own_name : List ℕ

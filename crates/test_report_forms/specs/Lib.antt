@@ -1,5 +1,6 @@
 pub mod Commands
 pub mod Entry
+pub mod Explanation
 pub mod Files
 pub mod Github
 pub mod Holes
@@ -13,15 +14,19 @@ pub mod JunitSuite
 pub mod JunitTree
 pub mod JunitValues
 pub mod Laws
+pub mod Lines
 pub mod List
 pub mod Markdown
 pub mod Model
 pub mod Names
 pub mod Place
+pub mod Short
 pub mod Shown
+pub mod ShownWhy
 pub mod Suites
 pub mod Text
 pub mod Title
 pub mod Values
 pub mod Why
 pub mod Words
+pub mod Written

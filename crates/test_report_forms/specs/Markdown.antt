@@ -14,14 +14,15 @@ use Rattle.test_report_forms.specs.Model.{FailedView}
 use Rattle.test_report_forms.specs.Values.{failed_values, values_of_run}
 use Rattle.test_report_forms.specs.declared.markdown_template.TheConstants.{MARKDOWN}
 use Rattle.test_report_run.specs.declared.note.RunEnd.{RunEnd}
+use Rattle.test_report_forms.specs.declared.options.Options.{Options}
 
 -- the template of the summary
 unfoldable pub markdown_parts : Parts
 markdown_parts = template_parts MARKDOWN.now
 
 -- what is written at the end of a run with these entries
-unfoldable pub markdown_of : ℕ → List EntryView → RunEnd → List ℕ
-markdown_of limit entries end = parts_text markdown_parts (values_of_run limit entries end)
+unfoldable pub markdown_of : Options → List EntryView → RunEnd → List ℕ
+markdown_of o entries end = parts_text markdown_parts (values_of_run o entries end)
 
 -- the parts for each failed test: those of its row in the table, and those of its details after the table
 abbrev pub failed_sections : List Parts

@@ -5,7 +5,8 @@ use Rattle.run_events_stats.specs.declared.outcome.run_outcome.RunOutcome.{RunOu
 use Rattle.run_events_stats.specs.declared.outcome.run_outcome.RunOutcome.TheVariants as outcome
 use Rattle.test_report_forms.specs.Entry.{EntryView, LinesDisagree, SuiteNotRun, SuiteOver, TestFailed, TestPassed, TestSkipped}
 use Rattle.test_report_forms.specs.List.{KeyedLine, put_falling, slow_line_view}
-use Rattle.test_report_forms.specs.Shown.{front, limited, shown_name, shown_text}
+use Rattle.test_report_forms.specs.Shown.{front, shown_name, shown_text}
+use Rattle.test_report_forms.specs.ShownWhy.{limited_why, shown_why}
 use Rattle.test_report_forms.specs.Title.{title, title_name}
 use Rattle.test_report_forms.specs.Why.{WhyView}
 use Rattle.test_report_forms.specs.Words.{disagreement_line, failed_word, not_run_line}
@@ -14,7 +15,8 @@ use Rattle.test_report_forms.specs.declared.failed_test.FailedTest.{FailedTest}
 use Rattle.test_report_forms.specs.declared.model.ReportModel.{ReportModel}
 use Rattle.test_report_forms.specs.declared.model.SuiteRow.{SuiteRow}
 use Rattle.test_report_forms.specs.declared.numbers.Numbers.{Numbers}
-use Rattle.test_report_run.specs.Note.{CargoSays, DisagreementView, EndsEarly, HasNoEvent, IsDamaged, KindView, SaysOther, StartsOutside, StrayEnds, StraySuiteEnds, SuiteNoteView, TestNoteView, text_view}
+use Rattle.test_report_forms.specs.declared.options.Options.{Options}
+use Rattle.test_report_run.specs.Note.{CargoSays, CommandFails, DisagreementView, EndsEarly, FailureView, HasNoEvent, IsDamaged, SaysOther, StartsOutside, StrayEnds, StraySuiteEnds, SuiteNoteView, TestNoteView, text_view}
 use Rattle.test_report_run.specs.declared.note.RunEnd.{RunEnd}
 
 -- a failed test as it is shown
@@ -39,16 +41,16 @@ failed_view t = record {
   why = string_bytes t.why;
 }
 
--- a test that failed in this way, as it is shown, with at most `limit` bytes of each reason
-abbrev pub shown_failure_of : TestNoteView → KindView → WhyView → ℕ → FailedView
-shown_failure_of t kind w limit = record {
+-- a test that failed in this way, as it is shown
+abbrev pub shown_failure_of : TestNoteView → FailureView → WhyView → Options → FailedView
+shown_failure_of t f w o = record {
   suite = option_map shown_name t.suite;
   name = shown_name (title_name t);
-  status = failed_word kind;
+  status = failed_word f.kind;
   attempts = t.attempts;
   time = t.time;
-  short = shown_text false (front w.short limit);
-  why = limited w.text limit;
+  short = shown_text false (front w.short o.limit);
+  why = limited_why (shown_why o t f w) o.limit;
 }
 
 -- a disagreement, or a suite whose tests were not all run: the suite that it names, its kind and its line
@@ -68,9 +70,10 @@ suite_of (SaysOther suite said passed failed) = Some suite
 suite_of (StrayEnds name how) = None
 suite_of (StraySuiteEnds key failed) = None
 suite_of (StartsOutside n) = None
-suite_of (CargoSays line) = None
+suite_of (CargoSays report) = None
 suite_of (IsDamaged text) = None
 suite_of HasNoEvent = None
+suite_of (CommandFails end) = None
 
 -- the cause of an entry, if it has one
 abbrev pub cause_of_entry : EntryView → Option CauseView
@@ -81,18 +84,18 @@ cause_of_entry (LinesDisagree d) = Some (record { suite = suite_of d; kind = cod
 cause_of_entry (SuiteNotRun suite n of) = Some (record { suite = Some suite; kind = codes "not run"; line = not_run_line suite n of })
 cause_of_entry (SuiteOver s) = None
 
--- the failed test of an entry, if it has one, with at most `limit` bytes of each reason
-abbrev pub failure_of_entry : ℕ → EntryView → Option FailedView
-failure_of_entry limit (TestPassed t) = None
-failure_of_entry limit (TestSkipped t) = None
-failure_of_entry limit (TestFailed t f w) = Some (shown_failure_of t f.kind w limit)
-failure_of_entry limit (LinesDisagree d) = None
-failure_of_entry limit (SuiteNotRun suite n of) = None
-failure_of_entry limit (SuiteOver s) = None
+-- the failed test of an entry, if it has one
+abbrev pub failure_of_entry : Options → EntryView → Option FailedView
+failure_of_entry o (TestPassed t) = None
+failure_of_entry o (TestSkipped t) = None
+failure_of_entry o (TestFailed t f w) = Some (shown_failure_of t f w o)
+failure_of_entry o (LinesDisagree d) = None
+failure_of_entry o (SuiteNotRun suite n of) = None
+failure_of_entry o (SuiteOver s) = None
 
 -- the failed tests of a list of entries
-abbrev pub failures_of : ℕ → List EntryView → List FailedView
-failures_of limit entries = filter_map (failure_of_entry limit) entries
+abbrev pub failures_of : Options → List EntryView → List FailedView
+failures_of o entries = filter_map (failure_of_entry o) entries
 
 -- the line of the cause of an entry
 abbrev pub cause_line : EntryView → Option (List ℕ)
@@ -193,12 +196,12 @@ pub record ReportView : Type 0 where
   pub suites : List RowView
   pub slowest : List KeyedLine
 
--- the report of a run with these entries, with at most `limit` bytes of each reason
-abbrev pub report_of : ℕ → List EntryView → RunEnd → ReportView
-report_of limit entries end = record {
+-- the report of a run with these entries
+abbrev pub report_of : Options → List EntryView → RunEnd → ReportView
+report_of o entries end = record {
   end = end;
   problems = problem_lines end.outcome (cause_lines entries);
-  failed = failures_of limit entries;
+  failed = failures_of o entries;
   suites = suite_rows entries;
   slowest = slowest_tests entries;
 }
@@ -215,7 +218,7 @@ report_view m end = record {
 
 -- what is kept is of these entries
 pub record IsModelOf (m : ReportModel) (entries : List EntryView) : Type 0 where
-  pub failed : map failed_view m.failed.items ≡ failures_of m.limit entries
+  pub failed : map failed_view m.failed.items ≡ failures_of m.options entries
   pub problems : map string_bytes m.problems.items ≡ cause_lines entries
   pub suites : map row_view m.suites.items ≡ suite_rows entries
   pub slowest : map slow_line_view m.slowest.tests.items ≡ slowest_tests entries

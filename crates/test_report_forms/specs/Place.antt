@@ -1,15 +1,18 @@
 -- The place of a failure in the sources.
-use Rattle.std.specs.Prelude.{◌≡◌, ◌-◌, ◌&&◌, ◌||◌, ◌==◌, not, nat_eq, nat_lt, ℕ, Bool, List, [], ◌∷◌, codes, drop, length, take, slice_index, if◌then◌else◌, Option, Some, None, option_and_then, option_map, unwrap_or}
+use Rattle.std.specs.Prelude.{◌-◌, true, false, ◌&&◌, ◌||◌, ◌==◌, not, nat_eq, nat_lt, ℕ, Bool, List, [], ◌∷◌, codes, drop, length, take, slice_index, if◌then◌else◌, Option, Some, None, option_and_then, option_map, unwrap_or}
 use Rattle.std.specs.Borrow.{Bor}
-use Rattle.std.specs.Char.{is_ascii_digit}
-use Rattle.std.specs.List.{after_last, before_first, ends_with, list_all, starts_with}
+use Rattle.std.specs.Char.{is_ascii_alphabetic, is_ascii_digit}
+use Rattle.std.specs.List.{after_last, ends_with, list_all, list_any, slice_split, starts_with}
 use Rattle.std.specs.Option.{option_or}
+use Rattle.std.specs.Str.{bytes_eq}
 use Rattle.std.specs.Str.Lines.{strip_carriage_return}
-use Rattle.output_slice.specs.Taken.{IsLastTaken}
 use Rattle.output_slice.specs.declared.panic_head.HeadSpan.{HeadSpan}
+use Rattle.test_report_forms.specs.Explanation.{FoundView}
+use Rattle.test_report_forms.specs.Lines.{first_line}
+use Rattle.test_report_forms.specs.Short.{other_thread}
 use Rattle.test_report_forms.specs.Title.{title_name}
 use Rattle.test_report_forms.specs.declared.place.Place.{Place}
-use Rattle.test_report_run.specs.Note.{FailureView, TestNoteView}
+use Rattle.test_report_run.specs.Note.{FailureView, HasCrashed, HasFailed, HasNoEnd, HasTimedOut, IsFlaky, KindView, TestNoteView}
 
 -- a place in the sources: a file, and the numbers of a line and of a column in decimal digits
 pub record PlaceView : Type 0 where
@@ -86,18 +89,37 @@ item_place c = option_and_then (λ rest. option_and_then (line_place c.front) (l
 unfoldable pub documented_place : List ℕ → Option PlaceView
 documented_place name = option_and_then item_place (first_cut (codes " - ") name)
 
--- the first line of a text, without the line feed and a carriage return before it
-abbrev pub first_line : List ℕ → List ℕ
-first_line text = strip_carriage_return (before_first (λ b. b == 10) text)
-
 -- the place that the head of a panic names: what follows in its line, up to a colon at the end
 abbrev pub place_behind : List ℕ → HeadSpan → Option PlaceView
 place_behind out head = option_and_then parsed_place (without_last 58 (first_line (drop head.stop out)))
 
--- this is the place that the last panic of an output names
-abbrev pub IsPanicPlace : Option (List ℕ) → Option PlaceView → Type 0
-IsPanicPlace None place = place ≡ None
-IsPanicPlace (Some out) place = (head : Option HeadSpan) × IsLastTaken out head × (place ≡ option_and_then (place_behind out) head)
+-- a failure of this kind is a crash
+abbrev pub is_crash : KindView → Bool
+is_crash (HasCrashed crash) = true
+is_crash HasFailed = false
+is_crash HasTimedOut = false
+is_crash HasNoEnd = false
+is_crash IsFlaky = false
+
+-- the text that explains a failure of this kind: the prints before a crash, or else the output of the test, which is empty if there is none
+abbrev pub output_by : KindView → Option (List ℕ) → List ℕ
+output_by (HasCrashed crash) stdout = crash.prints
+output_by HasFailed stdout = unwrap_or stdout []
+output_by HasTimedOut stdout = unwrap_or stdout []
+output_by HasNoEnd stdout = unwrap_or stdout []
+output_by IsFlaky stdout = unwrap_or stdout []
+
+-- the text that explains a failure
+abbrev pub output : FailureView → List ℕ
+output f = output_by f.kind f.stdout
+
+-- the head that names the cause: that of the first panic if the test crashed or if it is of another thread, or else that of the last panic
+abbrev pub cause_head : FailureView → FoundView → Option HeadSpan
+cause_head f found = if is_crash f.kind then found.first else option_or (other_thread (output f) found) found.last
+
+-- the place that this head names
+abbrev pub panic_place : FailureView → FoundView → Option PlaceView
+panic_place f found = option_and_then (place_behind (output f)) (cause_head f found)
 
 -- the last line of a text, without the line feed that may end it and a carriage return before that
 abbrev pub last_line : List ℕ → List ℕ
@@ -107,16 +129,35 @@ last_line text = strip_carriage_return (after_last (λ b. b == 10) (unwrap_or (w
 abbrev pub message_place : List ℕ → Option PlaceView
 message_place message = option_and_then (λ c. parsed_place c.back) (last_cut (codes " at ") (last_line message))
 
--- this is the place of the last panic of a failure, or else that of its message
-abbrev pub IsFailurePlace : FailureView → Option PlaceView → Type 0
-IsFailurePlace f place =
-    (panic : Option PlaceView) × IsPanicPlace f.stdout panic × (place ≡ option_or panic (option_and_then message_place f.message))
+-- a slash, or a backslash
+abbrev pub is_slash : ℕ → Bool
+is_slash b = b == 47 || b == 92
 
--- this is the place of a documentation test, or else that of its failure
-abbrev pub IsPlaceOr : FailureView → Option PlaceView → Option PlaceView → Type 0
-IsPlaceOr f (Some documented) place = place ≡ Some documented
-IsPlaceOr f None place = IsFailurePlace f place
+-- the path begins with a slash, a backslash or a drive such as `C:`
+abbrev pub is_absolute : List ℕ → Bool
+is_absolute [] = false
+is_absolute (x ∷ rest) = is_slash x || (is_ascii_alphabetic x && starts_with nat_eq rest (codes ":"))
 
--- this is the place of a failed test
-abbrev pub IsPlace : TestNoteView → FailureView → Option PlaceView → Type 0
-IsPlace t f place = IsPlaceOr f (documented_place (title_name t)) place
+-- the path may lead out of its folder
+abbrev pub goes_up : List ℕ → Bool
+goes_up path = list_any (λ part. bytes_eq part (codes "..")) (slice_split is_slash path)
+
+-- the path is of a file of the repository, as far as its text says
+abbrev pub is_ours : List ℕ → Bool
+is_ours path = not (is_absolute path) && not (goes_up path)
+
+-- the place, if it is in the repository
+abbrev pub if_ours : PlaceView → Option PlaceView
+if_ours p = if is_ours p.file then Some p else None
+
+-- the same of a place that may be unknown
+abbrev pub our_place : Option PlaceView → Option PlaceView
+our_place place = option_and_then if_ours place
+
+-- the place of a failure: the one that a panic names, or else the one at the end of its message
+abbrev pub failure_place : FailureView → FoundView → Option PlaceView
+failure_place f found = option_or (our_place (panic_place f found)) (our_place (option_and_then message_place f.message))
+
+-- the place of a failed test: the one in the name of a documentation test, or else that of its failure
+abbrev pub place_of : TestNoteView → FailureView → FoundView → Option PlaceView
+place_of t f found = option_or (our_place (documented_place (title_name t))) (failure_place f found)

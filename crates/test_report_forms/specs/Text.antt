@@ -6,6 +6,7 @@ use Rattle.test_report_forms.specs.Entry.{EntryView, TestFailed}
 use Rattle.test_report_forms.specs.List.{short_list}
 use Rattle.test_report_forms.specs.Model.{cause_line}
 use Rattle.test_report_forms.specs.Shown.{bracket, front, indented, more_bytes}
+use Rattle.test_report_forms.specs.ShownWhy.{ShownWhyView, shown_why}
 use Rattle.test_report_forms.specs.Title.{title}
 use Rattle.test_report_forms.specs.Words.{failed_word, outcome_word, status_text, summary_line}
 use Rattle.test_report_forms.specs.declared.options.Options.{Options}
@@ -16,9 +17,13 @@ use Rattle.test_report_run.specs.declared.note.RunEnd.{RunEnd}
 unfoldable pub more_line : ℕ → List ℕ
 more_line more = if more == 0 then [] else codes "    (" ++ (decimal more ++ codes " more bytes)\n")
 
+-- the line of the number of lines of the output that are not shown, if there are any
+unfoldable pub hidden_line : ℕ → List ℕ
+hidden_line hidden = if hidden == 0 then [] else codes "    (" ++ (decimal hidden ++ codes " more lines of output)\n")
+
 -- the lines of why a test failed
-unfoldable pub why_lines : Options → List ℕ → List ℕ
-why_lines o why = indented o.raw (front why o.limit) ++ more_line (more_bytes why o.limit)
+unfoldable pub why_lines : Options → ShownWhyView → List ℕ
+why_lines o why = indented o.raw (front why.text o.limit) ++ (more_line (more_bytes why.text o.limit) ++ hidden_line why.hidden)
 
 -- the number of attempts, if there were several
 unfoldable pub attempts_note : ℕ → List ℕ
@@ -30,12 +35,12 @@ failed_head o t word =
     status_text o.color word ++ (codes " " ++ (bracket t.time ++ (title t ++ (attempts_note t.attempts ++ codes "\n"))))
 
 -- a failed test, with why it failed
-unfoldable pub failed_text : Options → TestNoteView → List ℕ → List ℕ → List ℕ
+unfoldable pub failed_text : Options → TestNoteView → List ℕ → ShownWhyView → List ℕ
 failed_text o t word why = failed_head o t word ++ why_lines o why
 
 -- what is written of an entry: a failed test, or the line of a cause
 abbrev pub text_line : Options → EntryView → List ℕ
-text_line o (TestFailed t f w) = failed_text o t (failed_word f.kind) w.text
+text_line o (TestFailed t f w) = failed_text o t (failed_word f.kind) (shown_why o t f w)
 text_line o e = option_map_or (λ line. line ++ codes "\n") (cause_line e) []
 
 -- the line before the summary, and the summary

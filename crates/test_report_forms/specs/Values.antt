@@ -9,6 +9,7 @@ use Rattle.test_report_forms.specs.Shown.{seconds}
 use Rattle.test_report_forms.specs.Words.{outcome_word}
 use Rattle.test_report_run.specs.declared.note.RunEnd.{RunEnd}
 use Rattle.test_report_forms.specs.declared.numbers.Numbers.{Numbers}
+use Rattle.test_report_forms.specs.declared.options.Options.{Options}
 
 -- one text
 abbrev pub one_text : List ℕ → List ℕ → List ValueView
@@ -126,6 +127,6 @@ report_values r =
     ++ section (codes "failures") (failed_items r.failed)) ++ section (codes "suites") (suite_items r.suites))
     ++ section (codes "slowest") (slow_items r.slowest)
 
--- the values of a run with these entries, with at most `limit` bytes of each reason
-abbrev pub values_of_run : ℕ → List EntryView → RunEnd → Values
-values_of_run limit entries end = values_of (report_values (report_of limit entries end))
+-- the values of a run with these entries
+abbrev pub values_of_run : Options → List EntryView → RunEnd → Values
+values_of_run o entries end = values_of (report_values (report_of o entries end))

@@ -1,39 +1,31 @@
 -- Why a test failed.
-use Rattle.std.specs.Prelude.{◌≡◌, ◌-◌, ◌&&◌, ◌==◌, not, nat_lt, nat_eq, ℕ, Bool, List, [], ◌∷◌, ◌++◌, codes, drop, filter, if◌then◌else◌, length, Option, Some, None, option_and_then, option_map, option_to_list, string_bytes}
+use Rattle.std.specs.Prelude.{◌≡◌, ◌&&◌, not, nat_lt, ℕ, Bool, List, [], ◌∷◌, ◌++◌, codes, if◌then◌else◌, Option, Some, None, option_map, option_to_list, string_bytes}
 use Rattle.std.specs.Fmt.{decimal}
-use Rattle.std.specs.List.{after_first, ends_with, join_with_byte, slice_split}
-use Rattle.std.specs.Option.{is_some, option_map_or}
+use Rattle.std.specs.Option.{is_some, option_map_or, option_or}
 use Rattle.std.specs.Str.Lossy.{utf8_lossy}
-use Rattle.std.specs.Str.Lines.{strip_carriage_return}
-use Rattle.output_slice.specs.Extraction.{Extract, IsExtract, error_slice, note_line, panic_slice}
-use Rattle.output_slice.specs.Taken.{IsLastTaken}
-use Rattle.output_slice.specs.declared.panic_head.HeadSpan.{HeadSpan}
+use Rattle.output_slice.specs.Extraction.{Extract, error_slice, note_line, panic_slice}
+use Rattle.test_report_forms.specs.Explanation.{ExplanationView, FoundView, IsFoundIn, explanation_in, explanation_view}
 pub use Rattle.test_report_forms.specs.Place.{PlaceView, place_view}
-use Rattle.test_report_forms.specs.Place.{IsPlace, first_line}
+use Rattle.test_report_forms.specs.Place.{output, place_of}
+use Rattle.test_report_forms.specs.Short.{IsShort, better_reason, said_first}
 use Rattle.test_report_forms.specs.Shown.{seconds}
+use Rattle.test_report_forms.specs.Written.{ten_written}
 use Rattle.test_report_forms.specs.declared.why.Why.{Why}
 use Rattle.test_report_run.specs.Note.{CrashView, FailureView, HasCrashed, HasFailed, HasNoEnd, HasTimedOut, IsFlaky, KindView, TestNoteView}
-use Rattle.test_report_run.specs.Prints.{is_blank}
 
--- why a test failed: the short reason, all that is known, and the place
+-- why a test failed: the short reason, the explanation in its output, and the place
 pub record WhyView : Type 0 where
   pub short : List ℕ
-  pub text : List ℕ
+  pub explanation : Option ExplanationView
   pub place : Option PlaceView
 
 -- why a test failed, by what is kept
 abbrev pub why_view : Why → WhyView
-why_view w = record { short = string_bytes w.short; text = string_bytes w.text; place = option_map place_view w.place }
-
--- a text without the carriage returns right before line feeds
-abbrev pub without_returns : List ℕ → List ℕ
-without_returns [] = []
-without_returns (x ∷ []) = x ∷ []
-without_returns (x ∷ y ∷ text) = if x == 13 && y == 10 then without_returns (y ∷ text) else x ∷ without_returns (y ∷ text)
-
--- parts joined by line feeds
-unfoldable pub joined : List (List ℕ) → List ℕ
-joined parts = without_returns (join_with_byte 10 parts)
+why_view w = record {
+  short = string_bytes w.short;
+  explanation = option_map explanation_view w.explanation;
+  place = option_map place_view w.place;
+}
 
 -- what ended before a test did: the run, or the process of the test
 abbrev pub end_words : Bool → List ℕ
@@ -58,54 +50,14 @@ reason_of HasNoEnd reason time = Some (codes "no line says how it ended")
 reason_of IsFlaky reason time = Some (codes "flaky, and set to fail")
 reason_of (HasCrashed crash) reason time = reason
 
--- the lines of a text that are not blank
-abbrev pub written_lines : List ℕ → List (List ℕ)
-written_lines text = filter (λ line. not (is_blank line)) (slice_split (λ b. b == 10) text)
-
--- the last ten of these lines
-abbrev pub last_ten : List (List ℕ) → List (List ℕ)
-last_ten lines = drop (length lines - 10) lines
-
--- the last ten lines of a text that are not blank, without the line feed and a carriage return before it at the end, if there are such lines
-abbrev pub last_lines : List ℕ → Option (List ℕ)
-last_lines text =
-    if length (written_lines text) == 0 then None else Some (strip_carriage_return (join_with_byte 10 (last_ten (written_lines text))))
-
--- the bytes of an extraction
-abbrev pub extract_bytes : Extract → List ℕ
-extract_bytes (panic_slice x) = x.bytes
-extract_bytes (error_slice x) = x.bytes
-extract_bytes (note_line x) = x.bytes
-
--- this is the part of a text that explains a failure: what the heuristic finds in it as output
-abbrev pub IsExplanation : List ℕ → Option (List ℕ) → Type 0
-IsExplanation text part =
-    (found : Option Extract) × IsExtract (Some text) (Some text) found × (part ≡ option_map (λ x. utf8_lossy (extract_bytes x)) found)
-
--- what prints say: their explanation, or else the last of them
+-- what prints say before a crash: their explanation, or else the last of them
 abbrev pub said_by_prints : Option (List ℕ) → List (List ℕ) → List (List ℕ)
 said_by_prints (Some part) last = part ∷ []
 said_by_prints None last = last
 
--- these are the parts of what prints say before a crash
-abbrev pub ArePrintsParts : CrashView → List (List ℕ) → Type 0
-ArePrintsParts c parts = (part : Option (List ℕ)) × IsExplanation c.prints part × (parts ≡ said_by_prints part c.last)
-
--- these are the parts of what is known about a crash: a sentence, the cause that cargo names, and what the prints say
-abbrev pub AreCrashParts : CrashView → List (List ℕ) → Type 0
-AreCrashParts c parts =
-    (said : List (List ℕ)) × ArePrintsParts c said × (parts ≡ crash_words c ∷ (option_to_list c.cause ++ said))
-
--- the part of an output that explains a failure: what the heuristic finds, or else its last lines if there is no message
-abbrev pub output_part : List ℕ → Bool → Option Extract → Option (List ℕ)
-output_part out has_message (Some found) = Some (utf8_lossy (extract_bytes found))
-output_part out has_message None = if has_message then None else last_lines out
-
--- this is that part of the output of a test
-abbrev pub IsOutputPart : Option (List ℕ) → Option (List ℕ) → Option (List ℕ) → Type 0
-IsOutputPart None message part = part ≡ None
-IsOutputPart (Some out) message part =
-    (found : Option Extract) × IsExtract (Some out) (Some out) found × (part ≡ output_part out (is_some message) found)
+-- the parts of what is known about a crash: a sentence, the cause that cargo names, and what the prints say
+abbrev pub crash_parts : CrashView → Option (List ℕ) → List (List ℕ)
+crash_parts c part = crash_words c ∷ (option_to_list c.cause ++ said_by_prints part c.last)
 
 -- parts, or one that says that there is none
 abbrev pub some_part : List (List ℕ) → List (List ℕ)
@@ -117,45 +69,67 @@ abbrev pub known_parts : FailureView → Option ℕ → Option (List ℕ) → Li
 known_parts f time output =
     option_to_list (reason_of f.kind f.reason time) ++ (option_to_list f.message ++ option_to_list output)
 
--- these are the parts of what is known about a failure of a test that took this time
-abbrev pub AreFailureParts : FailureView → Option ℕ → List (List ℕ) → Type 0
-AreFailureParts f time parts = (output : Option (List ℕ)) × IsOutputPart f.stdout f.message output × (parts ≡ some_part (known_parts f time output))
+-- the same, or that no output was captured
+abbrev pub failure_parts : FailureView → Option ℕ → Option (List ℕ) → List (List ℕ)
+failure_parts f time output = some_part (known_parts f time output)
 
--- these are the parts of what is known about a failure of this kind
-abbrev pub AreParts : KindView → FailureView → Option ℕ → List (List ℕ) → Type 0
-AreParts (HasCrashed crash) f time parts = AreCrashParts crash parts
-AreParts HasFailed f time parts = AreFailureParts f time parts
-AreParts HasTimedOut f time parts = AreFailureParts f time parts
-AreParts HasNoEnd f time parts = AreFailureParts f time parts
-AreParts IsFlaky f time parts = AreFailureParts f time parts
-
--- of the head of a panic at the start of a line, what follows from `panicked at` on
-abbrev pub panic_words : List ℕ → HeadSpan → Option (List ℕ)
-panic_words line head = if head.start == 0 then Some (drop (head.stop - 12) line) else None
-
--- words, and the next line after them if they end in a colon
-abbrev pub with_next : List ℕ → List ℕ → List ℕ
-with_next next words = if ends_with nat_eq words (codes ":") && not (length next == 0) then words ++ (32 ∷ next) else words
-
--- the short reason: the first line, or what the head of a panic in it says
-abbrev pub short_of : List ℕ → List ℕ → Option HeadSpan → List ℕ
-short_of line next head = option_map_or (with_next next) (option_and_then (panic_words line) head) line
-
--- this is the short reason of a first part
-abbrev pub IsShort : List ℕ → List ℕ → Type 0
-IsShort part short =
-    (head : Option HeadSpan) × IsLastTaken (first_line part) head
-    × (short ≡ short_of (first_line part) (first_line (after_first (λ b. b == 10) part)) head)
+-- the parts of what is known about a failure of this kind
+abbrev pub parts_of : KindView → FailureView → Option ℕ → Option (List ℕ) → List (List ℕ)
+parts_of (HasCrashed crash) f time output = crash_parts crash output
+parts_of HasFailed f time output = failure_parts f time output
+parts_of HasTimedOut f time output = failure_parts f time output
+parts_of HasNoEnd f time output = failure_parts f time output
+parts_of IsFlaky f time output = failure_parts f time output
 
 -- the first part
 abbrev pub first_part : List (List ℕ) → List ℕ
 first_part [] = []
 first_part (part ∷ parts) = part
 
+-- the bytes of a slice
+abbrev pub extract_bytes : Extract → List ℕ
+extract_bytes (panic_slice x) = x.bytes
+extract_bytes (error_slice x) = x.bytes
+extract_bytes (note_line x) = x.bytes
+
+-- the slice, or else ten lines of the output if there is no message
+abbrev pub slice_or_lines : FailureView → FoundView → Option (List ℕ)
+slice_or_lines f found =
+    option_or (option_map (λ x. utf8_lossy (extract_bytes x)) found.slice) (if is_some f.message then None else ten_written (output f))
+
+-- no reason and no message say why a test failed
+abbrev pub says_nothing_else : FailureView → Bool
+says_nothing_else f = not (is_some f.reason) && not (is_some f.message)
+
+-- the short reason of a crash: its sentence and, if there is a head of a panic, what the first one says
+abbrev pub crash_reason : CrashView → FoundView → List ℕ
+crash_reason c found = crash_words c ++ said_first c.prints found
+
+-- what says more than the first part, by the kind of the failure
+abbrev pub own_reason_of : KindView → FailureView → FoundView → Option (List ℕ)
+own_reason_of (HasCrashed crash) f found = Some (crash_reason crash found)
+own_reason_of HasFailed f found = if says_nothing_else f then better_reason (output f) found else None
+own_reason_of HasTimedOut f found = None
+own_reason_of HasNoEnd f found = None
+own_reason_of IsFlaky f found = None
+
+-- what says more than the first part
+abbrev pub own_reason : FailureView → FoundView → Option (List ℕ)
+own_reason f found = own_reason_of f.kind f found
+
+-- this is that reason or, if there is none, the short reason of a first part
+abbrev pub IsShortOr : Option (List ℕ) → List ℕ → List ℕ → Type 0
+IsShortOr None part short = IsShort part short
+IsShortOr (Some own) part short = short ≡ own
+
+-- this is the short reason of a failure
+abbrev pub IsShortReason : FailureView → Option ℕ → FoundView → List ℕ → Type 0
+IsShortReason f time found short = IsShortOr (own_reason f found) (first_part (parts_of f.kind f time (slice_or_lines f found))) short
+
 -- this is why a test failed
 pub record IsWhy (t : TestNoteView) (f : FailureView) (w : WhyView) : Type 0 where
-  pub parts : List (List ℕ)
-  pub are_parts : AreParts f.kind f t.time parts
-  pub short : IsShort (first_part parts) w.short
-  pub text : w.text ≡ joined parts
-  pub place : IsPlace t f w.place
+  pub found : FoundView
+  pub is_found : IsFoundIn (output f) found
+  pub short : IsShortReason f t.time found w.short
+  pub explanation : w.explanation ≡ explanation_in (output f) found
+  pub place : w.place ≡ place_of t f found

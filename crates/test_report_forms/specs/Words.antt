@@ -4,10 +4,11 @@ use Rattle.std.specs.Fmt.{decimal}
 use Rattle.std.specs.Str.{bytes_eq}
 use Rattle.run_events_stats.specs.declared.outcome.run_outcome.RunOutcome.{RunOutcome}
 use Rattle.run_events_stats.specs.declared.outcome.run_outcome.RunOutcome.TheVariants as outcome
+use Rattle.test_report_events.specs.Event.{BySignal, CommandView, NotStarted, WithStatus}
 use Rattle.test_report_events.specs.declared.event.TestResult.{TestResult}
 use Rattle.test_report_events.specs.declared.event.TestResult.TheVariants as ended
 use Rattle.test_report_forms.specs.Shown.{bracket, name_and_space, shown_line, shown_name}
-use Rattle.test_report_run.specs.Note.{CargoSays, DisagreementView, EndsEarly, HasCrashed, HasFailed, HasNoEnd, HasNoEvent, HasTimedOut, IsDamaged, IsFlaky, KindView, SaysOther, StartsOutside, StrayEnds, StraySuiteEnds}
+use Rattle.test_report_run.specs.Note.{CargoSays, CommandFails, DisagreementView, EndsEarly, HasCrashed, HasFailed, HasNoEnd, HasNoEvent, HasTimedOut, IsDamaged, IsFlaky, KindView, SaysOther, StartsOutside, StrayEnds, StraySuiteEnds}
 use Rattle.test_report_run.specs.Suite.{failed_of}
 use Rattle.test_report_run.specs.declared.note.RunEnd.{RunEnd}
 use Rattle.test_report_run.specs.declared.note.SaidNumbers.{SaidNumbers}
@@ -67,6 +68,12 @@ its_tests passed failed = codes ", but " ++ (decimal passed ++ (codes " of its t
 unfoldable pub key_and_verdict : Option (List ℕ) → Bool → List ℕ
 key_and_verdict key failed = name_and_space key ++ verdict_word failed
 
+-- how a command ended that failed
+unfoldable pub command_words : CommandView → List ℕ
+command_words (NotStarted error) = codes "could not be started: " ++ shown_line error
+command_words (BySignal number) = codes "ended by signal " ++ decimal number
+command_words (WithStatus code) = codes "ended with status " ++ (decimal code ++ codes ", and no line says why")
+
 -- the line of a disagreement
 unfoldable pub disagreement_line : DisagreementView → List ℕ
 disagreement_line (EndsEarly suite) = shown_name suite ++ codes " ended early"
@@ -74,9 +81,10 @@ disagreement_line (SaysOther suite said passed failed) = shown_name suite ++ (sa
 disagreement_line (StrayEnds name how) = shown_name name ++ (codes " ended " ++ (result_word how ++ codes ", and had not started"))
 disagreement_line (StraySuiteEnds key failed) = codes "a suite ended that had not started: " ++ key_and_verdict key failed
 disagreement_line (StartsOutside n) = decimal n ++ codes " tests started outside of a suite"
-disagreement_line (CargoSays line) = codes "cargo: " ++ shown_line line
+disagreement_line (CargoSays report) = codes "cargo: " ++ shown_line report.line
 disagreement_line (IsDamaged text) = codes "a damaged line says that a test or a suite failed: " ++ shown_line text
 disagreement_line HasNoEvent = codes "no line of the input is of a test run"
+disagreement_line (CommandFails end) = codes "the command " ++ command_words end
 
 -- the line of the tests of a suite that were not run
 unfoldable pub not_run_line : List ℕ → ℕ → ℕ → List ℕ

@@ -3,15 +3,15 @@
 ghost use Rattle.std.specs.Prelude.{◌≡◌, ◌++◌, IfOk, OnOk, option_map, string_bytes};
 ghost use Rattle.test_report_forms.specs.Entry.{entry_view};
 ghost use Rattle.test_report_forms.specs.Model.{cause_of_entry, cause_view, suite_of};
-ghost use Rattle.test_report_forms.specs.Words.{disagreement_line, its_tests, not_run_line, result_word, said_numbers, said_text, key_and_verdict, verdict_word};
-ghost use Rattle.test_report_run.specs.Note.{disagreement_view, text_view};
+ghost use Rattle.test_report_forms.specs.Words.{command_words, disagreement_line, its_tests, not_run_line, result_word, said_numbers, said_text, key_and_verdict, verdict_word};
+ghost use Rattle.test_report_run.specs.Note.{command_view, disagreement_view, text_view};
 
 use crate::entry::Entry;
 use crate::shown::{push_line, push_name, push_name_and_space};
 use std::alloc::{AllocError, Global};
 use std::fmt::Write;
 use test_report_events::event::TestResult;
-use test_report_run::note::{Disagreement, NotRun, SaidNumbers};
+use test_report_run::note::{CommandEnd, Disagreement, NotRun, SaidNumbers};
 
 /// A disagreement, or a suite whose tests were not all run.
 #[derive(Drop)]
@@ -65,9 +65,10 @@ fn suite_of(disagreement: &Disagreement) -> Option<&str>
         Disagreement::StrayEnd { .. }
         | Disagreement::StraySuiteEnd { .. }
         | Disagreement::OutsideSuite { .. }
-        | Disagreement::Cargo { .. }
+        | Disagreement::Cargo(_)
         | Disagreement::Damaged { .. }
-        | Disagreement::NoEvent => None,
+        | Disagreement::NoEvent
+        | Disagreement::Command(_) => None,
     }
 }
 
@@ -126,15 +127,37 @@ fn push_disagreement(text: &mut String, disagreement: &Disagreement) -> Result<(
             let count = *started;
             write!(text, "{count} tests started outside of a suite")
         }
-        Disagreement::Cargo { line } => {
+        Disagreement::Cargo(report) => {
             text.push_str("cargo: ")?;
-            push_line(text, line.as_str())
+            push_line(text, report.line.as_str())
         }
         Disagreement::Damaged { text: line } => {
             text.push_str("a damaged line says that a test or a suite failed: ")?;
             push_line(text, line.as_str())
         }
         Disagreement::NoEvent => text.push_str("no line of the input is of a test run"),
+        Disagreement::Command(end) => {
+            text.push_str("the command ")?;
+            push_command_end(text, end)
+        }
+    }
+}
+
+/// Appends how a command ended that failed.
+#[tactic(auto, unfolding(crate::specs::Words::command_words))]
+fn push_command_end(text: &mut String, end: &CommandEnd) -> Result<(), AllocError>
+    ensures { OnOk result (string_bytes text.new
+        ≡ string_bytes text.old ++ command_words (command_view end.now)) }
+{
+    match end {
+        CommandEnd::NotStarted { error } => {
+            text.push_str("could not be started: ")?;
+            push_line(text, error.as_str())
+        }
+        CommandEnd::Signal { number } => write!(text, "ended by signal {number}"),
+        CommandEnd::Status { code } => {
+            write!(text, "ended with status {code}, and no line says why")
+        }
     }
 }
 

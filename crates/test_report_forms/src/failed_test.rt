@@ -2,18 +2,21 @@
 
 ghost use Rattle.std.specs.Prelude.{◌≡◌, IfOk, false, option_map, string_bytes};
 ghost use Rattle.test_report_forms.specs.Model.{failed_view, shown_failure_of};
-ghost use Rattle.test_report_forms.specs.Shown.{limited, shown_name, shown_text};
+ghost use Rattle.test_report_forms.specs.Shown.{shown_name, shown_text};
 ghost use Rattle.test_report_forms.specs.Shown as shown;
+ghost use Rattle.test_report_forms.specs.ShownWhy.{limited_why, shown_why_view};
 ghost use Rattle.test_report_forms.specs.Title.{title_name};
 ghost use Rattle.test_report_forms.specs.Why.{why_view};
-ghost use Rattle.test_report_run.specs.Note.{kind_view, test_view, text_view};
+ghost use Rattle.test_report_run.specs.Note.{failure_view, test_view, text_view};
 
-use crate::shown::{front, push_limited, push_name, push_text};
+use crate::options::Options;
+use crate::shown::{front, push_name, push_text};
+use crate::shown_why::{ShownWhy, push_why, shown_why};
 use crate::status::failed_status;
 use crate::title::shown_name;
 use crate::why::Why;
 use std::alloc::{AllocError, Global};
-use test_report_run::note::{FailureKind, TestNote};
+use test_report_run::note::{Failure, TestNote};
 
 /// A failed test. In its texts control characters are already escapes.
 #[derive(Drop)]
@@ -40,25 +43,26 @@ pub(crate) struct FailedTest {
     pub(crate) why: String,
 }
 
-/// Returns a failed test as it is shown, with at most `limit` bytes of why it failed and of the short reason.
+/// Returns a failed test as it is shown.
 pub(crate) fn shown_failure(
     alloc: Global,
     test: &TestNote,
-    kind: &FailureKind,
+    failure: &Failure,
     why: &Why<'_>,
-    limit: usize,
+    options: Options,
 ) -> Result<FailedTest, AllocError>
     ensures { IfOk result (λ t. failed_view t
-        ≡ shown_failure_of (test_view test.now) (kind_view kind.now) (why_view why.now) limit) }
+        ≡ shown_failure_of (test_view test.now) (failure_view failure.now) (why_view why.now) options) }
 {
+    let shown = shown_why(alloc, options, test, failure, why)?;
     Ok(FailedTest {
         suite: shown_suite(alloc, &test.suite)?,
         name: shown_test(alloc, test)?,
-        status: failed_status(kind),
+        status: failed_status(&failure.kind),
         attempts: test.attempts,
         time: test.time,
-        short: short_text(alloc, why.short.as_str(), limit)?,
-        why: limited_text(alloc, why.text.as_str(), limit)?,
+        short: short_text(alloc, why.short.as_str(), options.limit)?,
+        why: why_text(alloc, &shown, options.limit)?,
     })
 }
 
@@ -80,12 +84,13 @@ fn short_text(alloc: Global, short: &str, limit: usize) -> Result<String, AllocE
     Ok(text)
 }
 
-/// Returns at most the first `limit` bytes of why a test failed, and the number of bytes that are not shown.
-fn limited_text(alloc: Global, why: &str, limit: usize) -> Result<String, AllocError>
-    ensures { IfOk result (λ text. string_bytes text ≡ limited why.now limit) }
+/// Returns why a test failed: at most the first `limit` bytes, the number of bytes that are not shown, and the number
+/// of lines of the output that are not shown.
+fn why_text(alloc: Global, why: &ShownWhy, limit: usize) -> Result<String, AllocError>
+    ensures { IfOk result (λ text. string_bytes text ≡ limited_why (shown_why_view why.now) limit) }
 {
     let mut text = String::new(alloc);
-    push_limited(&mut text, why, limit)?;
+    push_why(&mut text, why, limit)?;
     Ok(text)
 }
 

@@ -5,38 +5,38 @@ ghost use Rattle.std.specs.Option.{option_map_or};
 ghost use Rattle.test_report_forms.specs.Entry.{entry_view};
 ghost use Rattle.test_report_forms.specs.Model.{cause_line};
 ghost use Rattle.test_report_forms.specs.Github.{column_property, data_char, error_command, failed_command, message, place_properties, properties, property, property_char, title_property, why_message};
+ghost use Rattle.test_report_forms.specs.ShownWhy.{shown_why_view};
 ghost use Rattle.test_report_forms.specs.Why.{place_view, why_view};
-ghost use Rattle.test_report_run.specs.Note.{test_view};
+ghost use Rattle.test_report_run.specs.Note.{failure_view, test_view};
 
 use crate::cause::cause_of;
 use crate::entry::Entry;
 use crate::form::Form;
 use crate::options::Options;
 use crate::place::Place;
-use crate::shown::{push_limited, push_line};
+use crate::shown::push_line;
+use crate::shown_why::{ShownWhy, push_why, shown_why};
 use crate::summary::{outcome_text, push_summary};
 use crate::title::push_title;
 use crate::why::Why;
 use std::alloc::{AllocError, Global};
-use test_report_run::note::{RunEnd, TestNote};
+use test_report_run::note::{Failure, RunEnd, TestNote};
 
 /// The form for the log of a workflow on GitHub: an annotation for each failed test, each disagreement and
 /// each suite whose tests were not all run, and at the end a notice with the summary. Every line is a
 /// command of this program, so no output of a test is ever read as a command.
 #[derive(Drop)]
 pub struct GithubForm {
-    limit: usize,
+    options: Options,
 }
 
 impl GithubForm {
-    /// Returns the form. Of the options it uses only `limit`.
+    /// Returns the form. Of the options it uses only `limit` and `output`.
     pub fn new(options: Options) -> GithubForm
         ensures nothing { ⟦<GithubForm as Form>⟧.Knows result [] }
-        ensures limit { result.limit ≡ options.limit }
+        ensures options { result.options ≡ options }
     {
-        GithubForm {
-            limit: options.limit,
-        }
+        GithubForm { options }
     }
 
     /// Appends the annotation of a failed test.
@@ -45,16 +45,18 @@ impl GithubForm {
         &self,
         alloc: Global,
         test: &TestNote,
+        failure: &Failure,
         why: &Why<'_>,
         text: &mut String,
     ) -> Result<(), AllocError>
-        ensures { OnOk result (string_bytes text.new
-            ≡ string_bytes text.old ++ failed_command self.now.limit (test_view test.now) (why_view why.now)) }
+        ensures { OnOk result (string_bytes text.new ≡ string_bytes text.old ++ failed_command self.now.options
+            (test_view test.now) (failure_view failure.now) (why_view why.now)) }
     {
+        let shown = shown_why(alloc, self.options, test, failure, why)?;
         text.push_str("::error ")?;
         push_properties(alloc, text, &why.place)?;
         push_title_property(alloc, text, test)?;
-        push_message(alloc, text, why.text.as_str(), self.limit)
+        push_message(alloc, text, &shown, self.options.limit)
     }
 }
 
@@ -93,11 +95,17 @@ fn push_title_property(alloc: Global, text: &mut String, test: &TestNote) -> Res
 
 /// Appends the message that says why a test failed.
 #[tactic(auto, unfolding(crate::specs::Github::why_message))]
-fn push_message(alloc: Global, text: &mut String, why: &str, limit: usize) -> Result<(), AllocError>
-    ensures { OnOk result (string_bytes text.new ≡ string_bytes text.old ++ why_message limit why.now) }
+fn push_message(
+    alloc: Global,
+    text: &mut String,
+    why: &ShownWhy,
+    limit: usize,
+) -> Result<(), AllocError>
+    ensures { OnOk result (string_bytes text.new
+        ≡ string_bytes text.old ++ why_message limit (shown_why_view why.now)) }
 {
     let mut shown = String::new(alloc);
-    push_limited(&mut shown, why, limit)?;
+    push_why(&mut shown, why, limit)?;
     text.push_str("::")?;
     push_data(text, shown.as_str())?;
     text.push('\n')
@@ -106,7 +114,7 @@ fn push_message(alloc: Global, text: &mut String, why: &str, limit: usize) -> Re
 impl Form for GithubForm {
     ghost use Rattle.test_report_forms.specs.Github.{github_last, github_line};
 
-    ghost line = { λ form entry. github_line form.limit entry };
+    ghost line = { λ form entry. github_line form.options entry };
 
     ghost last = { λ form entries end. github_last end };
 
@@ -119,7 +127,9 @@ impl Form for GithubForm {
         text: &mut String,
     ) -> Result<(), AllocError> {
         match entry {
-            Entry::Failed { test, why, .. } => self.push_failed(alloc, test, why, text),
+            Entry::Failed { test, failure, why } => {
+                self.push_failed(alloc, test, failure, why, text)
+            },
             Entry::Passed(_)
             | Entry::Skipped(_)
             | Entry::Disagreement(_)

@@ -22,13 +22,13 @@ pub struct HtmlForm {
 }
 
 impl HtmlForm {
-    /// Returns the form before the first entry. Of the options it uses only `limit`.
+    /// Returns the form before the first entry. Of the options it uses only `limit` and `output`.
     pub fn new(alloc: Global, options: Options) -> HtmlForm
         ensures nothing { ⟦<HtmlForm as Form>⟧.Knows result [] }
-        ensures limit { result.model.limit ≡ options.limit }
+        ensures options { result.model.options ≡ options }
     {
         HtmlForm {
-            model: ReportModel::new(alloc, options.limit),
+            model: ReportModel::new(alloc, options),
         }
     }
 }
@@ -40,7 +40,7 @@ impl Form for HtmlForm {
 
     ghost line = { λ form entry. [] };
 
-    ghost last = { λ form entries end. html_of form.model.limit entries end };
+    ghost last = { λ form entries end. html_of form.model.options entries end };
 
     ghost Knows = { λ form entries. IsModelOf form.model entries };
 

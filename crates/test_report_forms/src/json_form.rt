@@ -28,20 +28,20 @@ use test_report_run::note::{RunEnd, SuiteNote};
 /// its text.
 #[derive(Drop)]
 pub struct JsonForm {
-    limit: usize,
+    options: Options,
     suites: OpenSuites<String>,
     over: Vec<String>,
     problems: Vec<String>,
 }
 
 impl JsonForm {
-    /// Returns the form before the first entry. Of the options it uses only `limit`.
+    /// Returns the form before the first entry. Of the options it uses only `limit` and `output`.
     pub fn new(alloc: Global, options: Options) -> JsonForm
         ensures nothing { IsStateOf result spec.json_start }
-        ensures limit { result.limit ≡ options.limit }
+        ensures options { result.options ≡ options }
     {
         JsonForm {
-            limit: options.limit,
+            options,
             suites: OpenSuites::new(alloc),
             over: Vec::new(alloc),
             problems: Vec::new(alloc),
@@ -52,8 +52,8 @@ impl JsonForm {
     #[tactic(auto, unfolding(crate::specs::Json::json_entry))]
     fn take(&mut self, alloc: Global, entry: &Entry<'_>) -> Result<(), AllocError>
         ensures state { OnOk result ((j : JsonState) → IsStateOf self.old j
-            → IsStateOf self.new (spec.json_entry self.old.limit j (entry_view entry.now))) }
-        ensures limit { self.new.limit ≡ self.old.limit }
+            → IsStateOf self.new (spec.json_entry self.old.options j (entry_view entry.now))) }
+        ensures options { self.new.options ≡ self.old.options }
     {
         match entry {
             Entry::Passed(test) => {
@@ -63,7 +63,7 @@ impl JsonForm {
                 self.add(alloc, &test.suite, test_json(alloc, test, "skipped")?)
             }
             Entry::Failed { test, failure, why } => {
-                let json = failed_json(alloc, test, failure, why, self.limit)?;
+                let json = failed_json(alloc, test, failure, why, self.options)?;
                 self.add(alloc, &test.suite, json)
             }
             Entry::Disagreement(_) | Entry::NotRun(_) => self.on_cause(alloc, entry),
@@ -75,7 +75,7 @@ impl JsonForm {
     fn add(&mut self, alloc: Global, suite: &Option<String>, test: String) -> Result<(), AllocError>
         ensures state { OnOk result ((j : JsonState) (t : Json) → IsStateOf self.old j → string_bytes test ≡ json_text t
             → IsStateOf self.new (spec.add_test j (text_view suite.now) t)) }
-        ensures limit { self.new.limit ≡ self.old.limit }
+        ensures options { self.new.options ≡ self.old.options }
     {
         self.suites.add(alloc, text_of(suite), test)
     }
@@ -84,7 +84,7 @@ impl JsonForm {
     fn on_cause(&mut self, alloc: Global, entry: &Entry<'_>) -> Result<(), AllocError>
         ensures state { OnOk result ((j : JsonState) → IsStateOf self.old j
             → IsStateOf self.new (spec.on_cause j (entry_view entry.now))) }
-        ensures limit { self.new.limit ≡ self.old.limit }
+        ensures options { self.new.options ≡ self.old.options }
     {
         if let Some(cause) = cause_of(alloc, entry)? {
             self.problems.push(problem_json(alloc, &cause)?)?;
@@ -96,7 +96,7 @@ impl JsonForm {
     fn on_suite(&mut self, alloc: Global, suite: &SuiteNote) -> Result<(), AllocError>
         ensures state { OnOk result ((j : JsonState) → IsStateOf self.old j
             → IsStateOf self.new (spec.end_suite j (suite_view suite.now))) }
-        ensures limit { self.new.limit ≡ self.old.limit }
+        ensures options { self.new.options ≡ self.old.options }
     {
         if let Some(over) = self.suites.end_suite(alloc, text_of(&suite.name))? {
             let json = suite_json(alloc, suite, over.cases.as_slice())?;
@@ -137,9 +137,9 @@ impl Form for JsonForm {
 
     ghost line = { λ form entry. [] };
 
-    ghost last = { λ form entries end. spec.json_written form.limit entries end };
+    ghost last = { λ form entries end. spec.json_written form.options entries end };
 
-    ghost Knows = { λ form entries. IsStateOf form (spec.json_state form.limit entries) };
+    ghost Knows = { λ form entries. IsStateOf form (spec.json_state form.options entries) };
 
     fn on_entry(
         &mut self,

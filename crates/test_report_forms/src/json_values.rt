@@ -6,6 +6,7 @@ ghost use Rattle.test_report_forms.specs.JsonText.{HasMembers, Member, json_text
 ghost use Rattle.test_report_forms.specs.JsonValues as spec;
 ghost use Rattle.test_report_forms.specs.Model.{cause_view};
 ghost use Rattle.test_report_forms.specs.Place.{place_view};
+ghost use Rattle.test_report_forms.specs.ShownWhy.{shown_why_view};
 ghost use Rattle.test_report_forms.specs.Suites.{SuiteOf, map_cases, suite_of};
 ghost use Rattle.test_report_forms.specs.Why.{why_view};
 ghost use Rattle.test_report_run.specs.Note.{failure_view, kind_view, suite_view, test_view};
@@ -14,8 +15,10 @@ use crate::cause::Cause;
 use crate::json_object::JsonObject;
 use crate::junit_case::text_of;
 use crate::open_suites::Suite;
+use crate::options::Options;
 use crate::place::Place;
 use crate::shown::{front, push_more};
+use crate::shown_why::{ShownWhy, push_hidden, shown_why};
 use crate::summary::outcome_text;
 use crate::title::shown_name;
 use crate::why::Why;
@@ -31,22 +34,23 @@ pub(crate) fn test_json(alloc: Global, test: &TestNote, word: &str) -> Result<St
     test_object(alloc, test, word)?.into_json(alloc)
 }
 
-/// Returns a test that failed, with at most `limit` bytes of each reason, and with all of its output.
+/// Returns a test that failed, with all of its output.
 #[tactic(auto, unfolding(crate::specs::JsonValues::failed_json))]
 pub(crate) fn failed_json(
     alloc: Global,
     test: &TestNote,
     failure: &Failure,
     why: &Why<'_>,
-    limit: usize,
+    options: Options,
 ) -> Result<String, AllocError>
     ensures { IfOk result (λ text. string_bytes text ≡ json_text
-        (spec.failed_json (test_view test.now) (failure_view failure.now) (why_view why.now) limit)) }
+        (spec.failed_json (test_view test.now) (failure_view failure.now) (why_view why.now) options)) }
 {
+    let shown = shown_why(alloc, options, test, failure, why)?;
     let mut object = test_object(alloc, test, result_word(&failure.kind))?;
     push_place(alloc, &mut object, &why.place)?;
-    object.text(alloc, "short", front(why.short.as_str(), limit))?;
-    object.text(alloc, "why", cut(alloc, why.text.as_str(), limit)?.as_str())?;
+    object.text(alloc, "short", front(why.short.as_str(), options.limit))?;
+    object.text(alloc, "why", cut(alloc, &shown, options.limit)?.as_str())?;
     object.option(alloc, "output", text_of(&failure.stdout))?;
     object.into_json(alloc)
 }
@@ -106,15 +110,16 @@ fn place_json(alloc: Global, place: &Place<'_>) -> Result<String, AllocError>
     object.into_json(alloc)
 }
 
-/// Returns at most the first `limit` bytes of a text, and the number of bytes that are left out on a line of its
-/// own.
+/// Returns at most the first `limit` bytes of why a test failed, the number of bytes that are left out, and the number
+/// of lines of the output that are not shown.
 #[tactic(auto, unfolding(crate::specs::JsonValues::cut))]
-fn cut(alloc: Global, text: &str, limit: usize) -> Result<String, AllocError>
-    ensures { IfOk result (λ cut. string_bytes cut ≡ spec.cut text.now limit) }
+fn cut(alloc: Global, why: &ShownWhy, limit: usize) -> Result<String, AllocError>
+    ensures { IfOk result (λ cut. string_bytes cut ≡ spec.cut (shown_why_view why.now) limit) }
 {
-    let first = front(text, limit);
+    let first = front(why.text.as_str(), limit);
     let mut cut = String::from_str(alloc, first)?;
-    push_more(&mut cut, text.len() - first.len())?;
+    push_more(&mut cut, why.text.len() - first.len())?;
+    push_hidden(&mut cut, why.hidden)?;
     Ok(cut)
 }
 

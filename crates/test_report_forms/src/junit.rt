@@ -65,7 +65,7 @@ impl JunitForm {
     #[tactic(auto, unfolding(crate::specs::Junit::junit_entry))]
     fn take(&mut self, alloc: Global, entry: &Entry<'_>) -> Result<(), AllocError>
         ensures state { OnOk result (junit_view self.new
-            ≡ spec.junit_entry self.old.options.limit (junit_view self.old) (entry_view entry.now)) }
+            ≡ spec.junit_entry self.old.options (junit_view self.old) (entry_view entry.now)) }
         ensures options { self.new.options ≡ self.old.options }
     {
         match entry {
@@ -78,7 +78,7 @@ impl JunitForm {
                 self.add(alloc, text_of(&test.suite), Case::skipped(alloc, test)?)
             }
             Entry::Failed { test, failure, why } => {
-                let case = Case::failed(alloc, test, failure, why, self.options.limit)?;
+                let case = Case::failed(alloc, test, failure, why, self.options)?;
                 self.add(alloc, text_of(&test.suite), case)
             }
             Entry::Disagreement(_) | Entry::NotRun(_) => self.on_cause(alloc, entry),

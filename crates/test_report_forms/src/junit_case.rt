@@ -4,14 +4,17 @@ ghost use Rattle.std.specs.Prelude.{◌≡◌, IfOk, option_map, string_bytes};
 ghost use Rattle.test_report_forms.specs.JunitCase as spec;
 ghost use Rattle.test_report_forms.specs.JunitCase.{case_kind_view, case_view};
 ghost use Rattle.test_report_forms.specs.Shown.{shown_name};
-ghost use Rattle.test_report_forms.specs.Why.{why_view, without_returns};
+ghost use Rattle.test_report_forms.specs.Lines.{without_returns};
+ghost use Rattle.test_report_forms.specs.Why.{why_view};
 ghost use Rattle.test_report_run.specs.Note.{failure_view, kind_view, test_view, text_view};
 
 use crate::failed_test::{FailedTest, shown_failure};
+use crate::lines::without_returns;
 use crate::model::suite_name;
+use crate::options::Options;
 use crate::shown::push_name;
 use crate::title::shown_name;
-use crate::why::{Why, without_returns};
+use crate::why::Why;
 use std::alloc::{AllocError, Global};
 use test_report_run::note::{Failure, FailureKind, TestNote};
 
@@ -103,12 +106,12 @@ impl Case {
         test: &TestNote,
         failure: &Failure,
         why: &Why<'_>,
-        limit: usize,
+        options: Options,
     ) -> Result<Case, AllocError>
         ensures { IfOk result (λ c. case_view c
-            ≡ spec.failed_case (test_view test.now) (failure_view failure.now) (why_view why.now) limit) }
+            ≡ spec.failed_case (test_view test.now) (failure_view failure.now) (why_view why.now) options) }
     {
-        let FailedTest { short, why, .. } = shown_failure(alloc, test, &failure.kind, why, limit)?;
+        let FailedTest { short, why, .. } = shown_failure(alloc, test, failure, why, options)?;
         let reason = Reason {
             is_error: is_error(&failure.kind),
             message: short,

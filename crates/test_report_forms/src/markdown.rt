@@ -19,13 +19,13 @@ pub struct MarkdownForm {
 }
 
 impl MarkdownForm {
-    /// Returns the form before the first entry. Of the options it uses only `limit`.
+    /// Returns the form before the first entry. Of the options it uses only `limit` and `output`.
     pub fn new(alloc: Global, options: Options) -> MarkdownForm
         ensures nothing { ⟦<MarkdownForm as Form>⟧.Knows result [] }
-        ensures limit { result.model.limit ≡ options.limit }
+        ensures options { result.model.options ≡ options }
     {
         MarkdownForm {
-            model: ReportModel::new(alloc, options.limit),
+            model: ReportModel::new(alloc, options),
         }
     }
 }
@@ -37,7 +37,7 @@ impl Form for MarkdownForm {
 
     ghost line = { λ form entry. [] };
 
-    ghost last = { λ form entries end. markdown_of form.model.limit entries end };
+    ghost last = { λ form entries end. markdown_of form.model.options entries end };
 
     ghost Knows = { λ form entries. IsModelOf form.model entries };
 

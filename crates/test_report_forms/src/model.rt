@@ -13,6 +13,7 @@ use crate::entry::Entry;
 use crate::failed_test::{FailedTest, shown_failure};
 use crate::junit_case::text_of;
 use crate::numbers::Numbers;
+use crate::options::Options;
 use crate::shown::push_name;
 use crate::slowest::Slowest;
 use crate::title::push_title;
@@ -37,8 +38,8 @@ pub(crate) struct SuiteRow {
 /// returns its values for a template.
 #[derive(Drop)]
 pub struct ReportModel {
-    /// The most bytes that are shown of why a test failed, and of the short reason.
-    pub(crate) limit: usize,
+    /// How the reasons are shown.
+    pub(crate) options: Options,
 
     /// The failed tests.
     pub(crate) failed: Vec<FailedTest>,
@@ -54,13 +55,13 @@ pub struct ReportModel {
 }
 
 impl ReportModel {
-    /// Returns the model of a run without entries. Of why a test failed, it keeps `limit` bytes at most.
-    pub fn new(alloc: Global, limit: usize) -> ReportModel
-        ensures limit { result.limit ≡ limit }
+    /// Returns the model of a run without entries. Of the options it uses only `limit` and `output`.
+    pub fn new(alloc: Global, options: Options) -> ReportModel
+        ensures options { result.options ≡ options }
         ensures nothing { IsModelOf result [] }
     {
         ReportModel {
-            limit,
+            options,
             failed: Vec::new(alloc),
             problems: Vec::new(alloc),
             suites: Vec::new(alloc),
@@ -72,9 +73,9 @@ impl ReportModel {
     pub fn on_entry(&mut self, alloc: Global, entry: &Entry<'_>) -> Result<(), AllocError>
         ensures knows { OnOk result ((entries : List EntryView)
             → IsModelOf self.old entries → IsModelOf self.new (entries ++ entry_view entry.now ∷ [])) }
-        ensures same { self.new.limit ≡ self.old.limit }
+        ensures same { self.new.options ≡ self.old.options }
     {
-        keep_failure(alloc, &mut self.failed, entry, self.limit)?;
+        keep_failure(alloc, &mut self.failed, entry, self.options)?;
         keep_problem(alloc, &mut self.problems, entry)?;
         keep_suite(alloc, &mut self.suites, entry)?;
         keep_time(alloc, &mut self.slowest, entry)
@@ -84,8 +85,8 @@ impl ReportModel {
     pub(crate) fn take_out(&mut self, alloc: Global) -> ReportModel
         ensures { result ≡ self.old }
     {
-        let limit = self.limit;
-        std::mem::replace(self, ReportModel::new(alloc, limit))
+        let options = self.options;
+        std::mem::replace(self, ReportModel::new(alloc, options))
     }
 }
 
@@ -94,13 +95,13 @@ fn keep_failure(
     alloc: Global,
     failed: &mut Vec<FailedTest>,
     entry: &Entry<'_>,
-    limit: usize,
+    options: Options,
 ) -> Result<(), AllocError>
     ensures { OnOk result (map failed_view failed.new.items ≡ map failed_view failed.old.items
-        ++ option_to_list (spec.failure_of_entry limit (entry_view entry.now))) }
+        ++ option_to_list (spec.failure_of_entry options (entry_view entry.now))) }
 {
     if let Entry::Failed { test, failure, why } = entry {
-        let shown = shown_failure(alloc, test, &failure.kind, why, limit)?;
+        let shown = shown_failure(alloc, test, failure, why, options)?;
         failed.push(shown)?;
     }
     Ok(())

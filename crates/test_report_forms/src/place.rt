@@ -1,17 +1,20 @@
 //! The place of a failure in the sources.
 
-ghost use Rattle.std.specs.Prelude.{◌≡◌, ◌==◌, ◌<◌, Option, length, option_and_then, option_map, unwrap_or};
+ghost use Rattle.std.specs.Prelude.{◌≡◌, ◌==◌, ◌<◌, IfSome, length, option_and_then, option_map, unwrap_or};
 ghost use Rattle.std.specs.Char.{is_ascii_digit};
-ghost use Rattle.std.specs.List.{after_first, after_last, list_all};
-ghost use Rattle.std.specs.Str.Lines.{strip_carriage_return};
-ghost use Rattle.output_slice.specs.Taken.{IsLastTaken};
-ghost use Rattle.output_slice.specs.declared.panic_head.HeadSpan.{HeadSpan};
+ghost use Rattle.std.specs.List.{after_last, list_all};
+ghost use Rattle.output_slice.specs.Head.{IsHead};
+ghost use Rattle.test_report_forms.specs.Explanation.{IsFoundIn, found_view};
 ghost use Rattle.test_report_forms.specs.Place as spec;
 ghost use Rattle.test_report_forms.specs.Place.{place_view};
 ghost use Rattle.test_report_run.specs.Note.{failure_view, test_view};
 
+use crate::explanation::Found;
+use crate::lines::{first_line, without_return};
+use crate::short::other_thread;
 use crate::title::shown_name;
-use output_slice::last_head::last_head;
+use crate::why::{is_crash, output_of};
+use output_slice::panic_head::HeadSpan;
 use test_report_run::note::{Failure, TestNote};
 
 /// A place in the sources.
@@ -28,35 +31,80 @@ pub struct Place<'a> {
 }
 
 /// Returns the place of a failure, or `None` if it is not known. It is the place in the name of a documentation
-/// test, or else the one that the last panic of the output names, or else the one at the end of the message.
-pub(crate) fn place_of<'a>(test: &'a TestNote, failure: &'a Failure) -> Option<Place<'a>>
-    ensures { spec.IsPlace (test_view test.now) (failure_view failure.now)
-        (option_map place_view result) }
+/// test, or else the one that a panic in the output names, or else the one at the end of the message. A place outside
+/// of the repository does not count. `found` is what is found in the output.
+pub(crate) fn place_of<'a>(
+    test: &'a TestNote,
+    failure: &'a Failure,
+    found: &Found<'a>,
+) -> Option<Place<'a>>
+    requires { IsFoundIn (spec.output (failure_view failure.now)) (found_view found.now) }
+    ensures { option_map place_view result
+        ≡ spec.place_of (test_view test.now) (failure_view failure.now) (found_view found.now) }
 {
-    if let Some(place) = documented(shown_name(test)) {
+    if let Some(place) = our_place(documented(shown_name(test))) {
         return Some(place);
     }
-    failed(failure)
+    failure_place(failure, found)
 }
 
-/// Returns the place that the last panic of the output names, or else the one at the end of the message.
-fn failed<'a>(failure: &'a Failure) -> Option<Place<'a>>
-    ensures { spec.IsFailurePlace (failure_view failure.now) (option_map place_view result) }
+/// Returns the place that a panic in the output names, or else the one at the end of the message.
+fn failure_place<'a>(failure: &'a Failure, found: &Found<'a>) -> Option<Place<'a>>
+    requires { IsFoundIn (spec.output (failure_view failure.now)) (found_view found.now) }
+    ensures { option_map place_view result
+        ≡ spec.failure_place (failure_view failure.now) (found_view found.now) }
 {
-    if let Some(place) = of_output(failure) {
+    if let Some(place) = our_place(panic_place(failure, found)) {
         return Some(place);
     }
-    of_message(failure)
+    our_place(of_message(failure))
 }
 
-/// Returns the place that the last panic of the output names.
-fn of_output<'a>(failure: &'a Failure) -> Option<Place<'a>>
-    ensures { spec.IsPanicPlace (failure_view failure.now).stdout (option_map place_view result) }
+/// Returns a place, or `None` if it is not in the repository.
+fn our_place(place: Option<Place<'_>>) -> Option<Place<'_>>
+    ensures { option_map place_view result ≡ spec.our_place (option_map place_view place.entry) }
 {
-    match &failure.stdout {
-        Some(stdout) => panicked(stdout.as_str()),
-        None => None,
+    let place = place?;
+    if is_ours(place.file) {
+        Some(place)
+    } else {
+        None
     }
+}
+
+/// Returns true if a path is of a file of the repository, as far as its text says: it is not absolute, and no
+/// component is `..`.
+fn is_ours(path: &str) -> bool
+    ensures { result ≡ spec.is_ours path.now }
+{
+    !is_absolute(path.as_bytes()) && !goes_up(path.as_bytes())
+}
+
+/// Returns true for a slash and for a backslash.
+fn is_slash(byte: u8) -> bool
+    ensures { result ≡ spec.is_slash byte }
+{
+    byte == b'/' || byte == b'\\'
+}
+
+/// Returns true if a path begins with a slash, a backslash or a drive such as `C:`.
+fn is_absolute(path: &[u8]) -> bool
+    ensures { result ≡ spec.is_absolute path.now }
+{
+    match path {
+        [first, rest @ ..] => {
+            is_slash(*first) || (first.is_ascii_alphabetic() && rest.starts_with(b":"))
+        }
+        [] => false,
+    }
+}
+
+/// Returns true if a component of a path is `..`.
+fn goes_up(path: &[u8]) -> bool
+    ensures { result ≡ spec.goes_up path.now }
+{
+    path.split(|byte| is_slash(*byte))
+        .any(|part| part == b"..".as_slice())
 }
 
 /// Returns the place at the end of the message.
@@ -96,13 +144,38 @@ fn is_item(item: &str) -> bool
     item.is_empty() || item.len() > 1 && item.ends_with(' ')
 }
 
-/// Returns the place that the head of the last panic of an output names.
-fn panicked(stdout: &str) -> Option<Place<'_>>
-    ensures { (head : Option HeadSpan) × IsLastTaken stdout.now head
-        × (option_map place_view result ≡ option_and_then (spec.place_behind stdout.now) head) }
+/// Returns the place that the head of the panic which is the cause names.
+fn panic_place<'a>(failure: &'a Failure, found: &Found<'a>) -> Option<Place<'a>>
+    requires { IsFoundIn (spec.output (failure_view failure.now)) (found_view found.now) }
+    ensures { option_map place_view result
+        ≡ spec.panic_place (failure_view failure.now) (found_view found.now) }
 {
-    let head = last_head(stdout.as_bytes())?;
-    let (line, _) = first_line(&stdout[head.stop..]);
+    let out = output_of(failure);
+    place_behind(out, cause_head(failure, found)?)
+}
+
+/// Returns the head that names the cause: that of the first panic if the test crashed or if it is of another thread, or
+/// else that of the last panic.
+fn cause_head(failure: &Failure, found: &Found<'_>) -> Option<HeadSpan>
+    requires { IsFoundIn (spec.output (failure_view failure.now)) (found_view found.now) }
+    ensures value { result ≡ spec.cause_head (failure_view failure.now) (found_view found.now) }
+    ensures head { IfSome result (λ h. IsHead (spec.output (failure_view failure.now)) h.start h.stop) }
+{
+    if is_crash(failure) {
+        return found.first;
+    }
+    match other_thread(output_of(failure), found) {
+        Some(first) => Some(first),
+        None => found.last,
+    }
+}
+
+/// Returns the place that the head of a panic names: what follows in its line, up to a colon at the end.
+fn place_behind(out: &str, head: HeadSpan) -> Option<Place<'_>>
+    requires { IsHead out.now head.start head.stop }
+    ensures { option_map place_view result ≡ spec.place_behind out.now head }
+{
+    let (line, _) = first_line(&out[head.stop..]);
     parsed(without_last(line, ':')?)
 }
 
@@ -138,27 +211,6 @@ fn after_feeds(text: &str) -> &str
     match text.rsplit_once('\n') {
         Some((_, line)) => line,
         None => text,
-    }
-}
-
-/// Returns the first line of a text, without the carriage return at its end, and what follows the line.
-pub(crate) fn first_line(text: &str) -> (&str, &str)
-    ensures line { result.0.now ≡ spec.first_line text.now }
-    ensures rest { result.1.now ≡ after_first (λ b. b == 10) text.now }
-{
-    match text.split_once('\n') {
-        Some((line, rest)) => (without_return(line), rest),
-        None => (without_return(text), ""),
-    }
-}
-
-/// Returns a line without the carriage return at its end.
-pub(crate) fn without_return(line: &str) -> &str
-    ensures { result.now ≡ strip_carriage_return line.now }
-{
-    match line.strip_suffix('\r') {
-        Some(kept) => kept,
-        None => line,
     }
 }
 

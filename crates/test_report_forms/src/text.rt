@@ -4,6 +4,7 @@ ghost use Rattle.std.specs.Prelude.{◌≡◌, ◌++◌, [], OnOk, codes, string
 ghost use Rattle.std.specs.Option.{option_map_or};
 ghost use Rattle.test_report_forms.specs.Entry.{entry_view};
 ghost use Rattle.test_report_forms.specs.Model.{cause_line};
+ghost use Rattle.test_report_forms.specs.ShownWhy.{shown_why_view};
 ghost use Rattle.test_report_forms.specs.Text as spec;
 ghost use Rattle.test_report_run.specs.Note.{test_view};
 
@@ -13,6 +14,7 @@ use crate::form::Form;
 use crate::list::ShortList;
 use crate::options::Options;
 use crate::shown::{front, push_bracket, push_indented};
+use crate::shown_why::{ShownWhy, shown_why};
 use crate::status::{failed_status, push_status};
 use crate::summary::{outcome_text, push_summary};
 use crate::title::push_title;
@@ -52,7 +54,8 @@ impl TextForm {
         match entry {
             Entry::Failed { test, failure, why } => {
                 let status = failed_status(&failure.kind);
-                push_failed(text, test, status, why.text.as_str(), self.options)
+                let why = shown_why(alloc, self.options, test, failure, why)?;
+                push_failed(text, test, status, &why, self.options)
             }
             Entry::Passed(_)
             | Entry::Skipped(_)
@@ -83,11 +86,11 @@ fn push_failed(
     text: &mut String,
     test: &TestNote,
     status: &str,
-    why: &str,
+    why: &ShownWhy,
     options: Options,
 ) -> Result<(), AllocError>
     ensures { OnOk result (string_bytes text.new ≡ string_bytes text.old
-        ++ spec.failed_text options (test_view test.now) status.now why.now) }
+        ++ spec.failed_text options (test_view test.now) status.now (shown_why_view why.now)) }
 {
     push_head(text, test, status, options)?;
     push_why(text, why, options)
@@ -124,15 +127,17 @@ fn push_attempts(text: &mut String, attempts: usize) -> Result<(), AllocError>
     write!(text, " ({attempts} attempts)")
 }
 
-/// Appends why a test failed, and the number of bytes that are not shown.
+/// Appends why a test failed, the number of bytes that are not shown, and the number of lines of the output that are
+/// not shown.
 #[tactic(auto, unfolding(crate::specs::Text::why_lines))]
-fn push_why(text: &mut String, why: &str, options: Options) -> Result<(), AllocError>
+fn push_why(text: &mut String, why: &ShownWhy, options: Options) -> Result<(), AllocError>
     ensures { OnOk result (string_bytes text.new
-        ≡ string_bytes text.old ++ spec.why_lines options why.now) }
+        ≡ string_bytes text.old ++ spec.why_lines options (shown_why_view why.now)) }
 {
-    let first = front(why, options.limit);
+    let first = front(why.text.as_str(), options.limit);
     push_indented(text, first, options.raw)?;
-    push_more(text, why.len() - first.len())
+    push_more(text, why.text.len() - first.len())?;
+    push_hidden(text, why.hidden)
 }
 
 /// Appends a line that says how many bytes are not shown. Appends nothing if all are shown.
@@ -144,6 +149,17 @@ fn push_more(text: &mut String, more: usize) -> Result<(), AllocError>
         return Ok(());
     }
     writeln!(text, "    ({more} more bytes)")
+}
+
+/// Appends a line that says how many lines of the output are not shown. Appends nothing if all are shown.
+#[tactic(auto, unfolding(crate::specs::Text::hidden_line))]
+fn push_hidden(text: &mut String, hidden: usize) -> Result<(), AllocError>
+    ensures { OnOk result (string_bytes text.new ≡ string_bytes text.old ++ spec.hidden_line hidden) }
+{
+    if hidden == 0 {
+        return Ok(());
+    }
+    writeln!(text, "    ({hidden} more lines of output)")
 }
 
 /// Appends the line of the summary.

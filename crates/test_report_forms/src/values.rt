@@ -43,7 +43,7 @@ pub fn report_values(
     ensures { IfOk result (λ v. map value_view v.items ≡ spec.report_values (report_view model end.now)) }
 {
     let ReportModel {
-        limit: _,
+        options: _,
         failed,
         problems,
         suites,

@@ -1,27 +1,23 @@
 //! Why a test failed.
 
-ghost use Rattle.std.specs.Prelude.{◌≡◌, ◌==◌, ◌++◌, ◌∷◌, ℕ, IfOk, List, OnOk, Option, Some, drop, if◌then◌else◌, length, map, option_and_then, option_map, option_to_list, string_bytes};
-ghost use Rattle.std.specs.List.{join_with_byte};
+ghost use Rattle.std.specs.Prelude.{[], ◌≡◌, ◌++◌, ℕ, IfOk, List, OnOk, map, option_map, option_to_list, string_bytes, unwrap_or};
 ghost use Rattle.std.specs.Str.Lossy.{utf8_lossy};
-ghost use Rattle.output_slice.specs.Extraction.{Extract, IsExtract};
 ghost use Rattle.output_slice.specs.Shown.{extract_of};
-ghost use Rattle.output_slice.specs.Taken.{IsLastTaken};
-ghost use Rattle.output_slice.specs.declared.panic_head.HeadSpan.{HeadSpan};
+ghost use Rattle.test_report_forms.specs.Explanation.{IsFoundIn, found_view};
+ghost use Rattle.test_report_forms.specs.Place.{is_crash, output};
 ghost use Rattle.test_report_forms.specs.Why as spec;
 ghost use Rattle.test_report_forms.specs.Why.{why_view};
 ghost use Rattle.test_report_run.specs.Note.{crash_view, failure_view, kind_view, test_view, text_view};
-ghost use Rattle.test_report_run.specs.Prints.{is_blank};
 
-use crate::place::{Place, first_line, place_of, without_return};
+use crate::explanation::{Explanation, Found, explanation_in, found_in};
+use crate::place::{Place, place_of};
+use crate::short::{better_reason, push_said, short_of};
 use crate::shown::push_seconds;
-use output_slice::last_head::last_head;
+use crate::written::ten_written;
 use output_slice::subslice::TestOutputErrorSlice;
 use std::alloc::{AllocError, Global};
 use std::fmt::Write;
 use test_report_run::note::{Crash, Failure, FailureKind, TestNote};
-
-/// How many lines of the output are shown if nothing else explains a failure. They are the last ones.
-const LAST_LINES: usize = 10;
 
 /// Why a test failed.
 #[derive(Drop)]
@@ -29,8 +25,8 @@ pub struct Why<'a> {
     /// The short reason: one line.
     pub short: String,
 
-    /// All that is known about the failure, in one or more lines.
-    pub text: String,
+    /// The part of the output that says why it failed, if there is one.
+    pub(crate) explanation: Option<Explanation<'a>>,
 
     /// The place in the sources, if it is known.
     pub place: Option<Place<'a>>,
@@ -45,24 +41,161 @@ impl<'a> Why<'a> {
     ) -> Result<Why<'a>, AllocError>
         ensures { IfOk result (λ why. spec.IsWhy (test_view test.now) (failure_view failure.now) (why_view why)) }
     {
-        let parts = parts_of(alloc, failure, test.time)?;
+        let out = output_of(failure);
+        let found = found_in(out);
         Ok(Why {
-            short: short_of(alloc, first_part(parts.as_slice()))?,
-            text: joined(alloc, parts.as_slice())?,
-            place: place_of(test, failure),
+            short: short_reason(alloc, failure, test.time, &found)?,
+            explanation: explanation_in(out, &found),
+            place: place_of(test, failure, &found),
         })
     }
 }
 
-/// Returns the parts of why a test failed. `time` is the time that the test took, in microseconds.
-fn parts_of(alloc: Global, failure: &Failure, time: Option<u64>) -> Result<Vec<String>, AllocError>
-    ensures { IfOk result (λ parts. spec.AreParts (kind_view failure.now.kind) (failure_view failure.now) time
-        (map string_bytes parts.items)) }
+/// Returns the text that explains a failure: the prints before a crash, or else the output of the test.
+pub(crate) fn output_of(failure: &Failure) -> &str
+    ensures { result.now ≡ output (failure_view failure.now) }
+{
+    match &failure.kind {
+        FailureKind::Crashed(crash) => crash.prints.as_str(),
+        FailureKind::Failed
+        | FailureKind::TimedOut
+        | FailureKind::WithoutEnd
+        | FailureKind::Flaky => { stdout_of(failure) }
+    }
+}
+
+/// Returns the output of a test, or an empty text if there is none.
+fn stdout_of(failure: &Failure) -> &str
+    ensures { result.now ≡ unwrap_or (failure_view failure.now).stdout [] }
+{
+    match &failure.stdout {
+        Some(stdout) => stdout.as_str(),
+        None => "",
+    }
+}
+
+/// Returns true if a test crashed.
+pub(crate) fn is_crash(failure: &Failure) -> bool
+    ensures { result ≡ is_crash (failure_view failure.now).kind }
+{
+    match &failure.kind {
+        FailureKind::Crashed(_) => true,
+        FailureKind::Failed
+        | FailureKind::TimedOut
+        | FailureKind::WithoutEnd
+        | FailureKind::Flaky => false,
+    }
+}
+
+/// Returns the short reason of a failure. `time` is the time that the test took, in microseconds, and `found` is what
+/// is found in its output.
+fn short_reason(
+    alloc: Global,
+    failure: &Failure,
+    time: Option<u64>,
+    found: &Found<'_>,
+) -> Result<String, AllocError>
+    requires { IsFoundIn (output (failure_view failure.now)) (found_view found.now) }
+    ensures { IfOk result (λ short. spec.IsShortReason (failure_view failure.now) time (found_view found.now)
+        (string_bytes short)) }
+{
+    if let Some(reason) = own_reason(alloc, failure, found)? {
+        return Ok(reason);
+    }
+    let parts = parts_of(alloc, failure, time, slice_or_lines(alloc, failure, found)?)?;
+    short_of(alloc, first_part(parts.as_slice()))
+}
+
+/// Returns the short reason of a failure that is not that of its first part, or `None` if it is.
+fn own_reason(
+    alloc: Global,
+    failure: &Failure,
+    found: &Found<'_>,
+) -> Result<Option<String>, AllocError>
+    requires { IsFoundIn (output (failure_view failure.now)) (found_view found.now) }
+    ensures { IfOk result (λ reason. option_map string_bytes reason
+        ≡ spec.own_reason (failure_view failure.now) (found_view found.now)) }
+{
+    match &failure.kind {
+        FailureKind::Crashed(crash) => Ok(Some(crash_reason(alloc, crash, found)?)),
+        FailureKind::Failed if says_nothing_else(failure) => {
+            better_reason(alloc, output_of(failure), found)
+        }
+        FailureKind::Failed
+        | FailureKind::TimedOut
+        | FailureKind::WithoutEnd
+        | FailureKind::Flaky => { Ok(None) }
+    }
+}
+
+/// Returns true if neither a reason nor a message says why a test failed.
+fn says_nothing_else(failure: &Failure) -> bool
+    ensures { result ≡ spec.says_nothing_else (failure_view failure.now) }
+{
+    failure.reason.is_none() && failure.message.is_none()
+}
+
+/// Returns the short reason of a crash: its sentence and, if the prints before it have the head of a panic, what the
+/// first one says.
+fn crash_reason(alloc: Global, crash: &Crash, found: &Found<'_>) -> Result<String, AllocError>
+    requires { IsFoundIn (crash_view crash.now).prints (found_view found.now) }
+    ensures { IfOk result (λ reason. string_bytes reason
+        ≡ spec.crash_reason (crash_view crash.now) (found_view found.now)) }
+{
+    let mut reason = crash_words(alloc, crash)?;
+    push_said(alloc, &mut reason, crash.prints.as_str(), found)?;
+    Ok(reason)
+}
+
+/// Returns the slice that explains a failure. If there is none, returns ten lines of the output, or `None` if there is
+/// a message or if all lines are blank.
+fn slice_or_lines(
+    alloc: Global,
+    failure: &Failure,
+    found: &Found<'_>,
+) -> Result<Option<String>, AllocError>
+    ensures { IfOk result (λ part. option_map string_bytes part
+        ≡ spec.slice_or_lines (failure_view failure.now) (found_view found.now)) }
+{
+    match &found.slice {
+        Some(slice) => Ok(Some(slice_text(alloc, slice)?)),
+        None if failure.message.is_some() => Ok(None),
+        None => ten_written(alloc, output_of(failure)),
+    }
+}
+
+/// Returns a slice as text.
+fn slice_text(alloc: Global, slice: &TestOutputErrorSlice<'_>) -> Result<String, AllocError>
+    ensures { IfOk result (λ text. string_bytes text ≡ utf8_lossy (spec.extract_bytes (extract_of slice.now))) }
+{
+    match slice {
+        TestOutputErrorSlice::PanicMessage {
+            stderr_subslice: part,
+        }
+        | TestOutputErrorSlice::ErrorStr {
+            stderr_subslice: part,
+        }
+        | TestOutputErrorSlice::ShouldPanic {
+            stdout_subslice: part,
+        } => { String::from_utf8_lossy(alloc, part.slice) }
+    }
+}
+
+/// Returns the parts of why a test failed. `time` is the time that the test took, in microseconds, and `part` is the
+/// part of its output that is shown.
+pub(crate) fn parts_of(
+    alloc: Global,
+    failure: &Failure,
+    time: Option<u64>,
+    part: Option<String>,
+) -> Result<Vec<String>, AllocError>
+    ensures { IfOk result (λ parts. map string_bytes parts.items
+        ≡ spec.parts_of (kind_view failure.now.kind) (failure_view failure.now) time (option_map string_bytes part)) }
 {
     if let FailureKind::Crashed(crash) = &failure.kind {
-        return crash_parts(alloc, crash);
+        return crash_parts(alloc, crash, part);
     }
-    failure_parts(alloc, failure, time)
+    failure_parts(alloc, failure, time, part)
 }
 
 /// Returns the first part, or an empty text if there is none.
@@ -75,102 +208,35 @@ fn first_part(parts: &[String]) -> &str
     }
 }
 
-/// Returns parts, joined by line feeds. A carriage return right before a line feed is left out.
-#[tactic(auto, unfolding(crate::specs::Why::joined))]
-fn joined(alloc: Global, parts: &[String]) -> Result<String, AllocError>
-    ensures { IfOk result (λ text. string_bytes text ≡ spec.joined (map string_bytes parts.now)) }
-{
-    let mut text = String::new(alloc);
-    for (place, part) in parts.iter().enumerate() {
-        push_part(&mut text, part.as_str(), place == 0)?;
-    }
-    without_returns(alloc, text.as_str())
-}
-
-/// Appends a part, after a line feed if it is not the first.
-fn push_part(text: &mut String, part: &str, is_first: bool) -> Result<(), AllocError>
-    ensures { OnOk result (string_bytes text.new
-        ≡ string_bytes text.old ++ (if is_first then part.now else 10 ∷ part.now)) }
-{
-    if !is_first {
-        text.push('\n')?;
-    }
-    text.push_str(part)
-}
-
-/// Returns the short reason, given the first part. It is the first line of that part. If this line is the head of
-/// a panic, it is what follows from `panicked at` on, and the next line too if the head ends in a colon.
-fn short_of(alloc: Global, part: &str) -> Result<String, AllocError>
-    ensures { IfOk result (λ short. spec.IsShort part.now (string_bytes short)) }
-{
-    let (line, rest) = first_line(part);
-    match panic_words(line) {
-        Some(words) => with_next(alloc, words, first_line(rest).0),
-        None => String::from_str(alloc, line),
-    }
-}
-
-/// Returns words. If they end in a colon, and the next line is not empty, that line follows after a space.
-fn with_next(alloc: Global, words: &str, next: &str) -> Result<String, AllocError>
-    ensures { IfOk result (λ short. string_bytes short ≡ spec.with_next next.now words.now) }
-{
-    let mut short = String::from_str(alloc, words)?;
-    if words.ends_with(':') && !next.is_empty() {
-        short.push(' ')?;
-        short.push_str(next)?;
-    }
-    Ok(short)
-}
-
-/// Returns a text without the carriage returns that are right before a line feed.
-pub(crate) fn without_returns(alloc: Global, text: &str) -> Result<String, AllocError>
-    ensures { IfOk result (λ kept. string_bytes kept ≡ spec.without_returns text.now) }
-{
-    text.replace(alloc, "\r\n", "\n")
-}
-
-/// Returns what follows from `panicked at` on, or `None` if the line is not the head of a panic.
-fn panic_words(line: &str) -> Option<&str>
-    ensures { (head : Option HeadSpan) × IsLastTaken line.now head
-        × (option_map (λ words. words.now) result ≡ option_and_then (spec.panic_words line.now) head) }
-{
-    let head = last_head(line.as_bytes())?;
-    if head.start == 0 {
-        Some(&line[head.stop - "panicked at ".len()..])
-    } else {
-        None
-    }
-}
-
-/// Returns the parts of why a test crashed: a sentence, the cause that cargo names, and what the prints say.
-fn crash_parts(alloc: Global, crash: &Crash) -> Result<Vec<String>, AllocError>
-    ensures { IfOk result (λ parts. spec.AreCrashParts (crash_view crash.now) (map string_bytes parts.items)) }
+/// Returns the parts of why a test crashed: a sentence, the cause that cargo names, and what the prints say. `part` is
+/// the explanation in the prints.
+fn crash_parts(
+    alloc: Global,
+    crash: &Crash,
+    part: Option<String>,
+) -> Result<Vec<String>, AllocError>
+    ensures { IfOk result (λ parts. map string_bytes parts.items
+        ≡ spec.crash_parts (crash_view crash.now) (option_map string_bytes part)) }
 {
     let mut parts = Vec::new(alloc);
     parts.push(crash_words(alloc, crash)?)?;
     push_some(&mut parts, copied(alloc, &crash.cause)?)?;
-    parts.append(&mut prints_parts(alloc, crash)?)?;
+    parts.append(&mut said_by_prints(alloc, part, crash.last.as_slice())?)?;
     Ok(parts)
 }
 
-/// Returns what the prints before a crash say: the part that explains a failure, or else the last of them.
-fn prints_parts(alloc: Global, crash: &Crash) -> Result<Vec<String>, AllocError>
-    ensures { IfOk result (λ parts. spec.ArePrintsParts (crash_view crash.now) (map string_bytes parts.items)) }
+/// Returns what the prints before a crash say: the part that explains it, or else the last of them.
+fn said_by_prints(
+    alloc: Global,
+    part: Option<String>,
+    last: &[String],
+) -> Result<Vec<String>, AllocError>
+    ensures { IfOk result (λ said. map string_bytes said.items
+        ≡ spec.said_by_prints (option_map string_bytes part) (map string_bytes last.now)) }
 {
-    match explanation_in(alloc, crash.prints.as_str())? {
+    match part {
         Some(part) => Ok(vec![in alloc; part]?),
-        None => copies_of(alloc, crash.last.as_slice()),
-    }
-}
-
-/// Returns the part of a text that explains a failure, or `None` if it has none.
-fn explanation_in(alloc: Global, text: &str) -> Result<Option<String>, AllocError>
-    ensures { IfOk result (λ part. spec.IsExplanation text.now (option_map string_bytes part)) }
-{
-    let bytes = Some(text.as_bytes());
-    match TestOutputErrorSlice::heuristic_extract(bytes, bytes) {
-        Some(found) => found_text(alloc, &found),
-        None => Ok(None),
+        None => copies_of(alloc, last),
     }
 }
 
@@ -215,11 +281,12 @@ fn failure_parts(
     alloc: Global,
     failure: &Failure,
     time: Option<u64>,
+    part: Option<String>,
 ) -> Result<Vec<String>, AllocError>
-    ensures { IfOk result (λ parts. spec.AreFailureParts (failure_view failure.now) time
-        (map string_bytes parts.items)) }
+    ensures { IfOk result (λ parts. map string_bytes parts.items
+        ≡ spec.failure_parts (failure_view failure.now) time (option_map string_bytes part)) }
 {
-    some_part(alloc, known_parts(alloc, failure, time)?)
+    some_part(alloc, known_parts(alloc, failure, time, part)?)
 }
 
 /// Returns parts. If there are none, returns one that says that no output was captured.
@@ -233,21 +300,21 @@ fn some_part(alloc: Global, mut parts: Vec<String>) -> Result<Vec<String>, Alloc
     Ok(parts)
 }
 
-/// Returns the reason of a failure, the message, and the part of the output that explains the failure. What is not
-/// known is left out.
+/// Returns the reason of a failure, the message, and the part of the output that is shown. What is not known is left
+/// out.
 fn known_parts(
     alloc: Global,
     failure: &Failure,
     time: Option<u64>,
+    part: Option<String>,
 ) -> Result<Vec<String>, AllocError>
-    ensures { IfOk result (λ parts. (output : Option (List ℕ))
-        × spec.IsOutputPart (text_view failure.now.stdout) (text_view failure.now.message) output
-        × (map string_bytes parts.items ≡ spec.known_parts (failure_view failure.now) time output)) }
+    ensures { IfOk result (λ parts. map string_bytes parts.items
+        ≡ spec.known_parts (failure_view failure.now) time (option_map string_bytes part)) }
 {
     let mut parts = Vec::new(alloc);
     push_some(&mut parts, reason_of(alloc, failure, time)?)?;
     push_some(&mut parts, copied(alloc, &failure.message)?)?;
-    push_some(&mut parts, output_of(alloc, failure)?)?;
+    push_some(&mut parts, part)?;
     Ok(parts)
 }
 
@@ -303,89 +370,4 @@ fn timed_out(alloc: Global, time: Option<u64>) -> Result<String, AllocError>
         text.push('s')?;
     }
     Ok(text)
-}
-
-/// Returns the part of the output that explains a failure, or `None`.
-fn output_of(alloc: Global, failure: &Failure) -> Result<Option<String>, AllocError>
-    ensures { IfOk result (λ part. spec.IsOutputPart (text_view failure.now.stdout) (text_view failure.now.message)
-        (option_map string_bytes part)) }
-{
-    match &failure.stdout {
-        Some(stdout) => output_part(alloc, stdout.as_str(), failure.message.is_some()),
-        None => Ok(None),
-    }
-}
-
-/// Returns the part of an output that explains a failure. If there is none, returns the last lines of the output,
-/// or `None` if there is a message.
-fn output_part(alloc: Global, stdout: &str, has_message: bool) -> Result<Option<String>, AllocError>
-    ensures { IfOk result (λ part. (found : Option Extract) × IsExtract (Some stdout.now) (Some stdout.now) found
-        × (option_map string_bytes part ≡ spec.output_part stdout.now has_message found)) }
-{
-    let bytes = Some(stdout.as_bytes());
-    match TestOutputErrorSlice::heuristic_extract(bytes, bytes) {
-        Some(found) => found_text(alloc, &found),
-        None if has_message => Ok(None),
-        None => last_lines(alloc, stdout),
-    }
-}
-
-/// Returns a part of the output as text.
-fn found_text(alloc: Global, found: &TestOutputErrorSlice<'_>) -> Result<Option<String>, AllocError>
-    ensures { IfOk result (λ text. option_map string_bytes text
-        ≡ Some (utf8_lossy (spec.extract_bytes (extract_of found.now)))) }
-{
-    match found.combined_subslice() {
-        Some(part) => Ok(Some(String::from_utf8_lossy(alloc, part.slice)?)),
-        None => Ok(None),
-    }
-}
-
-/// Returns the last lines of a text that are not blank, or `None` if all are blank. The line feed at the end is
-/// left out, and so is a carriage return before it.
-fn last_lines(alloc: Global, text: &str) -> Result<Option<String>, AllocError>
-    ensures { IfOk result (λ last. option_map string_bytes last ≡ spec.last_lines text.now) }
-{
-    let count = written_count(text);
-    if count == 0 {
-        return Ok(None);
-    }
-    let lines = lines_after(alloc, text, count.saturating_sub(LAST_LINES))?;
-    Ok(Some(String::from_str(alloc, without_return(lines.as_str()))?))
-}
-
-/// Returns true if a line has only white space.
-fn is_blank(line: &str) -> bool
-    ensures { result ≡ is_blank line.now }
-{
-    line.trim().is_empty()
-}
-
-/// Returns the number of lines that are not blank.
-fn written_count(text: &str) -> usize
-    ensures { result ≡ length (spec.written_lines text.now) }
-{
-    text.split('\n').filter(|line| !is_blank(line)).count()
-}
-
-/// Returns the lines that are not blank, without the first `skipped` of them, joined by line feeds.
-fn lines_after(alloc: Global, text: &str, skipped: usize) -> Result<String, AllocError>
-    ensures { IfOk result (λ last. string_bytes last
-        ≡ join_with_byte 10 (drop skipped (spec.written_lines text.now))) }
-{
-    let mut last = String::new(alloc);
-    let mut left = skipped;
-    let mut is_first = true;
-    for line in text.split('\n') {
-        if is_blank(line) {
-            continue;
-        }
-        if left > 0 {
-            left -= 1;
-            continue;
-        }
-        push_part(&mut last, line, is_first)?;
-        is_first = false;
-    }
-    Ok(last)
 }

@@ -4,7 +4,7 @@
 use crate::test_report_events::event::TestResult;
 use crate::test_report_forms::entry::Entry;
 use crate::test_report_forms::shown::{push_line, push_name, push_name_and_space};
-use crate::test_report_run::note::{Disagreement, NotRun, SaidNumbers};
+use crate::test_report_run::note::{CommandEnd, Disagreement, NotRun, SaidNumbers};
 
 /// A disagreement, or a suite whose tests were not all run.
 #[derive(Clone)]
@@ -51,9 +51,10 @@ fn suite_of(disagreement: &Disagreement) -> Option<&str> {
         Disagreement::StrayEnd { .. }
         | Disagreement::StraySuiteEnd { .. }
         | Disagreement::OutsideSuite { .. }
-        | Disagreement::Cargo { .. }
+        | Disagreement::Cargo(_)
         | Disagreement::Damaged { .. }
-        | Disagreement::NoEvent => None,
+        | Disagreement::NoEvent
+        | Disagreement::Command(_) => None,
     }
 }
 
@@ -104,15 +105,33 @@ fn push_disagreement(text: &mut String, disagreement: &Disagreement) {
             let count = *started;
             text.push_str(&format!("{count} tests started outside of a suite"));
         }
-        Disagreement::Cargo { line } => {
+        Disagreement::Cargo(report) => {
             text.push_str("cargo: ");
-            push_line(text, line.as_str());
+            push_line(text, report.line.as_str());
         }
         Disagreement::Damaged { text: line } => {
             text.push_str("a damaged line says that a test or a suite failed: ");
             push_line(text, line.as_str());
         }
         Disagreement::NoEvent => text.push_str("no line of the input is of a test run"),
+        Disagreement::Command(end) => {
+            text.push_str("the command ");
+            push_command_end(text, end);
+        }
+    }
+}
+
+/// Appends how a command ended that failed.
+fn push_command_end(text: &mut String, end: &CommandEnd) {
+    match end {
+        CommandEnd::NotStarted { error } => {
+            text.push_str("could not be started: ");
+            push_line(text, error.as_str());
+        }
+        CommandEnd::Signal { number } => text.push_str(&format!("ended by signal {number}")),
+        CommandEnd::Status { code } => {
+            text.push_str(&format!("ended with status {code}, and no line says why"));
+        }
     }
 }
 

@@ -1,11 +1,13 @@
 // Made by tools/erase from crates/test_report_forms/src/failed_test.rt. Do not edit.
 //! Failed tests as they are shown.
 
-use crate::test_report_forms::shown::{front, push_limited, push_name, push_text};
+use crate::test_report_forms::options::Options;
+use crate::test_report_forms::shown::{front, push_name, push_text};
+use crate::test_report_forms::shown_why::{ShownWhy, push_why, shown_why};
 use crate::test_report_forms::status::failed_status;
 use crate::test_report_forms::title::shown_name;
 use crate::test_report_forms::why::Why;
-use crate::test_report_run::note::{FailureKind, TestNote};
+use crate::test_report_run::note::{Failure, TestNote};
 
 /// A failed test. In its texts control characters are already escapes.
 #[derive(Clone)]
@@ -32,21 +34,22 @@ pub(crate) struct FailedTest {
     pub(crate) why: String,
 }
 
-/// Returns a failed test as it is shown, with at most `limit` bytes of why it failed and of the short reason.
+/// Returns a failed test as it is shown.
 pub(crate) fn shown_failure(
     test: &TestNote,
-    kind: &FailureKind,
+    failure: &Failure,
     why: &Why<'_>,
-    limit: usize,
+    options: Options,
 ) -> FailedTest {
+    let shown = shown_why(options, test, failure, why);
     FailedTest {
         suite: shown_suite(&test.suite),
         name: shown_test(test),
-        status: failed_status(kind),
+        status: failed_status(&failure.kind),
         attempts: test.attempts,
         time: test.time,
-        short: short_text(why.short.as_str(), limit),
-        why: limited_text(why.text.as_str(), limit),
+        short: short_text(why.short.as_str(), options.limit),
+        why: why_text(&shown, options.limit),
     }
 }
 
@@ -64,10 +67,11 @@ fn short_text(short: &str, limit: usize) -> String {
     text
 }
 
-/// Returns at most the first `limit` bytes of why a test failed, and the number of bytes that are not shown.
-fn limited_text(why: &str, limit: usize) -> String {
+/// Returns why a test failed: at most the first `limit` bytes, the number of bytes that are not shown, and the number
+/// of lines of the output that are not shown.
+fn why_text(why: &ShownWhy, limit: usize) -> String {
     let mut text = String::new();
-    push_limited(&mut text, why, limit);
+    push_why(&mut text, why, limit);
     text
 }
 

@@ -6,34 +6,34 @@ use crate::test_report_forms::entry::Entry;
 use crate::test_report_forms::form::Form;
 use crate::test_report_forms::options::Options;
 use crate::test_report_forms::place::Place;
-use crate::test_report_forms::shown::{push_limited, push_line};
+use crate::test_report_forms::shown::push_line;
+use crate::test_report_forms::shown_why::{ShownWhy, push_why, shown_why};
 use crate::test_report_forms::summary::{outcome_text, push_summary};
 use crate::test_report_forms::title::push_title;
 use crate::test_report_forms::why::Why;
-use crate::test_report_run::note::{RunEnd, TestNote};
+use crate::test_report_run::note::{Failure, RunEnd, TestNote};
 
 /// The form for the log of a workflow on GitHub: an annotation for each failed test, each disagreement and
 /// each suite whose tests were not all run, and at the end a notice with the summary. Every line is a
 /// command of this program, so no output of a test is ever read as a command.
 #[derive(Clone)]
 pub struct GithubForm {
-    limit: usize,
+    options: Options,
 }
 
 impl GithubForm {
-    /// Returns the form. Of the options it uses only `limit`.
+    /// Returns the form. Of the options it uses only `limit` and `output`.
     pub fn new(options: Options) -> GithubForm {
-        GithubForm {
-            limit: options.limit,
-        }
+        GithubForm { options }
     }
 
     /// Appends the annotation of a failed test.
-    fn push_failed(&self, test: &TestNote, why: &Why<'_>, text: &mut String) {
+    fn push_failed(&self, test: &TestNote, failure: &Failure, why: &Why<'_>, text: &mut String) {
+        let shown = shown_why(self.options, test, failure, why);
         text.push_str("::error ");
         push_properties(text, &why.place);
         push_title_property(text, test);
-        push_message(text, why.text.as_str(), self.limit);
+        push_message(text, &shown, self.options.limit);
     }
 }
 
@@ -60,9 +60,9 @@ fn push_title_property(text: &mut String, test: &TestNote) {
 }
 
 /// Appends the message that says why a test failed.
-fn push_message(text: &mut String, why: &str, limit: usize) {
+fn push_message(text: &mut String, why: &ShownWhy, limit: usize) {
     let mut shown = String::new();
-    push_limited(&mut shown, why, limit);
+    push_why(&mut shown, why, limit);
     text.push_str("::");
     push_data(text, shown.as_str());
     text.push('\n');
@@ -71,7 +71,9 @@ fn push_message(text: &mut String, why: &str, limit: usize) {
 impl Form for GithubForm {
     fn on_entry(&mut self, entry: &Entry<'_>, text: &mut String) {
         match entry {
-            Entry::Failed { test, why, .. } => self.push_failed(test, why, text),
+            Entry::Failed { test, failure, why } => {
+                self.push_failed(test, failure, why, text);
+            }
             Entry::Passed(_)
             | Entry::Skipped(_)
             | Entry::Disagreement(_)

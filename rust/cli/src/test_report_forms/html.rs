@@ -18,10 +18,10 @@ pub struct HtmlForm {
 }
 
 impl HtmlForm {
-    /// Returns the form before the first entry. Of the options it uses only `limit`.
+    /// Returns the form before the first entry. Of the options it uses only `limit` and `output`.
     pub fn new(options: Options) -> HtmlForm {
         HtmlForm {
-            model: ReportModel::new(options.limit),
+            model: ReportModel::new(options),
         }
     }
 }

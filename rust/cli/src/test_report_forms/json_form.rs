@@ -18,17 +18,17 @@ use crate::test_report_run::note::{RunEnd, SuiteNote};
 /// its text.
 #[derive(Clone)]
 pub struct JsonForm {
-    limit: usize,
+    options: Options,
     suites: OpenSuites<String>,
     over: Vec<String>,
     problems: Vec<String>,
 }
 
 impl JsonForm {
-    /// Returns the form before the first entry. Of the options it uses only `limit`.
+    /// Returns the form before the first entry. Of the options it uses only `limit` and `output`.
     pub fn new(options: Options) -> JsonForm {
         JsonForm {
-            limit: options.limit,
+            options,
             suites: OpenSuites::new(),
             over: Vec::new(),
             problems: Vec::new(),
@@ -45,7 +45,7 @@ impl JsonForm {
                 self.add(&test.suite, test_json(test, "skipped"));
             }
             Entry::Failed { test, failure, why } => {
-                let json = failed_json(test, failure, why, self.limit);
+                let json = failed_json(test, failure, why, self.options);
                 self.add(&test.suite, json);
             }
             Entry::Disagreement(_) | Entry::NotRun(_) => self.on_cause(entry),

@@ -5,8 +5,10 @@ use crate::test_report_forms::cause::Cause;
 use crate::test_report_forms::json_object::JsonObject;
 use crate::test_report_forms::junit_case::text_of;
 use crate::test_report_forms::open_suites::Suite;
+use crate::test_report_forms::options::Options;
 use crate::test_report_forms::place::Place;
 use crate::test_report_forms::shown::{front, push_more};
+use crate::test_report_forms::shown_why::{ShownWhy, push_hidden, shown_why};
 use crate::test_report_forms::summary::outcome_text;
 use crate::test_report_forms::title::shown_name;
 use crate::test_report_forms::why::Why;
@@ -20,17 +22,18 @@ pub(crate) fn test_json(test: &TestNote, word: &str) -> String {
     test_object(test, word).into_json()
 }
 
-/// Returns a test that failed, with at most `limit` bytes of each reason, and with all of its output.
+/// Returns a test that failed, with all of its output.
 pub(crate) fn failed_json(
     test: &TestNote,
     failure: &Failure,
     why: &Why<'_>,
-    limit: usize,
+    options: Options,
 ) -> String {
+    let shown = shown_why(options, test, failure, why);
     let mut object = test_object(test, result_word(&failure.kind));
     push_place(&mut object, &why.place);
-    object.text("short", front(why.short.as_str(), limit));
-    object.text("why", cut(why.text.as_str(), limit).as_str());
+    object.text("short", front(why.short.as_str(), options.limit));
+    object.text("why", cut(&shown, options.limit).as_str());
     object.option("output", text_of(&failure.stdout));
     object.into_json()
 }
@@ -74,12 +77,13 @@ fn place_json(place: &Place<'_>) -> String {
     object.into_json()
 }
 
-/// Returns at most the first `limit` bytes of a text, and the number of bytes that are left out on a line of its
-/// own.
-fn cut(text: &str, limit: usize) -> String {
-    let first = front(text, limit);
+/// Returns at most the first `limit` bytes of why a test failed, the number of bytes that are left out, and the number
+/// of lines of the output that are not shown.
+fn cut(why: &ShownWhy, limit: usize) -> String {
+    let first = front(why.text.as_str(), limit);
     let mut cut = String::from(first);
-    push_more(&mut cut, text.len() - first.len());
+    push_more(&mut cut, why.text.len() - first.len());
+    push_hidden(&mut cut, why.hidden);
     cut
 }
 

@@ -50,7 +50,7 @@ impl JunitForm {
                 self.add(text_of(&test.suite), Case::skipped(test));
             }
             Entry::Failed { test, failure, why } => {
-                let case = Case::failed(test, failure, why, self.options.limit);
+                let case = Case::failed(test, failure, why, self.options);
                 self.add(text_of(&test.suite), case);
             }
             Entry::Disagreement(_) | Entry::NotRun(_) => self.on_cause(entry),

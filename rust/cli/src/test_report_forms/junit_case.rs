@@ -2,10 +2,12 @@
 //! The test cases of JUnit's XML.
 
 use crate::test_report_forms::failed_test::{FailedTest, shown_failure};
+use crate::test_report_forms::lines::without_returns;
 use crate::test_report_forms::model::suite_name;
+use crate::test_report_forms::options::Options;
 use crate::test_report_forms::shown::push_name;
 use crate::test_report_forms::title::shown_name;
-use crate::test_report_forms::why::{Why, without_returns};
+use crate::test_report_forms::why::Why;
 use crate::test_report_run::note::{Failure, FailureKind, TestNote};
 
 /// The name of the run, and of the suite of causes that name no suite.
@@ -81,8 +83,13 @@ impl Case {
     }
 
     /// Returns the test case of a test that failed, with its output.
-    pub(crate) fn failed(test: &TestNote, failure: &Failure, why: &Why<'_>, limit: usize) -> Case {
-        let FailedTest { short, why, .. } = shown_failure(test, &failure.kind, why, limit);
+    pub(crate) fn failed(
+        test: &TestNote,
+        failure: &Failure,
+        why: &Why<'_>,
+        options: Options,
+    ) -> Case {
+        let FailedTest { short, why, .. } = shown_failure(test, failure, why, options);
         let reason = Reason {
             is_error: is_error(&failure.kind),
             message: short,

@@ -17,10 +17,10 @@ pub struct MarkdownForm {
 }
 
 impl MarkdownForm {
-    /// Returns the form before the first entry. Of the options it uses only `limit`.
+    /// Returns the form before the first entry. Of the options it uses only `limit` and `output`.
     pub fn new(options: Options) -> MarkdownForm {
         MarkdownForm {
-            model: ReportModel::new(options.limit),
+            model: ReportModel::new(options),
         }
     }
 }

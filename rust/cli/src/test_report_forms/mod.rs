@@ -19,7 +19,7 @@
 //! ```
 //! use deodarsieve_cli::test_report_forms::entry::Entry;
 //! use deodarsieve_cli::test_report_forms::form::Form;
-//! use deodarsieve_cli::test_report_forms::options::Options;
+//! use deodarsieve_cli::test_report_forms::options::{Options, OutputDisplay};
 //! use deodarsieve_cli::test_report_forms::text::TextForm;
 //! use deodarsieve_cli::test_report_run::note::{Disagreement, Note};
 //!
@@ -32,7 +32,13 @@
 //! }
 //!
 //! let note = Note::Disagreement(Disagreement::OutsideSuite { started: 2 });
-//! let options = Options { limit: 4_096, raw: false, color: false, no_tests_pass: false };
+//! let options = Options {
+//!     limit: 4_096,
+//!     output: OutputDisplay::Auto,
+//!     raw: false,
+//!     color: false,
+//!     no_tests_pass: false,
+//! };
 //! assert_eq!(text_of_note(&note, options), "2 tests started outside of a suite\n");
 //! ```
 
@@ -40,6 +46,7 @@ mod cause;
 mod commands;
 mod document;
 pub mod entry;
+mod explanation;
 mod failed_test;
 pub mod files;
 pub mod form;
@@ -53,6 +60,7 @@ mod junit_case;
 mod junit_suite;
 mod junit_template;
 mod junit_values;
+mod lines;
 mod list;
 pub mod markdown;
 mod markdown_template;
@@ -63,7 +71,9 @@ mod open_suites;
 pub mod options;
 mod page_template;
 pub mod place;
+mod short;
 mod shown;
+mod shown_why;
 mod slowest;
 mod status;
 mod summary;
@@ -71,3 +81,4 @@ pub mod text;
 mod title;
 pub mod values;
 pub mod why;
+mod written;

@@ -6,6 +6,7 @@ use crate::test_report_forms::entry::Entry;
 use crate::test_report_forms::failed_test::{FailedTest, shown_failure};
 use crate::test_report_forms::junit_case::text_of;
 use crate::test_report_forms::numbers::Numbers;
+use crate::test_report_forms::options::Options;
 use crate::test_report_forms::shown::push_name;
 use crate::test_report_forms::slowest::Slowest;
 use crate::test_report_forms::title::push_title;
@@ -29,8 +30,8 @@ pub(crate) struct SuiteRow {
 /// returns its values for a template.
 #[derive(Clone)]
 pub struct ReportModel {
-    /// The most bytes that are shown of why a test failed, and of the short reason.
-    pub(crate) limit: usize,
+    /// How the reasons are shown.
+    pub(crate) options: Options,
 
     /// The failed tests.
     pub(crate) failed: Vec<FailedTest>,
@@ -46,10 +47,10 @@ pub struct ReportModel {
 }
 
 impl ReportModel {
-    /// Returns the model of a run without entries. Of why a test failed, it keeps `limit` bytes at most.
-    pub fn new(limit: usize) -> ReportModel {
+    /// Returns the model of a run without entries. Of the options it uses only `limit` and `output`.
+    pub fn new(options: Options) -> ReportModel {
         ReportModel {
-            limit,
+            options,
             failed: Vec::new(),
             problems: Vec::new(),
             suites: Vec::new(),
@@ -59,7 +60,7 @@ impl ReportModel {
 
     /// Keeps what is shown of an entry. The only error is that memory runs out.
     pub fn on_entry(&mut self, entry: &Entry<'_>) {
-        keep_failure(&mut self.failed, entry, self.limit);
+        keep_failure(&mut self.failed, entry, self.options);
         keep_problem(&mut self.problems, entry);
         keep_suite(&mut self.suites, entry);
         keep_time(&mut self.slowest, entry);
@@ -67,15 +68,15 @@ impl ReportModel {
 
     /// Returns this model, and keeps that of a run without entries.
     pub(crate) fn take_out(&mut self) -> ReportModel {
-        let limit = self.limit;
-        std::mem::replace(self, ReportModel::new(limit))
+        let options = self.options;
+        std::mem::replace(self, ReportModel::new(options))
     }
 }
 
 /// Keeps the failed test of an entry, if it has one.
-fn keep_failure(failed: &mut Vec<FailedTest>, entry: &Entry<'_>, limit: usize) {
+fn keep_failure(failed: &mut Vec<FailedTest>, entry: &Entry<'_>, options: Options) {
     if let Entry::Failed { test, failure, why } = entry {
-        let shown = shown_failure(test, &failure.kind, why, limit);
+        let shown = shown_failure(test, failure, why, options);
         failed.push(shown);
     }
 }

@@ -1,12 +1,28 @@
 // Made by tools/erase from crates/test_report_forms/src/options.rt. Do not edit.
 //! The options of a report.
 
+/// How much of a failed test's output is shown.
+#[derive(Clone, Copy, Debug, PartialEq, Eq)]
+pub enum OutputDisplay {
+    /// All of the output if it has at most as many bytes as the limit, or else as `Short`.
+    Auto,
+
+    /// The explanation in the output or, if there is none and no message, ten lines of it.
+    Short,
+
+    /// All of the output.
+    Whole,
+}
+
 /// The options of a report.
 #[derive(Clone, Copy, Debug, PartialEq, Eq)]
 pub struct Options {
     /// The greatest number of bytes that are shown of why a test failed, and of its short reason. They are counted
-    /// in UTF-8, before escapes.
+    /// in UTF-8, before escapes. With `usize::MAX` all are shown.
     pub limit: usize,
+
+    /// How much of a failed test's output is shown.
+    pub output: OutputDisplay,
 
     /// True if the form for people keeps control characters, and what a CI system takes for a command, in why a test
     /// failed. Names are escaped all the same.

@@ -1,9 +1,13 @@
 // Made by tools/erase from crates/test_report_forms/src/place.rt. Do not edit.
 //! The place of a failure in the sources.
 
+use crate::test_report_forms::explanation::Found;
+use crate::test_report_forms::lines::{first_line, without_return};
+use crate::test_report_forms::short::other_thread;
 use crate::test_report_forms::title::shown_name;
+use crate::test_report_forms::why::{is_crash, output_of};
 use crate::test_report_run::note::{Failure, TestNote};
-use deodarsieve::counted::last_head;
+use deodarsieve::counted::HeadSpan;
 
 /// A place in the sources.
 #[derive(Clone, Copy, Debug, PartialEq, Eq)]
@@ -19,28 +23,62 @@ pub struct Place<'a> {
 }
 
 /// Returns the place of a failure, or `None` if it is not known. It is the place in the name of a documentation
-/// test, or else the one that the last panic of the output names, or else the one at the end of the message.
-pub(crate) fn place_of<'a>(test: &'a TestNote, failure: &'a Failure) -> Option<Place<'a>> {
-    if let Some(place) = documented(shown_name(test)) {
+/// test, or else the one that a panic in the output names, or else the one at the end of the message. A place outside
+/// of the repository does not count. `found` is what is found in the output.
+pub(crate) fn place_of<'a>(
+    test: &'a TestNote,
+    failure: &'a Failure,
+    found: &Found<'a>,
+) -> Option<Place<'a>> {
+    if let Some(place) = our_place(documented(shown_name(test))) {
         return Some(place);
     }
-    failed(failure)
+    failure_place(failure, found)
 }
 
-/// Returns the place that the last panic of the output names, or else the one at the end of the message.
-fn failed<'a>(failure: &'a Failure) -> Option<Place<'a>> {
-    if let Some(place) = of_output(failure) {
+/// Returns the place that a panic in the output names, or else the one at the end of the message.
+fn failure_place<'a>(failure: &'a Failure, found: &Found<'a>) -> Option<Place<'a>> {
+    if let Some(place) = our_place(panic_place(failure, found)) {
         return Some(place);
     }
-    of_message(failure)
+    our_place(of_message(failure))
 }
 
-/// Returns the place that the last panic of the output names.
-fn of_output<'a>(failure: &'a Failure) -> Option<Place<'a>> {
-    match &failure.stdout {
-        Some(stdout) => panicked(stdout.as_str()),
-        None => None,
+/// Returns a place, or `None` if it is not in the repository.
+fn our_place(place: Option<Place<'_>>) -> Option<Place<'_>> {
+    let place = place?;
+    if is_ours(place.file) {
+        Some(place)
+    } else {
+        None
     }
+}
+
+/// Returns true if a path is of a file of the repository, as far as its text says: it is not absolute, and no
+/// component is `..`.
+fn is_ours(path: &str) -> bool {
+    !is_absolute(path.as_bytes()) && !goes_up(path.as_bytes())
+}
+
+/// Returns true for a slash and for a backslash.
+fn is_slash(byte: u8) -> bool {
+    byte == b'/' || byte == b'\\'
+}
+
+/// Returns true if a path begins with a slash, a backslash or a drive such as `C:`.
+fn is_absolute(path: &[u8]) -> bool {
+    match path {
+        [first, rest @ ..] => {
+            is_slash(*first) || (first.is_ascii_alphabetic() && rest.starts_with(b":"))
+        }
+        [] => false,
+    }
+}
+
+/// Returns true if a component of a path is `..`.
+fn goes_up(path: &[u8]) -> bool {
+    path.split(|byte| is_slash(*byte))
+        .any(|part| part == b"..".as_slice())
 }
 
 /// Returns the place at the end of the message.
@@ -72,10 +110,27 @@ fn is_item(item: &str) -> bool {
     item.is_empty() || item.len() > 1 && item.ends_with(' ')
 }
 
-/// Returns the place that the head of the last panic of an output names.
-fn panicked(stdout: &str) -> Option<Place<'_>> {
-    let head = last_head(stdout.as_bytes())?;
-    let (line, _) = first_line(&stdout[head.stop..]);
+/// Returns the place that the head of the panic which is the cause names.
+fn panic_place<'a>(failure: &'a Failure, found: &Found<'a>) -> Option<Place<'a>> {
+    let out = output_of(failure);
+    place_behind(out, cause_head(failure, found)?)
+}
+
+/// Returns the head that names the cause: that of the first panic if the test crashed or if it is of another thread, or
+/// else that of the last panic.
+fn cause_head(failure: &Failure, found: &Found<'_>) -> Option<HeadSpan> {
+    if is_crash(failure) {
+        return found.first;
+    }
+    match other_thread(output_of(failure), found) {
+        Some(first) => Some(first),
+        None => found.last,
+    }
+}
+
+/// Returns the place that the head of a panic names: what follows in its line, up to a colon at the end.
+fn place_behind(out: &str, head: HeadSpan) -> Option<Place<'_>> {
+    let (line, _) = first_line(&out[head.stop..]);
     parsed(without_last(line, ':')?)
 }
 
@@ -103,22 +158,6 @@ fn after_feeds(text: &str) -> &str {
     match text.rsplit_once('\n') {
         Some((_, line)) => line,
         None => text,
-    }
-}
-
-/// Returns the first line of a text, without the carriage return at its end, and what follows the line.
-pub(crate) fn first_line(text: &str) -> (&str, &str) {
-    match text.split_once('\n') {
-        Some((line, rest)) => (without_return(line), rest),
-        None => (without_return(text), ""),
-    }
-}
-
-/// Returns a line without the carriage return at its end.
-pub(crate) fn without_return(line: &str) -> &str {
-    match line.strip_suffix('\r') {
-        Some(kept) => kept,
-        None => line,
     }
 }
 

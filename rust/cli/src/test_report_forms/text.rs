@@ -7,6 +7,7 @@ use crate::test_report_forms::form::Form;
 use crate::test_report_forms::list::ShortList;
 use crate::test_report_forms::options::Options;
 use crate::test_report_forms::shown::{front, push_bracket, push_indented};
+use crate::test_report_forms::shown_why::{ShownWhy, shown_why};
 use crate::test_report_forms::status::{failed_status, push_status};
 use crate::test_report_forms::summary::{outcome_text, push_summary};
 use crate::test_report_forms::title::push_title;
@@ -33,7 +34,8 @@ impl TextForm {
         match entry {
             Entry::Failed { test, failure, why } => {
                 let status = failed_status(&failure.kind);
-                push_failed(text, test, status, why.text.as_str(), self.options);
+                let why = shown_why(self.options, test, failure, why);
+                push_failed(text, test, status, &why, self.options);
             }
             Entry::Passed(_)
             | Entry::Skipped(_)
@@ -55,7 +57,7 @@ fn push_cause(entry: &Entry<'_>, text: &mut String) {
 }
 
 /// Appends a failed test, with why it failed.
-fn push_failed(text: &mut String, test: &TestNote, status: &str, why: &str, options: Options) {
+fn push_failed(text: &mut String, test: &TestNote, status: &str, why: &ShownWhy, options: Options) {
     push_head(text, test, status, options);
     push_why(text, why, options);
 }
@@ -78,11 +80,13 @@ fn push_attempts(text: &mut String, attempts: usize) {
     text.push_str(&format!(" ({attempts} attempts)"));
 }
 
-/// Appends why a test failed, and the number of bytes that are not shown.
-fn push_why(text: &mut String, why: &str, options: Options) {
-    let first = front(why, options.limit);
+/// Appends why a test failed, the number of bytes that are not shown, and the number of lines of the output that are
+/// not shown.
+fn push_why(text: &mut String, why: &ShownWhy, options: Options) {
+    let first = front(why.text.as_str(), options.limit);
     push_indented(text, first, options.raw);
-    push_more(text, why.len() - first.len());
+    push_more(text, why.text.len() - first.len());
+    push_hidden(text, why.hidden);
 }
 
 /// Appends a line that says how many bytes are not shown. Appends nothing if all are shown.
@@ -91,6 +95,14 @@ fn push_more(text: &mut String, more: usize) {
         return;
     }
     text.push_str(&format!("    ({more} more bytes)\n"));
+}
+
+/// Appends a line that says how many lines of the output are not shown. Appends nothing if all are shown.
+fn push_hidden(text: &mut String, hidden: usize) {
+    if hidden == 0 {
+        return;
+    }
+    text.push_str(&format!("    ({hidden} more lines of output)\n"));
 }
 
 /// Appends the line of the summary.

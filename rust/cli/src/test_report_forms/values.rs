@@ -29,7 +29,7 @@ use deodarsieve::RunOutcome;
 /// Returns the values of a finished report. The only error is that memory runs out.
 pub fn report_values(model: ReportModel, end: &RunEnd) -> Vec<Value> {
     let ReportModel {
-        limit: _,
+        options: _,
         failed,
         problems,
         suites,

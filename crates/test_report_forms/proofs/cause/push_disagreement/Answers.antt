@@ -15,3 +15,8 @@ returns-in_ok-push_str-in-Damaged c =
 pub returns-in-OutsideSuite : goal.returns-in-OutsideSuite
 unfolding disagreement_line
 returns-in-OutsideSuite c = rw c.in-OutsideSuite.is c.write-in-OutsideSuite.ensures.bytes
+
+pub returns-in_ok-push_str-in-Command : goal.returns-in_ok-push_str-in-Command
+unfolding disagreement_line
+returns-in_ok-push_str-in-Command c =
+    rw c.in-Command.is (rw (c.in_ok-push_str-in-Command.ensures.bytes, append_assoc) at c.push_command_end.ensures)

@@ -9,7 +9,7 @@ unfolding json_written json_line json_of
 returns c =
     on_ok_weaker c.push_line.result
     (λ written entries knows.
-    let j = json_state c.args.self.now.limit entries in
+    let j = json_state c.args.self.now.options entries in
     let suites = ap (map string_bytes) c.as_slice.ensures.value ∙ c.in_ok-suites.ensures.suites j knows in
     let kept = ap (λ ps. map string_bytes ps.items) c.in_ok-suites.ensures.problems ∙ knows.problems in
     let problems = ap (map string_bytes) c.as_slice-2.ensures.value ∙ c.in_ok-problems.ensures j.problems kept in

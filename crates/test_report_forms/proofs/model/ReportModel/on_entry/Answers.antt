@@ -13,7 +13,7 @@ pub returns-clause-knows : goal.returns-clause-knows
 returns-clause-knows c =
     on_ok_weaker c.keep_time.result
     (λ kept entries known. record {
-      failed = kept-more (failure_of_entry c.args.self.now.limit) entries (entry_view c.args.entry.now) _ _ known.failed c.in_ok-keep_failure.ensures;
+      failed = kept-more (failure_of_entry c.args.self.now.options) entries (entry_view c.args.entry.now) _ _ known.failed c.in_ok-keep_failure.ensures;
       problems = kept-more cause_line entries (entry_view c.args.entry.now) _ _ known.problems c.in_ok-keep_problem.ensures;
       suites = kept-more row_of_entry entries (entry_view c.args.entry.now) _ _ known.suites c.in_ok-keep_suite.ensures;
       slowest = kept
