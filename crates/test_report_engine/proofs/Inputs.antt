@@ -1,7 +1,7 @@
 -- What a report reads of an input.
-use Rattle.std.proofs.Common.{◌≡◌, ◌∙◌, ◌-◌, ◌<◌, ℕ, List, [], ◌∷◌, ◌++◌, Option, ap, append_assoc, arith, drop, length, map, subst, sym, take}
+use Rattle.std.proofs.Common.{◌≡◌, ◌∙◌, ◌-◌, ◌<◌, ℕ, List, [], ◌∷◌, ◌++◌, None, Option, Some, ap, append_assoc, arith, drop, length, map, refl, subst, sym, take}
 use Rattle.std.specs.Prelude.{◌==◌, Bool, false, slice_index, true}
-use Rattle.test_report_events.specs.Event.{EventView}
+use Rattle.test_report_events.specs.Event.{CommandOver, CommandStarts, CommandView, EventView}
 use Rattle.test_report_events.specs.Laws.{OneReadingOfLine}
 use Rattle.test_report_events.specs.Line.{LineSays}
 use Rattle.test_report_forms.specs.Entry.{EntryView}
@@ -12,7 +12,7 @@ use Rattle.test_report_run.specs.Run.{RunState, after_file, file_notes, run_stat
 use Rattle.test_report_run.specs.declared.note.Note.{Note}
 use Rattle.test_report_run.specs.declared.note.RunEnd.{RunEnd}
 use Rattle.test_report_run.specs.declared.run.TestRun.{TestRun}
-use Rattle.test_report_engine.specs.Lines.{IsOneLine, with_feed}
+use Rattle.test_report_engine.specs.Lines.{IsOneLine, events_after, with_feed}
 use Rattle.test_report_engine.specs.Reading.{AppendsLinesStart, LeadsTo, ReadsInput, ReadsLine, ReadsStart, TakesLine, WritesNotes}
 use Rattle.test_report_engine.specs.Report.{after_end, after_line, end_notes, line_notes, notes_of, notes_of_input, run_after, run_after_input, run_of}
 use Rattle.test_report_engine.specs.declared.report.Report.{Report}
@@ -41,6 +41,47 @@ end-runs : (old new : TestRun) → run_state new ≡ after_file (run_state old) 
 unfolding run_of after_end
 end-runs old new is = is
 
+-- a run has learned how its command ended, if its lines are the output of one. This makes nothing known yet
+pub record LearnsEnd (command : Option CommandView) (old new : TestRun) : Type 0 where
+  pub run_is : run_of new ≡ run_after (run_of old) (events_after command)
+  pub tells : notes_of (run_of old) (events_after command) ≡ []
+
+pub learns-none : (old new : TestRun) → new ≡ old → LearnsEnd None old new
+learns-none old new is = record { run_is = ap run_of is; tells = refl }
+
+pub learns-end : (old new : TestRun) (end : CommandView) → run_state new ≡ spec.after (run_state old) (CommandOver end) → LearnsEnd (Some end) old new
+unfolding run_of after_line line_notes
+learns-end old new end is = record { run_is = is; tells = refl }
+
+-- what the end of an input makes known, after the end of its command
+pub over-tells : (command : Option CommandView) (old run : TestRun) (notes : List NoteView) → LearnsEnd command old run → notes ≡ file_notes (run_state run)
+    → notes ≡ notes_of_input (run_of old) (events_after command)
+over-tells command old run notes learns is =
+    end-tells run notes is ∙ ap end_notes learns.run_is
+    ∙ ap (λ ns. ns ++ end_notes (run_after (run_of old) (events_after command))) (sym learns.tells)
+
+-- and the run after it
+pub over-runs : (command : Option CommandView) (old run new : TestRun) → LearnsEnd command old run → run_state new ≡ after_file (run_state run)
+    → run_of new ≡ run_after_input (run_of old) (events_after command)
+over-runs command old run new learns is = end-runs run new is ∙ ap after_end learns.run_is
+
+-- the start of a command makes nothing known
+start-tells : (r : RunState) → line_notes r (CommandStarts ∷ []) ≡ []
+unfolding line_notes
+start-tells r = refl
+
+pub start-runs : (old new : TestRun) → run_state new ≡ spec.after (run_state old) CommandStarts → run_of new ≡ after_line (run_of old) (CommandStarts ∷ [])
+unfolding run_of after_line
+start-runs old new is = is
+
+-- so what it and its output make known is what the output alone makes known
+pub start-notes : (old new : TestRun) (es : List (List EventView)) → run_state new ≡ spec.after (run_state old) CommandStarts
+    → notes_of_input (run_of old) ((CommandStarts ∷ []) ∷ es) ≡ notes_of_input (run_of new) es
+start-notes old new es is =
+    let then : RunState = after_line (run_of old) (CommandStarts ∷ []) in
+    notes-line (run_of old) (CommandStarts ∷ []) es ∙ ap (λ ns. ns ++ notes_of_input then es) (start-tells (run_of old))
+    ∙ ap (λ r. notes_of_input r es) (sym (start-runs old new is))
+
 module _ (one-reading-of-line : OneReadingOfLine) where
   -- a line of which a beginning is written
   pub line-start : (f : EntryView → List ℕ) (old new : TestRun) (bytes : List ℕ) (slice items : List Note) (b w : Option (List ℕ))
@@ -55,40 +96,41 @@ pub line-none : (f : EntryView → List ℕ) (r : RunState) (bytes : List ℕ) (
     → AppendsLinesStart f (line_notes r e) b b
 line-none f r bytes b e says = starts-none f (line_notes r e) b
 
--- the end of an input of which a beginning is written
-pub end-start : (f : EntryView → List ℕ) (run : TestRun) (slice items : List Note) (b w : Option (List ℕ))
-    → map note_view items ≡ file_notes (run_state run) → slice ≡ items → AppendsLinesStart f (map note_view slice) b w
-    → AppendsLinesStart f (end_notes (run_of run)) b w
-end-start f run slice items b w tells same starts =
-    subst (λ ns. AppendsLinesStart f ns b w) (ap (map note_view) same ∙ end-tells run (map note_view items) tells) starts
+-- notes of which a beginning is written
+pub notes-start : (f : EntryView → List ℕ) (notes : List NoteView) (slice items : List Note) (b w : Option (List ℕ))
+    → map note_view items ≡ notes → slice ≡ items → AppendsLinesStart f (map note_view slice) b w → AppendsLinesStart f notes b w
+notes-start f notes slice items b w tells same starts = subst (λ ns. AppendsLinesStart f ns b w) (ap (map note_view) same ∙ tells) starts
 
 -- nothing is read of an input
-pub input-none : {F : Type 0} (line : F → EntryView → List ℕ) (old : Report F) (input : List ℕ) (b : Option (List ℕ)) → ReadsStart line old input b b
-input-none line old input b events are = starts-none (line old.form) (notes_of_input (run_of old.run) events) b
+pub input-none : (command : Option CommandView) {F : Type 0} (line : F → EntryView → List ℕ) (old : Report F) (input : List ℕ) (b : Option (List ℕ))
+    → ReadsStart command line old input b b
+input-none command line old input b events are = starts-none (line old.form) (notes_of_input (run_of old.run) (events ++ events_after command)) b
 
 -- a line of which a beginning is written
-pub input-line-start : {F : Type 0} (line : F → EntryView → List ℕ) (old : Report F) (bytes rest : List ℕ) (b w : Option (List ℕ)) → IsOneLine bytes
+pub input-line-start : (command : Option CommandView) {F : Type 0} (line : F → EntryView → List ℕ) (old : Report F) (bytes rest : List ℕ)
+    (b w : Option (List ℕ)) → IsOneLine bytes
     → ((es : List EventView) → LineSays bytes es → AppendsLinesStart (line old.form) (line_notes (run_of old.run) es) b w)
-    → ReadsStart line old (with_feed bytes ++ rest) b w
-input-line-start line old bytes rest b w one starts events are =
+    → ReadsStart command line old (with_feed bytes ++ rest) b w
+input-line-start command line old bytes rest b w one starts events are =
     let first = events-cut bytes rest events one are in
     let r : RunState = run_of old.run in
+    let others : List (List EventView) = first.others ++ events_after command in
     subst (λ ns. AppendsLinesStart (line old.form) ns b w)
-    (sym (ap (notes_of_input r) first.is ∙ notes-line r first.own first.others))
-    (starts-front (line old.form) (line_notes r first.own) (notes_of_input (after_line r first.own) first.others) b w (starts first.own first.says))
+    (sym (ap (λ es. notes_of_input r (es ++ events_after command)) first.is ∙ notes-line r first.own others))
+    (starts-front (line old.form) (line_notes r first.own) (notes_of_input (after_line r first.own) others) b w (starts first.own first.says))
 
 module _ (one-reading-of-line : OneReadingOfLine) where
   -- the end of an input, of which a beginning is written
-  pub input-end-start : {F : Type 0} (line : F → EntryView → List ℕ) (old : Report F) (b w : Option (List ℕ))
-      → AppendsLinesStart (line old.form) (end_notes (run_of old.run)) b w → ReadsStart line old [] b w
-  input-end-start line old b w starts events are =
-      subst (λ es. AppendsLinesStart (line old.form) (notes_of_input (run_of old.run) es) b w)
+  pub input-end-start : (command : Option CommandView) {F : Type 0} (line : F → EntryView → List ℕ) (old : Report F) (b w : Option (List ℕ))
+      → AppendsLinesStart (line old.form) (notes_of_input (run_of old.run) (events_after command)) b w → ReadsStart command line old [] b w
+  input-end-start command line old b w starts events are =
+      subst (λ es. AppendsLinesStart (line old.form) (notes_of_input (run_of old.run) (es ++ events_after command)) b w)
       (one-events one-reading-of-line [] [] events events-none are) starts
 
 -- a last line
-pub last-start : {F : Type 0} (line : F → EntryView → List ℕ) (old : Report F) (bytes : List ℕ) (b w : Option (List ℕ)) → IsOneLine bytes → 0 < length bytes
-    → ReadsStart line old (with_feed bytes ++ []) b w → ReadsStart line old bytes b w
-last-start line old bytes b w one some starts events are = starts events (with-feed bytes events one some are)
+pub last-start : (command : Option CommandView) {F : Type 0} (line : F → EntryView → List ℕ) (old : Report F) (bytes : List ℕ) (b w : Option (List ℕ))
+    → IsOneLine bytes → 0 < length bytes → ReadsStart command line old (with_feed bytes ++ []) b w → ReadsStart command line old bytes b w
+last-start command line old bytes b w one some starts events are = starts events (with-feed bytes events one some are)
 
 module _ {F : Type 0} (line : F → EntryView → List ℕ) (last : F → List EntryView → RunEnd → List ℕ) (Knows : F → List EntryView → Type 0) where
   -- a line whose notes are written
@@ -105,31 +147,32 @@ module _ {F : Type 0} (line : F → EntryView → List ℕ) (last : F → List E
         (writes-from line last Knows old new run (map note_view slice) b w writes);
   }
 
-  -- the end of an input
-  pub input-end : (old new : Report F) (b w : Option (List ℕ)) → run_of new.run ≡ after_end (run_of old.run)
-      → WritesNotes line last Knows old new (end_notes (run_of old.run)) b w → ReadsInput line last Knows old new [] b w
-  input-end old new b w run_is writes = record { events = []; say = events-none; run_is = run_is; writes = writes }
-
   -- the end of an input whose notes are written
-  pub end-read : (old new : Report F) (run : TestRun) (slice items : List Note) (b w : Option (List ℕ)) → map note_view items ≡ file_notes (run_state old.run)
-      → run_state run ≡ after_file (run_state old.run) → slice ≡ items → new.run ≡ run
+  pub end-read : (command : Option CommandView) (old new : Report F) (run : TestRun) (slice items : List Note) (b w : Option (List ℕ))
+      → map note_view items ≡ notes_of_input (run_of old.run) (events_after command)
+      → run_of run ≡ run_after_input (run_of old.run) (events_after command) → slice ≡ items → new.run ≡ run
       → WritesNotes line last Knows (record { run = run; form = old.form; files = old.files }) new (map note_view slice) b w
-      → ReadsInput line last Knows old new [] b w
-  end-read old new run slice items b w tells takes same same_run writes =
-      input-end old new b w (ap run_of same_run ∙ end-runs old.run run takes)
-      (subst (λ ns. WritesNotes line last Knows old new ns b w) (ap (map note_view) same ∙ end-tells old.run (map note_view items) tells)
-      (writes-from line last Knows old new run (map note_view slice) b w writes))
+      → ReadsInput line last Knows command old new [] b w
+  end-read command old new run slice items b w tells takes same same_run writes = record {
+    events = [];
+    say = events-none;
+    run_is = ap run_of same_run ∙ takes;
+    writes =
+        subst (λ ns. WritesNotes line last Knows old new ns b w) (ap (map note_view) same ∙ tells)
+        (writes-from line last Knows old new run (map note_view slice) b w writes);
+  }
 
   -- a line, and then the rest
-  pub input-line : (old mid new : Report F) (bytes rest : List ℕ) (b m w : Option (List ℕ)) → IsOneLine bytes → ReadsLine line last Knows old mid bytes b m
-      → ReadsInput line last Knows mid new rest m w → ReadsInput line last Knows old new (with_feed bytes ++ rest) b w
-  input-line old mid new bytes rest b m w one first others =
+  pub input-line : (command : Option CommandView) (old mid new : Report F) (bytes rest : List ℕ) (b m w : Option (List ℕ)) → IsOneLine bytes
+      → ReadsLine line last Knows old mid bytes b m → ReadsInput line last Knows command mid new rest m w
+      → ReadsInput line last Knows command old new (with_feed bytes ++ rest) b w
+  input-line command old mid new bytes rest b m w one first others =
       let r : RunState = run_of old.run in
       let e = first.events in
-      let es = others.events in
+      let es : List (List EventView) = others.events ++ events_after command in
       record {
-        events = e ∷ es;
-        say = events-line bytes rest e es one first.says others.say;
+        events = e ∷ others.events;
+        say = events-line bytes rest e others.events one first.says others.say;
         run_is = others.run_is ∙ ap (λ s. run_after_input s es) first.run_is;
         writes =
             subst (λ ns. WritesNotes line last Knows old new ns b w)
@@ -141,24 +184,26 @@ module _ {F : Type 0} (line : F → EntryView → List ℕ) (last : F → List E
   pub leads-then : (old mid new : Report F) (x y z p q : List ℕ) (b m w : Option (List ℕ)) → LeadsTo line last Knows old mid x y p b m
       → LeadsTo line last Knows mid new y z q m w → LeadsTo line last Knows old new x z (p ++ q) b w
   leads-then old mid new x y z p q b m w first second = record {
-    reads = λ rest end v read. subst (λ l. ReadsInput line last Knows old end (x ++ l) b v) (sym (append_assoc p q rest))
-        (first.reads (q ++ rest) end v (second.reads rest end v read));
-    starts = λ rest v starts. subst (λ l. ReadsStart line old (x ++ l) b v) (sym (append_assoc p q rest))
-        (first.starts (q ++ rest) v (second.starts rest v starts));
+    reads = λ command rest end v read. subst (λ l. ReadsInput line last Knows command old end (x ++ l) b v) (sym (append_assoc p q rest))
+        (first.reads command (q ++ rest) end v (second.reads command rest end v read));
+    starts = λ command rest v starts. subst (λ l. ReadsStart command line old (x ++ l) b v) (sym (append_assoc p q rest))
+        (first.starts command (q ++ rest) v (second.starts command rest v starts));
   }
 
   -- more of a line
   pub leads-begun : (old : Report F) (begun begun_then bytes : List ℕ) (b : Option (List ℕ)) → begun_then ≡ begun ++ bytes
       → LeadsTo line last Knows old old begun begun_then bytes b b
   leads-begun old begun begun_then bytes b is = record {
-    reads = λ rest end w read. subst (λ l. ReadsInput line last Knows old end l b w) (ap (λ x. x ++ rest) is ∙ append_assoc begun bytes rest) read;
-    starts = λ rest w starts. subst (λ l. ReadsStart line old l b w) (ap (λ x. x ++ rest) is ∙ append_assoc begun bytes rest) starts;
+    reads = λ command rest end w read. subst (λ l. ReadsInput line last Knows command old end l b w)
+        (ap (λ x. x ++ rest) is ∙ append_assoc begun bytes rest) read;
+    starts = λ command rest w starts. subst (λ l. ReadsStart command line old l b w) (ap (λ x. x ++ rest) is ∙ append_assoc begun bytes rest) starts;
   }
 
   -- what comes of the end of an input here comes of these bytes and the end there
   pub record EndsAs (old new : Report F) (bytes : List ℕ) (b w : Option (List ℕ)) : Type 0 where
-    pub reads : (end : Report F) (v : Option (List ℕ)) → ReadsInput line last Knows new end [] w v → ReadsInput line last Knows old end bytes b v
-    pub starts : (v : Option (List ℕ)) → ReadsStart line new [] w v → ReadsStart line old bytes b v
+    pub reads : (command : Option CommandView) (end : Report F) (v : Option (List ℕ)) → ReadsInput line last Knows command new end [] w v
+        → ReadsInput line last Knows command old end bytes b v
+    pub starts : (command : Option CommandView) (v : Option (List ℕ)) → ReadsStart command line new [] w v → ReadsStart command line old bytes b v
 
   ends-at : (old mid new : Report F) (bytes : List ℕ) (b m w : Option (List ℕ)) → new ≡ mid → w ≡ m → EndsAs old mid bytes b m → EndsAs old new bytes b w
   ends-at old mid new bytes b m w same there ends =
@@ -167,7 +212,7 @@ module _ {F : Type 0} (line : F → EntryView → List ℕ) (last : F → List E
   -- no bytes
   pub ends-none : (old new : Report F) (bytes : List ℕ) (b w : Option (List ℕ)) → length bytes ≡ 0 → new ≡ old → w ≡ b → EndsAs old new bytes b w
   ends-none old new [] b w none same there =
-      ends-at old old new [] b b w same there (record { reads = λ end v read. read; starts = λ v starts. starts })
+      ends-at old old new [] b b w same there (record { reads = λ command end v read. read; starts = λ command v starts. starts })
   ends-none old new (x ∷ xs) b w none same there = absurd (omega arith)
 
   -- the bytes before a rest were taken
@@ -184,49 +229,53 @@ module _ {F : Type 0} (line : F → EntryView → List ℕ) (last : F → List E
       (leads-then old new new x y z takes.done rest b w w takes.leads (leads-begun new y z rest w is))
 
   -- a beginning of what the next line makes known
-  pub bytes-starts : (old mid : Report F) (x y bytes rest after : List ℕ) (b m w : Option (List ℕ)) → TakesBytes old mid x y bytes rest b m
-      → ReadsStart line mid (y ++ (rest ++ after)) m w → ReadsStart line old (x ++ (bytes ++ after)) b w
-  bytes-starts old mid x y bytes rest after b m w takes starts =
-      subst (λ l. ReadsStart line old (x ++ l) b w) (sym (ap (λ l. l ++ after) takes.are ∙ append_assoc takes.done rest after))
-      (takes.leads.starts (rest ++ after) w starts)
+  pub bytes-starts : (command : Option CommandView) (old mid : Report F) (x y bytes rest after : List ℕ) (b m w : Option (List ℕ))
+      → TakesBytes old mid x y bytes rest b m
+      → ReadsStart command line mid (y ++ (rest ++ after)) m w → ReadsStart command line old (x ++ (bytes ++ after)) b w
+  bytes-starts command old mid x y bytes rest after b m w takes starts =
+      subst (λ l. ReadsStart command line old (x ++ l) b w) (sym (ap (λ l. l ++ after) takes.are ∙ append_assoc takes.done rest after))
+      (takes.leads.starts command (rest ++ after) w starts)
 
   -- the next line, of which a beginning is written
-  pub bytes-line-start : (old mid : Report F) (x y line_then bytes rest front back after : List ℕ) (b m w : Option (List ℕ)) (at : ℕ)
+  pub bytes-line-start : (command : Option CommandView) (old mid : Report F) (x y line_then bytes rest front back after : List ℕ)
+      (b m w : Option (List ℕ)) (at : ℕ)
       → TakesBytes old mid x y bytes rest b m → IsOneLine y
       → front ≡ take at rest → back ≡ drop at rest → at < length rest
       → ((k : ℕ) → k < at → ¬ ((slice_index rest k == 10) ≡ true)) → (slice_index rest at == 10) ≡ true
       → line_then ≡ y ++ front
       → ((es : List EventView) → LineSays line_then es → AppendsLinesStart (line mid.form) (line_notes (run_of mid.run) es) m w)
-      → ReadsStart line old (x ++ (bytes ++ after)) b w
-  bytes-line-start old mid x y line_then bytes rest front back after b m w at takes one is_front is_back within before feed is starts =
+      → ReadsStart command line old (x ++ (bytes ++ after)) b w
+  bytes-line-start command old mid x y line_then bytes rest front back after b m w at takes one is_front is_back within before feed is starts =
       let line_one : IsOneLine line_then = subst IsOneLine (sym is) (joined y front one (feedless-front rest front at is_front within before)) in
       let then : List ℕ = take (length back - 1) (drop 1 back) in
       let cut : rest ≡ with_feed front ++ then = divided-at rest front back at is_front is_back within feed in
       let whole : with_feed line_then ++ (then ++ after) ≡ y ++ (rest ++ after) = line-rest y front line_then (then ++ after) is
       ∙ ap (λ l. y ++ l) (sym (append_assoc (with_feed front) then after) ∙ ap (λ l. l ++ after) (sym cut)) in
-      bytes-starts old mid x y bytes rest after b m w takes
-      (subst (λ l. ReadsStart line mid l m w) whole (input-line-start line mid line_then (then ++ after) m w line_one starts))
+      bytes-starts command old mid x y bytes rest after b m w takes
+      (subst (λ l. ReadsStart command line mid l m w) whole (input-line-start command line mid line_then (then ++ after) m w line_one starts))
 
 module _ (one-reading-of-line : OneReadingOfLine) (one_entry : OneEntry) {F : Type 0} (line : F → EntryView → List ℕ)
     (last : F → List EntryView → RunEnd → List ℕ) (Knows : F → List EntryView → Type 0) where
   -- a line, and then a beginning of the rest
-  pub input-line-then : (old mid : Report F) (bytes rest : List ℕ) (b m w : Option (List ℕ)) → IsOneLine bytes → ReadsLine line last Knows old mid bytes b m
-      → ReadsStart line mid rest m w → ReadsStart line old (with_feed bytes ++ rest) b w
-  input-line-then old mid bytes rest b m w one read starts events are =
+  pub input-line-then : (command : Option CommandView) (old mid : Report F) (bytes rest : List ℕ) (b m w : Option (List ℕ)) → IsOneLine bytes
+      → ReadsLine line last Knows old mid bytes b m → ReadsStart command line mid rest m w → ReadsStart command line old (with_feed bytes ++ rest) b w
+  input-line-then command old mid bytes rest b m w one read starts events are =
       let r : RunState = run_of old.run in
       let first = events-cut bytes rest events one are in
-      let es = first.others in
+      let es : List (List EventView) = first.others ++ events_after command in
       let same : read.events ≡ first.own = one-reading-of-line bytes read.events first.own read.says first.says in
-      let notes : line_notes r read.events ++ notes_of_input (run_of mid.run) es ≡ notes_of_input r events =
+      let notes : line_notes r read.events ++ notes_of_input (run_of mid.run) es ≡ notes_of_input r (events ++ events_after command) =
       ap (λ s. line_notes r read.events ++ notes_of_input s es) read.run_is
-      ∙ ap (λ e. line_notes r e ++ notes_of_input (after_line r e) es) same ∙ sym (ap (notes_of_input r) first.is ∙ notes-line r first.own es) in
+      ∙ ap (λ e. line_notes r e ++ notes_of_input (after_line r e) es) same
+      ∙ sym (ap (λ l. notes_of_input r (l ++ events_after command)) first.is ∙ notes-line r first.own es) in
       subst (λ ns. AppendsLinesStart (line old.form) ns b w) notes
-      (starts-then one_entry line last Knows old mid (line_notes r read.events) (notes_of_input (run_of mid.run) es) b m w read.writes (starts es first.say))
+      (starts-then one_entry line last Knows old mid (line_notes r read.events) (notes_of_input (run_of mid.run) es) b m w read.writes
+      (starts first.others first.say))
 
   -- a last line
-  pub last-line : (old new : Report F) (bytes : List ℕ) (b w : Option (List ℕ)) → IsOneLine bytes → 0 < length bytes
-      → ReadsInput line last Knows old new (with_feed bytes ++ []) b w → ReadsInput line last Knows old new bytes b w
-  last-line old new bytes b w one some read = record {
+  pub last-line : (command : Option CommandView) (old new : Report F) (bytes : List ℕ) (b w : Option (List ℕ)) → IsOneLine bytes → 0 < length bytes
+      → ReadsInput line last Knows command old new (with_feed bytes ++ []) b w → ReadsInput line last Knows command old new bytes b w
+  last-line command old new bytes b w one some read = record {
     events = read.events;
     say = without-feed one-reading-of-line bytes read.events one some read.say;
     run_is = read.run_is;
@@ -237,19 +286,20 @@ module _ (one-reading-of-line : OneReadingOfLine) (one_entry : OneEntry) {F : Ty
   pub leads-line : (old new : Report F) (begun begun_then end bytes : List ℕ) (b w : Option (List ℕ)) → bytes ≡ begun ++ end → begun_then ≡ [] → IsOneLine bytes
       → ReadsLine line last Knows old new bytes b w → LeadsTo line last Knows old new begun begun_then (with_feed end) b w
   leads-line old new begun begun_then end bytes b w is none one read = record {
-    reads = λ rest last_one v others. subst (λ l. ReadsInput line last Knows old last_one l b v) (line-rest begun end bytes rest is)
-        (input-line line last Knows old new last_one bytes rest b w v one read
-        (subst (λ l. ReadsInput line last Knows new last_one (l ++ rest) w v) none others));
-    starts = λ rest v starts. subst (λ l. ReadsStart line old l b v) (line-rest begun end bytes rest is)
-        (input-line-then old new bytes rest b w v one read (subst (λ l. ReadsStart line new (l ++ rest) w v) none starts));
+    reads = λ command rest last_one v others. subst (λ l. ReadsInput line last Knows command old last_one l b v) (line-rest begun end bytes rest is)
+        (input-line line last Knows command old new last_one bytes rest b w v one read
+        (subst (λ l. ReadsInput line last Knows command new last_one (l ++ rest) w v) none others));
+    starts = λ command rest v starts. subst (λ l. ReadsStart command line old l b v) (line-rest begun end bytes rest is)
+        (input-line-then command old new bytes rest b w v one read (subst (λ l. ReadsStart command line new (l ++ rest) w v) none starts));
   }
 
   -- bytes that are a last line
   pub ends-line : (old mid new : Report F) (bytes : List ℕ) (b m w : Option (List ℕ)) → IsOneLine bytes → 0 < length bytes
       → ReadsLine line last Knows old mid bytes b m → new ≡ mid → w ≡ m → EndsAs line last Knows old new bytes b w
   ends-line old mid new bytes b m w one some read same there = ends-at line last Knows old mid new bytes b m w same there (record {
-    reads = λ end v others. last-line old end bytes b v one some (input-line line last Knows old mid end bytes [] b m v one read others);
-    starts = λ v starts. last-start line old bytes b v one some (input-line-then old mid bytes [] b m v one read starts);
+    reads = λ command end v others. last-line command old end bytes b v one some
+        (input-line line last Knows command old mid end bytes [] b m v one read others);
+    starts = λ command v starts. last-start command line old bytes b v one some (input-line-then command old mid bytes [] b m v one read starts);
   })
 
   -- one more line

@@ -8,7 +8,7 @@ use Rattle.std.specs.Prelude.{◌==◌, All, slice_index, true}
 use Rattle.test_report_events.specs.Event.{EventView}
 use Rattle.test_report_events.specs.Laws.{OneReadingOfLine}
 use Rattle.test_report_events.specs.Line.{LineSays}
-use Rattle.test_report_engine.specs.Lines.{AreEventsOf, IsOneLine, not_empty, with_feed}
+use Rattle.test_report_engine.specs.Lines.{AreEventsOf, AreLineEvents, InputView, IsOneLine, events_after, events_before, not_empty, with_feed}
 use Rattle.test_report_engine.proofs.Lists.{zip-one}
 
 -- nothing is one line
@@ -40,7 +40,7 @@ feed-cut (a ∷ x) (b ∷ y) r s p q e =
     (cc, cut.1)
 
 -- no bytes say no events
-pub events-none : AreEventsOf [] []
+pub events-none : AreLineEvents [] []
 events-none = record {
   lines = [];
   are_lines = record {
@@ -54,8 +54,8 @@ events-none = record {
 }
 
 -- a line with its line feed, before other lines
-pub events-line : (line rest : List ℕ) (e : List EventView) (es : List (List EventView)) → IsOneLine line → LineSays line e → AreEventsOf rest es
-    → AreEventsOf (with_feed line ++ rest) (e ∷ es)
+pub events-line : (line rest : List ℕ) (e : List EventView) (es : List (List EventView)) → IsOneLine line → LineSays line e → AreLineEvents rest es
+    → AreLineEvents (with_feed line ++ rest) (e ∷ es)
 events-line line rest e es one says others =
     let are = others.are_lines in
     record {
@@ -76,7 +76,7 @@ pub record LineFirst (line rest : List ℕ) (events : List (List EventView)) : T
   pub others : List (List EventView)
   pub is : events ≡ own ∷ others
   pub says : LineSays line own
-  pub say : AreEventsOf rest others
+  pub say : AreLineEvents rest others
 
 cut-at : (line rest : List ℕ) (ended : List (List ℕ)) (last : List ℕ) (lines : List (List ℕ)) (events : List (List EventView)) → IsOneLine line
     → with_feed line ++ rest ≡ flat_map with_feed ended ++ last → All IsOneLine (ended ++ last ∷ []) → lines ≡ ended ++ not_empty last
@@ -107,7 +107,7 @@ cut-at line rest (l ∷ ls) last lines (e ∷ es) one is each lines_are say =
       };
     }
 
-pub events-cut : (line rest : List ℕ) (events : List (List EventView)) → IsOneLine line → AreEventsOf (with_feed line ++ rest) events
+pub events-cut : (line rest : List ℕ) (events : List (List EventView)) → IsOneLine line → AreLineEvents (with_feed line ++ rest) events
     → LineFirst line rest events
 events-cut line rest events one are =
     let a = are.are_lines in
@@ -122,7 +122,7 @@ last-at line (l ∷ ls) last lines events one is lines_are say =
     absurd (feed-none line l (flat_map with_feed ls ++ last) one
     (is ∙ append_assoc (with_feed l) (flat_map with_feed ls) last ∙ append_assoc l (10 ∷ []) (flat_map with_feed ls ++ last)))
 
-events-last : (line : List ℕ) (events : List (List EventView)) → IsOneLine line → AreEventsOf line events → AllZip LineSays (not_empty line) events
+events-last : (line : List ℕ) (events : List (List EventView)) → IsOneLine line → AreLineEvents line events → AllZip LineSays (not_empty line) events
 events-last line events one are =
     let a = are.are_lines in
     last-at line a.ended a.last are.lines events one a.is a.lines_are are.say
@@ -131,26 +131,32 @@ module _ (one-reading-of-line : OneReadingOfLine) where
   -- bytes say one list of events
   one-at : (input : List ℕ) (ended : List (List ℕ)) (last : List ℕ) (lines : List (List ℕ)) (a b : List (List EventView))
       → input ≡ flat_map with_feed ended ++ last → All IsOneLine (ended ++ last ∷ []) → lines ≡ ended ++ not_empty last
-      → AllZip LineSays lines a → AreEventsOf input b → a ≡ b
+      → AllZip LineSays lines a → AreLineEvents input b → a ≡ b
   one-at input [] last lines a b is each lines_are say other =
       let one = All-head IsOneLine last [] each in
       zip-one LineSays one-reading-of-line (not_empty last) a b (subst (λ x. AllZip LineSays x a) lines_are say)
-      (events-last last b one (subst (λ x. AreEventsOf x b) is other))
+      (events-last last b one (subst (λ x. AreLineEvents x b) is other))
   one-at input (l ∷ ls) last lines [] b is each lines_are say other = absurd (subst (λ x. AllZip LineSays x []) lines_are say)
   one-at input (l ∷ ls) last lines (e ∷ es) b is each lines_are say other =
       let behind : List ℕ = flat_map with_feed ls ++ last in
       let zip : AllZip LineSays (l ∷ (ls ++ not_empty last)) (e ∷ es) = subst (λ x. AllZip LineSays x (e ∷ es)) lines_are say in
       let first = events-cut l behind b (All-head IsOneLine l (ls ++ last ∷ []) each)
-      (subst (λ x. AreEventsOf x b) (is ∙ append_assoc (with_feed l) (flat_map with_feed ls) last) other) in
+      (subst (λ x. AreLineEvents x b) (is ∙ append_assoc (with_feed l) (flat_map with_feed ls) last) other) in
       let here : e ≡ first.own = one-reading-of-line l e first.own zip.0 first.says in
       let more : es ≡ first.others =
       one-at behind ls last (ls ++ not_empty last) es first.others refl (All-tail IsOneLine l (ls ++ last ∷ []) each) refl zip.1 first.say in
       cc first.is
 
-  pub one-events : (input : List ℕ) (a b : List (List EventView)) → AreEventsOf input a → AreEventsOf input b → a ≡ b
+  pub one-events : (input : List ℕ) (a b : List (List EventView)) → AreLineEvents input a → AreLineEvents input b → a ≡ b
   one-events input a b p q =
       let are = p.are_lines in
       one-at input are.ended are.last p.lines a b are.is are.one_line are.lines_are p.say q
+
+  -- an input has one list of events
+  pub one-input : (input : InputView) (a b : List (List EventView)) → AreEventsOf input a → AreEventsOf input b → a ≡ b
+  one-input input a b p q =
+      let same : p.own ≡ q.own = one-events input.bytes p.own q.own p.say q.say in
+      p.are ∙ ap (λ own. events_before input.command ++ (own ++ events_after input.command)) same ∙ sym q.are
 
 -- a line that is not empty is one
 pub not_empty-one : (line : List ℕ) → 0 < length line → not_empty line ≡ line ∷ []
@@ -158,19 +164,19 @@ not_empty-one [] some = absurd (omega arith)
 not_empty-one (b ∷ bs) some = refl
 
 -- a last line says the same with a line feed and without it
-pub with-feed : (line : List ℕ) (events : List (List EventView)) → IsOneLine line → 0 < length line → AreEventsOf line events
-    → AreEventsOf (with_feed line ++ []) events
+pub with-feed : (line : List ℕ) (events : List (List EventView)) → IsOneLine line → 0 < length line → AreLineEvents line events
+    → AreLineEvents (with_feed line ++ []) events
 with-feed line events one some are =
     feed events (subst (λ x. AllZip LineSays x events) (not_empty-one line some) (events-last line events one are))
   where
-    feed : (es : List (List EventView)) → AllZip LineSays (line ∷ []) es → AreEventsOf (with_feed line ++ []) es
+    feed : (es : List (List EventView)) → AllZip LineSays (line ∷ []) es → AreLineEvents (with_feed line ++ []) es
     feed [] zip = absurd zip
     feed (e ∷ []) zip = events-line line [] e [] one zip.0 events-none
     feed (e ∷ (f ∷ es)) zip = absurd zip.1
 
 module _ (one-reading-of-line : OneReadingOfLine) where
-  pub without-feed : (line : List ℕ) (events : List (List EventView)) → IsOneLine line → 0 < length line → AreEventsOf (with_feed line ++ []) events
-      → AreEventsOf line events
+  pub without-feed : (line : List ℕ) (events : List (List EventView)) → IsOneLine line → 0 < length line → AreLineEvents (with_feed line ++ []) events
+      → AreLineEvents line events
   without-feed line events one some are =
       let first = events-cut line [] events one are in
       let others : first.others ≡ [] = one-events one-reading-of-line [] first.others [] first.say events-none in

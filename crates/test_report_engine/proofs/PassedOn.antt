@@ -8,21 +8,21 @@ use Rattle.std.specs.Io.KnownBytes.{Consumes, IsAtEnd}
 use Rattle.std.specs.List.{concat, flat_map}
 use Rattle.std.specs.Prelude.{◌==◌, All, Bool, false, slice_index, true}
 use Rattle.program_io.specs.Transfer.{AppendsStart}
-use Rattle.test_report_events.specs.Event.{EventView}
+use Rattle.test_report_events.specs.Event.{CommandView, EventView}
 use Rattle.test_report_events.specs.Laws.{OneReadingOfLine}
 use Rattle.test_report_events.specs.Line.{LineSays, RestOf}
 use Rattle.test_report_forms.specs.Entry.{EntryView}
 use Rattle.test_report_forms.specs.Laws.{OneEntry}
 use Rattle.test_report_run.specs.declared.note.RunEnd.{RunEnd}
 use Rattle.test_report_engine.specs.Lines.{AreLines, IsOneLine, not_empty, with_feed}
-use Rattle.test_report_engine.specs.Others.{Gets, GetsBytes, GetsInput, GetsOthers, GetsPiece, GetsStart, IsOther, SinkState, other_text}
+use Rattle.test_report_engine.specs.Others.{Gets, GetsAnyStart, GetsBytes, GetsInput, GetsOthers, GetsPiece, GetsStart, IsOther, SinkState, other_text}
 use Rattle.test_report_engine.specs.Reading.{AppendsLinesStart, ReadsLine, ReadsStart}
 use Rattle.test_report_engine.specs.Report.{line_notes, run_of}
 use Rattle.test_report_engine.specs.declared.report.Report.{Report}
 use Rattle.test_report_engine.proofs.Inputs.{input-line-start, input-line-then, input-none, line-rest}
 use Rattle.test_report_engine.proofs.Lines.{divided-at, empty-line, feedless-front, joined, not_empty-one}
 use Rattle.test_report_engine.proofs.Lists.{zip-append}
-use Rattle.test_report_engine.proofs.Reports.{nothing-left}
+use Rattle.test_report_engine.proofs.Reports.{left-none, nothing-left}
 
 -- the bytes of a line that are no event are in the line
 pub rest-within : (line : List ℕ) (size : ℕ) → RestOf line (Some size) → size ≤ length line
@@ -164,10 +164,11 @@ feeds-more lines line = flat_map-append with_feed lines (line ∷ [])
 
 module _ {F : Type 0} (line : F → EntryView → List ℕ) where
   -- the first lines of an input were passed on
-  start-at : (old : Report F) (input rest : List ℕ) (ended : List (List ℕ)) (s t : SinkState) (b w : Option (List ℕ)) → All IsOneLine ended
-      → input ≡ flat_map with_feed ended ++ rest → GetsOthers ended s t → ReadsStart line old (flat_map with_feed ended) b w
-      → GetsStart line old input s t b w
-  start-at old input rest ended s t b w one is gets written =
+  start-at : (command : Option CommandView) (old : Report F) (input rest : List ℕ) (ended : List (List ℕ)) (s t : SinkState) (b w : Option (List ℕ))
+      → All IsOneLine ended
+      → input ≡ flat_map with_feed ended ++ rest → GetsOthers ended s t → ReadsStart command line old (flat_map with_feed ended) b w
+      → GetsStart command line old input s t b w
+  start-at command old input rest ended s t b w one is gets written =
       let others = lines-exist rest in
       record {
         first = ended;
@@ -178,13 +179,15 @@ module _ {F : Type 0} (line : F → EntryView → List ℕ) where
       }
 
   -- nothing was passed on or written
-  pub start-none : (old : Report F) (input : List ℕ) (s : SinkState) (b : Option (List ℕ)) → GetsStart line old input s s b b
-  start-none old input s b = start-at old input input [] s s b b (All-nil IsOneLine) refl (others-none s) (input-none line old [] b)
+  pub start-none : (command : Option CommandView) (old : Report F) (input : List ℕ) (s : SinkState) (b : Option (List ℕ))
+      → GetsStart command line old input s s b b
+  start-none command old input s b =
+      start-at command old input input [] s s b b (All-nil IsOneLine) refl (others-none s) (input-none command line old [] b)
 
   pub rest-start-none : (old : Report F) (x : List ℕ) (m : Option (List ℕ)) (s : SinkState) (b : Option (List ℕ))
-      → IfSome m (λ rest. GetsStart line old (x ++ rest) s s b b)
+      → IfSome m (λ rest. GetsAnyStart line old x rest s s b b)
   rest-start-none old x None s b = tt
-  rest-start-none old x (Some rest) s b = start-none old (x ++ rest) s b
+  rest-start-none old x (Some rest) s b = λ command over. start-none command old (x ++ rest) s b
 
   -- no bytes
   pub bytes-none : (old : Report F) (begun : List ℕ) (s : SinkState) (b : Option (List ℕ)) → GetsBytes line old old begun begun [] s s b b
@@ -193,7 +196,7 @@ module _ {F : Type 0} (line : F → EntryView → List ℕ) where
     one_line = All-nil IsOneLine;
     are = append-nil begun;
     gets = others-none s;
-    written = λ rest end starts. starts;
+    written = λ command rest end starts. starts;
   }
 
   -- bytes, and then others
@@ -208,9 +211,9 @@ module _ {F : Type 0} (line : F → EntryView → List ℕ) where
         are = sym (append_assoc x p q) ∙ ap (λ l. l ++ q) first.are ∙ append_assoc fs y q ∙ ap (λ l. fs ++ l) then.are ∙ sym (append_assoc fs ts z)
             ∙ ap (λ l. l ++ z) (sym (flat_map-append with_feed first.ended then.ended));
         gets = others-then first.ended then.ended s t u first.gets then.gets;
-        written = λ rest end starts. subst (λ l. ReadsStart line old l b end)
+        written = λ command rest end starts. subst (λ l. ReadsStart command line old l b end)
             (sym (append_assoc fs ts rest) ∙ ap (λ l. l ++ rest) (sym (flat_map-append with_feed first.ended then.ended)))
-            (first.written (ts ++ rest) end (then.written rest end starts));
+            (first.written command (ts ++ rest) end (then.written command rest end starts));
       }
 
   -- more of a line
@@ -226,45 +229,47 @@ module _ {F : Type 0} (line : F → EntryView → List ℕ) where
   }
 
   -- bytes were taken, and then nothing more was passed on or written
-  pub bytes-stop : (old mid : Report F) (x y bytes rest : List ℕ) (s t : SinkState) (b m : Option (List ℕ)) → GetsBytes line old mid x y bytes s t b m
-      → GetsStart line old (x ++ (bytes ++ rest)) s t b m
-  bytes-stop old mid x y bytes rest s t b m takes =
+  pub bytes-stop : (command : Option CommandView) (old mid : Report F) (x y bytes rest : List ℕ) (s t : SinkState) (b m : Option (List ℕ))
+      → GetsBytes line old mid x y bytes s t b m → GetsStart command line old (x ++ (bytes ++ rest)) s t b m
+  bytes-stop command old mid x y bytes rest s t b m takes =
       let fs : List ℕ = flat_map with_feed takes.ended in
-      start-at old (x ++ (bytes ++ rest)) (y ++ rest) takes.ended s t b m takes.one_line
+      start-at command old (x ++ (bytes ++ rest)) (y ++ rest) takes.ended s t b m takes.one_line
       (sym (append_assoc x bytes rest) ∙ ap (λ l. l ++ rest) takes.are ∙ append_assoc fs y rest) takes.gets
-      (subst (λ l. ReadsStart line old l b m) (append-nil fs) (takes.written [] m (input-none line mid [] m)))
+      (subst (λ l. ReadsStart command line old l b m) (append-nil fs) (takes.written command [] m (input-none command line mid [] m)))
 
   -- bytes were taken, and then a line was passed on, of which a beginning was written
-  pub bytes-line-stop : (old mid : Report F) (x y bytes rest next after : List ℕ) (s t u : SinkState) (b m w : Option (List ℕ))
+  pub bytes-line-stop : (command : Option CommandView) (old mid : Report F) (x y bytes rest next after : List ℕ) (s t u : SinkState)
+      (b m w : Option (List ℕ))
       → GetsBytes line old mid x y bytes s t b m → IsOneLine next → y ++ rest ≡ with_feed next ++ after → GetsOthers (next ∷ []) t u
       → ((es : List EventView) → LineSays next es → AppendsLinesStart (line mid.form) (line_notes (run_of mid.run) es) m w)
-      → GetsStart line old (x ++ (bytes ++ rest)) s u b w
-  bytes-line-stop old mid x y bytes rest next after s t u b m w takes one is gets starts =
+      → GetsStart command line old (x ++ (bytes ++ rest)) s u b w
+  bytes-line-stop command old mid x y bytes rest next after s t u b m w takes one is gets starts =
       let fs : List ℕ = flat_map with_feed takes.ended in
       let feeds = feeds-more takes.ended next in
       let all : fs ++ (with_feed next ++ after) ≡ flat_map with_feed (takes.ended ++ next ∷ []) ++ after =
       ap (λ l. fs ++ (l ++ after)) (sym (append-nil (with_feed next))) ∙ sym (append_assoc fs (with_feed next ++ []) after)
       ∙ ap (λ l. l ++ after) (sym feeds) in
-      start-at old (x ++ (bytes ++ rest)) after (takes.ended ++ next ∷ []) s u b w
+      start-at command old (x ++ (bytes ++ rest)) after (takes.ended ++ next ∷ []) s u b w
       (All-append IsOneLine takes.ended (next ∷ []) takes.one_line (one-lines next one))
       (sym (append_assoc x bytes rest) ∙ ap (λ l. l ++ rest) takes.are ∙ append_assoc fs y rest ∙ ap (λ l. fs ++ l) is ∙ all)
       (others-then takes.ended (next ∷ []) s t u takes.gets gets)
-      (subst (λ l. ReadsStart line old l b w) (sym feeds)
-      (takes.written (with_feed next ++ []) w (input-line-start line mid next [] m w one starts)))
+      (subst (λ l. ReadsStart command line old l b w) (sym feeds)
+      (takes.written command (with_feed next ++ []) w (input-line-start command line mid next [] m w one starts)))
 
   -- a line was passed on, or nothing, and a beginning of what it makes known was written
-  pub last-stop : (old : Report F) (bytes : List ℕ) (s t : SinkState) (b w : Option (List ℕ)) → IsOneLine bytes → 0 < length bytes
-      → ((t ≡ s) × (w ≡ b)) ⊎ GetsOthers (bytes ∷ []) s t
+  pub last-stop : (command : Option CommandView) (old : Report F) (bytes : List ℕ) (s t : SinkState) (b w : Option (List ℕ)) → IsOneLine bytes
+      → 0 < length bytes → ((t ≡ s) × (w ≡ b)) ⊎ GetsOthers (bytes ∷ []) s t
       → ((es : List EventView) → LineSays bytes es → AppendsLinesStart (line old.form) (line_notes (run_of old.run) es) b w)
-      → GetsStart line old bytes s t b w
-  last-stop old bytes s t b w one some (inl (same, none)) starts =
-      subst (λ u. GetsStart line old bytes s u b w) (sym same) (subst (GetsStart line old bytes s s b) (sym none) (start-none old bytes s b))
-  last-stop old bytes s t b w one some (inr gets) starts = record {
+      → GetsStart command line old bytes s t b w
+  last-stop command old bytes s t b w one some (inl (same, none)) starts =
+      subst (λ u. GetsStart command line old bytes s u b w) (sym same)
+      (subst (GetsStart command line old bytes s s b) (sym none) (start-none command old bytes s b))
+  last-stop command old bytes s t b w one some (inr gets) starts = record {
     first = bytes ∷ [];
     others = [];
     are_lines = subst (AreLines bytes) (not_empty-one bytes some) (lines-last bytes one);
     gets = gets;
-    written = input-line-start line old bytes [] b w one starts;
+    written = input-line-start command line old bytes [] b w one starts;
   }
 
   -- what of the bytes at the end of an input is no event was passed on, and what they make known was written
@@ -272,7 +277,8 @@ module _ {F : Type 0} (line : F → EntryView → List ℕ) where
     pub lines : List (List ℕ)
     pub are_lines : AreLines bytes lines
     pub gets : GetsOthers lines s t
-    pub written : (v : Option (List ℕ)) → ReadsStart line new [] w v → ReadsStart line old (flat_map with_feed lines) b v
+    pub written : (command : Option CommandView) (v : Option (List ℕ)) → ReadsStart command line new [] w v
+        → ReadsStart command line old (flat_map with_feed lines) b v
 
   ends-gets-at : (old mid new : Report F) (bytes : List ℕ) (s t u : SinkState) (b m w : Option (List ℕ)) → new ≡ mid → u ≡ t → w ≡ m
       → EndsGets old mid bytes s t b m → EndsGets old new bytes s u b w
@@ -287,19 +293,19 @@ module _ {F : Type 0} (line : F → EntryView → List ℕ) where
     lines = [];
     are_lines = lines-last [] empty-line;
     gets = others-none s;
-    written = λ v starts. starts;
+    written = λ command v starts. starts;
   })
   ends-gets-none old new (x ∷ xs) s t b w none same state there = absurd (omega arith)
 
   -- the whole input was passed on
-  pub ends-stop : (old new : Report F) (bytes : List ℕ) (s t : SinkState) (b w v : Option (List ℕ)) → EndsGets old new bytes s t b w
-      → ReadsStart line new [] w v → GetsStart line old bytes s t b v
-  ends-stop old new bytes s t b w v ends starts = record {
+  pub ends-stop : (command : Option CommandView) (old new : Report F) (bytes : List ℕ) (s t : SinkState) (b w v : Option (List ℕ))
+      → EndsGets old new bytes s t b w → ReadsStart command line new [] w v → GetsStart command line old bytes s t b v
+  ends-stop command old new bytes s t b w v ends starts = record {
     first = ends.lines;
     others = [];
     are_lines = subst (AreLines bytes) (sym (append-nil ends.lines)) ends.are_lines;
     gets = ends.gets;
-    written = ends.written v starts;
+    written = ends.written command v starts;
   }
 
   pub ends-input : (old new : Report F) (bytes : List ℕ) (s t : SinkState) (b w : Option (List ℕ)) → EndsGets old new bytes s t b w → GetsInput bytes s t
@@ -322,31 +328,32 @@ module _ {F : Type 0} (line : F → EntryView → List ℕ) where
       subst (λ l. GetsBytes line old new x z l s t b w) (sym front.are) (bytes-begun old new x y z front.done rest s t b w front.gets is)
 
   -- nothing more was passed on or written
-  pub front-stop : (old mid : Report F) (x y bytes rest after : List ℕ) (s t : SinkState) (b m : Option (List ℕ)) → GetsFront old mid x y bytes rest s t b m
-      → GetsStart line old (x ++ (bytes ++ after)) s t b m
-  front-stop old mid x y bytes rest after s t b m front =
-      subst (λ l. GetsStart line old (x ++ l) s t b m) (sym (ap (λ l. l ++ after) front.are ∙ append_assoc front.done rest after))
-      (bytes-stop old mid x y front.done (rest ++ after) s t b m front.gets)
+  pub front-stop : (command : Option CommandView) (old mid : Report F) (x y bytes rest after : List ℕ) (s t : SinkState) (b m : Option (List ℕ))
+      → GetsFront old mid x y bytes rest s t b m → GetsStart command line old (x ++ (bytes ++ after)) s t b m
+  front-stop command old mid x y bytes rest after s t b m front =
+      subst (λ l. GetsStart command line old (x ++ l) s t b m) (sym (ap (λ l. l ++ after) front.are ∙ append_assoc front.done rest after))
+      (bytes-stop command old mid x y front.done (rest ++ after) s t b m front.gets)
 
   -- of the next line nothing more was passed on or written, or it was passed on and a beginning of what it makes known was written
-  pub front-line-stop : (old mid : Report F) (x y next bytes rest front back after : List ℕ) (s t u : SinkState) (b m w : Option (List ℕ)) (at : ℕ)
+  pub front-line-stop : (command : Option CommandView) (old mid : Report F) (x y next bytes rest front back after : List ℕ) (s t u : SinkState)
+      (b m w : Option (List ℕ)) (at : ℕ)
       → GetsFront old mid x y bytes rest s t b m → IsOneLine y
       → front ≡ take at rest → back ≡ drop at rest → at < length rest
       → ((k : ℕ) → k < at → ¬ ((slice_index rest k == 10) ≡ true)) → (slice_index rest at == 10) ≡ true
       → next ≡ y ++ front → ((u ≡ t) × (w ≡ m)) ⊎ GetsOthers (next ∷ []) t u
       → ((es : List EventView) → LineSays next es → AppendsLinesStart (line mid.form) (line_notes (run_of mid.run) es) m w)
-      → GetsStart line old (x ++ (bytes ++ after)) s u b w
-  front-line-stop old mid x y next bytes rest front back after s t u b m w at gone one is_front is_back within before feed is (inl (same, none)) starts =
-      subst (λ n. GetsStart line old (x ++ (bytes ++ after)) s n b w) (sym same)
-      (subst (GetsStart line old (x ++ (bytes ++ after)) s t b) (sym none) (front-stop old mid x y bytes rest after s t b m gone))
-  front-line-stop old mid x y next bytes rest front back after s t u b m w at gone one is_front is_back within before feed is (inr gets) starts =
+      → GetsStart command line old (x ++ (bytes ++ after)) s u b w
+  front-line-stop command old mid x y next bytes rest front back after s t u b m w at gone one cut rest_is within all feed is (inl (same, none)) starts =
+      subst (λ n. GetsStart command line old (x ++ (bytes ++ after)) s n b w) (sym same)
+      (subst (GetsStart command line old (x ++ (bytes ++ after)) s t b) (sym none) (front-stop command old mid x y bytes rest after s t b m gone))
+  front-line-stop command old mid x y next bytes rest front back after s t u b m w at gone one is_front is_back within before feed is (inr gets) starts =
       let line_one : IsOneLine next = subst IsOneLine (sym is) (joined y front one (feedless-front rest front at is_front within before)) in
       let then : List ℕ = take (length back - 1) (drop 1 back) in
       let cut : rest ≡ with_feed front ++ then = divided-at rest front back at is_front is_back within feed in
       let whole : with_feed next ++ (then ++ after) ≡ y ++ (rest ++ after) = line-rest y front next (then ++ after) is
       ∙ ap (λ l. y ++ l) (sym (append_assoc (with_feed front) then after) ∙ ap (λ l. l ++ after) (sym cut)) in
-      subst (λ l. GetsStart line old (x ++ l) s u b w) (sym (ap (λ l. l ++ after) gone.are ∙ append_assoc gone.done rest after))
-      (bytes-line-stop old mid x y gone.done (rest ++ after) next (then ++ after) s t u b m w gone.gets line_one (sym whole) gets starts)
+      subst (λ l. GetsStart command line old (x ++ l) s u b w) (sym (ap (λ l. l ++ after) gone.are ∙ append_assoc gone.done rest after))
+      (bytes-line-stop command old mid x y gone.done (rest ++ after) next (then ++ after) s t u b m w gone.gets line_one (sym whole) gets starts)
 
   -- pieces, and one more
   pub gets-more : (old mid new : Report F) (x y : List ℕ) (a m n : Option (List ℕ)) (s t u : SinkState) (b v w : Option (List ℕ))
@@ -373,12 +380,13 @@ module _ {F : Type 0} (line : F → EntryView → List ℕ) where
 
   -- pieces, and a beginning of the rest
   pub gets-stop : (old mid : Report F) (x : List ℕ) (a m : Option (List ℕ)) (s t u : SinkState) (b v w : Option (List ℕ))
-      → GetsPiece line old mid [] x a m s t b v → IfSome m (λ rest. GetsStart line mid (x ++ rest) t u v w)
-      → IfSome a (λ input. GetsStart line old input s u b w)
-  gets-stop old mid x None m s t u b v w pieces rest = tt
-  gets-stop old mid x (Some input) None s t u b v w pieces rest = absurd pieces.1
-  gets-stop old mid x (Some input) (Some left) s t u b v w pieces rest =
+      → GetsPiece line old mid [] x a m s t b v → IfSome m (λ rest. GetsAnyStart line mid x rest t u v w)
+      → IfSome a (λ input. GetsStart None line old input s u b w)
+  gets-stop old mid x None m s t u b v w pieces starts = tt
+  gets-stop old mid x (Some input) None s t u b v w pieces starts = absurd pieces.1
+  gets-stop old mid x (Some input) (Some left) s t u b v w pieces starts =
       let takes = pieces.2 in
+      let rest = starts None (λ over. refl) in
       let fs : List ℕ = flat_map with_feed takes.ended in
       let is : fs ++ (x ++ left) ≡ input = sym (append_assoc fs x left) ∙ ap (λ l. l ++ left) (sym takes.are) ∙ sym pieces.1 in
       record {
@@ -390,8 +398,8 @@ module _ {F : Type 0} (line : F → EntryView → List ℕ) where
             (lines-then takes.ended (x ++ left) (rest.first ++ rest.others) takes.one_line rest.are_lines));
         gets = others-then takes.ended rest.first s t u takes.gets rest.gets;
         written =
-            subst (λ l. ReadsStart line old l b w) (sym (flat_map-append with_feed takes.ended rest.first))
-            (takes.written (flat_map with_feed rest.first) w rest.written);
+            subst (λ l. ReadsStart None line old l b w) (sym (flat_map-append with_feed takes.ended rest.first))
+            (takes.written None (flat_map with_feed rest.first) w rest.written);
       }
 
 module _ (one-reading-of-line : OneReadingOfLine) (one_entry : OneEntry) {F : Type 0} (line : F → EntryView → List ℕ)
@@ -404,7 +412,7 @@ module _ (one-reading-of-line : OneReadingOfLine) (one_entry : OneEntry) {F : Ty
     lines = bytes ∷ [];
     are_lines = subst (AreLines bytes) (not_empty-one bytes some) (lines-last bytes one);
     gets = gets;
-    written = λ v starts. input-line-then one-reading-of-line one_entry line last Knows old mid bytes [] b m v one read starts;
+    written = λ command v starts. input-line-then one-reading-of-line one_entry line last Knows command old mid bytes [] b m v one read starts;
   })
 
   -- the end of a line
@@ -417,8 +425,8 @@ module _ (one-reading-of-line : OneReadingOfLine) (one_entry : OneEntry) {F : Ty
     are = ap (λ l. begun ++ l) (sym (append-nil (with_feed end))) ∙ sym (line-rest begun end next [] is) ∙ sym (append-nil (with_feed next ++ []))
         ∙ ap (λ l. (with_feed next ++ []) ++ l) (sym none);
     gets = gets;
-    written = λ rest v starts. subst (λ l. ReadsStart line old l b v) (ap (λ l. l ++ rest) (sym (append-nil (with_feed next))))
-        (input-line-then one-reading-of-line one_entry line last Knows old new next rest b w v one read starts);
+    written = λ command rest v starts. subst (λ l. ReadsStart command line old l b v) (ap (λ l. l ++ rest) (sym (append-nil (with_feed next))))
+        (input-line-then one-reading-of-line one_entry line last Knows command old new next rest b w v one read starts);
   }
 
   -- one more line
@@ -440,15 +448,28 @@ module _ (one-reading-of-line : OneReadingOfLine) (one_entry : OneEntry) {F : Ty
             (line-gets mid new y z front next t u m w is none line_one read gets);
       }
 
--- a fact of what is left of an input, by the bytes that were read next
-pub rest-after : (P : List ℕ → Type 0) (x y bytes : List ℕ) (m n : Option (List ℕ)) → y ≡ x → Consumes m n bytes
-    → ((rest : List ℕ) → P (y ++ (bytes ++ rest))) → IfSome m (λ rest. P (x ++ rest))
-rest-after P x y bytes None n same consumed holds = tt
-rest-after P x y bytes (Some xs) None same consumed holds = absurd consumed
-rest-after P x y bytes (Some xs) (Some ys) same consumed holds =
-    subst P (ap (λ l. l ++ (bytes ++ ys)) same ∙ ap (λ l. x ++ l) (sym consumed)) (holds ys)
+-- a beginning of what the next bytes pass on
+pub rest-gets : {F : Type 0} (line : F → EntryView → List ℕ) (old : Report F) (x y bytes : List ℕ) (m n : Option (List ℕ)) (s t : SinkState)
+    (v w : Option (List ℕ)) → y ≡ x → Consumes m n bytes
+    → ((command : Option CommandView) (rest : List ℕ) → GetsStart command line old (y ++ (bytes ++ rest)) s t v w)
+    → IfSome m (λ rest. GetsAnyStart line old x rest s t v w)
+rest-gets line old x y bytes None n s t v w same consumed starts = tt
+rest-gets line old x y bytes (Some xs) None s t v w same consumed starts = absurd consumed
+rest-gets line old x y bytes (Some xs) (Some ys) s t v w same consumed starts =
+    λ command over. subst (λ l. GetsStart command line old l s t v w) (ap (λ l. l ++ (bytes ++ ys)) same ∙ ap (λ l. x ++ l) (sym consumed))
+    (starts command ys)
 
--- the same at the end of the input
+-- a beginning of what the end of an input passes on
+pub rest-end-gets : {F : Type 0} (line : F → EntryView → List ℕ) (old : Report F) (x y : List ℕ) (k : ℕ) (bytes : List ℕ) (m n : Option (List ℕ))
+    (s t : SinkState) (v w : Option (List ℕ)) → Consumes m n (take k bytes) → k ≡ 0 → IsAtEnd n → y ≡ x → GetsStart None line old y s t v w
+    → IfSome m (λ rest. GetsAnyStart line old x rest s t v w)
+rest-end-gets line old x y k bytes None n s t v w consumed none end same starts = tt
+rest-end-gets line old x y k bytes (Some xs) None s t v w consumed none end same starts = absurd consumed
+rest-end-gets line old x y k bytes (Some xs) (Some ys) s t v w consumed none end same starts =
+    λ command over. subst (λ o. GetsStart o line old (x ++ xs) s t v w) (sym (over (left-none xs ys k bytes consumed none end)))
+    (subst (λ l. GetsStart None line old l s t v w) (nothing-left x y xs ys k bytes consumed none end same) starts)
+
+-- a fact of what is left at the end of an input
 pub rest-end : (P : List ℕ → Type 0) (x y : List ℕ) (k : ℕ) (bytes : List ℕ) (m n : Option (List ℕ)) → Consumes m n (take k bytes) → k ≡ 0 → IsAtEnd n
     → y ≡ x → P y → IfSome m (λ rest. P (x ++ rest))
 rest-end P x y k bytes None n consumed none end same holds = tt

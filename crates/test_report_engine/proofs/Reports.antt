@@ -6,7 +6,7 @@ use Rattle.std.proofs.lemmas.List.Concat.{flat_map-append}
 use Rattle.std.specs.Io.KnownBytes.{Appends, Consumes, IsAtEnd}
 use Rattle.std.specs.List.{AllZip, flat_map}
 use Rattle.program_io.specs.Transfer.{AppendsStart}
-use Rattle.test_report_events.specs.Event.{EventView}
+use Rattle.test_report_events.specs.Event.{CommandStarts, CommandView, EventView}
 use Rattle.test_report_events.specs.Laws.{OneReadingOfLine}
 use Rattle.test_report_forms.specs.Entry.{EntryView, IsEntryOf}
 use Rattle.test_report_forms.specs.Files.{FilesKnow, FilesSay}
@@ -14,16 +14,17 @@ use Rattle.test_report_forms.specs.Laws.{OneEntry}
 use Rattle.test_report_forms.specs.declared.files.FileForms.{FileForms}
 use Rattle.test_report_forms.specs.declared.files.FileTexts.{FileTexts}
 use Rattle.test_report_run.specs.Note.{NoteView}
-use Rattle.test_report_run.specs.Run.{RunState, end_of, run_start, run_state}
+use Rattle.test_report_run.specs.Run.{RunState, after, end_of, run_start, run_state}
 use Rattle.test_report_run.specs.declared.note.RunEnd.{RunEnd}
 use Rattle.test_report_run.specs.declared.run.TestRun.{TestRun}
-use Rattle.test_report_engine.specs.Lines.{AreEventsOf}
-use Rattle.test_report_engine.specs.Reading.{BreaksOff, BreaksOffEnd, FilesHaveRead, Finishes, HasRead, ReadsInput, ReadsOneMore, ReadsPiece, ReadsSome, ReadsStart, piece_size}
+use Rattle.test_report_engine.specs.Lines.{AreEventsOf, InputView, events_after, file, output}
+use Rattle.test_report_engine.specs.Reading.{AppendsLinesStart, BreaksOff, BreaksOffEnd, FilesHaveRead, Finishes, HasRead, ReadsAnyStart, ReadsInput, ReadsOneMore, ReadsPiece, ReadsSome, ReadsStart, StartsCommand, WritesNotes, piece_size}
 use Rattle.test_report_engine.specs.Report.{AreEntriesOf, AreTexts, IsReport, notes_of_input, notes_of_inputs, run_after_input, run_after_inputs, run_of}
 use Rattle.test_report_engine.specs.declared.report.Report.{Report}
-use Rattle.test_report_engine.proofs.Inputs.{input-none, leads-then}
-use Rattle.test_report_engine.proofs.Lines.{one-events}
+use Rattle.test_report_engine.proofs.Inputs.{input-none, leads-then, start-notes, start-runs}
+use Rattle.test_report_engine.proofs.Lines.{one-input}
 use Rattle.test_report_engine.proofs.Lists.{zip-append, zip-one, zip-split}
+use Rattle.test_report_engine.proofs.Notes.{writes-from}
 
 -- the run after inputs and one more, and what they make known
 inputs-run : (r : RunState) (es : List (List (List EventView))) (e : List (List EventView))
@@ -39,7 +40,7 @@ inputs-notes r (x ∷ es) e =
     ∙ sym (append_assoc (notes_of_input r x) (notes_of_inputs (run_after_input r x) es) (notes_of_input (run_after_inputs (run_after_input r x) es) e))
 
 -- the entries of inputs and of one more
-pub entries-more : (inputs : List (List ℕ)) (input : List ℕ) (entries more : List EntryView) (r s : RunState) (events : List (List EventView))
+pub entries-more : (inputs : List InputView) (input : InputView) (entries more : List EntryView) (r s : RunState) (events : List (List EventView))
     → AreEntriesOf inputs entries r → AreEventsOf input events → AllZip IsEntryOf (notes_of_input r events) more → s ≡ run_after_input r events
     → AreEntriesOf (inputs ++ input ∷ []) (entries ++ more) s
 entries-more inputs input entries more r s events are say zip run_is =
@@ -55,7 +56,7 @@ entries-more inputs input entries more r s events are say zip run_is =
     }
 
 -- the entries of inputs and of one more, where those of the inputs are known
-pub record OneMore (input : List ℕ) (known entries : List EntryView) (r : RunState) : Type 0 where
+pub record OneMore (input : InputView) (known entries : List EntryView) (r : RunState) : Type 0 where
   pub more : List EntryView
   pub is : entries ≡ known ++ more
   pub events : List (List EventView)
@@ -64,11 +65,11 @@ pub record OneMore (input : List ℕ) (known entries : List EntryView) (r : RunS
 
 module _ (one-reading-of-line : OneReadingOfLine) (one_entry : OneEntry) where
   -- inputs tell one list of events for each
-  pub one-inputs : (inputs : List (List ℕ)) (a b : List (List (List EventView))) → AllZip AreEventsOf inputs a → AllZip AreEventsOf inputs b → a ≡ b
-  one-inputs inputs a b p q = zip-one AreEventsOf (one-events one-reading-of-line) inputs a b p q
+  pub one-inputs : (inputs : List InputView) (a b : List (List (List EventView))) → AllZip AreEventsOf inputs a → AllZip AreEventsOf inputs b → a ≡ b
+  one-inputs inputs a b p q = zip-one AreEventsOf (one-input one-reading-of-line) inputs a b p q
 
   -- inputs have at most one list of entries, and one run after them
-  pub one-entries : (inputs : List (List ℕ)) (a b : List EntryView) (r s : RunState) → AreEntriesOf inputs a r → AreEntriesOf inputs b s → (a ≡ b) × (r ≡ s)
+  pub one-entries : (inputs : List InputView) (a b : List EntryView) (r s : RunState) → AreEntriesOf inputs a r → AreEntriesOf inputs b s → (a ≡ b) × (r ≡ s)
   one-entries inputs a b r s p q =
       let same : p.events ≡ q.events = one-inputs inputs p.events q.events p.say q.say in (
         zip-one IsEntryOf one_entry (notes_of_inputs run_start p.events) a b p.are
@@ -76,7 +77,7 @@ module _ (one-reading-of-line : OneReadingOfLine) (one_entry : OneEntry) where
         p.run_is ∙ ap (run_after_inputs run_start) same ∙ sym q.run_is,
       )
 
-  more-at : (inputs : List (List ℕ)) (input : List ℕ) (known entries : List EntryView) (r : RunState) (front back : List (List (List EventView)))
+  more-at : (inputs : List InputView) (input : InputView) (known entries : List EntryView) (r : RunState) (front back : List (List (List EventView)))
       → AreEntriesOf inputs known r → AllZip AreEventsOf inputs front → AllZip AreEventsOf (input ∷ []) back
       → AllZip IsEntryOf (notes_of_inputs run_start (front ++ back)) entries → OneMore input known entries r
   more-at inputs input known entries r front [] are say last zip = absurd last
@@ -98,7 +99,7 @@ module _ (one-reading-of-line : OneReadingOfLine) (one_entry : OneEntry) where
         are = split.second;
       }
 
-  pub one-more : (inputs : List (List ℕ)) (input : List ℕ) (known entries : List EntryView) (r s : RunState) → AreEntriesOf inputs known r
+  pub one-more : (inputs : List InputView) (input : InputView) (known entries : List EntryView) (r s : RunState) → AreEntriesOf inputs known r
       → AreEntriesOf (inputs ++ input ∷ []) entries s → OneMore input known entries r
   one-more inputs input known entries r s are all =
       let split = zip-split AreEventsOf inputs (input ∷ []) all.events all.say in
@@ -106,7 +107,7 @@ module _ (one-reading-of-line : OneReadingOfLine) (one_entry : OneEntry) where
       (subst (λ es. AllZip IsEntryOf (notes_of_inputs run_start es) entries) split.is all.are)
 
   -- inputs have at most one report, and one end of the run
-  pub one-report : (line : EntryView → List ℕ) (last : List EntryView → RunEnd → List ℕ) (inputs : List (List ℕ)) (a b : List ℕ) (d e : RunEnd)
+  pub one-report : (line : EntryView → List ℕ) (last : List EntryView → RunEnd → List ℕ) (inputs : List InputView) (a b : List ℕ) (d e : RunEnd)
       → IsReport line last inputs a d → IsReport line last inputs b e → (a ≡ b) × (d ≡ e)
   one-report line last inputs a b d e p q =
       let one = one-entries inputs p.entries q.entries p.run q.run p.are q.are in
@@ -124,17 +125,20 @@ end-known : (run : TestRun) (end : RunEnd) → end ≡ end_of (run_state run) �
 unfolding run_of
 end-known run end is = is
 
+-- at the end of an input nothing is left of it
+pub left-none : (xs ys : List ℕ) (k : ℕ) (bytes : List ℕ) → xs ≡ take k bytes ++ ys → k ≡ 0 → ys ≡ [] → xs ≡ []
+left-none xs ys k bytes consumed none end = consumed ∙ (ap (λ i. take i bytes ++ ys) none ∙ end)
+
 -- what comes before the end of an input is all that is left of it
 pub nothing-left : (x y xs ys : List ℕ) (k : ℕ) (bytes : List ℕ) → xs ≡ take k bytes ++ ys → k ≡ 0 → ys ≡ [] → y ≡ x → y ≡ x ++ xs
 nothing-left x y xs ys k bytes consumed none end same =
-    let empty : xs ≡ [] = consumed ∙ (ap (λ i. take i bytes ++ ys) none ∙ end) in
-    same ∙ (sym (append-nil x) ∙ ap (λ l. x ++ l) (sym empty))
+    same ∙ (sym (append-nil x) ∙ ap (λ l. x ++ l) (sym (left-none xs ys k bytes consumed none end)))
 
 -- nothing is read of what is left
 pub rest-none : {F : Type 0} (line : F → EntryView → List ℕ) (old : Report F) (x : List ℕ) (m b : Option (List ℕ))
-    → IfSome m (λ rest. ReadsStart line old (x ++ rest) b b)
+    → IfSome m (λ rest. ReadsAnyStart line old x rest b b)
 rest-none line old x None b = tt
-rest-none line old x (Some xs) b = input-none line old (x ++ xs) b
+rest-none line old x (Some xs) b = λ command over. input-none command line old (x ++ xs) b
 
 -- at least one byte was read, and at most a piece
 pub reads-some : (k : ℕ) (bytes : List ℕ) (m n : Option (List ℕ)) → Consumes m n (take k bytes) → k ≢ 0 → k ≤ length bytes → length bytes ≤ piece_size
@@ -145,23 +149,59 @@ reads-some k bytes m n consumed some within size =
 
 -- a beginning of what the next bytes make known
 pub rest-starts : {F : Type 0} (line : F → EntryView → List ℕ) (old : Report F) (x y bytes : List ℕ) (m n v w : Option (List ℕ)) → y ≡ x → Consumes m n bytes
-    → ((rest : List ℕ) → ReadsStart line old (y ++ (bytes ++ rest)) v w) → IfSome m (λ rest. ReadsStart line old (x ++ rest) v w)
+    → ((command : Option CommandView) (rest : List ℕ) → ReadsStart command line old (y ++ (bytes ++ rest)) v w)
+    → IfSome m (λ rest. ReadsAnyStart line old x rest v w)
 rest-starts line old x y bytes None n v w same consumed starts = tt
 rest-starts line old x y bytes (Some xs) None v w same consumed starts = absurd consumed
 rest-starts line old x y bytes (Some xs) (Some ys) v w same consumed starts =
-    subst (λ l. ReadsStart line old l v w) (ap (λ l. l ++ (bytes ++ ys)) same ∙ ap (λ l. x ++ l) (sym consumed)) (starts ys)
+    λ command over. subst (λ l. ReadsStart command line old l v w) (ap (λ l. l ++ (bytes ++ ys)) same ∙ ap (λ l. x ++ l) (sym consumed))
+    (starts command ys)
 
 -- a beginning of what the end of an input makes known
 pub rest-end-starts : {F : Type 0} (line : F → EntryView → List ℕ) (old : Report F) (x y : List ℕ) (k : ℕ) (bytes : List ℕ) (m n v w : Option (List ℕ))
-    → Consumes m n (take k bytes) → k ≡ 0 → IsAtEnd n → y ≡ x → ReadsStart line old y v w → IfSome m (λ rest. ReadsStart line old (x ++ rest) v w)
+    → Consumes m n (take k bytes) → k ≡ 0 → IsAtEnd n → y ≡ x → ReadsStart None line old y v w → IfSome m (λ rest. ReadsAnyStart line old x rest v w)
 rest-end-starts line old x y k bytes None n v w consumed none end same starts = tt
 rest-end-starts line old x y k bytes (Some xs) None v w consumed none end same starts = absurd consumed
 rest-end-starts line old x y k bytes (Some xs) (Some ys) v w consumed none end same starts =
-    subst (λ l. ReadsStart line old l v w) (nothing-left x y xs ys k bytes consumed none end same) starts
+    λ command over. subst (λ o. ReadsStart o line old (x ++ xs) v w) (sym (over (left-none xs ys k bytes consumed none end)))
+    (subst (λ l. ReadsStart None line old l v w) (nothing-left x y xs ys k bytes consumed none end same) starts)
 
 module _ {F : Type 0} (line : F → EntryView → List ℕ) (last : F → List EntryView → RunEnd → List ℕ) (Knows : F → List EntryView → Type 0) where
+  -- a report took the events of an input, and what they make known was appended
+  pub record TakesInput (old new : Report F) (input : InputView) (b w : Option (List ℕ)) : Type 0 where
+    pub events : List (List EventView)
+    pub say : AreEventsOf input events
+    pub run_is : run_of new.run ≡ run_after_input (run_of old.run) events
+    pub writes : WritesNotes line last Knows old new (notes_of_input (run_of old.run) events) b w
+
+  -- those of a file
+  file-taken : (old new : Report F) (bytes : List ℕ) (b w : Option (List ℕ)) → ReadsInput line last Knows None old new bytes b w
+      → TakesInput old new (file bytes) b w
+  file-taken old new bytes b w read = record {
+    events = read.events ++ events_after None;
+    say = record { own = read.events; say = read.say; are = refl };
+    run_is = read.run_is;
+    writes = read.writes;
+  }
+
+  -- those of the output of a command, before which it was told that the command starts
+  pub output-taken : (old new : Report F) (run : TestRun) (bytes : List ℕ) (end : CommandView) (b w : Option (List ℕ))
+      → run_state run ≡ after (run_state old.run) CommandStarts
+      → ReadsInput line last Knows (Some end) (record { run = run; form = old.form; files = old.files }) new bytes b w
+      → TakesInput old new (output bytes end) b w
+  output-taken old new run bytes end b w starts read =
+      let es : List (List EventView) = read.events ++ events_after (Some end) in
+      record {
+        events = (CommandStarts ∷ []) ∷ es;
+        say = record { own = read.events; say = read.say; are = refl };
+        run_is = read.run_is ∙ ap (λ r. run_after_input r es) (start-runs old.run run starts);
+        writes =
+            subst (λ ns. WritesNotes line last Knows old new ns b w) (sym (start-notes old.run run es starts))
+            (writes-from line last Knows old new run (notes_of_input (run_of run) es) b w read.writes);
+      }
+
   -- a report read one more input
-  pub reads-more : (old new : Report F) (input : List ℕ) (b w : Option (List ℕ)) → ReadsInput line last Knows old new input b w
+  pub reads-more : (old new : Report F) (input : InputView) (b w : Option (List ℕ)) → TakesInput old new input b w
       → ReadsOneMore line last Knows old new input b w
   reads-more old new input b w read form inputs written has =
       let took = read.writes.1 in
@@ -180,8 +220,8 @@ module _ {F : Type 0} (line : F → EntryView → List ℕ) (last : F → List E
       )
 
   -- so did its forms of files
-  pub files-more : (old new : Report F) (input : List ℕ) (b w : Option (List ℕ)) → ReadsInput line last Knows old new input b w
-      → (files : FileForms) (inputs : List (List ℕ)) → FilesHaveRead files old inputs → FilesHaveRead files new (inputs ++ input ∷ [])
+  pub files-more : (old new : Report F) (input : InputView) (b w : Option (List ℕ)) → TakesInput old new input b w
+      → (files : FileForms) (inputs : List InputView) → FilesHaveRead files old inputs → FilesHaveRead files new (inputs ++ input ∷ [])
   files-more old new input b w read files inputs has =
       let took = read.writes.1 in
       record {
@@ -202,24 +242,26 @@ module _ {F : Type 0} (line : F → EntryView → List ℕ) (last : F → List E
 
   -- pieces, and the rest of the input
   pub pieces-end : (old mid new : Report F) (x : List ℕ) (a m b v w : Option (List ℕ)) → ReadsPiece line last Knows old mid [] x a m b v
-      → IfSome m (λ rest. ReadsInput line last Knows mid new (x ++ rest) v w) → IfSome a (λ input. ReadsInput line last Knows old new input b w)
+      → IfSome m (λ rest. ReadsInput line last Knows None mid new (x ++ rest) v w) → IfSome a (λ input. ReadsInput line last Knows None old new input b w)
   pieces-end old mid new x None m b v w pieces read = tt
   pieces-end old mid new x (Some xs) None b v w pieces read = absurd pieces.consumed
   pieces-end old mid new x (Some xs) (Some ys) b v w pieces read =
-      subst (λ l. ReadsInput line last Knows old new l b w) (sym pieces.consumed) (pieces.leads.reads ys new w read)
+      subst (λ l. ReadsInput line last Knows None old new l b w) (sym pieces.consumed) (pieces.leads.reads None ys new w read)
 
   pub pieces-reads : (old mid new : Report F) (x : List ℕ) (a m b v w : Option (List ℕ)) → ReadsPiece line last Knows old mid [] x a m b v
-      → IfSome m (λ rest. ReadsInput line last Knows mid new (x ++ rest) v w) → IfSome a (λ input. ReadsOneMore line last Knows old new input b w)
+      → IfSome m (λ rest. ReadsInput line last Knows None mid new (x ++ rest) v w)
+      → IfSome a (λ input. ReadsOneMore line last Knows old new (file input) b w)
   pieces-reads old mid new x None m b v w pieces read = tt
   pieces-reads old mid new x (Some xs) m b v w pieces read =
-      reads-more old new xs b w (pieces-end old mid new x (Some xs) m b v w pieces read)
+      reads-more old new (file xs) b w (file-taken old new xs b w (pieces-end old mid new x (Some xs) m b v w pieces read))
 
   pub pieces-files : (old mid new : Report F) (x : List ℕ) (a m b v w : Option (List ℕ)) → ReadsPiece line last Knows old mid [] x a m b v
-      → IfSome m (λ rest. ReadsInput line last Knows mid new (x ++ rest) v w)
-      → IfSome a (λ input. (files : FileForms) (inputs : List (List ℕ)) → FilesHaveRead files old inputs → FilesHaveRead files new (inputs ++ input ∷ []))
+      → IfSome m (λ rest. ReadsInput line last Knows None mid new (x ++ rest) v w)
+      → IfSome a (λ input. (files : FileForms) (inputs : List InputView) → FilesHaveRead files old inputs
+      → FilesHaveRead files new (inputs ++ file input ∷ []))
   pieces-files old mid new x None m b v w pieces read = tt
   pieces-files old mid new x (Some xs) m b v w pieces read =
-      files-more old new xs b w (pieces-end old mid new x (Some xs) m b v w pieces read)
+      files-more old new (file xs) b w (file-taken old new xs b w (pieces-end old mid new x (Some xs) m b v w pieces read))
 
   -- a report that has read nothing
   pub read-none : (report : Report F) → run_state report.run ≡ run_start → Knows report.form [] → HasRead line last Knows report.form report [] []
@@ -236,7 +278,7 @@ module _ {F : Type 0} (line : F → EntryView → List ℕ) (last : F → List E
   files-read-none report is know = record { entries = []; are = entries-none report.run is; know = know; say = λ entries end texts say. say }
 
   -- the texts of the files
-  pub files-say : (report : Report F) (files : FileForms) (inputs : List (List ℕ)) (end : RunEnd) (texts : FileTexts) → end ≡ end_of (run_state report.run)
+  pub files-say : (report : Report F) (files : FileForms) (inputs : List InputView) (end : RunEnd) (texts : FileTexts) → end ≡ end_of (run_state report.run)
       → ((entries : List EntryView) → FilesKnow report.files entries → FilesSay report.files entries end texts) → FilesHaveRead files report inputs
       → AreTexts files inputs texts
   files-say report files inputs end texts end_is say has = record {
@@ -269,7 +311,9 @@ module _ {F : Type 0} (line : F → EntryView → List ℕ) (last : F → List E
 module _ (one-reading-of-line : OneReadingOfLine) (one_entry : OneEntry) {F : Type 0} (line : F → EntryView → List ℕ)
     (last : F → List EntryView → RunEnd → List ℕ) (Knows : F → List EntryView → Type 0) where
   -- a beginning of what one more input makes known
-  pub breaks-off : (old : Report F) (input : List ℕ) (b w : Option (List ℕ)) → ReadsStart line old input b w → BreaksOff line last Knows old input b w
+  pub breaks-off : (old : Report F) (input : InputView) (b w : Option (List ℕ))
+      → ((events : List (List EventView)) → AreEventsOf input events → AppendsLinesStart (line old.form) (notes_of_input (run_of old.run) events) b w)
+      → BreaksOff line last Knows old input b w
   breaks-off old input b w starts form inputs written more has lines =
       let f : EntryView → List ℕ = line form in
       let one = one-more one-reading-of-line one_entry inputs input has.entries lines.entries (run_of old.run) lines.run has.are lines.are in
@@ -279,13 +323,42 @@ module _ (one-reading-of-line : OneReadingOfLine) (one_entry : OneEntry) {F : Ty
       ap (λ g. flat_map g one.more) has.line_is ∙ sym (append_cancel_left written more (flat_map f one.more) whole) in
       subst (AppendsStart b w) is (starts one.events one.say one.more one.are)
 
+  -- of a file
+  file-breaks : (old : Report F) (bytes : List ℕ) (b w : Option (List ℕ)) → ReadsStart None line old bytes b w → BreaksOff line last Knows old (file bytes) b w
+  file-breaks old bytes b w starts =
+      breaks-off old (file bytes) b w (λ events are.
+      subst (λ es. AppendsLinesStart (line old.form) (notes_of_input (run_of old.run) es) b w) (sym are.are) (starts are.own are.say))
+
+  -- of the output of a command, before which it was told that the command starts
+  output-breaks : (old : Report F) (run : TestRun) (bytes : List ℕ) (end : CommandView) (b w : Option (List ℕ))
+      → run_state run ≡ after (run_state old.run) CommandStarts
+      → ReadsStart (Some end) line (record { run = run; form = old.form; files = old.files }) bytes b w
+      → BreaksOff line last Knows old (output bytes end) b w
+  output-breaks old run bytes end b w is starts =
+      breaks-off old (output bytes end) b w (λ events are.
+      subst (λ ns. AppendsLinesStart (line old.form) ns b w)
+      (sym (ap (notes_of_input (run_of old.run)) are.are ∙ start-notes old.run run (are.own ++ events_after (Some end)) is))
+      (starts are.own are.say))
+
+  -- a report was told that a command starts
+  pub starts_command : (old : Report F) (run : TestRun) → run_state run ≡ after (run_state old.run) CommandStarts
+      → StartsCommand line last Knows old (record { run = run; form = old.form; files = old.files })
+  starts_command old run is = record {
+    reads = λ bytes end then b w read. reads-more line last Knows old then (output bytes end) b w
+        (output-taken line last Knows old then run bytes end b w is read);
+    files = λ bytes end then b w read. files-more line last Knows old then (output bytes end) b w
+        (output-taken line last Knows old then run bytes end b w is read);
+    breaks_off = λ bytes end b w starts. output-breaks old run bytes end b w is starts;
+  }
+
   -- pieces, and a beginning of what comes of the rest
   pub pieces-break : (old mid : Report F) (x : List ℕ) (a m b v w : Option (List ℕ)) → ReadsPiece line last Knows old mid [] x a m b v
-      → IfSome m (λ rest. ReadsStart line mid (x ++ rest) v w) → IfSome a (λ input. BreaksOff line last Knows old input b w)
+      → IfSome m (λ rest. ReadsAnyStart line mid x rest v w) → IfSome a (λ input. BreaksOff line last Knows old (file input) b w)
   pieces-break old mid x None m b v w pieces starts = tt
   pieces-break old mid x (Some xs) None b v w pieces starts = absurd pieces.consumed
   pieces-break old mid x (Some xs) (Some ys) b v w pieces starts =
-      breaks-off old xs b w (subst (λ l. ReadsStart line old l b w) (sym pieces.consumed) (pieces.leads.starts ys w starts))
+      file-breaks old xs b w
+      (subst (λ l. ReadsStart None line old l b w) (sym pieces.consumed) (pieces.leads.starts None ys w (starts None (λ over. refl))))
 
   -- a beginning of the end
   pub ends-off : (report : Report F) (end : RunEnd) (text : List ℕ) (b w : Option (List ℕ)) → end ≡ end_of (run_state report.run)

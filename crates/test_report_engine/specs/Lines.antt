@@ -1,7 +1,7 @@
 -- The lines of an input, and the events that they say.
-use Rattle.std.specs.Prelude.{◌≡◌, ◌≢◌, ℕ, List, [], ◌∷◌, ◌++◌, All}
+use Rattle.std.specs.Prelude.{◌≡◌, ◌≢◌, ℕ, List, [], ◌∷◌, ◌++◌, All, Option, Some, None}
 use Rattle.std.specs.List.{AllZip, flat_map}
-use Rattle.test_report_events.specs.Event.{EventView}
+use Rattle.test_report_events.specs.Event.{CommandOver, CommandStarts, CommandView, EventView}
 use Rattle.test_report_events.specs.Line.{LineSays}
 
 -- the line has no line feed
@@ -25,8 +25,37 @@ pub record AreLines (input : List ℕ) (lines : List (List ℕ)) : Type 0 where
   pub one_line : All IsOneLine (ended ++ last ∷ [])
   pub lines_are : lines ≡ ended ++ not_empty last
 
--- these are the events of an input: of each line a list
-pub record AreEventsOf (input : List ℕ) (events : List (List EventView)) : Type 0 where
+-- these are the events of the lines of an input: of each line a list
+pub record AreLineEvents (bytes : List ℕ) (events : List (List EventView)) : Type 0 where
   pub lines : List (List ℕ)
-  pub are_lines : AreLines input lines
+  pub are_lines : AreLines bytes lines
   pub say : AllZip LineSays lines events
+
+-- an input: its bytes, and how the command ended whose output they are, if they are one's
+pub record InputView : Type 0 where
+  pub bytes : List ℕ
+  pub command : Option CommandView
+
+-- a file with these bytes
+abbrev pub file : List ℕ → InputView
+file bytes = record { bytes = bytes; command = None }
+
+-- the output of a command that ended so
+abbrev pub output : List ℕ → CommandView → InputView
+output bytes end = record { bytes = bytes; command = Some end }
+
+-- what comes before the events of the lines of an input: the start of its command
+abbrev pub events_before : Option CommandView → List (List EventView)
+events_before None = []
+events_before (Some end) = (CommandStarts ∷ []) ∷ []
+
+-- what comes after them: how the command ended
+abbrev pub events_after : Option CommandView → List (List EventView)
+events_after None = []
+events_after (Some end) = (CommandOver end ∷ []) ∷ []
+
+-- these are the events of an input: those of its lines and, if it is the output of a command, the start and the end of the command
+pub record AreEventsOf (input : InputView) (events : List (List EventView)) : Type 0 where
+  pub own : List (List EventView)
+  pub say : AreLineEvents input.bytes own
+  pub are : events ≡ events_before input.command ++ (own ++ events_after input.command)

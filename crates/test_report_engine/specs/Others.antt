@@ -3,6 +3,7 @@ use Rattle.std.specs.Prelude.{◌≡◌, ℕ, Bool, List, [], ◌++◌, Option, 
 use Rattle.std.specs.Io.KnownBytes.{Appends, Consumes, Keeps}
 use Rattle.std.specs.List.{AllZip, concat, flat_map}
 use Rattle.program_io.specs.Transfer.{AppendsStart}
+use Rattle.test_report_events.specs.Event.{CommandView}
 use Rattle.test_report_events.specs.Line.{RestOf}
 use Rattle.test_report_forms.specs.Entry.{EntryView}
 use Rattle.test_report_engine.specs.Lines.{AreLines, IsOneLine, with_feed}
@@ -47,13 +48,19 @@ GetsInput input old new = (lines : List (List ℕ)) × AreLines input lines × G
 
 -- It got that of the first lines of an input. Of the report no more is written than a beginning of what these lines alone make known: so a line is passed
 -- on before the report writes what it or a later line makes known.
-pub record GetsStart {F : Type 0} (line : F → EntryView → List ℕ) (report : Report F) (input : List ℕ) (old new : SinkState)
-    (before behind : Option (List ℕ)) : Type 0 where
+pub record GetsStart (command : Option CommandView) {F : Type 0} (line : F → EntryView → List ℕ) (report : Report F) (input : List ℕ)
+    (old new : SinkState) (before behind : Option (List ℕ)) : Type 0 where
   pub first : List (List ℕ)
   pub others : List (List ℕ)
   pub are_lines : AreLines input (first ++ others)
   pub gets : GetsOthers first old new
-  pub written : ReadsStart line report (flat_map with_feed first) before behind
+  pub written : ReadsStart command line report (flat_map with_feed first) before behind
+
+-- the same, however the command will end while bytes are left; after the last one there is none
+abbrev pub GetsAnyStart : {F : Type 0} → (F → EntryView → List ℕ) → Report F → List ℕ → List ℕ → SinkState → SinkState → Option (List ℕ) → Option (List ℕ)
+    → Type 0
+GetsAnyStart line report begun rest old new before behind =
+    (command : Option CommandView) → (rest ≡ [] → command ≡ None) → GetsStart command line report (begun ++ rest) old new before behind
 
 -- It got that of each line that ends in some bytes. The bytes of a line that has begun come before them, and those of the next line are left.
 pub record GetsBytes {F : Type 0} (line : F → EntryView → List ℕ) (report report_then : Report F) (begun begun_then bytes : List ℕ) (old new : SinkState)
@@ -62,8 +69,8 @@ pub record GetsBytes {F : Type 0} (line : F → EntryView → List ℕ) (report 
   pub one_line : All IsOneLine ended
   pub are : begun ++ bytes ≡ flat_map with_feed ended ++ begun_then
   pub gets : GetsOthers ended old new
-  pub written : (rest : List ℕ) (end : Option (List ℕ)) → ReadsStart line report_then rest behind end
-      → ReadsStart line report (flat_map with_feed ended ++ rest) before end
+  pub written : (command : Option CommandView) (rest : List ℕ) (end : Option (List ℕ)) → ReadsStart command line report_then rest behind end
+      → ReadsStart command line report (flat_map with_feed ended ++ rest) before end
 
 -- the same of the next bytes of a source
 abbrev pub GetsPiece : {F : Type 0} → (F → EntryView → List ℕ) → Report F → Report F → List ℕ → List ℕ → Option (List ℕ) → Option (List ℕ)

@@ -1,6 +1,6 @@
 -- How far a run is.
 use Rattle.std.specs.Prelude.{◌+◌, ◌-◌, ◌^◌, ℕ, min, unwrap_or}
-use Rattle.test_report_events.specs.Event.{EventView, SuiteStarts, SuiteEnds, TestStarts, TestEnds, OtherLine, HeadingLine, CargoFails, Prints, DamagedLine}
+use Rattle.test_report_events.specs.Event.{EventView, SuiteStarts, SuiteEnds, TestStarts, TestEnds, OtherLine, HeadingLine, CargoFails, Prints, DamagedLine, CommandStarts, CommandOver}
 
 -- a number of 64 bits that stops at the greatest
 abbrev pub counted : ℕ → ℕ → ℕ
@@ -17,6 +17,8 @@ ended_after n (HeadingLine suite path) = n
 ended_after n (CargoFails failure text plain) = n
 ended_after n (Prints text plain) = n
 ended_after n (DamagedLine text) = n
+ended_after n CommandStarts = n
+ended_after n (CommandOver end) = n
 
 -- the number of tests that suites announced, after a line
 abbrev pub announced_after : ℕ → EventView → ℕ
@@ -29,3 +31,5 @@ announced_after n (HeadingLine suite path) = n
 announced_after n (CargoFails failure text plain) = n
 announced_after n (Prints text plain) = n
 announced_after n (DamagedLine text) = n
+announced_after n CommandStarts = n
+announced_after n (CommandOver end) = n

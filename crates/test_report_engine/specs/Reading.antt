@@ -1,9 +1,9 @@
 -- What a report has read and written.
-use Rattle.std.specs.Prelude.{◌≡◌, ◌<◌, ◌≤◌, ℕ, List, [], ◌∷◌, ◌++◌, Option, length}
+use Rattle.std.specs.Prelude.{◌≡◌, ◌<◌, ◌≤◌, ℕ, List, [], ◌∷◌, ◌++◌, Option, None, Some, length}
 use Rattle.std.specs.Io.KnownBytes.{Appends, Consumes}
 use Rattle.std.specs.List.{AllZip, flat_map}
 use Rattle.program_io.specs.Transfer.{AppendsStart}
-use Rattle.test_report_events.specs.Event.{EventView}
+use Rattle.test_report_events.specs.Event.{CommandView, EventView}
 use Rattle.test_report_events.specs.Line.{LineSays}
 use Rattle.test_report_forms.specs.Entry.{EntryView, IsEntryOf}
 use Rattle.test_report_forms.specs.Files.{FilesKnow, FilesSay}
@@ -12,7 +12,7 @@ use Rattle.test_report_forms.specs.declared.files.FileTexts.{FileTexts}
 use Rattle.test_report_run.specs.Note.{NoteView}
 use Rattle.test_report_run.specs.declared.note.RunEnd.{RunEnd}
 use Rattle.test_report_run.specs.declared.run.TestRun.{TestRun}
-use Rattle.test_report_engine.specs.Lines.{AreEventsOf}
+use Rattle.test_report_engine.specs.Lines.{AreLineEvents, InputView, events_after, file, output}
 use Rattle.test_report_engine.specs.Report.{AreEntriesOf, AreLinesOf, IsReport, after_line, line_notes, notes_of_input, run_after_input, run_of}
 use Rattle.test_report_engine.specs.declared.report.Report.{Report}
 
@@ -26,7 +26,7 @@ pub record FilesTake (old new : FileForms) (entries : List EntryView) : Type 0 w
   pub say : SaysAs new old
 
 -- a report whose forms of files were these at first has read these inputs
-pub record FilesHaveRead {F : Type 0} (files : FileForms) (report : Report F) (inputs : List (List ℕ)) : Type 0 where
+pub record FilesHaveRead {F : Type 0} (files : FileForms) (report : Report F) (inputs : List InputView) : Type 0 where
   pub entries : List EntryView
   pub are : AreEntriesOf inputs entries (run_of report.run)
   pub know : FilesKnow report.files entries
@@ -44,11 +44,17 @@ ReadsSome at_first left = (bytes : List ℕ) × Consumes at_first left bytes × 
 abbrev pub AppendsLinesStart : (EntryView → List ℕ) → List NoteView → Option (List ℕ) → Option (List ℕ) → Type 0
 AppendsLinesStart line notes before behind = (entries : List EntryView) → AllZip IsEntryOf notes entries → AppendsStart before behind (flat_map line entries)
 
--- a beginning of the line of each entry of an input was appended: of the bytes that are left of it, and that a report is to read
-abbrev pub ReadsStart : {F : Type 0} → (F → EntryView → List ℕ) → Report F → List ℕ → Option (List ℕ) → Option (List ℕ) → Type 0
-ReadsStart line report input before behind =
-    (events : List (List EventView)) → AreEventsOf input events
-    → AppendsLinesStart (line report.form) (notes_of_input (run_of report.run) events) before behind
+-- a beginning of the line of each entry of an input was appended: of the bytes that are left of it, and that a report is to read. If it is the output
+-- of a command, the command ends so
+abbrev pub ReadsStart : Option CommandView → {F : Type 0} → (F → EntryView → List ℕ) → Report F → List ℕ → Option (List ℕ) → Option (List ℕ) → Type 0
+ReadsStart command line report rest before behind =
+    (events : List (List EventView)) → AreLineEvents rest events
+    → AppendsLinesStart (line report.form) (notes_of_input (run_of report.run) (events ++ events_after command)) before behind
+
+-- the same, however the command will end while bytes are left; after the last one there is none
+abbrev pub ReadsAnyStart : {F : Type 0} → (F → EntryView → List ℕ) → Report F → List ℕ → List ℕ → Option (List ℕ) → Option (List ℕ) → Type 0
+ReadsAnyStart line report begun rest before behind =
+    (command : Option CommandView) → (rest ≡ [] → command ≡ None) → ReadsStart command line report (begun ++ rest) before behind
 
 -- a run took the events of a line, and they make these notes known
 pub record TakesLine (old new : TestRun) (bytes : List ℕ) (notes : List NoteView) : Type 0 where
@@ -59,7 +65,7 @@ pub record TakesLine (old new : TestRun) (bytes : List ℕ) (notes : List NoteVi
 
 module _ {F : Type 0} (line : F → EntryView → List ℕ) (last : F → List EntryView → RunEnd → List ℕ) (Knows : F → List EntryView → Type 0) where
   -- a report whose form was this at first has read these inputs, and written this
-  pub record HasRead (form : F) (report : Report F) (inputs : List (List ℕ)) (written : List ℕ) : Type 0 where
+  pub record HasRead (form : F) (report : Report F) (inputs : List InputView) (written : List ℕ) : Type 0 where
     pub entries : List EntryView
     pub are : AreEntriesOf inputs entries (run_of report.run)
     pub is : written ≡ flat_map (line form) entries
@@ -92,20 +98,21 @@ module _ {F : Type 0} (line : F → EntryView → List ℕ) (last : F → List E
     pub run_is : run_of new.run ≡ after_line (run_of old.run) events
     pub writes : WritesNotes old new (line_notes (run_of old.run) events) before behind
 
-  -- a report took the events of the bytes that are left of an input, and what they make known was appended
-  pub record ReadsInput (old new : Report F) (input : List ℕ) (before behind : Option (List ℕ)) : Type 0 where
+  -- a report took the events of the bytes that are left of an input, and what they make known was appended. If the input is the output of a command,
+  -- the command ended so
+  pub record ReadsInput (command : Option CommandView) (old new : Report F) (rest : List ℕ) (before behind : Option (List ℕ)) : Type 0 where
     pub events : List (List EventView)
-    pub say : AreEventsOf input events
-    pub run_is : run_of new.run ≡ run_after_input (run_of old.run) events
-    pub writes : WritesNotes old new (notes_of_input (run_of old.run) events) before behind
+    pub say : AreLineEvents rest events
+    pub run_is : run_of new.run ≡ run_after_input (run_of old.run) (events ++ events_after command)
+    pub writes : WritesNotes old new (notes_of_input (run_of old.run) (events ++ events_after command)) before behind
 
   -- Some bytes of an input lead from one state to another: what comes of the rest there comes of these bytes and the rest here. The bytes of a line
   -- that has begun come before them.
   pub record LeadsTo (old new : Report F) (begun begun_then bytes : List ℕ) (before behind : Option (List ℕ)) : Type 0 where
-    pub reads : (rest : List ℕ) (end : Report F) (written : Option (List ℕ)) → ReadsInput new end (begun_then ++ rest) behind written
-        → ReadsInput old end (begun ++ (bytes ++ rest)) before written
-    pub starts : (rest : List ℕ) (written : Option (List ℕ)) → ReadsStart line new (begun_then ++ rest) behind written
-        → ReadsStart line old (begun ++ (bytes ++ rest)) before written
+    pub reads : (command : Option CommandView) (rest : List ℕ) (end : Report F) (written : Option (List ℕ))
+        → ReadsInput command new end (begun_then ++ rest) behind written → ReadsInput command old end (begun ++ (bytes ++ rest)) before written
+    pub starts : (command : Option CommandView) (rest : List ℕ) (written : Option (List ℕ))
+        → ReadsStart command line new (begun_then ++ rest) behind written → ReadsStart command line old (begun ++ (bytes ++ rest)) before written
 
   -- A report took the next bytes of an input. The bytes of a line that has begun come before them.
   pub record ReadsPiece (old new : Report F) (begun begun_then : List ℕ) (at_first left before behind : Option (List ℕ)) : Type 0 where
@@ -114,25 +121,35 @@ module _ {F : Type 0} (line : F → EntryView → List ℕ) (last : F → List E
     pub leads : LeadsTo old new begun begun_then bytes before behind
 
   -- a report that has read some inputs has then read this one too, and its lines were appended
-  abbrev pub ReadsOneMore : Report F → Report F → List ℕ → Option (List ℕ) → Option (List ℕ) → Type 0
+  abbrev pub ReadsOneMore : Report F → Report F → InputView → Option (List ℕ) → Option (List ℕ) → Type 0
   ReadsOneMore old new input before behind =
-      (form : F) (inputs : List (List ℕ)) (written : List ℕ) → HasRead form old inputs written
+      (form : F) (inputs : List InputView) (written : List ℕ) → HasRead form old inputs written
       → (more : List ℕ) × HasRead form new (inputs ++ input ∷ []) (written ++ more) × Appends before behind more
 
   -- a beginning of what is written of one more input was appended, whatever that is
-  abbrev pub BreaksOff : Report F → List ℕ → Option (List ℕ) → Option (List ℕ) → Type 0
+  abbrev pub BreaksOff : Report F → InputView → Option (List ℕ) → Option (List ℕ) → Type 0
   BreaksOff old input before behind =
-      (form : F) (inputs : List (List ℕ)) (written more : List ℕ) → HasRead form old inputs written
+      (form : F) (inputs : List InputView) (written more : List ℕ) → HasRead form old inputs written
       → AreLinesOf (line form) (inputs ++ input ∷ []) (written ++ more) → AppendsStart before behind more
+
+  -- a report is ready for the output of a command: what it reads of it up to the end of the command is then one more input
+  pub record StartsCommand (old new : Report F) : Type 0 where
+    pub reads : (bytes : List ℕ) (end : CommandView) (last : Report F) (before behind : Option (List ℕ))
+        → ReadsInput (Some end) new last bytes before behind → ReadsOneMore old last (output bytes end) before behind
+    pub files : (bytes : List ℕ) (end : CommandView) (last : Report F) (before behind : Option (List ℕ))
+        → ReadsInput (Some end) new last bytes before behind
+        → (files : FileForms) (inputs : List InputView) → FilesHaveRead files old inputs → FilesHaveRead files last (inputs ++ output bytes end ∷ [])
+    pub breaks_off : (bytes : List ℕ) (end : CommandView) (before behind : Option (List ℕ))
+        → ReadsStart (Some end) line new bytes before behind → BreaksOff old (output bytes end) before behind
 
   -- the end of the report was appended, and this is the end of the run
   abbrev pub Finishes : Report F → RunEnd → Option (List ℕ) → Option (List ℕ) → Type 0
   Finishes report end before behind =
-      (form : F) (inputs : List (List ℕ)) (written : List ℕ) → HasRead form report inputs written
+      (form : F) (inputs : List InputView) (written : List ℕ) → HasRead form report inputs written
       → (more : List ℕ) × IsReport (line form) (last form) inputs (written ++ more) end × Appends before behind more
 
   -- a beginning of the end of the report was appended, whatever that is
   abbrev pub BreaksOffEnd : Report F → Option (List ℕ) → Option (List ℕ) → Type 0
   BreaksOffEnd report before behind =
-      (form : F) (inputs : List (List ℕ)) (written more : List ℕ) (end : RunEnd) → HasRead form report inputs written
+      (form : F) (inputs : List InputView) (written more : List ℕ) (end : RunEnd) → HasRead form report inputs written
       → IsReport (line form) (last form) inputs (written ++ more) end → AppendsStart before behind more

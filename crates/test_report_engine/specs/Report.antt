@@ -11,7 +11,7 @@ use Rattle.test_report_run.specs.Run as spec
 use Rattle.test_report_run.specs.Run.{RunState, after_file, end_of, file_notes, run_start, run_state}
 use Rattle.test_report_run.specs.declared.note.RunEnd.{RunEnd}
 use Rattle.test_report_run.specs.declared.run.TestRun.{TestRun}
-use Rattle.test_report_engine.specs.Lines.{AreEventsOf}
+use Rattle.test_report_engine.specs.Lines.{AreEventsOf, InputView}
 
 -- the run of a report. It and the next four do not unfold by themselves, since they are long
 unfoldable pub run_of : TestRun → RunState
@@ -60,21 +60,21 @@ notes_of_inputs run [] = []
 notes_of_inputs run (lines ∷ inputs) = notes_of_input run lines ++ notes_of_inputs (run_after_input run lines) inputs
 
 -- these are the entries of the run that inputs describe, and the run after them
-pub record AreEntriesOf (inputs : List (List ℕ)) (entries : List EntryView) (run : RunState) : Type 0 where
+pub record AreEntriesOf (inputs : List InputView) (entries : List EntryView) (run : RunState) : Type 0 where
   pub events : List (List (List EventView))
   pub say : AllZip AreEventsOf inputs events
   pub are : AllZip IsEntryOf (notes_of_inputs run_start events) entries
   pub run_is : run ≡ run_after_inputs run_start events
 
 -- this is written of inputs before the end of the report: of each entry its line
-pub record AreLinesOf (line : EntryView → List ℕ) (inputs : List (List ℕ)) (text : List ℕ) : Type 0 where
+pub record AreLinesOf (line : EntryView → List ℕ) (inputs : List InputView) (text : List ℕ) : Type 0 where
   pub entries : List EntryView
   pub run : RunState
   pub are : AreEntriesOf inputs entries run
   pub is : text ≡ flat_map line entries
 
 -- this is the report of inputs, and the end of the run: the line of each entry, and then the end of the report
-pub record IsReport (line : EntryView → List ℕ) (last : List EntryView → RunEnd → List ℕ) (inputs : List (List ℕ)) (text : List ℕ) (end : RunEnd)
+pub record IsReport (line : EntryView → List ℕ) (last : List EntryView → RunEnd → List ℕ) (inputs : List InputView) (text : List ℕ) (end : RunEnd)
     : Type 0 where
   pub entries : List EntryView
   pub run : RunState
@@ -83,7 +83,7 @@ pub record IsReport (line : EntryView → List ℕ) (last : List EntryView → R
   pub end_is : end ≡ end_of run
 
 -- these are the texts of the files for inputs
-pub record AreTexts (files : FileForms) (inputs : List (List ℕ)) (texts : FileTexts) : Type 0 where
+pub record AreTexts (files : FileForms) (inputs : List InputView) (texts : FileTexts) : Type 0 where
   pub entries : List EntryView
   pub run : RunState
   pub are : AreEntriesOf inputs entries run

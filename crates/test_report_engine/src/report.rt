@@ -1,16 +1,16 @@
 //! A report that is written while its run is read.
 
-ghost use Rattle.std.specs.Prelude.{◌≡◌, ◌≢◌, ◌↔◌, ◌⊎◌, ◌++◌, ◌∷◌, [], ℕ, true, false, List, Option, IfErr, IfOk, IfSome, OnOk, OnErr, IsErrOf, map, string_bytes};
+ghost use Rattle.std.specs.Prelude.{◌≡◌, ◌≢◌, ◌↔◌, ◌⊎◌, ◌++◌, ◌∷◌, [], ℕ, true, false, List, None, Option, Some, IfErr, IfOk, IfSome, OnOk, OnErr, IsErrOf, map, option_map, string_bytes};
 ghost use Rattle.std.specs.Io.KnownBytes.{IsAtEnd};
-ghost use Rattle.test_report_events.specs.Event.{EventView};
+ghost use Rattle.test_report_events.specs.Event.{CommandView, EventView};
 ghost use Rattle.test_report_events.specs.Line.{LineSays};
 ghost use Rattle.test_report_forms.specs.Files.{FilesKnow};
 ghost use Rattle.test_report_forms.specs.declared.files.FileForms.{FileForms};
-ghost use Rattle.test_report_run.specs.Note.{note_view};
-ghost use Rattle.test_report_engine.specs.Lines.{IsOneLine};
+ghost use Rattle.test_report_run.specs.Note.{command_view, note_view};
+ghost use Rattle.test_report_engine.specs.Lines.{InputView, IsOneLine, events_after, file};
 ghost use Rattle.test_report_engine.specs.Others.{GetsOthers, sink_state};
 ghost use Rattle.test_report_engine.specs.Reading.{TakesLine};
-ghost use Rattle.test_report_engine.specs.Report.{AreTexts, line_notes, run_of};
+ghost use Rattle.test_report_engine.specs.Report.{AreTexts, line_notes, notes_of_input, run_after_input, run_of};
 ghost use Rattle.test_report_engine.specs.declared.fault.Fault.TheVariants as faults;
 
 use crate::fault::Fault;
@@ -26,7 +26,7 @@ use test_report_forms::entry::Entry;
 use test_report_forms::files::{FileForms, FileTexts};
 use test_report_forms::form::Form;
 use test_report_run::error::RunError;
-use test_report_run::note::{Note, RunEnd};
+use test_report_run::note::{CommandEnd, Note, RunEnd};
 use test_report_run::run::TestRun;
 
 /// The number of bytes that are read at once.
@@ -93,19 +93,19 @@ impl<F: Form + Drop> Report<F> {
         ensures end { OnOk result (IsAtEnd (R.left source.new)) }
         ensures flushed { OnOk result (W.flushed sink.old ≡ true → W.flushed sink.new ≡ true) }
         ensures reads { OnOk result (IfSome (R.left source.old)
-            (λ input. reading.ReadsOneMore F.line F.last F.Knows self.old self.new input
+            (λ input. reading.ReadsOneMore F.line F.last F.Knows self.old self.new (file input)
             (W.written sink.old) (W.written sink.new))) }
         ensures files { OnOk result (IfSome (R.left source.old)
-            (λ input. (files : FileForms) (inputs : List (List ℕ)) → reading.FilesHaveRead files self.old inputs
-            → reading.FilesHaveRead files self.new (inputs ++ input ∷ []))) }
+            (λ input. (files : FileForms) (inputs : List InputView) → reading.FilesHaveRead files self.old inputs
+            → reading.FilesHaveRead files self.new (inputs ++ file input ∷ []))) }
         ensures breaks_off { OnErr result (IfSome (R.left source.old)
-            (λ input. reading.BreaksOff F.line F.last F.Knows self.old input
+            (λ input. reading.BreaksOff F.line F.last F.Knows self.old (file input)
             (W.written sink.old) (W.written sink.new))) }
         ensures others { OnOk result (IfSome (R.left source.old)
             (λ input. second.GetsInput input (sink_state O.failed O.flushed O.written others.old)
             (sink_state O.failed O.flushed O.written others.new))) }
         ensures others_start { OnErr result (IfSome (R.left source.old)
-            (λ input. second.GetsStart F.line self.old input (sink_state O.failed O.flushed O.written others.old)
+            (λ input. second.GetsStart None F.line self.old input (sink_state O.failed O.flushed O.written others.old)
             (sink_state O.failed O.flushed O.written others.new) (W.written sink.old) (W.written sink.new))) }
     {
         test_report_events::laws::one_reading_of_line();
@@ -122,7 +122,8 @@ impl<F: Form + Drop> Report<F> {
 
     /// Reads the next bytes of a file of the run, at least one and at most 16,384, and takes the lines that end
     /// in them. Returns false if the file has ended. Call it until it returns false, for each file with the same
-    /// `pieces`.
+    /// `pieces`. The output of a command is read alike, between `start_command` and `end_command`, but not past its
+    /// last byte.
     ///
     /// If a line makes something known, the report writes it and flushes the sink before it takes the next
     /// line. The call that returns false takes the rest of the last line and the end of the file.
@@ -156,10 +157,10 @@ impl<F: Form + Drop> Report<F> {
             self.old self.new pieces.old.line.items pieces.new.line.items (R.left source.old) (R.left source.new)
             (W.written sink.old) (W.written sink.new)) }
         ensures rest { IfOk result (λ more. more ≡ false → IfSome (R.left source.old)
-            (λ rest. reading.ReadsInput F.line F.last F.Knows self.old self.new (pieces.old.line.items ++ rest)
+            (λ rest. reading.ReadsInput F.line F.last F.Knows None self.old self.new (pieces.old.line.items ++ rest)
             (W.written sink.old) (W.written sink.new))) }
         ensures breaks_off { OnErr result (IfSome (R.left source.old)
-            (λ rest. reading.ReadsStart F.line self.old (pieces.old.line.items ++ rest)
+            (λ rest. reading.ReadsAnyStart F.line self.old pieces.old.line.items rest
             (W.written sink.old) (W.written sink.new))) }
         ensures others_piece { IfOk result (λ more. more ≡ true → second.GetsPiece F.line self.old self.new
             pieces.old.line.items pieces.new.line.items (R.left source.old) (R.left source.new)
@@ -170,7 +171,7 @@ impl<F: Form + Drop> Report<F> {
             (sink_state O.failed O.flushed O.written others.old)
             (sink_state O.failed O.flushed O.written others.new))) }
         ensures others_start { OnErr result (IfSome (R.left source.old)
-            (λ rest. second.GetsStart F.line self.old (pieces.old.line.items ++ rest)
+            (λ rest. second.GetsAnyStart F.line self.old pieces.old.line.items rest
             (sink_state O.failed O.flushed O.written others.old)
             (sink_state O.failed O.flushed O.written others.new) (W.written sink.old) (W.written sink.new))) }
     {
@@ -181,7 +182,14 @@ impl<F: Form + Drop> Report<F> {
         };
         let mut line = std::mem::replace(&mut pieces.line, Vec::new(alloc));
         if n == 0 {
-            self.end_file(alloc, line.as_slice(), &mut pieces.progress, sink, others)?;
+            self.end_input(
+                alloc,
+                line.as_slice(),
+                None,
+                &mut pieces.progress,
+                sink,
+                others,
+            )?;
             return Ok(false);
         }
         let bytes = &chunk[..n];
@@ -190,12 +198,69 @@ impl<F: Form + Drop> Report<F> {
         Ok(true)
     }
 
+    /// Notes that the output of a command is read next. Call it before the first piece of the output, and
+    /// `end_command` after the last one.
+    #[tactic(auto, using(crate::proofs::Reports::starts_command))]
+    pub fn start_command(&mut self)
+        ensures starts { reading.StartsCommand F.line F.last F.Knows self.old self.new }
+    {
+        test_report_events::laws::one_reading_of_line();
+        test_report_forms::laws::one_entry();
+        self.run.on_command_started();
+    }
+
+    /// Takes the rest of the last line of the output of a command, and how the command ended. If this makes something
+    /// known, the report writes it and flushes the sink.
+    ///
+    /// `others` gets the last line if it is no event, as in `read_file`.
+    ///
+    /// `sink` must not have failed before. After a fault the sink has the start of the text that the end of the
+    /// command would have added to the report.
+    ///
+    /// - [`Fault::Write`] if and only if the sink fails.
+    /// - [`Fault::CounterFull`] if a number is too large for its counter.
+    /// - [`Fault::OutOfMemory`] if there is not enough memory.
+    pub fn end_command<W: Sink, O: Sink>(
+        &mut self,
+        alloc: Global,
+        end: &CommandEnd,
+        pieces: &mut Pieces,
+        sink: &mut W,
+        others: &mut O,
+    ) -> Result<(), Fault>
+        requires sink_works { W.failed sink.old ≡ false }
+        ensures write { IsErrOf result faults.Write ↔ (W.failed sink.new ≡ true) }
+        ensures errors { IfErr result (λ e. e ≢ faults.Read) }
+        ensures flushed { OnOk result (W.flushed sink.old ≡ true → W.flushed sink.new ≡ true) }
+        ensures empty { OnOk result (pieces.new.line.items ≡ []) }
+        ensures rest { OnOk result (reading.ReadsInput F.line F.last F.Knows (Some (command_view end.now))
+            self.old self.new pieces.old.line.items (W.written sink.old) (W.written sink.new)) }
+        ensures breaks_off { OnErr result (reading.ReadsStart (Some (command_view end.now)) F.line self.old
+            pieces.old.line.items (W.written sink.old) (W.written sink.new)) }
+        ensures others { OnOk result (second.GetsInput pieces.old.line.items
+            (sink_state O.failed O.flushed O.written others.old)
+            (sink_state O.failed O.flushed O.written others.new)) }
+        ensures others_start { OnErr result (second.GetsStart (Some (command_view end.now)) F.line self.old
+            pieces.old.line.items (sink_state O.failed O.flushed O.written others.old)
+            (sink_state O.failed O.flushed O.written others.new) (W.written sink.old) (W.written sink.new)) }
+    {
+        let line = std::mem::replace(&mut pieces.line, Vec::new(alloc));
+        self.end_input(
+            alloc,
+            line.as_slice(),
+            Some(end),
+            &mut pieces.progress,
+            sink,
+            others,
+        )
+    }
+
     /// Returns the texts of the files. Call it after the last file of the run was read.
     pub fn file_texts(&mut self, alloc: Global) -> Result<FileTexts, Fault>
-        ensures texts { IfOk result (λ texts. (files : FileForms) (inputs : List (List ℕ))
+        ensures texts { IfOk result (λ texts. (files : FileForms) (inputs : List InputView)
             → reading.FilesHaveRead files self.old inputs → AreTexts files inputs texts) }
         ensures errors { IfErr result (λ e. e ≡ faults.OutOfMemory) }
-        ensures same { (form : F) (inputs : List (List ℕ)) (written : List ℕ)
+        ensures same { (form : F) (inputs : List InputView) (written : List ℕ)
             → reading.HasRead F.line F.last F.Knows form self.old inputs written
             → reading.HasRead F.line F.last F.Knows form self.new inputs written }
     {
@@ -246,12 +311,12 @@ impl<F: Form + Drop> Report<F> {
         ensures flushed { OnOk result (W.flushed sink.old ≡ true → W.flushed sink.new ≡ true) }
         ensures leads { OnOk result (reading.LeadsTo F.line F.last F.Knows self.old self.new
             begun.old.items begun.new.items bytes.now (W.written sink.old) (W.written sink.new)) }
-        ensures starts { OnErr result ((rest : List ℕ) → reading.ReadsStart F.line self.old
+        ensures starts { OnErr result ((command : Option CommandView) (rest : List ℕ) → reading.ReadsStart command F.line self.old
             (begun.old.items ++ (bytes.now ++ rest)) (W.written sink.old) (W.written sink.new)) }
         ensures others { OnOk result (second.GetsBytes F.line self.old self.new begun.old.items begun.new.items bytes.now
             (sink_state O.failed O.flushed O.written others.old)
             (sink_state O.failed O.flushed O.written others.new) (W.written sink.old) (W.written sink.new)) }
-        ensures others_start { OnErr result ((rest : List ℕ) → second.GetsStart F.line self.old
+        ensures others_start { OnErr result ((command : Option CommandView) (rest : List ℕ) → second.GetsStart command F.line self.old
             (begun.old.items ++ (bytes.now ++ rest)) (sink_state O.failed O.flushed O.written others.old)
             (sink_state O.failed O.flushed O.written others.new) (W.written sink.old) (W.written sink.new)) }
     {
@@ -300,12 +365,13 @@ impl<F: Form + Drop> Report<F> {
         self.write(alloc, notes.as_slice(), sink)
     }
 
-    /// Takes the end of a file. `begun` has the bytes after the last line feed. They are a line unless there
-    /// are none.
-    fn end_file<W: Sink, O: Sink>(
+    /// Takes the end of a file, or of the output of a command that ended so. `begun` has the bytes after the last
+    /// line feed. They are a line unless there are none.
+    fn end_input<W: Sink, O: Sink>(
         &mut self,
         alloc: Global,
         begun: &[u8],
+        command: Option<&CommandEnd>,
         progress: &mut Option<Progress>,
         sink: &mut W,
         others: &mut O,
@@ -315,14 +381,17 @@ impl<F: Form + Drop> Report<F> {
         ensures write { IsErrOf result faults.Write ↔ (W.failed sink.new ≡ true) }
         ensures errors { IfErr result (λ e. e ≢ faults.Read) }
         ensures flushed { OnOk result (W.flushed sink.old ≡ true → W.flushed sink.new ≡ true) }
-        ensures reads { OnOk result (reading.ReadsInput F.line F.last F.Knows self.old self.new begun.now
+        ensures reads { OnOk result (reading.ReadsInput F.line F.last F.Knows
+            (option_map (λ end. command_view end.now) command.entry) self.old self.new begun.now
             (W.written sink.old) (W.written sink.new)) }
-        ensures starts { OnErr result (reading.ReadsStart F.line self.old begun.now
+        ensures starts { OnErr result (reading.ReadsStart
+            (option_map (λ end. command_view end.now) command.entry) F.line self.old begun.now
             (W.written sink.old) (W.written sink.new)) }
         ensures others { OnOk result (second.GetsInput begun.now
             (sink_state O.failed O.flushed O.written others.old)
             (sink_state O.failed O.flushed O.written others.new)) }
-        ensures others_start { OnErr result (second.GetsStart F.line self.old begun.now
+        ensures others_start { OnErr result (second.GetsStart
+            (option_map (λ end. command_view end.now) command.entry) F.line self.old begun.now
             (sink_state O.failed O.flushed O.written others.old)
             (sink_state O.failed O.flushed O.written others.new) (W.written sink.old) (W.written sink.new)) }
     {
@@ -331,7 +400,7 @@ impl<F: Form + Drop> Report<F> {
         if !begun.is_empty() {
             self.on_line(alloc, begun, progress, sink, others)?;
         }
-        let notes = self.run.end_file(alloc)?;
+        let notes = notes_of_end(alloc, &mut self.run, command)?;
         self.write(alloc, notes.as_slice(), sink)
     }
 
@@ -395,4 +464,21 @@ fn notes_of_line<O: Sink>(
     let notes = run.on_line(alloc, &line)?;
     take_line(alloc, progress, &line, notes.as_slice())?;
     Ok(notes)
+}
+
+/// Takes the end of a file, or of the output of a command that ended so. Returns the notes that it makes known.
+fn notes_of_end(
+    alloc: Global,
+    run: &mut TestRun,
+    command: Option<&CommandEnd>,
+) -> Result<Vec<Note>, RunError>
+    ensures takes { OnOk result (run_of run.new ≡ run_after_input (run_of run.old)
+        (events_after (option_map (λ end. command_view end.now) command.entry))) }
+    ensures tells { IfOk result (λ notes. map note_view notes.items ≡ notes_of_input (run_of run.old)
+        (events_after (option_map (λ end. command_view end.now) command.entry))) }
+{
+    if let Some(end) = command {
+        run.on_command_ended(end)?;
+    }
+    run.end_file(alloc)
 }

@@ -6,6 +6,9 @@
 //! To do something between the pieces of a file, such as showing how far the run is, call `read_piece`
 //! instead of `read_file`.
 //!
+//! If the lines are the output of a command, call `start_command`, then `read_piece` for each piece of the output,
+//! and then `end_command` with how the command ended. So the report says if the command failed and no line says why.
+//!
 //! The lines of a file that are no events, such as the compiler's errors, go to a second sink if they are wanted.
 //!
 //! These calls report a run of one file, and return true if it succeeded:

@@ -12,7 +12,7 @@ use crate::test_report_forms::entry::Entry;
 use crate::test_report_forms::files::{FileForms, FileTexts};
 use crate::test_report_forms::form::Form;
 use crate::test_report_run::error::RunError;
-use crate::test_report_run::note::{Note, RunEnd};
+use crate::test_report_run::note::{CommandEnd, Note, RunEnd};
 use crate::test_report_run::run::TestRun;
 use bstr::ByteSlice;
 
@@ -73,7 +73,8 @@ impl<F: Form> Report<F> {
 
     /// Reads the next bytes of a file of the run, at least one and at most 16,384, and takes the lines that end
     /// in them. Returns false if the file has ended. Call it until it returns false, for each file with the same
-    /// `pieces`.
+    /// `pieces`. The output of a command is read alike, between `start_command` and `end_command`, but not past its
+    /// last byte.
     ///
     /// If a line makes something known, the report writes it and flushes the sink before it takes the next
     /// line. The call that returns false takes the rest of the last line and the end of the file.
@@ -97,13 +98,46 @@ impl<F: Form> Report<F> {
         let n = source.read(&mut chunk).map_err(|_| Fault::Read)?;
         let mut line = std::mem::take(&mut pieces.line);
         if n == 0 {
-            self.end_file(line.as_slice(), &mut pieces.progress, sink, others)?;
+            self.end_input(line.as_slice(), None, &mut pieces.progress, sink, others)?;
             return Ok(false);
         }
         let bytes = &chunk[..n];
         self.on_bytes(&mut line, &mut pieces.progress, bytes, sink, others)?;
         pieces.line = line;
         Ok(true)
+    }
+
+    /// Notes that the output of a command is read next. Call it before the first piece of the output, and
+    /// `end_command` after the last one.
+    pub fn start_command(&mut self) {
+        self.run.on_command_started();
+    }
+
+    /// Takes the rest of the last line of the output of a command, and how the command ended. If this makes something
+    /// known, the report writes it and flushes the sink.
+    ///
+    /// `others` gets the last line if it is no event, as in `read_file`.
+    ///
+    /// `sink` must not have failed before. After a fault the sink has the start of the text that the end of the
+    /// command would have added to the report.
+    ///
+    /// - [`Fault::Write`] if and only if the sink fails.
+    /// - [`Fault::CounterFull`] if a number is too large for its counter.
+    pub fn end_command<W: Sink, O: Sink>(
+        &mut self,
+        end: &CommandEnd,
+        pieces: &mut Pieces,
+        sink: &mut W,
+        others: &mut O,
+    ) -> Result<(), Fault> {
+        let line = std::mem::take(&mut pieces.line);
+        self.end_input(
+            line.as_slice(),
+            Some(end),
+            &mut pieces.progress,
+            sink,
+            others,
+        )
     }
 
     /// Returns the texts of the files. Call it after the last file of the run was read.
@@ -158,11 +192,12 @@ impl<F: Form> Report<F> {
         self.write(notes.as_slice(), sink)
     }
 
-    /// Takes the end of a file. `begun` has the bytes after the last line feed. They are a line unless there
-    /// are none.
-    fn end_file<W: Sink, O: Sink>(
+    /// Takes the end of a file, or of the output of a command that ended so. `begun` has the bytes after the last
+    /// line feed. They are a line unless there are none.
+    fn end_input<W: Sink, O: Sink>(
         &mut self,
         begun: &[u8],
+        command: Option<&CommandEnd>,
         progress: &mut Option<Progress>,
         sink: &mut W,
         others: &mut O,
@@ -170,7 +205,7 @@ impl<F: Form> Report<F> {
         if !begun.is_empty() {
             self.on_line(begun, progress, sink, others)?;
         }
-        let notes = self.run.end_file()?;
+        let notes = notes_of_end(&mut self.run, command)?;
         self.write(notes.as_slice(), sink)
     }
 
@@ -209,4 +244,12 @@ fn notes_of_line<O: Sink>(
     let notes = run.on_line(&line)?;
     take_line(progress, &line, notes.as_slice())?;
     Ok(notes)
+}
+
+/// Takes the end of a file, or of the output of a command that ended so. Returns the notes that it makes known.
+fn notes_of_end(run: &mut TestRun, command: Option<&CommandEnd>) -> Result<Vec<Note>, RunError> {
+    if let Some(end) = command {
+        run.on_command_ended(end);
+    }
+    run.end_file()
 }

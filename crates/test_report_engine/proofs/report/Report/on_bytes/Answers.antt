@@ -9,14 +9,15 @@ use Rattle.test_report_engine.proofs.report.Report.on_bytes.Goals as goal
 pub returns-in_err-extend_from_slice-clause-starts : goal.returns-in_err-extend_from_slice-clause-starts
 returns-in_err-extend_from_slice-clause-starts g c =
     on_err c.from_residual.result
-    (λ after. bytes-starts g.F.Form.line g.F.Form.last g.F.Form.Knows
+    (λ command after. bytes-starts g.F.Form.line g.F.Form.last g.F.Form.Knows command
     c.args.self.now c.loop-at.self c.args.begun.now.items c.loop-at.begun.items c.args.bytes.now
-    c.loop-at.rest.now after _ _ _ c.loop-at.invariant.takes (input-none g.F.Form.line c.loop-at.self _ _))
+    c.loop-at.rest.now after _ _ _ c.loop-at.invariant.takes (input-none command g.F.Form.line c.loop-at.self _ _))
 
 pub returns-in_err-on_line-clause-starts : goal.returns-in_err-on_line-clause-starts
 returns-in_err-on_line-clause-starts g c =
     on_err c.from_residual-in_err-on_line.result
-    (λ after. bytes-line-start g.F.Form.line g.F.Form.last g.F.Form.Knows c.args.self.now c.loop-at.self c.args.begun.now.items c.loop-at.begun.items
+    (λ command after. bytes-line-start g.F.Form.line g.F.Form.last g.F.Form.Knows command c.args.self.now c.loop-at.self c.args.begun.now.items
+    c.loop-at.begun.items
     c.as_slice.result.now c.args.bytes.now c.loop-at.rest.now _ _ after _ _ _ c.in-Some.at c.loop-at.invariant.takes c.loop-at.invariant.one_line
     c.split_at.ensures.front c.split_at.ensures.back c.in-Some.ensures.0.high (λ k below. c.in-Some.ensures.0.before k (omega arith) below) c.in-Some.ensures.1
     (c.as_slice.ensures.value ∙ c.in_ok-extend_from_slice.ensures.items) c.in_err-on_line.ensures.starts)
@@ -46,9 +47,9 @@ loop-at-preserved g c = record {
 pub returns-in_err-extend_from_slice-2-clause-starts : goal.returns-in_err-extend_from_slice-2-clause-starts
 returns-in_err-extend_from_slice-2-clause-starts g c =
     on_err c.from_residual-in_err-extend_from_slice-2.result
-    (λ after. bytes-starts g.F.Form.line g.F.Form.last g.F.Form.Knows
+    (λ command after. bytes-starts g.F.Form.line g.F.Form.last g.F.Form.Knows command
     c.args.self.now c.loop-at.self c.args.begun.now.items c.loop-at.begun.items c.args.bytes.now
-    c.loop-at.rest.now after _ _ _ c.loop-at.invariant.takes (input-none g.F.Form.line c.loop-at.self _ _))
+    c.loop-at.rest.now after _ _ _ c.loop-at.invariant.takes (input-none command g.F.Form.line c.loop-at.self _ _))
 
 pub returns-clause-one_line : goal.returns-clause-one_line
 returns-clause-one_line g c =
@@ -78,13 +79,13 @@ loop-at-init g c = record {
 pub returns-in_err-extend_from_slice-clause-others_start : goal.returns-in_err-extend_from_slice-clause-others_start
 returns-in_err-extend_from_slice-clause-others_start g c =
     on_err c.from_residual.result
-    (λ after. front-stop g.F.Form.line c.args.self.now c.loop-at.self c.args.begun.now.items c.loop-at.begun.items c.args.bytes.now
+    (λ command after. front-stop g.F.Form.line command c.args.self.now c.loop-at.self c.args.begun.now.items c.loop-at.begun.items c.args.bytes.now
     c.loop-at.rest.now after _ _ _ _ c.loop-at.invariant.gets)
 
 pub returns-in_err-on_line-clause-others_start : goal.returns-in_err-on_line-clause-others_start
 returns-in_err-on_line-clause-others_start g c =
     on_err c.from_residual-in_err-on_line.result
-    (λ after. front-line-stop g.F.Form.line c.args.self.now c.loop-at.self c.args.begun.now.items c.loop-at.begun.items c.as_slice.result.now
+    (λ command after. front-line-stop g.F.Form.line command c.args.self.now c.loop-at.self c.args.begun.now.items c.loop-at.begun.items c.as_slice.result.now
     c.args.bytes.now c.loop-at.rest.now _ _ after _ _ _ _ _ _ c.in-Some.at c.loop-at.invariant.gets c.loop-at.invariant.one_line
     c.split_at.ensures.front c.split_at.ensures.back c.in-Some.ensures.0.high (λ k below. c.in-Some.ensures.0.before k (omega arith) below) c.in-Some.ensures.1
     (c.as_slice.ensures.value ∙ c.in_ok-extend_from_slice.ensures.items) c.in_err-on_line.ensures.others_start c.in_err-on_line.ensures.starts)
@@ -92,7 +93,7 @@ returns-in_err-on_line-clause-others_start g c =
 pub returns-in_err-extend_from_slice-2-clause-others_start : goal.returns-in_err-extend_from_slice-2-clause-others_start
 returns-in_err-extend_from_slice-2-clause-others_start g c =
     on_err c.from_residual-in_err-extend_from_slice-2.result
-    (λ after. front-stop g.F.Form.line c.args.self.now c.loop-at.self c.args.begun.now.items c.loop-at.begun.items c.args.bytes.now
+    (λ command after. front-stop g.F.Form.line command c.args.self.now c.loop-at.self c.args.begun.now.items c.loop-at.begun.items c.args.bytes.now
     c.loop-at.rest.now after _ _ _ _ c.loop-at.invariant.gets)
 
 pub returns-clause-others : goal.returns-clause-others

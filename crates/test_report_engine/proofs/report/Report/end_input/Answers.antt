@@ -1,18 +1,18 @@
 use Rattle.std.proofs.Common.{arith, length, ◌<◌, [], ap}
 use Rattle.std.proofs.lemmas.Result.{on_ok_weaker}
-use Rattle.test_report_engine.proofs.Inputs.{EndsAs, end-read, end-start, ends-line, ends-none, input-end-start, input-line-start, input-none, last-start, some-bytes}
+use Rattle.test_report_engine.proofs.Inputs.{EndsAs, end-read, ends-line, ends-none, input-end-start, input-line-start, input-none, last-start, notes-start, some-bytes}
 use Rattle.test_report_engine.proofs.Notes.{on_err, on_err_weaker}
 use Rattle.test_report_engine.proofs.PassedOn.{EndsGets, ends-gets-line, ends-gets-none, ends-input, ends-stop, last-stop}
 use Rattle.test_report_engine.specs.Others.{sink_state}
-use Rattle.test_report_engine.proofs.report.Report.end_file.Goals as goal
-use Rattle.test_report_engine.proofs.report.Report.end_file.Goals.{then-not-is_empty+in_ok-on_line, else-not-is_empty}
+use Rattle.test_report_engine.proofs.report.Report.end_input.Goals as goal
+use Rattle.test_report_engine.proofs.report.Report.end_input.Goals.{then-not-is_empty+in_ok-on_line, else-not-is_empty}
 
 pub returns-in_err-on_line-clause-starts : goal.returns-in_err-on_line-clause-starts
 returns-in_err-on_line-clause-starts g c =
     let some : 0 < length c.args.begun.now = grind arith in
     on_err c.from_residual.result
-    (last-start g.F.Form.line c.args.self.now c.args.begun.now _ _ c.requires.one_line some
-    (input-line-start g.F.Form.line c.args.self.now c.args.begun.now [] _ _ c.requires.one_line c.in_err-on_line.ensures.starts))
+    (last-start _ g.F.Form.line c.args.self.now c.args.begun.now _ _ c.requires.one_line some
+    (input-line-start _ g.F.Form.line c.args.self.now c.args.begun.now [] _ _ c.requires.one_line c.in_err-on_line.ensures.starts))
 
 pub returns-in_err-notes-clause-starts : goal.returns-in_err-notes-clause-starts
 returns-in_err-notes-clause-starts g c =
@@ -25,7 +25,7 @@ returns-in_err-notes-clause-starts g c =
           (ap g.W.Sink.written w.sink-is)
       | else-not-is_empty w ↦ ends-none g.F.Form.line g.F.Form.last g.F.Form.Knows _ _ _ _ _ (grind arith) w.self-is (ap g.W.Sink.written w.sink-is)
     ] in
-    on_err c.from_residual-in_err-notes.result (ends.starts _ (input-none g.F.Form.line c.if-not-is_empty.self [] _))
+    on_err c.from_residual-in_err-notes.result (ends.starts _ _ (input-none _ g.F.Form.line c.if-not-is_empty.self [] _))
 
 pub returns-clause-starts : goal.returns-clause-starts
 returns-clause-starts g c =
@@ -39,8 +39,8 @@ returns-clause-starts g c =
       | else-not-is_empty w ↦ ends-none g.F.Form.line g.F.Form.last g.F.Form.Knows _ _ _ _ _ (grind arith) w.self-is (ap g.W.Sink.written w.sink-is)
     ] in
     on_err_weaker c.write.result
-    (λ starts. ends.starts _ (input-end-start c.one_reading_of_line.ensures g.F.Form.line c.if-not-is_empty.self _ _
-    (end-start _ c.if-not-is_empty.self.run _ _ _ _ c.in_ok-notes.ensures.tells c.as_slice.ensures.value starts)))
+    (λ starts. ends.starts _ _ (input-end-start c.one_reading_of_line.ensures _ g.F.Form.line c.if-not-is_empty.self _ _
+    (notes-start _ _ _ _ _ _ c.in_ok-notes.ensures.tells c.as_slice.ensures.value starts)))
     c.write.ensures.starts
 
 pub returns-clause-reads : goal.returns-clause-reads
@@ -55,7 +55,7 @@ returns-clause-reads g c =
       | else-not-is_empty w ↦ ends-none g.F.Form.line g.F.Form.last g.F.Form.Knows _ _ _ _ _ (grind arith) w.self-is (ap g.W.Sink.written w.sink-is)
     ] in
     on_ok_weaker c.write.result
-    (λ writes. ends.reads c.write.new.self _ (end-read g.F.Form.line g.F.Form.last g.F.Form.Knows c.if-not-is_empty.self c.write.new.self _ _ _ _ _
+    (λ writes. ends.reads _ c.write.new.self _ (end-read g.F.Form.line g.F.Form.last g.F.Form.Knows _ c.if-not-is_empty.self c.write.new.self _ _ _ _ _
     c.in_ok-notes.ensures.tells c.in_ok-notes.ensures.takes c.as_slice.ensures.value c.write.ensures.same_run writes))
     c.write.ensures.writes
 
@@ -63,7 +63,7 @@ pub returns-in_err-on_line-clause-others_start : goal.returns-in_err-on_line-cla
 returns-in_err-on_line-clause-others_start g c =
     let some : 0 < length c.args.begun.now = grind arith in
     on_err c.from_residual.result
-    (last-stop g.F.Form.line c.args.self.now c.args.begun.now _ _ _ _ c.requires.one_line some c.in_err-on_line.ensures.others_start
+    (last-stop g.F.Form.line _ c.args.self.now c.args.begun.now _ _ _ _ c.requires.one_line some c.in_err-on_line.ensures.others_start
     c.in_err-on_line.ensures.starts)
 
 pub returns-in_err-notes-clause-others_start : goal.returns-in_err-notes-clause-others_start
@@ -83,7 +83,7 @@ returns-in_err-notes-clause-others_start g c =
           (ap (sink_state g.O.Sink.failed g.O.Sink.flushed g.O.Sink.written) w.others-is) (ap g.W.Sink.written w.sink-is)
     ] in
     on_err c.from_residual-in_err-notes.result
-    (ends-stop g.F.Form.line _ _ _ _ _ _ _ _ ends (input-none g.F.Form.line c.if-not-is_empty.self [] _))
+    (ends-stop g.F.Form.line _ _ _ _ _ _ _ _ _ ends (input-none _ g.F.Form.line c.if-not-is_empty.self [] _))
 
 pub returns-clause-others : goal.returns-clause-others
 returns-clause-others g c =
@@ -120,6 +120,6 @@ returns-clause-others_start g c =
           (ap (sink_state g.O.Sink.failed g.O.Sink.flushed g.O.Sink.written) w.others-is) (ap g.W.Sink.written w.sink-is)
     ] in
     on_err_weaker c.write.result
-    (λ starts. ends-stop g.F.Form.line _ _ _ _ _ _ _ _ ends (input-end-start c.one_reading_of_line.ensures g.F.Form.line c.if-not-is_empty.self _ _
-    (end-start _ c.if-not-is_empty.self.run _ _ _ _ c.in_ok-notes.ensures.tells c.as_slice.ensures.value starts)))
+    (λ starts. ends-stop g.F.Form.line _ _ _ _ _ _ _ _ _ ends (input-end-start c.one_reading_of_line.ensures _ g.F.Form.line c.if-not-is_empty.self _ _
+    (notes-start _ _ _ _ _ _ c.in_ok-notes.ensures.tells c.as_slice.ensures.value starts)))
     c.write.ensures.starts
