@@ -8,15 +8,17 @@ use Rattle.run_events_stats.specs.declared.outcome.RunFailureStep.TheVariants as
 use Rattle.run_events_stats.specs.declared.outcome.run_outcome.RunOutcome.TheVariants as outcome
 use Rattle.test_report_events.specs.Event.{EventView, SuiteEndView, SuiteStarts, SuiteEnds}
 use Rattle.test_report_laws.proofs.Books.{IsIn, position-in}
+use Rattle.test_report_laws.proofs.CargoReports.{known-at, only-told, ready}
 use Rattle.test_report_laws.proofs.Counters.{early-suite, last-suite, of_suite, sum-of}
 use Rattle.test_report_laws.proofs.EndSums.{early_rest, last_by}
+use Rattle.test_report_laws.proofs.FileEnds.{end-parts, reported_run}
 use Rattle.test_report_laws.proofs.OverRuns.{over-run}
 use Rattle.test_report_laws.proofs.Tallies.{run-sums}
-use Rattle.test_report_laws.proofs.Weights.{keeps-line, weigh, weight_of}
+use Rattle.test_report_laws.proofs.Weights.{keeps-line, ready-suites, weigh, weight_of}
 use Rattle.test_report_run.specs.Note.{NoteView}
 use Rattle.test_report_run.specs.Others.{OthersView}
 use Rattle.test_report_run.specs.Over.{early_notes, early_state, explained_of, last_notes, last_state, rest_of}
-use Rattle.test_report_run.specs.Run.{RunState, Step, after, all_ended_early, ended_at, ended_early, file_notes, heard, learned, names_in, no_event_notes, notes_at, open_suite, opened, run_start, started_again, step, stray_suite_notes, suite_at, with_suite_at, without_tests}
+use Rattle.test_report_run.specs.Run.{RunState, Step, after, ended_at, ended_early, file_notes, heard, learned, names_in, notes_at, open_suite, opened, run_start, settled_at, started_again, step, stray_suite_notes, suite_at, with_suite_at, without_tests}
 use Rattle.test_report_run.specs.Said.{sum_of}
 use Rattle.test_report_laws.specs.Status.{AnnouncedAreCounted, announced_by}
 use Rattle.test_report_run.specs.Suite.{SuiteState, has_key, joined_by, outside_start, suite_start, with_line}
@@ -124,12 +126,29 @@ covered-other : (n : ℕ) (notes : List NoteView) (r : RunState) (e : EventView)
     → Covered n notes r → Covered (n + announced_by e) (notes ++ notes_at r e) (after r e)
 covered-other n notes r e none keeps i = omega (arith, none, keeps, i, sum_by-append reach notes (notes_at r e))
 
+covered-ready : (n : ℕ) (notes : List NoteView) (r : RunState) (e : EventView) → Covered n notes r
+    → Covered n (notes ++ (settled_at r e).notes) (ready r e)
+covered-ready n notes r e i = omega (
+  arith,
+  i,
+  sum_by-append reach notes (settled_at r e).notes,
+  ap (λ (suites : List SuiteState). sum_by (weigh announcing) suites) (ready-suites r e),
+)
+
 covered-line : (n : ℕ) (notes : List NoteView) (r : RunState) (e : EventView) → Covered n notes r
     → Covered (n + announced_by e) (notes ++ notes_at r e) (after r e)
 covered-line n notes r (SuiteStarts key count) i =
-    covered-first n notes r key count (open_suite r key) (position-in (has_key key) r.suites (open_suite r key) refl) i
+    let line = SuiteStarts key count in
+    let now = ready r line in
+    known-at (λ known. Covered (n + announced_by line) known (after r line)) notes r line
+    (covered-first n (notes ++ (settled_at r line).notes) now key count (open_suite now key)
+    (position-in (has_key key) now.suites (open_suite now key) refl) (covered-ready n notes r line i))
 covered-line n notes r (SuiteEnds e) i =
-    covered-last n notes r e (open_suite r e.key) (position-in (has_key e.key) r.suites (open_suite r e.key) refl) i
+    let line = SuiteEnds e in
+    let now = ready r line in
+    known-at (λ known. Covered (n + announced_by line) known (after r line)) notes r line
+    (covered-last n (notes ++ (settled_at r line).notes) now e (open_suite now e.key)
+    (position-in (has_key e.key) now.suites (open_suite now e.key) refl) (covered-ready n notes r line i))
 covered-line n notes r e i = covered-other n notes r e refl (keeps-line r e refl announcing) i
 
 -- the end of a file
@@ -148,16 +167,17 @@ covered-ends t (s ∷ suites) =
 
 covered-end : (n : ℕ) (notes : List NoteView) (r : RunState) → Covered n notes r → n ≤ sum_by reach (notes ++ file_notes r)
 covered-end n notes r i =
-    let none = step (record r { suites = [] }) [] in
-    let ended = fold ended_early none r.suites in
-    let last = early_notes ended.run.others r.outside (names_in (record (ended.run) { outside = outside_start }) r.outside) in
-    let over = all_ended_early r in
+    let now = reported_run r in
+    let none = step (record now { suites = [] }) [] in
+    let ended = fold ended_early none now.suites in
+    let last = early_notes ended.run.others now.outside (names_in (record (ended.run) { outside = outside_start }) now.outside) in
     omega (
       arith,
       i,
-      covered-ends none r.suites,
+      covered-ends none now.suites,
+      ap (weight_of announcing) (only-told r).run_is,
       sum_by-append reach ended.notes last,
-      sum_by-append reach over.notes (no_event_notes over.run),
+      end-parts reach r,
       sum_by-append reach notes (file_notes r),
     )
 

@@ -2,25 +2,27 @@
 use Rattle.std.proofs.Common.{◌≡◌, ◌∙◌, ℕ, List, [], ◌∷◌, ◌++◌, ◌+◌, ◌<◌, ◌≤◌, Bool, true, false, cond, Option, Some, None, refl, ap, arith, drop, length, subst, suc, sym, take}
 use Rattle.std.specs.List.{All, count_by, fold, position, remove, sum_by}
 use Rattle.std.specs.Option.{option_map_or, option_or}
-use Rattle.std.specs.Prelude.{◌-◌, ◌==◌, ◌&&◌, if◌then◌else◌, nat_lt, not, option_and_then}
+use Rattle.std.specs.Prelude.{◌-◌, ◌==◌, if◌then◌else◌, option_and_then}
 use Rattle.std.proofs.lemmas.Bool.{cond_both, eqb-false}
 use Rattle.std.proofs.lemmas.List.Elements.{All-append, All-cons, All-drop, All-get_or, All-head, All-nil, All-push, All-set, All-tail, All-take}
 use Rattle.std.proofs.lemmas.List.Quantifiers.{position-Some}
 use Rattle.std.proofs.lemmas.List.Sums.{fold-append, sum_by-append, sum_by-cons, sum_by-remove, sum_by-set, sum_by_push}
 use Rattle.run_events_stats.specs.Counters.{counters_of, nothing_known}
 use Rattle.run_events_stats.specs.declared.stats.RunStats.{RunStats}
-use Rattle.test_report_events.specs.Event.{EventView, SuiteEndView, TestEndView, SuiteStarts, SuiteEnds, TestStarts, TestEnds, OtherLine, HeadingLine, CargoFails, Prints, DamagedLine}
+use Rattle.test_report_events.specs.Event.{EventView, SuiteEndView, TestEndView, SuiteStarts, SuiteEnds, TestStarts, TestEnds, OtherLine, HeadingLine, CargoFails, Prints, DamagedLine, CommandStarts, CommandOver}
 use Rattle.test_report_events.specs.declared.event.TestResult.{TestResult}
 use Rattle.test_report_events.specs.declared.event.TestResult.TheVariants.{Ok, Failed, Ignored}
+use Rattle.test_report_laws.proofs.CargoReports.{OnlyReports, only-cargo, only-settled_at, only-told, reports-none}
 use Rattle.test_report_laws.proofs.EndSums.{last_by}
+use Rattle.test_report_laws.proofs.FileEnds.{reported_run, suites-alone}
 use Rattle.test_report_laws.proofs.OverRuns.{over-run, up-to-line}
 use Rattle.test_report_laws.proofs.Sums.{sum-if-none}
 use Rattle.test_report_run.specs.Ended.{after_end, end_notes}
-use Rattle.test_report_run.specs.Note.{CargoSays, Disagrees, DisagreementView, HasNoEvent, IsDamaged, NoteView, StrayEnds, StraySuiteEnds}
-use Rattle.test_report_run.specs.Others.{OthersView, after_failure, after_print}
+use Rattle.test_report_run.specs.Note.{Disagrees, DisagreementView, IsDamaged, NoteView, StrayEnds, StraySuiteEnds}
+use Rattle.test_report_run.specs.Others.{OthersView, after_failure}
 use Rattle.test_report_run.specs.Over.{early_notes, explained_of, last_notes}
 use Rattle.test_report_run.specs.Prints.{cut}
-use Rattle.test_report_run.specs.Run.{RunState, Step, after, after_file, all_ended_early, counts_tests, ended_at, ended_early, file_notes, heard, is_cause, is_disagreement, is_explained, learned, marked, names_in, no_event_notes, notes_at, open_suite, opened, run_start, running_ends, running_over, started_again, step, stray_ends, stray_over, stray_suite_notes, stray_test, suite_at, suite_place, told, with_note, with_suite_at, without_tests}
+use Rattle.test_report_run.specs.Run.{RunState, Step, after, after_file, cargo_fails, counts_tests, ended_at, ended_early, file_notes, heard, is_disagreement, learned, marked, names_in, notes_at, open_suite, opened, reports_told, run_start, running_ends, running_over, settled_at, started_again, step, stray_ends, stray_over, stray_suite_notes, stray_test, suite_at, suite_place, told, told_at, with_note, with_suite_at, without_tests}
 use Rattle.test_report_run.specs.Running.{is_same, place_of_end, running_at}
 use Rattle.test_report_run.specs.Name.{before_dollar}
 use Rattle.test_report_run.specs.Suite.{FlakyView, OverView, SuiteState, has_key, joined_by, named, outside_start, suite_start, with_line, with_start}
@@ -93,22 +95,21 @@ module _ (h : Kept → ℕ) where
 
 -- the sums that a run keeps: over suites, of disagreements, and of failed tests and disagreements
 abbrev Sums : Type 0
-Sums = RunEnd × ℕ × ℕ
+Sums = RunEnd × ℕ
 
 abbrev pub sums_of : RunState → Sums
-sums_of r = (r.totals, r.disagreements, r.causes)
+sums_of r = (r.totals, r.disagreements)
 
 abbrev learn : Sums → List NoteView → Sums
-learn s notes = (fold with_note s.0 notes, s.1 + count_by is_disagreement notes, s.2 + count_by is_cause notes)
+learn s notes = (fold with_note s.0 notes, s.1 + count_by is_disagreement notes)
 
 abbrev pub sums_in : List NoteView → Sums
-sums_in notes = (fold with_note no_suites notes, count_by is_disagreement notes, count_by is_cause notes)
+sums_in notes = (fold with_note no_suites notes, count_by is_disagreement notes)
 
 learn-more : (notes more : List NoteView) → learn (sums_in notes) more ≡ sums_in (notes ++ more)
 learn-more notes more =
     let a = fold-append with_note no_suites notes more in
     let b = sum_by-append (λ x. cond (is_disagreement x) 1 0) notes more in
-    let c = sum_by-append (λ x. cond (is_cause x) 1 0) notes more in
     cc
 
 -- what holds of a run at the end of a file, up to which these notes are known: one weight of the notes is within the other one
@@ -262,10 +263,13 @@ module _ {loose : ℕ} {w v : NoteView → ℕ} {h : Kept → ℕ} {Fine : Kept 
       same-at None = refl
       same-at (Some at) = refl
 
-  -- a line that is no event of a harness
-  keeps-other : (r : RunState) (others : OthersView) (notes : List NoteView) → AreFine r → sum_by w notes ≡ 0 → sum_by v notes ≡ 0
-      → Keeps r (step (record r { others = others }) notes)
-  keeps-other r others notes f a b = (record { low = omega arith; high = λ _. omega arith }, f, refl)
+  -- failures of cargo become known
+  keeps-reports : (r : RunState) (t : Step) → AreFine r → OnlyReports r t → Keeps r t
+  keeps-reports r t f only =
+      let same : all_held h t.run ≡ all_held h r = ap (all_held h) only.run_is in
+      let a = reports-none only w (λ report. w_disagree _) in
+      let b = reports-none only v (λ report. v_disagree _) in
+      (record { low = omega arith; high = λ _. omega arith }, subst AreFine (sym only.run_is) f, ap sums_of only.run_is)
 
   keeps-line : (r : RunState) (e : EventView) → AreFine r → Keeps r (told r e)
   keeps-line r (SuiteStarts key count) f = keeps-first r key count (open_suite r key) f (position-in (has_key key) r.suites (open_suite r key) refl)
@@ -277,12 +281,26 @@ module _ {loose : ℕ} {w v : NoteView → ℕ} {h : Kept → ℕ} {Fine : Kept 
   keeps-line r OtherLine f = keeps-same r [] f refl refl
   keeps-line r (HeadingLine name path) f = (record { low = omega arith; high = λ _. omega arith }, f, refl)
   keeps-line r (CargoFails k line plain) f =
-      let d = CargoSays plain in
-      let counts = length r.suites == 0 && not (is_explained r k) in
-      keeps-other r (after_failure r.others) (if counts then Disagrees d ∷ [] else []) f
-      (sum-if-none w counts (Disagrees d) (w_disagree d)) (sum-if-none v counts (Disagrees d) (v_disagree d))
-  keeps-line r (Prints line plain) f = keeps-other r (after_print r.others line plain) [] f refl refl
+      keeps-reports (record r { others = after_failure r.others }) (step (cargo_fails r k plain) []) f (only-cargo r k plain)
+  keeps-line r (Prints line plain) f = (record { low = omega arith; high = λ _. omega arith }, f, refl)
   keeps-line r (DamagedLine text) f = keeps-if r true (IsDamaged (cut text)) f
+  keeps-line r CommandStarts f = (record { low = omega arith; high = λ _. omega arith }, f, refl)
+  keeps-line r (CommandOver end) f = (record { low = omega arith; high = λ _. omega arith }, f, refl)
+
+  -- one step after the other
+  keeps-both : (r : RunState) (s t : Step) → Keeps r s → Keeps s.run t → Keeps r (step t.run (s.notes ++ t.notes))
+  keeps-both r s t first second =
+      let a = sum_by-append w s.notes t.notes in
+      let b = sum_by-append v s.notes t.notes in
+      let x = first.0 in
+      let y = second.0 in
+      (record { low = omega (arith, x.low, y.low); high = λ e. omega (arith, x.high e, y.high e) }, second.1, second.2 ∙ first.2)
+
+  keeps-at : (r : RunState) (e : EventView) → AreFine r → Keeps r (told_at r e)
+  keeps-at r e f =
+      let before = settled_at r e in
+      let first = keeps-reports r before f (only-settled_at r e) in
+      keeps-both r before (told before.run e) first (keeps-line before.run e first.1)
 
   -- what holds of a run of which these notes are known
   pub record Holds (notes : List NoteView) (r : RunState) : Type 0 where
@@ -304,13 +322,17 @@ module _ {loose : ℕ} {w v : NoteView → ℕ} {h : Kept → ℕ} {Fine : Kept 
       }
 
   holds-marked : (notes : List NoteView) (r : RunState) (e : EventView) → Holds notes r → Holds notes (marked r e)
-  holds-marked notes r (CargoFails f line plain) i = cond_both (length r.suites == 0) (record r { causes_at_cargo = r.causes }) r (Holds notes)
-      (λ _. record { books = i.books; fine = i.fine; sums = i.sums }) (λ _. i)
+  holds-marked notes r (Prints line plain) i = i
   holds-marked notes r e i = record { books = i.books; fine = i.fine; sums = i.sums }
 
+  -- after the failures of cargo that are known before a line makes its own notes known
+  pub holds-settled : (notes : List NoteView) (r : RunState) (e : EventView) → Holds notes r
+      → Holds (notes ++ (settled_at r e).notes) (learned (settled_at r e).run (settled_at r e).notes)
+  holds-settled notes r e i = holds-step notes r (settled_at r e) i (keeps-reports r (settled_at r e) i.fine (only-settled_at r e))
+
   holds-line : (notes : List NoteView) (r : RunState) (e : EventView) → Holds notes r → Holds (notes ++ notes_at r e) (after r e)
-  holds-line notes r e i = holds-marked (notes ++ notes_at r e) (learned (told r e).run (told r e).notes) e
-      (holds-step notes r (told r e) i (keeps-line r e i.fine))
+  holds-line notes r e i = holds-marked (notes ++ notes_at r e) (learned (told_at r e).run (notes_at r e)) e
+      (holds-step notes r (told_at r e) i (keeps-at r e i.fine))
 
   -- the end of a file
   ends-early : (t : Step) (suites : List SuiteState) → All IsFine suites
@@ -328,27 +350,31 @@ module _ {loose : ℕ} {w v : NoteView → ℕ} {h : Kept → ℕ} {Fine : Kept 
 
   holds-file_end : (notes : List NoteView) (r : RunState) → Holds notes r → HoldsAll loose w v (notes ++ file_notes r) (after_file r)
   holds-file_end notes r i =
-      let none = step (record r { suites = [] }) [] in
-      let ended = fold ended_early none r.suites in
-      let keep = ends-keep none r.suites in
+      let told = keeps-reports r (reports_told r) i.fine (only-told r) in
+      let now = reported_run r in
+      let none = step (record now { suites = [] }) [] in
+      let ended = fold ended_early none now.suites in
+      let keep = ends-keep none now.suites in
       let before = i.books in
-      let first = ends-early none r.suites i.fine.1 in
-      let last = ends-early (step (record (ended.run) { outside = outside_start }) ended.notes) (r.outside ∷ [])
-      (All-cons IsFine r.outside [] i.fine.0 (All-nil IsFine)) in
-      let one = sum_by-cons (held h) r.outside [] in
-      let silent = (all_ended_early r).run in
-      let quiet = not silent.has_event && not (nat_lt silent.causes_at_file silent.causes) in
+      let known = told.0 in
+      let first = ends-early none now.suites told.1.1 in
+      let last = ends-early (step (record (ended.run) { outside = outside_start }) ended.notes) (now.outside ∷ [])
+      (All-cons IsFine now.outside [] told.1.0 (All-nil IsFine)) in
+      let one = sum_by-cons (held h) now.outside [] in
       let x = sum_by-append w notes (file_notes r) in
       let y = sum_by-append v notes (file_notes r) in
-      let a = sum_by-append w (all_ended_early r).notes (no_event_notes silent) in
-      let b = sum_by-append v (all_ended_early r).notes (no_event_notes silent) in
-      let c = sum-if-none w quiet (Disagrees HasNoEvent) (w_disagree HasNoEvent) in
-      let d = sum-if-none v quiet (Disagrees HasNoEvent) (v_disagree HasNoEvent) in
+      let a = suites-alone w w_disagree r in
+      let b = suites-alone v v_disagree r in
+      let c = reports-none (only-told r) w (λ report. w_disagree _) in
+      let d = reports-none (only-told r) v (λ report. v_disagree _) in
       record {
-        whole = record { low = omega (arith, before.low, first.low, last.low); high = λ e. omega (arith, before.high e, first.high e, last.high e) };
+        whole = record {
+          low = omega (arith, before.low, known.low, first.low, last.low);
+          high = λ e. omega (arith, before.high e, known.high e, first.high e, last.high e);
+        };
         outside = refl;
         suites = keep.0;
-        all_sums = ap (λ s. learn s (file_notes r)) (keep.1 ∙ i.sums) ∙ learn-more notes (file_notes r);
+        all_sums = ap (λ s. learn s (file_notes r)) (keep.1 ∙ (told.2 ∙ i.sums)) ∙ learn-more notes (file_notes r);
       }
 
   holds-start : (notes : List NoteView) (r : RunState) → HoldsAll loose w v notes r → Holds notes r

@@ -13,8 +13,10 @@ use Rattle.test_report_forms.specs.Place.{PlaceView}
 use Rattle.test_report_forms.specs.Shown.{front, limited, more_bytes, more_note}
 use Rattle.test_report_forms.specs.Why.{WhyView}
 use Rattle.test_report_laws.specs.Forms.{GithubHasNoControls, NamesAreLines}
-use Rattle.test_report_run.specs.Note.{NoteView, TestNoteView}
+use Rattle.test_report_run.specs.Note.{FailureView, NoteView, TestNoteView}
 use Rattle.test_report_run.specs.declared.note.RunEnd.{RunEnd}
+use Rattle.test_report_forms.specs.ShownWhy.{ShownWhyView, hidden_note, limited_why, shown_why}
+use Rattle.test_report_forms.specs.declared.options.Options.{Options}
 
 -- the form of names
 pub names-are-lines : NamesAreLines
@@ -29,9 +31,16 @@ names-are-lines (SuiteOver s) = inl refl
 clean-more_note : (more : ℕ) → Clean (more_note more)
 clean-more_note more = clean-if _ nothing (also (word (codes "\n(") refl) (also (clean-decimal more) (word (codes " more bytes)") refl)))
 
+clean-hidden_note : (hidden : ℕ) → Clean (hidden_note hidden)
+clean-hidden_note hidden = clean-if _ nothing (also (word (codes "\n(") refl) (also (clean-decimal hidden) (word (codes " more lines of output)") refl)))
+
 pub clean-limited : (text : List ℕ) (limit : ℕ) → Clean (limited text limit)
 unfolding limited
 clean-limited text limit = also (clean-text false (front text limit) refl) (clean-more_note (more_bytes text limit))
+
+pub clean-limited_why : (why : ShownWhyView) (limit : ℕ) → Clean (limited_why why limit)
+unfolding limited_why
+clean-limited_why why limit = also (clean-limited why.text limit) (clean-hidden_note why.hidden)
 
 clean-data_char : (c : ℕ) → is_escaped c ≡ false → Clean (data_char c)
 clean-data_char c e =
@@ -58,31 +67,31 @@ clean-properties (Some p) h =
     let numbers = also (word (codes ",line=") refl) (also (clean (clean-number h.0)) (also (clean-column p.column h.1) (word (codes ",") refl))) in
     also (word (codes "file=") refl) (also (clean-property (clean (clean-line p.file))) numbers)
 
-clean-command : (limit : ℕ) (t : TestNoteView) (w : WhyView) → IsNumbered w.place → Clean (failed_command limit t w)
+clean-command : (o : Options) (t : TestNoteView) (f : FailureView) (w : WhyView) → IsNumbered w.place → Clean (failed_command o t f w)
 unfolding failed_command title_property why_message
-clean-command limit t w h =
+clean-command o t f w h =
     let named = also (word (codes "title=") refl) (clean-property (clean (clean-title t))) in
-    let why = also (word (codes "::") refl) (also (clean-message (clean-limited w.text limit)) (word (codes "\n") refl)) in
+    let why = also (word (codes "::") refl) (also (clean-message (clean-limited_why (shown_why o t f w) o.limit)) (word (codes "\n") refl)) in
     also (word (codes "::error ") refl) (also (clean-properties w.place h) (also named why))
 
 clean-error : {text : List ℕ} → Clean text → Clean (error_command text)
 unfolding error_command
 clean-error h = also (word (codes "::error::") refl) (also (clean-message h) (word (codes "\n") refl))
 
-clean-github_line : (limit : ℕ) (e : EntryView) → HasNumbers e → Clean (github_line limit e)
-clean-github_line limit (TestFailed t f w) h = clean-command limit t w h
-clean-github_line limit (LinesDisagree d) h = clean-error (clean (clean-disagreement d))
-clean-github_line limit (SuiteNotRun suite n of) h = clean-error (clean (clean-not_run suite n of))
-clean-github_line limit (TestPassed t) h = nothing
-clean-github_line limit (TestSkipped t) h = nothing
-clean-github_line limit (SuiteOver s) h = nothing
+clean-github_line : (o : Options) (e : EntryView) → HasNumbers e → Clean (github_line o e)
+clean-github_line o (TestFailed t f w) h = clean-command o t f w h
+clean-github_line o (LinesDisagree d) h = clean-error (clean (clean-disagreement d))
+clean-github_line o (SuiteNotRun suite n of) h = clean-error (clean (clean-not_run suite n of))
+clean-github_line o (TestPassed t) h = nothing
+clean-github_line o (TestSkipped t) h = nothing
+clean-github_line o (SuiteOver s) h = nothing
 
-clean-github_lines : (limit : ℕ) (entries : List EntryView) → All (λ e. (n : NoteView) × IsEntryOf n e) entries → Clean (flat_map (github_line limit) entries)
-clean-github_lines limit [] are = nothing
-clean-github_lines limit (e ∷ es) are =
+clean-github_lines : (o : Options) (entries : List EntryView) → All (λ e. (n : NoteView) × IsEntryOf n e) entries → Clean (flat_map (github_line o) entries)
+clean-github_lines o [] are = nothing
+clean-github_lines o (e ∷ es) are =
     let is = All-head (λ e. (n : NoteView) × IsEntryOf n e) e es are in
-    also (clean-github_line limit e (entry-numbers is.0 e is.1))
-    (clean-github_lines limit es (All-tail (λ e. (n : NoteView) × IsEntryOf n e) e es are))
+    also (clean-github_line o e (entry-numbers is.0 e is.1))
+    (clean-github_lines o es (All-tail (λ e. (n : NoteView) × IsEntryOf n e) e es are))
 
 clean-github_last : (end : RunEnd) → Clean (github_last end)
 unfolding github_last
@@ -91,4 +100,4 @@ clean-github_last end =
     (word (codes "\n") refl))))
 
 pub github-has-no-controls : GithubHasNoControls
-github-has-no-controls limit entries end are = (also (clean-github_lines limit entries are) (clean-github_last end)).is
+github-has-no-controls o entries end are = (also (clean-github_lines o entries are) (clean-github_last end)).is

@@ -3,6 +3,7 @@ use Rattle.std.proofs.Common.{◌-◌, ◌/◌, ◌%◌, refl, ℕ, Bool, List, 
 use Rattle.std.specs.Fmt.{decimal}
 use Rattle.run_events_stats.specs.declared.outcome.run_outcome.RunOutcome.{RunOutcome}
 use Rattle.run_events_stats.specs.declared.outcome.run_outcome.RunOutcome.TheVariants as outcome
+use Rattle.test_report_events.specs.Event.{BySignal, CommandView, NotStarted, WithStatus}
 use Rattle.test_report_events.specs.declared.event.TestResult.{TestResult}
 use Rattle.test_report_events.specs.declared.event.TestResult.TheVariants as ended
 use Rattle.test_report_laws.proofs.CleanLines.{CleanLine, also, clean-decimal, clean-if, clean-line, clean-name, clean-option, clean-replicate, nothing, word}
@@ -10,8 +11,8 @@ use Rattle.test_report_forms.specs.List.{flaky_word}
 use Rattle.test_report_forms.specs.Shown.{and_space, bracket, name_and_space, seconds, three_digits}
 use Rattle.test_report_forms.specs.Text.{attempts_note}
 use Rattle.test_report_forms.specs.Title.{title, title_name}
-use Rattle.test_report_forms.specs.Words.{disagreement_line, failed_numbers, failed_word, its_tests, key_and_verdict, not_run_line, other_numbers, outcome_word, passed_numbers, result_word, run_numbers, said_numbers, said_text, summary_line, verdict_word}
-use Rattle.test_report_run.specs.Note.{CargoSays, DisagreementView, EndsEarly, HasCrashed, HasFailed, HasNoEnd, HasNoEvent, HasTimedOut, IsDamaged, IsFlaky, KindView, SaysOther, StartsOutside, StrayEnds, StraySuiteEnds, TestNoteView}
+use Rattle.test_report_forms.specs.Words.{command_words, disagreement_line, failed_numbers, failed_word, its_tests, key_and_verdict, not_run_line, other_numbers, outcome_word, passed_numbers, result_word, run_numbers, said_numbers, said_text, summary_line, verdict_word}
+use Rattle.test_report_run.specs.Note.{CargoSays, CommandFails, DisagreementView, EndsEarly, HasCrashed, HasFailed, HasNoEnd, HasNoEvent, HasTimedOut, IsDamaged, IsFlaky, KindView, SaysOther, StartsOutside, StrayEnds, StraySuiteEnds, TestNoteView}
 use Rattle.test_report_run.specs.declared.note.RunEnd.{RunEnd}
 use Rattle.test_report_run.specs.declared.note.SaidNumbers.{SaidNumbers}
 
@@ -96,6 +97,13 @@ clean-its_tests passed failed =
     also (word (codes ", but ") refl) (also (clean-decimal passed) (also (word (codes " of its tests passed and ") refl)
     (also (clean-decimal failed) (word (codes " failed") refl))))
 
+clean-command : (end : CommandView) → CleanLine (command_words end)
+unfolding command_words
+clean-command (NotStarted error) = also (word (codes "could not be started: ") refl) (clean-line error)
+clean-command (BySignal number) = also (word (codes "ended by signal ") refl) (clean-decimal number)
+clean-command (WithStatus code) =
+    also (word (codes "ended with status ") refl) (also (clean-decimal code) (word (codes ", and no line says why") refl))
+
 pub clean-disagreement : (d : DisagreementView) → CleanLine (disagreement_line d)
 unfolding disagreement_line key_and_verdict
 clean-disagreement (EndsEarly suite) = also (clean-name suite) (word (codes " ended early") refl)
@@ -105,9 +113,10 @@ clean-disagreement (StrayEnds name how) =
 clean-disagreement (StraySuiteEnds key failed) =
     also (word (codes "a suite ended that had not started: ") refl) (also (clean-name_and_space key) (clean-verdict failed))
 clean-disagreement (StartsOutside n) = also (clean-decimal n) (word (codes " tests started outside of a suite") refl)
-clean-disagreement (CargoSays line) = also (word (codes "cargo: ") refl) (clean-line line)
+clean-disagreement (CargoSays report) = also (word (codes "cargo: ") refl) (clean-line report.line)
 clean-disagreement (IsDamaged text) = also (word (codes "a damaged line says that a test or a suite failed: ") refl) (clean-line text)
 clean-disagreement HasNoEvent = word (codes "no line of the input is of a test run") refl
+clean-disagreement (CommandFails end) = also (word (codes "the command ") refl) (clean-command end)
 
 pub clean-not_run : (suite : List ℕ) (n of : ℕ) → CleanLine (not_run_line suite n of)
 unfolding not_run_line

@@ -8,7 +8,7 @@ use Rattle.template.proofs.Controls.{Clean, clean-decimal, clean-flat_map, clean
 use Rattle.test_report_forms.specs.Entry.{EntryView, LinesDisagree, SuiteNotRun, SuiteOver, TestFailed, TestPassed, TestSkipped}
 use Rattle.test_report_forms.specs.List.{KeyedLine, failed_line, failed_of, flaky_line, flaky_lines, flaky_of, flaky_passed, flaky_word, list_line, put_falling, put_rising, short_list, slow_line, slow_lines, slow_of, text_of_lines, timed}
 use Rattle.test_report_forms.specs.Shown.{front, indented_line, more_bytes}
-use Rattle.test_report_forms.specs.Text.{failed_head, failed_text, more_line, outcome_line, summary_lines, text_last, text_line, why_lines}
+use Rattle.test_report_forms.specs.Text.{failed_head, failed_text, hidden_line, more_line, outcome_line, summary_lines, text_last, text_line, why_lines}
 use Rattle.test_report_forms.specs.Words.{color_of, failed_word, status_text}
 use Rattle.test_report_forms.specs.declared.options.Options.{Options}
 use Rattle.test_report_laws.proofs.CleanLines as own
@@ -20,6 +20,7 @@ use Rattle.template.specs.Clean.{HasNoControls}
 use Rattle.test_report_laws.specs.Forms.{TextHasNoControls}
 use Rattle.test_report_run.specs.Note.{TestNoteView}
 use Rattle.test_report_run.specs.declared.note.RunEnd.{RunEnd}
+use Rattle.test_report_forms.specs.ShownWhy.{ShownWhyView, shown_why}
 
 -- parts of texts
 are-both : (ps qs : List Part) → AreParts ps → AreParts qs → AreParts (ps ++ qs)
@@ -99,6 +100,11 @@ unfolding more_line
 clean-more_line more =
     clean-if _ nothing (clean.also (word (codes "    (") refl) (clean.also (clean-decimal more) (word (codes " more bytes)\n") refl)))
 
+clean-hidden_line : (hidden : ℕ) → Clean (hidden_line hidden)
+unfolding hidden_line
+clean-hidden_line hidden =
+    clean-if _ nothing (clean.also (word (codes "    (") refl) (clean.also (clean-decimal hidden) (word (codes " more lines of output)\n") refl)))
+
 each-coloured : (f g : EntryView → List ℕ) → ((e : EntryView) → Coloured (f e) (g e)) → (entries : List EntryView)
     → Coloured (flat_map f entries) (flat_map g entries)
 each-coloured f g h [] = none
@@ -176,9 +182,11 @@ module _ (o : Options) (raw : o.raw ≡ false) where
   clean-indented : (line : List ℕ) → Clean (indented_line o.raw line)
   clean-indented line = clean.also (word (codes "    ") refl) (clean.also (clean-text o.raw line raw) (word (codes "\n") refl))
 
-  coloured-why : (why : List ℕ) → Coloured (why_lines o why) (why_lines plain why)
+  coloured-why : (why : ShownWhyView) → Coloured (why_lines o why) (why_lines plain why)
   unfolding why_lines
-  coloured-why why = same (clean.also (clean-flat_map (indented_line o.raw) clean-indented _) (clean-more_line (more_bytes why o.limit)))
+  coloured-why why =
+      let notes = clean.also (clean-more_line (more_bytes why.text o.limit)) (clean-hidden_line why.hidden) in
+      same (clean.also (clean-flat_map (indented_line o.raw) clean-indented _) notes)
 
   coloured-head : (t : TestNoteView) (w : List ℕ) → CleanLine w → Coloured (failed_head o t w) (failed_head plain t w)
   unfolding failed_head
@@ -188,7 +196,7 @@ module _ (o : Options) (raw : o.raw ≡ false) where
 
   coloured-entry : (e : EntryView) → Coloured (text_line o e) (text_line plain e)
   unfolding failed_text
-  coloured-entry (TestFailed t f w) = also (coloured-head t (failed_word f.kind) (clean-failed_word f.kind)) (coloured-why w.text)
+  coloured-entry (TestFailed t f w) = also (coloured-head t (failed_word f.kind) (clean-failed_word f.kind)) (coloured-why (shown_why o t f w))
   coloured-entry (LinesDisagree d) = same (clean.also (own.clean (clean-disagreement d)) (word (codes "\n") refl))
   coloured-entry (SuiteNotRun suite n of) = same (clean.also (own.clean (clean-not_run suite n of)) (word (codes "\n") refl))
   coloured-entry (TestPassed t) = none
@@ -209,5 +217,5 @@ text-is-coloured o entries end raw =
 pub text-has-no-controls : TextHasNoControls
 text-has-no-controls o entries end raw color =
     let parts = text-is-coloured o entries end raw in
-    let plain : without_color o ≡ o = λ i. record { limit = o.limit; raw = o.raw; color = sym color i; no_tests_pass = o.no_tests_pass } in
+    let plain : without_color o ≡ o = λ i. record { limit = o.limit; output = o.output; raw = o.raw; color = sym color i; no_tests_pass = o.no_tests_pass } in
     subst (λ p. HasNoControls (text_of_run p entries end)) plain (subst HasNoControls (sym parts.3) (kept-clean parts.0 parts.1).is)

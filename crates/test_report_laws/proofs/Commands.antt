@@ -10,7 +10,7 @@ use Rattle.template.proofs.Lacks.{Lacks, both, lacks-flat_map, lacks-word, none,
 use Rattle.test_report_forms.specs.Entry.{EntryView, IsEntryOf, LinesDisagree, SuiteNotRun, SuiteOver, TestFailed, TestPassed, TestSkipped}
 use Rattle.test_report_forms.specs.Github.{data_char, error_command, failed_command, github_last, github_line, message, place_properties, properties, column_property, property, property_char, title_property, why_message}
 use Rattle.test_report_forms.specs.Place.{PlaceView}
-use Rattle.test_report_forms.specs.Shown.{limited, shown_line}
+use Rattle.test_report_forms.specs.Shown.{shown_line}
 use Rattle.test_report_forms.specs.Title.{title}
 use Rattle.test_report_forms.specs.Why.{WhyView}
 use Rattle.test_report_forms.specs.Words.{disagreement_line, not_run_line, outcome_word, summary_line}
@@ -21,8 +21,10 @@ use Rattle.test_report_laws.proofs.Numerals.{HasNumbers, IsColumn, IsNumber, IsN
 use Rattle.test_report_laws.specs.Commands.{IsCommand, IsProperty, OnlyCommands, ends_value, command_names, is_line_end}
 use Rattle.test_report_laws.specs.Forms.{is_unseen}
 use Rattle.test_report_laws.specs.Lines.{Block, GithubNamesCauses, IsInLine, github_block, notice}
-use Rattle.test_report_run.specs.Note.{NoteView, TestNoteView}
+use Rattle.test_report_run.specs.Note.{FailureView, NoteView, TestNoteView}
 use Rattle.test_report_run.specs.declared.note.RunEnd.{RunEnd}
+use Rattle.test_report_forms.specs.ShownWhy.{limited_why, shown_why}
+use Rattle.test_report_forms.specs.declared.options.Options.{Options}
 
 -- texts without an end of a line
 abbrev Inner : List ℕ → Type 0
@@ -209,14 +211,15 @@ within-title : (t : TestNoteView) → Inner (title_property t)
 unfolding title_property
 within-title t = both (plain (codes "title=") refl) (within (value-property (title t)))
 
-one-failed : (limit : ℕ) (t : TestNoteView) (w : WhyView) → IsNumbered w.place → IsOne (failed_command limit t w) (Some (record {
-  line = failed_line w.place (title_property t) (message (limited w.text limit));
+one-failed : (o : Options) (t : TestNoteView) (f : FailureView) (w : WhyView) → IsNumbered w.place → IsOne (failed_command o t f w) (Some (record {
+  line = failed_line w.place (title_property t) (message (limited_why (shown_why o t f w) o.limit));
   below = [];
 }))
 unfolding failed_command why_message
-one-failed limit t w h = (
-  end-last (codes "::error ") (properties w.place) (title_property t) (codes "::") (message (limited w.text limit)) (codes "\n"),
-  whole-failed (title_property t) (message (limited w.text limit)) (title-property t) (within-title t) (inner-message (limited w.text limit)) w.place h,
+one-failed o t f w h = (
+  end-last (codes "::error ") (properties w.place) (title_property t) (codes "::") (message (limited_why (shown_why o t f w) o.limit)) (codes "\n"),
+  whole-failed (title_property t) (message (limited_why (shown_why o t f w) o.limit)) (title-property t) (within-title t)
+      (inner-message (limited_why (shown_why o t f w) o.limit)) w.place h,
   refl,
 )
 
@@ -224,13 +227,13 @@ one-error : (text : List ℕ) → IsOne (error_command text) (Some (record { lin
 unfolding error_command
 one-error text = (sym (append_assoc (codes "::error::") (message text) (codes "\n")), whole-error text, refl)
 
-one-entry : (limit : ℕ) (e : EntryView) → HasNumbers e → IsOne (github_line limit e) (github_block limit e)
-one-entry limit (TestFailed t f w) h = one-failed limit t w h
-one-entry limit (LinesDisagree d) h = one-error (disagreement_line d)
-one-entry limit (SuiteNotRun suite n of) h = one-error (not_run_line suite n of)
-one-entry limit (TestPassed t) h = refl
-one-entry limit (TestSkipped t) h = refl
-one-entry limit (SuiteOver s) h = refl
+one-entry : (o : Options) (e : EntryView) → HasNumbers e → IsOne (github_line o e) (github_block o e)
+one-entry o (TestFailed t f w) h = one-failed o t f w h
+one-entry o (LinesDisagree d) h = one-error (disagreement_line d)
+one-entry o (SuiteNotRun suite n of) h = one-error (not_run_line suite n of)
+one-entry o (TestPassed t) h = refl
+one-entry o (TestSkipped t) h = refl
+one-entry o (SuiteOver s) h = refl
 
 -- the lines of a text are commands
 record AreCommands (text : List ℕ) : Type 0 where
@@ -268,23 +271,23 @@ entry-commands text (Some b) h =
 abbrev OfNotes : List EntryView → Type 0
 OfNotes entries = All (λ e. (n : NoteView) × IsEntryOf n e) entries
 
-all-commands : (limit : ℕ) (entries : List EntryView) → OfNotes entries → AreCommands (flat_map (github_line limit) entries)
-all-commands limit [] are = no-commands
-all-commands limit (e ∷ es) are =
+all-commands : (o : Options) (entries : List EntryView) → OfNotes entries → AreCommands (flat_map (github_line o) entries)
+all-commands o [] are = no-commands
+all-commands o (e ∷ es) are =
     let is = All-head (λ e. (n : NoteView) × IsEntryOf n e) e es are in
-    commands-both (github_line limit e) (flat_map (github_line limit) es)
-    (entry-commands (github_line limit e) (github_block limit e) (one-entry limit e (entry-numbers is.0 e is.1)))
-    (all-commands limit es (All-tail (λ e. (n : NoteView) × IsEntryOf n e) e es are))
+    commands-both (github_line o e) (flat_map (github_line o) es)
+    (entry-commands (github_line o e) (github_block o e) (one-entry o e (entry-numbers is.0 e is.1)))
+    (all-commands o es (All-tail (λ e. (n : NoteView) × IsEntryOf n e) e es are))
 
 last-is : (end : RunEnd) → github_last end ≡ notice end ++ codes "\n"
 unfolding github_last
 last-is end = notice-parts (codes "::notice::") (summary_line end) (codes ", outcome ") (outcome_word end.outcome) (codes "\n")
 
 pub only-commands : OnlyCommands
-only-commands limit entries end are =
+only-commands o entries end are =
     let last = subst AreCommands (sym (last-is end)) (one-command (notice end) (whole-notice end)) in
-    let text = flat_map (github_line limit) entries ++ github_last end in
-    let all = commands-both (flat_map (github_line limit) entries) (github_last end) (all-commands limit entries are) last in
+    let text = flat_map (github_line o) entries ++ github_last end in
+    let all = commands-both (flat_map (github_line o) entries) (github_last end) (all-commands o entries are) last in
     (all.lines, all.are, ap (slice_split is_line_end) (sym (append-nil text)) ∙ all.before [])
 
 -- the lines, in order
@@ -293,15 +296,15 @@ one-written text None h = h
 one-written text (Some b) h = (h.0, in-line h.1.in_one, inl h.2)
 
 pub github-names-causes : GithubNamesCauses
-github-names-causes limit entries end are =
-    let written = All-weaker (λ e. (n : NoteView) × IsEntryOf n e) (λ e. IsWritten (github_line limit e) (github_block limit e))
-    (λ e is. one-written (github_line limit e) (github_block limit e) (one-entry limit e (entry-numbers is.0 e is.1))) entries are in
+github-names-causes o entries end are =
+    let written = All-weaker (λ e. (n : NoteView) × IsEntryOf n e) (λ e. IsWritten (github_line o e) (github_block o e))
+    (λ e is. one-written (github_line o e) (github_block o e) (one-entry o e (entry-numbers is.0 e is.1))) entries are in
     record {
-      causes = has-blocks (github_line limit) (github_block limit) entries (github_last end) written;
+      causes = has-blocks (github_line o) (github_block o) entries (github_last end) written;
       outcome = record {
-        before = flat_map (github_line limit) entries;
-        is = ap (λ l. flat_map (github_line limit) entries ++ l) (last-is end);
-        begins = blocks-lines (github_line limit) (github_block limit) entries written;
+        before = flat_map (github_line o) entries;
+        is = ap (λ l. flat_map (github_line o) entries ++ l) (last-is end);
+        begins = blocks-lines (github_line o) (github_block o) entries written;
         one_line = in-line (whole-notice end).in_one;
       };
     }

@@ -1,35 +1,49 @@
--- A file of a run in which nothing is wrong has an event of a harness.
-use Rattle.std.proofs.Common.{◌≡◌, ◌∙◌, ℕ, List, [], ◌∷◌, ◌++◌, ◌<◌, Bool, true, false, ap, append_assoc, arith, cond, inl, inr, nat_lt, not, refl, sym}
-use Rattle.std.specs.List.{All, count_by, fold, sum_by}
-use Rattle.std.specs.Prelude.{◌&&◌, if◌then◌else◌}
-use Rattle.std.proofs.lemmas.Bool.{cases_lt}
+-- A file of a run in which nothing is wrong has an event of a harness, or is the output of a command that ended with status 0.
+use Rattle.std.proofs.Common.{◌≡◌, ◌≢◌, ◌∙◌, ℕ, List, [], ◌∷◌, ◌++◌, ◌<◌, Bool, true, false, Option, Some, None, IfSome, ap, arith, cond, inl, inr, refl, subst, sym}
+use Rattle.std.specs.List.{count_by, sum_by}
+use Rattle.std.specs.Option.{option_map_or}
+use Rattle.std.specs.Prelude.{◌==◌, ◌&&◌, ◌||◌, if◌then◌else◌, nat_lt, not}
+use Rattle.std.proofs.lemmas.Bool.{cases_lt, eqb-true}
 use Rattle.std.proofs.lemmas.Bool.Decides.{nat_tests}
-use Rattle.std.proofs.lemmas.List.Elements.{All-cons, All-nil}
 use Rattle.std.proofs.lemmas.List.Sums.{sum_by-append, sum_by-cons}
-use Rattle.test_report_events.specs.Event.{EventView, CargoFails, DamagedLine, HeadingLine, OtherLine, Prints, SuiteEnds, SuiteStarts, TestEnds, TestStarts}
-use Rattle.test_report_laws.proofs.Books.{ends-keep, holds-after}
+use Rattle.test_report_events.specs.Event.{BySignal, CargoFails, CommandOver, CommandStarts, CommandView, DamagedLine, EventView, HeadingLine, NotStarted, OtherLine, Prints, SuiteEnds, SuiteStarts, TestEnds, TestStarts, WithStatus}
+use Rattle.test_report_laws.proofs.Aside.{aside-early}
+use Rattle.test_report_laws.proofs.CargoReports.{only-cargo, only-settled_at, only-told, ready}
+use Rattle.test_report_laws.proofs.CauseCounts.{Bound, bound-after, bound-told, none-waits, quiet-causes}
+use Rattle.test_report_laws.proofs.FileEnds.{counted_run, end-parts, reported_run, suites_over}
 use Rattle.test_report_laws.proofs.LineParts.{file-weighs}
 use Rattle.test_report_laws.proofs.Outcomes.{outcome-means}
 use Rattle.test_report_laws.proofs.RunCauses.{causes-of, weight}
-use Rattle.test_report_laws.proofs.Sound.{failed-rules}
-use Rattle.test_report_laws.specs.Run.{IsClean, NoEventShows, events_in, is_event}
-use Rattle.test_report_laws.specs.Status.{IsFileEndOf}
-use Rattle.test_report_run.specs.Note.{Disagrees, HasNoEvent}
-use Rattle.test_report_run.specs.Run.{RunState, Step, after, all_ended_early, ended_early, file_notes, is_cause, no_event_notes, run_start, step}
-use Rattle.test_report_run.specs.Suite.{SuiteState}
-use Rattle.test_report_laws.specs.Whole.{all_notes, notes_of, run_after, run_after_file, run_after_files}
+use Rattle.test_report_laws.specs.Run.{CommandEndShows, IsClean, NoEventShows, events_in, is_event}
+use Rattle.test_report_laws.specs.Whole.{IsFileEndOf, all_notes, notes_of, run_after, run_after_file, run_after_files}
+use Rattle.test_report_run.specs.Note.{CommandFails, Disagrees, HasNoEvent}
+use Rattle.test_report_run.specs.Run.{RunState, after, command_fails, ended_well, file_notes, is_cause, reports_told, run_start, told, was_not_started}
 
 -- lines that are no events of a harness
+none-told : (r : RunState) (e : EventView) → is_event e ≡ false → (told r e).run.has_event ≡ r.has_event
+none-told r (SuiteStarts key count) other = absurd (cc)
+none-told r (SuiteEnds e) other = absurd (cc)
+none-told r (TestStarts name) other = absurd (cc)
+none-told r (TestEnds e) other = absurd (cc)
+none-told r OtherLine other = absurd (cc)
+none-told r (HeadingLine name path) other = refl
+none-told r (CargoFails f line plain) other = ap (λ (x : RunState). x.has_event) (only-cargo r f plain).run_is
+none-told r (Prints line plain) other = refl
+none-told r (DamagedLine text) other = refl
+none-told r CommandStarts other = refl
+none-told r (CommandOver end) other = refl
+
+none-after : (r : RunState) (e : EventView) → is_event e ≡ false → (after r e).has_event ≡ (told (ready r e) e).run.has_event
+none-after r (SuiteStarts key count) other = absurd (cc)
+none-after r (SuiteEnds e) other = absurd (cc)
+none-after r (TestStarts name) other = absurd (cc)
+none-after r (TestEnds e) other = absurd (cc)
+none-after r OtherLine other = absurd (cc)
+none-after r e other = refl
+
 still-none : (r : RunState) (e : EventView) → is_event e ≡ false → r.has_event ≡ false → (after r e).has_event ≡ false
-still-none r (SuiteStarts key count) other none = absurd (cc)
-still-none r (SuiteEnds e) other none = absurd (cc)
-still-none r (TestStarts name) other none = absurd (cc)
-still-none r (TestEnds e) other none = absurd (cc)
-still-none r OtherLine other none = absurd (cc)
-still-none r (HeadingLine name path) other none = none
-still-none r (CargoFails f line plain) other none = grind (arith, none)
-still-none r (Prints line plain) other none = none
-still-none r (DamagedLine text) other none = none
+still-none r e other none =
+    none-after r e other ∙ (none-told (ready r e) e other ∙ (ap (λ (x : RunState). x.has_event) (only-settled_at r e).run_is ∙ none))
 
 is-other : (b : Bool) → ◌≡◌ {A = ℕ} (cond b 1 0) 0 → b ≡ false
 is-other true h = absurd (cc)
@@ -46,56 +60,119 @@ none-between : (r : RunState) (files : List (List EventView)) → r.has_event �
 none-between r [] is = is
 none-between r (file ∷ files) is = none-between (run_after_file r file) files refl
 
-ends-keep-event : (t : Step) (suites : List SuiteState) → (fold ended_early t suites).run.has_event ≡ t.run.has_event
-ends-keep-event t [] = refl
-ends-keep-event t (s ∷ suites) = ends-keep-event (ended_early t s) suites
-
 -- a file without events, in which nothing failed or disagreed, disagrees
-one-if-silent : (has : Bool) (before now : ℕ) → has ≡ false → now ≡ 0
-    → sum_by weight (if not has && not (nat_lt before now) then Disagrees HasNoEvent ∷ [] else []) ≡ 1
-one-if-silent has before now none zero = grind (arith, nat_tests, none, zero)
+one-if-silent : (has : Bool) (before now : ℕ) (command : Option CommandView) → has ≡ false → now ≡ 0 → command ≡ None
+    → sum_by weight (if not has && (not (nat_lt before now) && not (ended_well command || was_not_started command)) then Disagrees HasNoEvent ∷ [] else []) ≡ 1
+one-if-silent has before now None none zero is = grind (arith, nat_tests, none, zero)
+one-if-silent has before now (Some end) none zero is = absurd (cc)
 
-silent-cause : (r : RunState) → r.has_event ≡ false → r.causes ≡ 0 → 0 < count_by is_cause (file_notes r)
-silent-cause r none zero =
-    let over = all_ended_early r in
-    let start = step (record r { suites = [] }) [] in
-    let causes : over.run.causes ≡ 0 = ap (λ s. s.2) (ends-keep start r.suites).1 ∙ zero in
-    let one = one-if-silent over.run.has_event over.run.causes_at_file over.run.causes (ends-keep-event start r.suites ∙ none) causes in
-    omega (arith, one, sum_by-append weight over.notes (no_event_notes over.run))
+silent-cause : (r : RunState) → r.has_event ≡ false → r.command ≡ None → (reported_run r).causes ≡ 0 → 0 < count_by is_cause (file_notes r)
+silent-cause r none alone zero =
+    let over = (suites_over r).run in
+    let told = (only-told r).run_is in
+    let same = aside-early (reported_run r) in
+    let one = one-if-silent over.has_event over.causes_at_file over.causes over.command
+    (ap (λ (x : RunState). x.has_event) same ∙ (ap (λ (x : RunState). x.has_event) told ∙ none)) (ap (λ (x : RunState). x.causes) same ∙ zero)
+    (ap (λ (x : RunState). x.command) same ∙ (ap (λ (x : RunState). x.command) told ∙ alone)) in
+    omega (arith, one, end-parts weight r)
+
+-- a command that did not end with status 0 disagrees if nothing else failed or disagreed
+not-zero : (code : ℕ) → WithStatus code ≢ WithStatus 0 → (code == 0) ≡ false
+not-zero code other = elim (code == 0) as (λ b. (code == 0) ≡ b → b ≡ false) [
+  | true ↦ λ is. absurd (other (ap WithStatus (eqb-true code 0 is)))
+  | false ↦ λ is. refl
+] refl
+
+abbrev status_of : CommandView → ℕ
+status_of (NotStarted error) = 0
+status_of (BySignal number) = 0
+status_of (WithStatus code) = code
+
+fails : (causes : ℕ) (end : CommandView) → end ≢ WithStatus 0 → causes ≡ 0 → command_fails causes end ≡ true
+fails causes (NotStarted error) other zero = refl
+fails causes (BySignal number) other zero = refl
+fails causes (WithStatus code) other zero = grind (arith, nat_tests, zero, not-zero code other)
+
+one-if-fails : (causes : ℕ) (o : Option CommandView) (end : CommandView) → o ≡ Some end → end ≢ WithStatus 0 → causes ≡ 0
+    → sum_by weight (option_map_or (λ end. if command_fails causes end then Disagrees (CommandFails end) ∷ [] else []) o []) ≡ 1
+one-if-fails causes None end is other zero = absurd (cc)
+one-if-fails causes (Some e) end is other zero =
+    let disagrees : command_fails causes e ≡ true = fails causes e (λ same. other (cc)) zero in grind (arith, disagrees)
+
+command-cause : (r : RunState) (end : CommandView) → r.command ≡ Some end → end ≢ WithStatus 0 → (reported_run r).causes ≡ 0
+    → 0 < count_by is_cause (file_notes r)
+command-cause r end is other zero = elim (cases_lt 0 (count_by is_cause (file_notes r))) [
+  | inl some ↦ some
+  | inr few ↦
+      let over = (suites_over r).run in
+      let told = (only-told r).run_is in
+      let same = aside-early (reported_run r) in
+      let causes : (counted_run r).causes ≡ 0 = omega (arith, few, quiet-causes r, ap (λ (x : RunState). x.causes) same, zero) in
+      let one = one-if-fails (counted_run r).causes (counted_run r).command end
+      (ap (λ (x : RunState). x.command) same ∙ (ap (λ (x : RunState). x.command) told ∙ is)) other causes in
+      omega (arith, one, end-parts weight r)
+]
 
 module _ (files : List (List EventView)) (clean : IsClean (all_notes files)) where
-  file-event : (before : List (List EventView)) (file : List EventView) (rest : List (List EventView)) → files ≡ before ++ file ∷ rest
-      → 0 < events_in file
-  file-event before file rest is = elim (cases_lt 0 (events_in file)) [
+  -- nothing is known, so there are no causes
+  no-causes : (r : RunState) (end : IsFileEndOf files r) → ((reported_run r).causes ≡ 0) × (count_by is_cause (file_notes r) ≡ 0)
+  no-causes r end =
+      let known = all_notes end.before ++ notes_of (run_after_files run_start end.before) end.file in
+      let bound : Bound known r = subst (Bound known) (sym end.run_is) (bound-after end.before end.file) in
+      let weighs = file-weighs weight files r end in
+      let none = causes-of (all_notes files) in (
+        omega (
+          arith,
+          bound-told known r bound,
+          none-waits r,
+          weighs,
+          none,
+          clean.none_failed,
+          clean.none_disagree,
+          sum_by-append weight known (reports_told r).notes,
+          end-parts weight r,
+        ),
+        omega (arith, weighs, none, clean.none_failed, clean.none_disagree),
+      )
+
+  pub file-event : (r : RunState) (end : IsFileEndOf files r) → r.command ≡ None → 0 < events_in end.file
+  file-event r end alone = elim (cases_lt 0 (events_in end.file)) [
     | inl some ↦ some
     | inr few ↦
-        let first = run_after_files run_start before in
-        let r = run_after first file in
-        let end : IsFileEndOf files r = record { before = before; file = file; after = rest; are = is; run_is = refl } in
-        let known = all_notes before ++ notes_of first file in
-        let weighs = file-weighs weight files r end in
-        let causes : r.causes ≡ count_by is_cause known = ap (λ s. s.2) (holds-after failed-rules before file).sums in
-        let zero : r.causes ≡ 0 = omega (arith, causes, weighs, causes-of (all_notes files), clean.none_failed, clean.none_disagree) in
-        let none = none-in first file (omega (arith, few)) (none-between run_start before refl) in
-        absurd (omega (arith, silent-cause r none zero, weighs, causes-of (all_notes files), clean.none_failed, clean.none_disagree))
+        let first = run_after_files run_start end.before in
+        let none : r.has_event ≡ false = ap (λ (x : RunState). x.has_event) end.run_is
+        ∙ none-in first end.file (omega (arith, few)) (none-between run_start end.before refl) in
+        let quiet = no-causes r end in
+        absurd (omega (arith, silent-cause r none alone quiet.0, quiet.1))
   ]
 
-  each-file : (before rest : List (List EventView)) → files ≡ before ++ rest → All (λ file. 0 < events_in file) rest
-  each-file before [] is = All-nil (λ (file : List EventView). 0 < events_in file)
-  each-file before (file ∷ rest) is = All-cons (λ (file : List EventView). 0 < events_in file) file rest (file-event before file rest is)
-      (each-file (before ++ file ∷ []) rest (is ∙ sym (append_assoc before (file ∷ []) rest)))
+  pub no-command-fails : (r : RunState) → IsFileEndOf files r → (end : CommandView) → r.command ≡ Some end → end ≢ WithStatus 0 → ⊥
+  no-command-fails r at end is other = let quiet = no-causes r at in omega (arith, command-cause r end is other quiet.0, quiet.1)
 
-  pub all-events : All (λ file. 0 < events_in file) files
-  all-events = each-file [] files refl
+  ended-as : (end : CommandView) → (end ≢ WithStatus 0 → ⊥) → end ≡ WithStatus 0
+  ended-as (NotStarted error) never = absurd (never (λ h. cc))
+  ended-as (BySignal number) never = absurd (never (λ h. cc))
+  ended-as (WithStatus code) never = elim (cases_lt 0 code) [
+    | inl some ↦ absurd (never (λ h. omega (arith, some, ap status_of h)))
+    | inr none ↦ ap WithStatus (omega (arith, none))
+  ]
 
-  pub no-file-without : (before : List (List EventView)) (file : List EventView) (rest : List (List EventView)) → files ≡ before ++ file ∷ rest
-      → events_in file ≡ 0 → ⊥
-  no-file-without before file rest is none = omega (arith, file-event before file rest is, none)
+  pub ended-well : (r : RunState) → IsFileEndOf files r → IfSome r.command (λ end. end ≡ WithStatus 0)
+  ended-well r at = by-end r.command refl
+    where
+      by-end : (o : Option CommandView) → r.command ≡ o → IfSome o (λ end. end ≡ WithStatus 0)
+      by-end None is = tt
+      by-end (Some end) is = ended-as end (λ other. no-command-fails r at end is other)
 
 pub no-event-shows : NoEventShows
-no-event-shows before file rest none =
-    let files = before ++ file ∷ rest in
+no-event-shows files r end none alone =
+    let means = outcome-means files in
+    let never : IsClean (all_notes files) → ⊥ = λ clean. omega (arith, file-event files clean r end alone, none) in
+    ((λ h. never (means.success.0 h).0), (λ h. never (means.no_tests.0 h).0))
+
+pub command-shows : CommandEndShows
+command-shows files r at end is other =
     let means = outcome-means files in (
-      (λ h. no-file-without files (means.success.0 h).0 before file rest refl none),
-      (λ h. no-file-without files (means.no_tests.0 h).0 before file rest refl none),
+      (λ h. no-command-fails files (means.success.0 h).0 r at end is other),
+      (λ h. no-command-fails files (means.no_tests.0 h).0 r at end is other),
     )

@@ -35,24 +35,24 @@ all-in-page vs f is h = All-weaker (λ i. HasPart (parts_text page_parts vs) (f 
 -- no control characters
 pub html-has-no-controls : PageIsSound → RendersNoControls → HtmlHasNoControls
 unfolding html_of page_text
-html-has-no-controls sound renders limit entries end =
-    let body : Clean (parts_text page_parts (values_of_run limit entries end)) = record { is = renders page_parts _ sound.clean } in
+html-has-no-controls sound renders o entries end =
+    let body : Clean (parts_text page_parts (values_of_run o entries end)) = record { is = renders page_parts _ sound.clean } in
     (also (word (codes "<!DOCTYPE html>\n") refl) (also body (word (codes "\n") refl))).is
 
 -- values
 pub html-shows-values : PageIsSound → ShowsValues → HtmlShowsValues
 unfolding html_of
-html-shows-values sound shows limit entries end =
-    let vs = values_of_run limit entries end in
+html-shows-values sound shows o entries end =
+    let vs = values_of_run o entries end in
     All-weaker (HasValues vs (parts_text page_parts vs)) (HasValues vs (page_text vs))
     (λ h. all-in-page vs (λ i. hole_text h.kind (text_of h.name i)) (items_at h.path vs)) page_holes (shown-holes shows page_parts vs page_holes sound.holes)
 
 pub html-names-causes : HtmlShowsValues → HtmlNamesCauses
-html-names-causes shows limit entries end =
-    let page = html_of limit entries end in
-    let vs = values_of_run limit entries end in
-    let all = shows limit entries end in
-    names-causes page hole.Text limit entries end
+html-names-causes shows o entries end =
+    let page = html_of o entries end in
+    let vs = values_of_run o entries end in
+    let all = shows o entries end in
+    names-causes page hole.Text o entries end
     (values-of vs page page_holes hole.Text (codes "failures" ∷ codes "failed" ∷ []) (codes "name") refl all)
     (values-of vs page page_holes hole.Text (codes "problems" ∷ codes "problem" ∷ []) (codes "line") refl all)
     (values-of vs page page_holes hole.Text [] (codes "outcome") refl all)
@@ -60,8 +60,8 @@ html-names-causes shows limit entries end =
 -- phrases
 pub html-shows-phrases : PageIsSound → ShowsPhrases → HtmlShowsPhrases
 unfolding html_of
-html-shows-phrases sound shows limit entries end =
-    let vs = values_of_run limit entries end in
+html-shows-phrases sound shows o entries end =
+    let vs = values_of_run o entries end in
     All-weaker (HasPhrase vs (parts_text page_parts vs)) (HasPhrase vs (page_text vs))
     (λ p. all-in-page vs (parts_text (template_parts p.text)) (items_at p.path vs)) page_phrases
     (shown-phrases shows page_parts vs page_phrases sound.phrases)
@@ -87,11 +87,11 @@ module _ (r : ReportView) where
   }
 
 pub html-says-end : PageIsSound → ShowsPhrases → HtmlSaysEnd
-html-says-end sound shows limit entries end =
-    let page = html_of limit entries end in
-    let report = report_of limit entries end in
-    let vs = values_of_run limit entries end in
-    let all = html-shows-phrases sound shows limit entries end in
+html-says-end sound shows o entries end =
+    let page = html_of o entries end in
+    let report = report_of o entries end in
+    let vs = values_of_run o entries end in
+    let all = html-shows-phrases sound shows o entries end in
     let first = λ (words : List ℕ). All-head (λ i. HasPart page (parts_text (template_parts words) i)) vs [] in
     record {
       outcome = subst (HasPart page) (heading report) (first heading_phrase (phrase-of vs page page_phrases [] heading_phrase refl all));
@@ -101,11 +101,11 @@ html-says-end sound shows limit entries end =
 -- the items of a report
 pub html-shows-items : PageIsSound → ShowsSections → ShowsPhrases → HtmlShowsItems
 unfolding html_of
-html-shows-items sound in_sections in_phrases limit entries end =
-    let vs = values_of_run limit entries end in
+html-shows-items sound in_sections in_phrases o entries end =
+    let vs = values_of_run o entries end in
     let page = page_text vs in
-    let report = report_of limit entries end in
-    let all = html-shows-phrases sound in_phrases limit entries end in
+    let report = report_of o entries end in
+    let all = html-shows-phrases sound in_phrases o entries end in
     let part = λ (b : Parts) (i : Values). HasPart page (parts_text b i) in
     let at_failed = codes "failures" ∷ codes "failed" ∷ [] in
     let at_problem = codes "problems" ∷ codes "problem" ∷ [] in
@@ -126,5 +126,5 @@ html-shows-items sound in_sections in_phrases limit entries end =
 -- the tree
 pub html-reads-back : PageIsSound → RendersOneTree → HtmlReadsBack
 unfolding html_of page_text
-html-reads-back sound renders limit entries end =
-    let tree = renders page_parts (values_of_run limit entries end) sound.document in (tree.0, refl, tree.1, tree.2)
+html-reads-back sound renders o entries end =
+    let tree = renders page_parts (values_of_run o entries end) sound.document in (tree.0, refl, tree.1, tree.2)

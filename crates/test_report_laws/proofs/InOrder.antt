@@ -6,29 +6,31 @@ use Rattle.std.specs.Prelude.{◌==◌, if◌then◌else◌}
 use Rattle.std.proofs.lemmas.Bool.{cases_lt}
 use Rattle.std.proofs.lemmas.List.Elements.{All-get_or}
 use Rattle.std.proofs.lemmas.List.Sums.{sum_by-append}
-use Rattle.test_report_events.specs.Event.{EventView, SuiteEndView, SuiteEnds, SuiteStarts, CargoFails}
+use Rattle.test_report_events.specs.Event.{EventView, SuiteEndView, SuiteEnds, SuiteStarts}
 use Rattle.test_report_laws.proofs.Announced.{announced-counted}
 use Rattle.test_report_laws.proofs.Books.{position-in}
-use Rattle.test_report_laws.proofs.RunCauses.{cargo-shows, causes-of, weight}
+use Rattle.test_report_laws.proofs.CargoFailures.{cargo-shows}
+use Rattle.test_report_laws.proofs.CargoReports.{only-settled_at, ready, with_reports}
+use Rattle.test_report_laws.proofs.RunCauses.{causes-of, weight}
 use Rattle.test_report_laws.proofs.CleanEnds.{clean-whole}
 use Rattle.test_report_laws.proofs.Damage.{lines-shown}
 use Rattle.test_report_laws.proofs.FailedLines.{lines-told, told-failed}
-use Rattle.test_report_laws.proofs.FileEvents.{all-events}
+use Rattle.test_report_laws.proofs.FileEvents.{ended-well, file-event}
 use Rattle.test_report_laws.proofs.LineParts.{end-weighs, line-weighs}
 use Rattle.test_report_laws.proofs.Outcomes.{outcome-means}
 use Rattle.test_report_laws.proofs.Shown.{last-agrees, stray-shows}
 use Rattle.test_report_laws.proofs.Sound.{failures-known, suites-sound}
 use Rattle.test_report_laws.proofs.Tallies.{totals-count}
 use Rattle.test_report_laws.proofs.Verdicts.{early-cause, end-causes, outside-cause, unclean}
-use Rattle.test_report_laws.proofs.Weights.{all-numbered, has-number, unnumbered, weight_of}
+use Rattle.test_report_laws.proofs.Weights.{all-numbered, has-number, numbered-ready, unnumbered, weight_of}
 use Rattle.test_report_laws.specs.Run.{Agrees, IsClean, IsSound, failed_in, failed_verdicts_of, is_test, not_run_of, passed_in}
 use Rattle.test_report_run.specs.Note.{NoteView}
 use Rattle.test_report_run.specs.Over.{last_notes}
-use Rattle.test_report_run.specs.Run.{RunState, counts_tests, ended_at, has_failed, is_cause, is_disagreement, names_in, notes_at, open_suite, opened, run_start, started_again, step, stray_suite_notes, suite_at, with_suite_at, without_tests}
+use Rattle.test_report_run.specs.Run.{RunState, counts_tests, ended_at, has_failed, is_cause, is_disagreement, names_in, notes_at, open_suite, opened, run_start, settled_at, started_again, step, stray_suite_notes, suite_at, told, with_suite_at, without_tests}
 use Rattle.test_report_run.specs.Said.{numbers_of}
-use Rattle.test_report_laws.specs.Status.{EndsInOrder, IsInOrder, IsLineOf, SuccessIsInOrder}
+use Rattle.test_report_laws.specs.Status.{EndsInOrder, IsInOrder, SuccessIsInOrder}
 use Rattle.test_report_run.specs.Suite.{SuiteState, failed_of, has_key, with_line}
-use Rattle.test_report_laws.specs.Whole.{all_notes, notes_of, run_after, run_after_files}
+use Rattle.test_report_laws.specs.Whole.{IsLineOf, all_notes, notes_of, run_after, run_after_files}
 
 module _ (files : List (List EventView)) (clean : IsClean (all_notes files)) where
   no-cause : count_by is_cause (all_notes files) ≡ 0
@@ -61,21 +63,33 @@ module _ (files : List (List EventView)) (clean : IsClean (all_notes files)) whe
         sum_by-append w lines (notes_at r e),
       )
 
-  clean-line : (r : RunState) (e : EventView) → IsLineOf files r e → IsClean (notes_at r e)
+  own-by : (w : NoteView → ℕ) (r : RunState) (e : EventView) → IsLineOf files r e → sum_by w (told (ready r e) e).notes ≤ sum_by w (all_notes files)
+  own-by w r e line = omega (arith, known-by w r e line, sum_by-append w (settled_at r e).notes (told (ready r e) e).notes)
+
+  clean-line : (r : RunState) (e : EventView) → IsLineOf files r e → IsClean (told (ready r e) e).notes
   clean-line r e line = record {
-    none_failed = omega (arith, clean.none_failed, known-by (λ x. cond (is_test (λ t. has_failed t.outcome) x) 1 0) r e line);
-    none_disagree = omega (arith, clean.none_disagree, known-by (λ x. cond (is_disagreement x) 1 0) r e line);
-    all_run = omega (arith, clean.all_run, known-by not_run_of r e line);
+    none_failed = omega (arith, clean.none_failed, own-by (λ x. cond (is_test (λ t. has_failed t.outcome) x) 1 0) r e line);
+    none_disagree = omega (arith, clean.none_disagree, own-by (λ x. cond (is_disagreement x) 1 0) r e line);
+    all_run = omega (arith, clean.all_run, own-by not_run_of r e line);
   }
 
   -- the last line of a suite
   over-notes : (r : RunState) (e : SuiteEndView) (at : ℕ) → open_suite r e.key ≡ Some at → (with_line (suite_at r (Some at)) e).open_lines ≡ 0
-      → notes_at r (SuiteEnds e) ≡ last_notes (with_line (suite_at r (Some at)) e) (names_in r (with_line (suite_at r (Some at)) e))
+      → (told r (SuiteEnds e)).notes ≡ last_notes (with_line (suite_at r (Some at)) e) (names_in r (with_line (suite_at r (Some at)) e))
   over-notes r e at is over =
       let s : SuiteState = with_line (suite_at r (Some at)) e in
       let last = step (without_tests (record r { suites = remove r.suites at }) s) (last_notes s (names_in r s)) in
       ap (λ (place : Option ℕ). (option_map_or (ended_at r e) place (step r (stray_suite_notes e))).notes) is
       ∙ ap (λ (n : ℕ). (if n == 0 then last else step (with_suite_at r (Some at) s) []).notes) over
+
+  -- also if failures of cargo become known before
+  own-notes : (r : RunState) (e : SuiteEndView) (at : ℕ) → open_suite r e.key ≡ Some at → (with_line (suite_at r (Some at)) e).open_lines ≡ 0
+      → (told (ready r (SuiteEnds e)) (SuiteEnds e)).notes
+      ≡ last_notes (with_line (suite_at r (Some at)) e) (names_in r (with_line (suite_at r (Some at)) e))
+  own-notes r e at is over =
+      let only = only-settled_at r (SuiteEnds e) in
+      ap (λ (x : RunState). (told x (SuiteEnds e)).notes) only.run_is
+      ∙ over-notes (with_reports r only.reported only.held only.causes) e at is over
 
   ends-well : (r : RunState) (e : SuiteEndView) (at : ℕ) → IsLineOf files r (SuiteEnds e) → open_suite r e.key ≡ Some at
       → (with_line (suite_at r (Some at)) e).open_lines ≡ 0
@@ -84,7 +98,7 @@ module _ (files : List (List EventView)) (clean : IsClean (all_notes files)) whe
       let old = suite_at r (Some at) in
       let s : SuiteState = with_line old e in
       let names = names_in r s in
-      let now : IsClean (last_notes s names) = subst IsClean (over-notes r e at is over) (clean-line r (SuiteEnds e) line) in
+      let now : IsClean (last_notes s names) = subst IsClean (own-notes r e at is over) (clean-line r (SuiteEnds e) line) in
       let in' : at < length r.suites = position-in (has_key e.key) r.suites (Some at) is in
       let some : s.number ≢ None = has-number r at (numbered r line.before line.lines line.run_is) in' in
       let sound = All-get_or IsSound r.suites at r.outside in' (suites-sound line.before line.lines r line.run_is).1 in
@@ -129,27 +143,24 @@ module _ (files : List (List EventView)) (clean : IsClean (all_notes files)) whe
     no_failed_line = omega (arith, clean.none_failed, told-failed (all_notes files), lines-told files);
     no_failed_verdict = zero-or-absurd (failed_verdicts_of files) (λ some. unclean files some clean);
     no_damaged_line = omega (arith, lines-shown files, no-cause);
-    events = all-events files clean;
+    commands = ended-well files clean;
+    events = file-event files clean;
     last_lines = ends-well;
     stray_lines = λ r e line closed.
-        not-one (counts_tests e) (sym (stray-shows r e closed) ∙ (clean-line r (SuiteEnds e) line).none_disagree);
+        let place = ap (λ (x : RunState). open_suite x e.key) (only-settled_at r (SuiteEnds e)).run_is in
+        not-one (counts_tests e) (sym (stray-shows (ready r (SuiteEnds e)) e (place ∙ closed)) ∙ (clean-line r (SuiteEnds e) line).none_disagree);
     one_without_key = λ r count line.
-        let none = known-by weight r (SuiteStarts None count) line in
-        none-ends r count (open_suite r None) refl (numbered r line.before line.lines line.run_is) (omega (arith, none, no-cause));
+        let e = SuiteStarts None count in
+        let place = ap (λ (x : RunState). open_suite x None) (only-settled_at r e).run_is in
+        let fine = numbered-ready r e (numbered r line.before line.lines line.run_is) in
+        sym place ∙ none-ends (ready r e) count (open_suite (ready r e) None) refl fine (omega (arith, own-by weight r e line, no-cause));
     none_open = λ r end.
         nothing-in r.suites (omega (arith, no-cause, end-weighs weight files r end, end-causes r (numbered r end.before end.file end.run_is)));
     none_outside = λ r end. zero-or-absurd r.outside.started
         (λ some. absurd (omega (arith, no-cause, end-weighs weight files r end, outside-cause r some)));
     announced = omega (arith, announced-counted files, (totals-count files).not_run, clean.all_run);
-    cargo = λ r f line plain at none.
-        let known = all_notes at.before ++ (notes_of (run_after_files run_start at.before) at.lines ++ notes_at r (CargoFails f line plain)) in
-        absurd (omega (
-          arith,
-          no-cause,
-          causes-of known,
-          line-weighs weight files r (CargoFails f line plain) at,
-          cargo-shows at.before at.lines r f line plain at.run_is none,
-        ));
+    cargo = λ r f line plain at never none.
+        absurd (omega (arith, cargo-shows files r f line plain at none never, clean.none_failed, clean.none_disagree));
   }
 
 pub success-in-order : SuccessIsInOrder

@@ -141,8 +141,8 @@ plain-teamcity = (refl, (refl, (refl, (refl, (refl, (refl, (refl, (refl, (refl, 
 
 pub no_commands : JsonHasNoCommands
 unfolding json_line json_written
-no_commands limit entries end =
-    let text = json_text (json_of limit entries end) in
+no_commands o entries end =
+    let text = json_text (json_of o entries end) in
     record {
       group = no-part (codes "#[") plain-group group text;
       azure = no-part (codes "#vso[") plain-azure azure text;

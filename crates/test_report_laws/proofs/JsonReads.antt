@@ -383,8 +383,8 @@ value-back j d w shallow = ap (value d) (hidden-tokens j w ∙ sym (append-nil (
 
 pub json-reads-back : JsonReadsBack
 unfolding json_written json_line
-json-reads-back limit entries end values shallow =
-    let j = json_of limit entries end in (
+json-reads-back o entries end values shallow =
+    let j = json_of o entries end in (
       hidden (json_text j),
       refl,
       ap (option_and_then (λ p. if_last p.0 p.1)) (value-back j max_depth values (omega arith)),

@@ -166,18 +166,18 @@ module _ (c : JunitCause) where
   add_cause-kept j None h = h
   add_cause-kept j (Some cause) h = cause-kept j (problem_case cause.line cause.kind) cause.suite h
 
-  entry-kept : (limit : ℕ) (j : JunitState) (e : EntryView) → IsThere j → IsThere (junit_entry limit j e)
+  entry-kept : (o : Options) (j : JunitState) (e : EntryView) → IsThere j → IsThere (junit_entry o j e)
   unfolding junit_entry
-  entry-kept limit j (TestPassed t) h = add-kept j t.suite (passed_case t) h
-  entry-kept limit j (TestSkipped t) h = add-kept j t.suite (skipped_case t) h
-  entry-kept limit j (TestFailed t f w) h = add-kept j t.suite (failed_case t f w limit) h
-  entry-kept limit j (LinesDisagree d) h = add_cause-kept j (cause_of_entry (LinesDisagree d)) h
-  entry-kept limit j (SuiteNotRun suite n of) h = add_cause-kept j (cause_of_entry (SuiteNotRun suite n of)) h
-  entry-kept limit j (SuiteOver s) h = end-kept j s.name s.time h
+  entry-kept o j (TestPassed t) h = add-kept j t.suite (passed_case t) h
+  entry-kept o j (TestSkipped t) h = add-kept j t.suite (skipped_case t) h
+  entry-kept o j (TestFailed t f w) h = add-kept j t.suite (failed_case t f w o) h
+  entry-kept o j (LinesDisagree d) h = add_cause-kept j (cause_of_entry (LinesDisagree d)) h
+  entry-kept o j (SuiteNotRun suite n of) h = add_cause-kept j (cause_of_entry (SuiteNotRun suite n of)) h
+  entry-kept o j (SuiteOver s) h = end-kept j s.name s.time h
 
-  entries-kept : (limit : ℕ) (j : JunitState) (es : List EntryView) → IsThere j → IsThere (fold (junit_entry limit) j es)
-  entries-kept limit j [] h = h
-  entries-kept limit j (e ∷ es) h = entries-kept limit (junit_entry limit j e) es (entry-kept limit j e h)
+  entries-kept : (o : Options) (j : JunitState) (es : List EntryView) → IsThere j → IsThere (fold (junit_entry o) j es)
+  entries-kept o j [] h = h
+  entries-kept o j (e ∷ es) h = entries-kept o (junit_entry o j e) es (entry-kept o j e h)
 
   -- all suites
   own-kept-all : (b : Bool) (own : List CaseView) → OneHas Is own → OneHas Is (own_cases b own)
@@ -250,23 +250,23 @@ some-cause : (j : JunitState) (cause : Option CauseView) → IfSome (option_map 
 some-cause j None = tt
 some-cause j (Some cause) = cause-there j cause.line cause.kind cause.suite
 
-entry-there : (limit : ℕ) (j : JunitState) (e : EntryView) → IfSome (junit_cause limit e) (λ c. IsThere c (junit_entry limit j e))
+entry-there : (o : Options) (j : JunitState) (e : EntryView) → IfSome (junit_cause o e) (λ c. IsThere c (junit_entry o j e))
 unfolding junit_entry
-entry-there limit j (TestPassed t) = tt
-entry-there limit j (TestSkipped t) = tt
-entry-there limit j (TestFailed t f w) = inl (added-last (failed_cause limit t f w) t.suite (failed_case t f w limit) j.suites refl refl)
-entry-there limit j (LinesDisagree d) = some-cause j (cause_of_entry (LinesDisagree d))
-entry-there limit j (SuiteNotRun suite n of) = some-cause j (cause_of_entry (SuiteNotRun suite n of))
-entry-there limit j (SuiteOver s) = tt
+entry-there o j (TestPassed t) = tt
+entry-there o j (TestSkipped t) = tt
+entry-there o j (TestFailed t f w) = inl (added-last (failed_cause o t f w) t.suite (failed_case t f w o) j.suites refl refl)
+entry-there o j (LinesDisagree d) = some-cause j (cause_of_entry (LinesDisagree d))
+entry-there o j (SuiteNotRun suite n of) = some-cause j (cause_of_entry (SuiteNotRun suite n of))
+entry-there o j (SuiteOver s) = tt
 
-entries-there : (limit : ℕ) (j : JunitState) (es : List EntryView)
-    → All (λ e. IfSome (junit_cause limit e) (λ c. IsThere c (fold (junit_entry limit) j es))) es
-entries-there limit j [] = All-nil _
-entries-there limit j (e ∷ es) =
-    let next = junit_entry limit j e in
-    let first = some-weaker (λ c. IsThere c next) (λ c. IsThere c (fold (junit_entry limit) next es)) (λ c. entries-kept c limit next es) (junit_cause limit e)
-    (entry-there limit j e) in
-    All-cons (λ e. IfSome (junit_cause limit e) (λ c. IsThere c (fold (junit_entry limit) next es))) e es first (entries-there limit next es)
+entries-there : (o : Options) (j : JunitState) (es : List EntryView)
+    → All (λ e. IfSome (junit_cause o e) (λ c. IsThere c (fold (junit_entry o) j es))) es
+entries-there o j [] = All-nil _
+entries-there o j (e ∷ es) =
+    let next = junit_entry o j e in
+    let first = some-weaker (λ c. IsThere c next) (λ c. IsThere c (fold (junit_entry o) next es)) (λ c. entries-kept c o next es) (junit_cause o e)
+    (entry-there o j e) in
+    All-cons (λ e. IfSome (junit_cause o e) (λ c. IsThere c (fold (junit_entry o) next es))) e es first (entries-there o next es)
 
 -- that no test ran is there
 no-test-there : (j : JunitState) (b : Bool) → b ≡ true → OneHas (InSuite no_test_cause) (all_suites j b)
@@ -291,9 +291,9 @@ junit-names-causes reads o entries end =
       t,
       tree.1,
       record {
-        causes = all-weaker-named (junit_cause o.limit) (λ c. IsThere c j) (HasJunitCase t)
+        causes = all-weaker-named (junit_cause o) (λ c. IsThere c j) (HasJunitCase t)
             (λ c h. in-tree c suites end.time t (all-there c j (no_tests_ran end.outcome && not o.no_tests_pass) h) run) entries
-            (entries-there o.limit junit_start entries);
+            (entries-there o junit_start entries);
         no_tests = λ p q. in-tree no_test_cause suites end.time t (no-test-suite o entries end p q) run;
       },
     )

@@ -1,12 +1,12 @@
 -- What a line or the end of a file makes known is a part of what the whole run makes known.
-use Rattle.std.proofs.Common.{◌≤◌, ◌+◌, ◌++◌, ◌∷◌, [], ℕ, List, arith, subst, sym}
+use Rattle.std.proofs.Common.{◌≡◌, ◌≤◌, ◌+◌, ◌++◌, ◌∷◌, [], ℕ, List, ap, arith, subst, sym}
 use Rattle.std.specs.List.{sum_by}
-use Rattle.std.proofs.lemmas.List.Sums.{sum_by-append}
+use Rattle.std.proofs.lemmas.List.Sums.{fold-append, sum_by-append}
 use Rattle.test_report_events.specs.Event.{EventView}
+use Rattle.test_report_run.proofs.Lines.{notes-append}
 use Rattle.test_report_run.specs.Note.{NoteView}
 use Rattle.test_report_run.specs.Run.{RunState, after, file_notes, notes_at, run_start}
-use Rattle.test_report_laws.specs.Status.{IsFileEndOf, IsLineOf}
-use Rattle.test_report_laws.specs.Whole.{all_notes, notes_of, notes_of_file, notes_of_files, run_after, run_after_file, run_after_files}
+use Rattle.test_report_laws.specs.Whole.{IsFileEndOf, IsLineOf, all_notes, notes_of, notes_of_file, notes_of_files, run_after, run_after_file, run_after_files}
 
 -- a weight of notes
 module _ (w : NoteView → ℕ) where
@@ -46,6 +46,27 @@ module _ (w : NoteView → ℕ) where
         sum_by-append w (notes_of first line.lines) now,
         sum_by-append w (notes_of first own) (file_notes (run_after first own)),
         lines-weigh first line.lines e line.rest,
+        files-weigh run_start line.before own line.after,
+      )))
+
+  -- what becomes known after a line, up to the end of its file
+  pub rest-weighs : (files : List (List EventView)) (r : RunState) (e : EventView) (line : IsLineOf files r e)
+      → sum_by w (notes_of (after r e) line.rest) + sum_by w (file_notes (run_after (after r e) line.rest)) ≤ sum_by w (all_notes files)
+  rest-weighs files r e line =
+      let first = run_after_files run_start line.before in
+      let last = λ (x : RunState). sum_by w (notes_of (after x e) line.rest) + sum_by w (file_notes (run_after (after x e) line.rest)) in
+      let own = line.lines ++ e ∷ line.rest in
+      let now = run_after first line.lines in
+      let over : run_after first own ≡ run_after (after now e) line.rest = fold-append after first line.lines (e ∷ line.rest) in
+      subst (λ (x : RunState). last x ≤ sum_by w (all_notes files)) (sym line.run_is)
+      (subst (λ (fs : List (List EventView)). last now ≤ sum_by w (all_notes fs)) (sym line.are)
+      (omega (
+        arith,
+        ap (sum_by w) (notes-append first line.lines (e ∷ line.rest)),
+        ap (λ (x : RunState). sum_by w (file_notes x)) over,
+        sum_by-append w (notes_of first line.lines) (notes_at now e ++ notes_of (after now e) line.rest),
+        sum_by-append w (notes_at now e) (notes_of (after now e) line.rest),
+        sum_by-append w (notes_of first own) (file_notes (run_after first own)),
         files-weigh run_start line.before own line.after,
       )))
 

@@ -22,23 +22,23 @@ use Rattle.test_report_laws.specs.Forms.{MarkdownHasNoControls, MarkdownKeepsMar
 
 pub markdown-has-no-controls : MarkdownIsSound → RendersNoControls → MarkdownHasNoControls
 unfolding markdown_of
-markdown-has-no-controls sound renders limit entries end = renders markdown_parts (values_of_run limit entries end) sound.clean
+markdown-has-no-controls sound renders o entries end = renders markdown_parts (values_of_run o entries end) sound.clean
 
 pub markdown-keeps-marks : MarkdownIsSound → NoValueIsMark → MarkdownKeepsMarks
 unfolding markdown_of
-markdown-keeps-marks sound no_mark limit entries end = no_mark markdown_parts (values_of_run limit entries end) sound.markdown
+markdown-keeps-marks sound no_mark o entries end = no_mark markdown_parts (values_of_run o entries end) sound.markdown
 
 -- values
 pub markdown-shows-values : MarkdownIsSound → ShowsValues → MarkdownShowsValues
 unfolding markdown_of
-markdown-shows-values sound shows limit entries end = shown-holes shows markdown_parts (values_of_run limit entries end) markdown_holes sound.holes
+markdown-shows-values sound shows o entries end = shown-holes shows markdown_parts (values_of_run o entries end) markdown_holes sound.holes
 
 pub markdown-names-causes : MarkdownShowsValues → MarkdownNamesCauses
-markdown-names-causes shows limit entries end =
-    let text = markdown_of limit entries end in
-    let vs = values_of_run limit entries end in
-    let all = shows limit entries end in
-    names-causes text hole.Plain limit entries end
+markdown-names-causes shows o entries end =
+    let text = markdown_of o entries end in
+    let vs = values_of_run o entries end in
+    let all = shows o entries end in
+    names-causes text hole.Plain o entries end
     (values-of vs text markdown_holes hole.Plain (codes "failures" ∷ codes "failed" ∷ []) (codes "name") refl all)
     (values-of vs text markdown_holes hole.Plain (codes "problems" ∷ codes "problem" ∷ []) (codes "line") refl all)
     (values-of vs text markdown_holes hole.Plain [] (codes "outcome") refl all)
@@ -46,8 +46,8 @@ markdown-names-causes shows limit entries end =
 -- phrases
 pub markdown-shows-phrases : MarkdownIsSound → ShowsPhrases → MarkdownShowsPhrases
 unfolding markdown_of
-markdown-shows-phrases sound shows limit entries end =
-    shown-phrases shows markdown_parts (values_of_run limit entries end) markdown_phrases sound.phrases
+markdown-shows-phrases sound shows o entries end =
+    shown-phrases shows markdown_parts (values_of_run o entries end) markdown_phrases sound.phrases
 
 module _ (r : ReportView) where
   abbrev vs : Values
@@ -69,11 +69,11 @@ module _ (r : ReportView) where
   }
 
 pub markdown-says-end : MarkdownIsSound → ShowsPhrases → MarkdownSaysEnd
-markdown-says-end sound shows limit entries end =
-    let text = markdown_of limit entries end in
-    let report = report_of limit entries end in
-    let vs = values_of_run limit entries end in
-    let all = markdown-shows-phrases sound shows limit entries end in
+markdown-says-end sound shows o entries end =
+    let text = markdown_of o entries end in
+    let report = report_of o entries end in
+    let vs = values_of_run o entries end in
+    let all = markdown-shows-phrases sound shows o entries end in
     let first = λ (words : List ℕ). All-head (λ i. HasPart text (parts_text (template_parts words) i)) vs [] in
     record {
       outcome = subst (HasPart text) (heading report) (first heading_phrase (phrase-of vs text markdown_phrases [] heading_phrase refl all));
@@ -83,11 +83,11 @@ markdown-says-end sound shows limit entries end =
 -- the row and the details of each failed test
 pub markdown-shows-tests : MarkdownIsSound → ShowsSections → MarkdownShowsTests
 unfolding markdown_of
-markdown-shows-tests sound shows limit entries end =
-    let vs = values_of_run limit entries end in
+markdown-shows-tests sound shows o entries end =
+    let vs = values_of_run o entries end in
     let tests = λ (b : Parts) (is : Contains failed_sections b).
-    unmapped (λ i. HasPart (parts_text markdown_parts vs) (parts_text b i)) (λ t. values_of (failed_values t)) (failures_of limit entries)
-    (subst (All (λ i. HasPart (parts_text markdown_parts vs) (parts_text b i))) (failed-at (report_of limit entries end))
+    unmapped (λ i. HasPart (parts_text markdown_parts vs) (parts_text b i)) (λ t. values_of (failed_values t)) (failures_of o entries)
+    (subst (All (λ i. HasPart (parts_text markdown_parts vs) (parts_text b i))) (failed-at (report_of o entries end))
     (shows markdown_parts vs (codes "failures" ∷ codes "failed" ∷ []) b is)) in
     record {
       rows = tests row_parts (subst (λ l. Contains l row_parts) (sym sound.failed) (0, omega arith, refl));

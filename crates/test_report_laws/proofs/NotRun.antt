@@ -2,23 +2,25 @@
 use Rattle.std.proofs.Common.{◌≡◌, ◌≢◌, ◌∙◌, ℕ, List, [], ◌∷◌, ◌++◌, ◌+◌, Bool, true, false, Option, Some, None, refl, ap, arith, length, map, sym, take, ◌<◌}
 use Rattle.std.specs.List.{fold, remove, sum_by}
 use Rattle.std.specs.Option.{option_map_or}
-use Rattle.std.specs.Prelude.{◌-◌, ◌==◌, ◌&&◌, if◌then◌else◌, max, nat_lt, not}
+use Rattle.std.specs.Prelude.{◌-◌, ◌==◌, if◌then◌else◌, max, nat_lt}
 use Rattle.std.proofs.lemmas.Bool.Decides.{nat_tests}
 use Rattle.std.proofs.lemmas.List.Sums.{sum_by-append, sum_by-cons}
-use Rattle.test_report_events.specs.Event.{EventView, SuiteEndView, TestEndView, SuiteStarts, SuiteEnds, TestStarts, TestEnds, CargoFails}
+use Rattle.test_report_events.specs.Event.{EventView, SuiteEndView, TestEndView, SuiteStarts, SuiteEnds, TestStarts, TestEnds, CargoFails, Prints}
 use Rattle.test_report_events.specs.declared.event.TestResult.{TestResult}
 use Rattle.test_report_events.specs.declared.event.TestResult.TheVariants.{Ok, Failed, Ignored}
 use Rattle.test_report_laws.proofs.Books.{IsIn, position-in}
+use Rattle.test_report_laws.proofs.CargoReports.{only-cargo, only-settled_at, only-told, ready, reports-none}
 use Rattle.test_report_laws.proofs.EndSums.{early_rest, last_by}
+use Rattle.test_report_laws.proofs.FileEnds.{reported_run, suites-alone}
 use Rattle.test_report_laws.proofs.OverRuns.{over-run}
 use Rattle.test_report_laws.proofs.Sums.{sum-if-none, sum-map, sum-none}
-use Rattle.test_report_laws.proofs.Weights.{has-number, numbered-end, numbered-line, unnumbered, weigh, weight_of}
+use Rattle.test_report_laws.proofs.Weights.{has-number, numbered-end, numbered-line, numbered-ready, numbered-reported, unnumbered, weigh, weight_of}
 use Rattle.test_report_run.specs.Ended.{after_end, end_notes}
 use Rattle.test_report_laws.specs.Run.{not_run_of}
-use Rattle.test_report_run.specs.Note.{CargoSays, Disagrees, DisagreementView, HasCrashed, HasNoEnd, HasNoEvent, IsNotRun, NoteView, StrayEnds, StraySuiteEnds, SuiteIs, SuiteNoteView, TestIs, TestNoteView}
+use Rattle.test_report_run.specs.Note.{Disagrees, DisagreementView, HasCrashed, HasNoEnd, IsNotRun, NoteView, StrayEnds, StraySuiteEnds, SuiteIs, SuiteNoteView, TestIs, TestNoteView}
 use Rattle.test_report_run.specs.Others.{OthersView}
 use Rattle.test_report_run.specs.Over.{crash_of, early_disagreements, early_notes, early_state, explained_of, failed_note, failed_notes, flaky_note, flaky_notes, initial_of, last_disagreement, last_notes, last_state, lost, number_notes, rest_of, skipped_note}
-use Rattle.test_report_run.specs.Run.{RunState, Step, after, all_ended_early, counts_tests, ended_at, ended_early, file_notes, is_explained, names_in, no_event_notes, notes_at, open_suite, opened, place_of_number, running_ends, running_over, started_again, step, stray_ends, stray_over, stray_suite_notes, stray_test, suite_at, suite_place, with_suite_at, without_tests}
+use Rattle.test_report_run.specs.Run.{RunState, Step, after, counts_tests, ended_at, ended_early, file_notes, names_in, notes_at, open_suite, opened, place_of_number, running_ends, running_over, settled_at, started_again, step, stray_ends, stray_over, stray_suite_notes, stray_test, suite_at, suite_place, told, with_suite_at, without_tests}
 use Rattle.test_report_run.specs.Running.{place_of_end, running_at}
 use Rattle.test_report_laws.specs.Status.{NotRunIsNamed, named_not_run}
 use Rattle.test_report_run.specs.Name.{given_by, name_of}
@@ -176,18 +178,22 @@ same-ended r e None in' numbered =
     sum-if-none named_not_run (counts_tests e) d refl ∙ sym (sum-if-none not_run_of (counts_tests e) d refl)
 same-ended r e (Some at) in' numbered = same-over r e at ((with_line (suite_at r (Some at)) e).open_lines == 0) in' numbered
 
-same-line : (r : RunState) (e : EventView) → weight_of unnumbered r ≡ 0 → Same (notes_at r e)
-same-line r (SuiteStarts key count) numbered =
+same-told : (r : RunState) (e : EventView) → weight_of unnumbered r ≡ 0 → Same (told r e).notes
+same-told r (SuiteStarts key count) numbered =
     same-first r key count (open_suite r key) (position-in (has_key key) r.suites (open_suite r key) refl) numbered
-same-line r (SuiteEnds e) numbered =
+same-told r (SuiteEnds e) numbered =
     same-ended r e (open_suite r e.key) (position-in (has_key e.key) r.suites (open_suite r e.key) refl) numbered
-same-line r (TestEnds e) numbered =
+same-told r (TestEnds e) numbered =
     let place = place_of_end r.running e.name in
     of-test named_not_run (λ t. refl) (λ d. refl) r e place ∙ sym (of-test not_run_of (λ t. refl) (λ d. refl) r e place)
-same-line r (CargoFails f line plain) numbered =
-    let counts = length r.suites == 0 && not (is_explained r f) in
-    sum-if-none named_not_run counts (Disagrees (CargoSays plain)) refl ∙ sym (sum-if-none not_run_of counts (Disagrees (CargoSays plain)) refl)
-same-line r e numbered = refl
+same-told r e numbered = refl
+
+same-line : (r : RunState) (e : EventView) → weight_of unnumbered r ≡ 0 → Same (notes_at r e)
+same-line r e numbered =
+    let only = only-settled_at r e in
+    same-append (settled_at r e).notes (told (ready r e) e).notes
+    (reports-none only named_not_run (λ report. refl) ∙ sym (reports-none only not_run_of (λ report. refl)))
+    (same-told (ready r e) e (numbered-ready r e numbered))
 
 -- tests outside of a suite are not announced
 abbrev IsUnannounced : RunState → Type 0
@@ -231,14 +237,22 @@ outside-ended : (r : RunState) (e : SuiteEndView) (at : Option ℕ) → IsUnanno
 outside-ended r e None none = none
 outside-ended r e (Some at) none = grind (arith, none)
 
-outside-line : (r : RunState) (e : EventView) → IsUnannounced r → IsUnannounced (after r e)
-outside-line r (SuiteStarts key count) none = outside-first r key count (open_suite r key) none
-outside-line r (SuiteEnds e) none = outside-ended r e (open_suite r e.key) none
-outside-line r (TestStarts name) none =
+outside-told : (r : RunState) (e : EventView) → IsUnannounced r → IsUnannounced (told r e).run
+outside-told r (SuiteStarts key count) none = outside-first r key count (open_suite r key) none
+outside-told r (SuiteEnds e) none = outside-ended r e (open_suite r e.key) none
+outside-told r (TestStarts name) none =
     let at = suite_place r name in outside-at r at (with_start (suite_at r at) name) refl none
-outside-line r (TestEnds e) none = outside-test r e (place_of_end r.running e.name) none
-outside-line r (CargoFails f line plain) none = grind (arith, none)
-outside-line r e none = none
+outside-told r (TestEnds e) none = outside-test r e (place_of_end r.running e.name) none
+outside-told r (CargoFails f line plain) none = ap (λ (x : RunState). x.outside.test_count) (only-cargo r f plain).run_is ∙ none
+outside-told r e none = none
+
+outside-after : (r : RunState) (e : EventView) → (after r e).outside.test_count ≡ (told (ready r e) e).run.outside.test_count
+outside-after r (Prints line plain) = refl
+outside-after r e = refl
+
+outside-line : (r : RunState) (e : EventView) → IsUnannounced r → IsUnannounced (after r e)
+outside-line r e none =
+    outside-after r e ∙ outside-told (ready r e) e (ap (λ (x : RunState). x.outside.test_count) (only-settled_at r e).run_is ∙ none)
 
 -- the end of a file
 same-ends : (t : Step) (suites : List SuiteState) → sum_by (weigh unnumbered) suites ≡ 0 → Same t.notes → Same (fold ended_early t suites).notes
@@ -252,16 +266,15 @@ same-ends t (s ∷ suites) numbered same =
 
 same-end : (r : RunState) → weight_of unnumbered r ≡ 0 → IsUnannounced r → Same (file_notes r)
 same-end r numbered none =
-    let start = step (record r { suites = [] }) [] in
-    let ended = fold ended_early start r.suites in
-    let names = names_in (record (ended.run) { outside = outside_start }) r.outside in
-    let over = all_ended_early r in
-    let quiet = not over.run.has_event && not (nat_lt over.run.causes_at_file over.run.causes) in
-    let d = Disagrees HasNoEvent in
-    same-append over.notes (no_event_notes over.run)
-    (same-append ended.notes (early_notes ended.run.others r.outside names) (same-ends start r.suites numbered refl)
-    (same-early ended.run.others r.outside names (λ zero. none)))
-    (sum-if-none named_not_run quiet d refl ∙ sym (sum-if-none not_run_of quiet d refl))
+    let now = reported_run r in
+    let start = step (record now { suites = [] }) [] in
+    let ended = fold ended_early start now.suites in
+    let names = names_in (record (ended.run) { outside = outside_start }) now.outside in
+    let unannounced = ap (λ (x : RunState). x.outside.test_count) (only-told r).run_is ∙ none in
+    let same : Same (ended.notes ++ early_notes ended.run.others now.outside names) = same-append ended.notes (early_notes ended.run.others now.outside names)
+    (same-ends start now.suites (numbered-reported r numbered) refl)
+    (same-early ended.run.others now.outside names (λ zero. unannounced)) in
+    omega (arith, same, suites-alone named_not_run (λ d. refl) r, suites-alone not_run_of (λ d. refl) r)
 
 -- what holds at each line and at each end of a file
 abbrev Named : ℕ → List NoteView → RunState → Type 0

@@ -7,7 +7,9 @@ use Rattle.std.specs.Prelude.{option_and_then}
 use Rattle.output_slice.specs.declared.panic_head.HeadSpan.{HeadSpan}
 use Rattle.test_report_forms.proofs.Tests.{and-left, and-right}
 use Rattle.test_report_forms.specs.Entry.{EntryView, IsEntryOf, IsTestEntry, LinesDisagree, SuiteNotRun, SuiteOver, TestFailed, TestPassed, TestSkipped}
-use Rattle.test_report_forms.specs.Place.{Cut, IsFailurePlace, IsPanicPlace, IsPlaceOr, PlaceView, are_digits, documented_place, first_cut, first_line, is_item, item_place, last_cut, last_line, line_place, message_place, numbered_place, parsed_place, place_behind, without_last}
+use Rattle.test_report_forms.specs.Explanation.{FoundView}
+use Rattle.test_report_forms.specs.Lines.{first_line}
+use Rattle.test_report_forms.specs.Place.{Cut, PlaceView, are_digits, cause_head, documented_place, failure_place, first_cut, if_ours, is_item, is_ours, item_place, last_cut, last_line, line_place, message_place, numbered_place, our_place, output, panic_place, parsed_place, place_behind, place_of, without_last}
 use Rattle.test_report_forms.specs.Title.{title_name}
 use Rattle.test_report_run.specs.Note.{Disagrees, FailureView, Fails, IsNotRun, IsSkipped, NoteView, OutcomeView, Passes, SuiteIs, TestIs, TestNoteView}
 
@@ -71,18 +73,25 @@ numbered-message_place : (text : List ℕ) → IsNumbered (message_place text)
 numbered-message_place text =
     numbered-then (λ (c : Cut). parsed_place c.back) (λ c. numbered-parsed c.back) (last_cut (codes " at ") (last_line text))
 
-numbered-panic : (out : Option (List ℕ)) (place : Option PlaceView) → IsPanicPlace out place → IsNumbered place
-numbered-panic None place h = subst IsNumbered (sym h) tt
-numbered-panic (Some out) place h = subst IsNumbered (sym h.2) (numbered-then (place_behind out) (numbered-behind out) h.0)
+numbered-if_ours : (p : PlaceView) → IsNumbered (Some p) → IsNumbered (if_ours p)
+numbered-if_ours p h = numbered-if (is_ours p.file) p (λ e. h)
 
-numbered-failure : (f : FailureView) (place : Option PlaceView) → IsFailurePlace f place → IsNumbered place
-numbered-failure f place h =
+numbered-ours : (place : Option PlaceView) → IsNumbered place → IsNumbered (our_place place)
+numbered-ours None h = tt
+numbered-ours (Some p) h = numbered-if_ours p h
+
+numbered-failure : (f : FailureView) (found : FoundView) → IsNumbered (failure_place f found)
+numbered-failure f found =
+    let out : List ℕ = output f in
+    let panic = numbered-then (place_behind out) (numbered-behind out) (cause_head f found) in
     let said = numbered-then message_place numbered-message_place f.message in
-    subst IsNumbered (sym h.2) (numbered-or h.0 (option_and_then message_place f.message) (numbered-panic f.stdout h.0 h.1) said)
+    numbered-or (our_place (panic_place f found)) (our_place (option_and_then message_place f.message)) (numbered-ours (panic_place f found) panic)
+    (numbered-ours (option_and_then message_place f.message) said)
 
-place-or : (f : FailureView) (documented place : Option PlaceView) → IsNumbered documented → IsPlaceOr f documented place → IsNumbered place
-place-or f None place i h = numbered-failure f place h
-place-or f (Some p) place i h = subst IsNumbered (sym h) i
+numbered-place : (t : TestNoteView) (f : FailureView) (found : FoundView) → IsNumbered (place_of t f found)
+numbered-place t f found =
+    let documented = documented_place (title_name t) in
+    numbered-or (our_place documented) (failure_place f found) (numbered-ours documented (numbered-documented (title_name t))) (numbered-failure f found)
 
 -- an entry of a note
 abbrev pub HasNumbers : EntryView → Type 0
@@ -97,7 +106,7 @@ numbered-test : (t : TestNoteView) (o : OutcomeView) (e : EntryView) → IsTestE
 numbered-test t Passes e h = subst HasNumbers (sym h) tt
 numbered-test t IsSkipped e h = subst HasNumbers (sym h) tt
 numbered-test t (Fails f) e h =
-    subst HasNumbers (sym h.2) (place-or f (documented_place (title_name t)) h.0.place (numbered-documented (title_name t)) h.1.place)
+    subst HasNumbers (sym h.2) (subst IsNumbered (sym h.1.place) (numbered-place t f h.1.found))
 
 pub entry-numbers : (n : NoteView) (e : EntryView) → IsEntryOf n e → HasNumbers e
 entry-numbers (TestIs t) e h = numbered-test t t.outcome e h

@@ -8,21 +8,23 @@ use Rattle.std.specs.Option.{option_map_or}
 use Rattle.std.specs.Str.{bytes_eq}
 use Rattle.run_events_stats.specs.declared.outcome.run_outcome.RunOutcome.{RunOutcome}
 use Rattle.run_events_stats.specs.declared.outcome.run_outcome.RunOutcome.TheVariants as outcome
+use Rattle.test_report_events.specs.Event.{BySignal, CommandView, NotStarted, WithStatus}
 use Rattle.test_report_events.specs.declared.event.TestResult.{TestResult}
 use Rattle.test_report_events.specs.declared.event.TestResult.TheVariants as ended
 use Rattle.test_report_forms.specs.Entry.{EntryView, LinesDisagree, SuiteNotRun, SuiteOver, TestFailed, TestPassed, TestSkipped}
 use Rattle.test_report_forms.specs.List.{KeyedLine, failed_line, failed_of, flaky_line, flaky_lines, flaky_of, flaky_passed, flaky_word, list_line, put_falling, put_rising, short_list, slow_line, slow_lines, slow_of, text_of_lines, timed}
 use Rattle.test_report_forms.specs.Names.{names_line}
-use Rattle.test_report_forms.specs.Shown.{bracket, front, indented, indented_line, more_bytes, name_and_space, shown_line, shown_name, shown_text, three_digits}
-use Rattle.test_report_forms.specs.Text.{attempts_note, failed_head, failed_text, more_line, outcome_line, summary_lines, text_last, text_line, why_lines}
+use Rattle.test_report_forms.specs.Shown.{bracket, front, indented_line, more_bytes, name_and_space, shown_line, shown_name, shown_text, three_digits}
+use Rattle.test_report_forms.specs.ShownWhy.{ShownWhyView, shown_why}
+use Rattle.test_report_forms.specs.Text.{attempts_note, failed_head, failed_text, hidden_line, more_line, outcome_line, summary_lines, text_last, text_line, why_lines}
 use Rattle.test_report_forms.specs.Title.{title, title_name}
-use Rattle.test_report_forms.specs.Words.{color_of, disagreement_line, failed_numbers, failed_word, its_tests, key_and_verdict, not_run_line, other_numbers, outcome_word, passed_numbers, result_word, run_numbers, said_numbers, said_text, status_text, summary_line, verdict_word}
+use Rattle.test_report_forms.specs.Words.{color_of, command_words, disagreement_line, failed_numbers, failed_word, its_tests, key_and_verdict, not_run_line, other_numbers, outcome_word, passed_numbers, result_word, run_numbers, said_numbers, said_text, status_text, summary_line, verdict_word}
 use Rattle.test_report_forms.specs.declared.options.Options.{Options}
 use Rattle.test_report_laws.proofs.KeyedLines.{Alike, alike-if, each-alike, falling-alike, fold-alike, rising-alike, text-alike}
 use Rattle.test_report_laws.proofs.Quiet.{Inner, Quiet, also, dark-decimal, inner-decimal, inner-if, inner-more, is_dark, is_inner, no-commands, quiet-byte, quiet-colon, quiet-dark, quiet-dark-all, quiet-feed, quiet-inner, quiet-nothing, quiet-space, word}
 use Rattle.test_report_laws.proofs.QuietShown.{After, quiet-line, quiet-name, quiet-text}
 use Rattle.test_report_laws.specs.Commands.{NamesHasNoCommands, TextHasNoCommands}
-use Rattle.test_report_run.specs.Note.{CargoSays, DisagreementView, EndsEarly, HasCrashed, HasFailed, HasNoEnd, HasNoEvent, HasTimedOut, IsDamaged, IsFlaky, KindView, SaysOther, StartsOutside, StrayEnds, StraySuiteEnds, TestNoteView}
+use Rattle.test_report_run.specs.Note.{CargoSays, CommandFails, DisagreementView, EndsEarly, HasCrashed, HasFailed, HasNoEnd, HasNoEvent, HasTimedOut, IsDamaged, IsFlaky, KindView, SaysOther, StartsOutside, StrayEnds, StraySuiteEnds, TestNoteView}
 use Rattle.test_report_run.specs.declared.note.RunEnd.{RunEnd}
 
 -- the program's own words, numbers and times
@@ -149,6 +151,13 @@ key-within : (key : Option (List ℕ)) (failed : Bool) → Within (key_and_verdi
 unfolding key_and_verdict
 key-within key failed = suite-within key (verdict-opens failed) (inner (inner-verdict failed))
 
+command-within : (end : CommandView) → Within (command_words end)
+unfolding command_words
+command-within (NotStarted error) = before (word (codes "could not be started: ") refl) (line error)
+command-within (BySignal number) = inner (also (word (codes "ended by signal ") refl) (inner-decimal number))
+command-within (WithStatus code) =
+    inner (also (word (codes "ended with status ") refl) (also (inner-decimal code) (word (codes ", and no line says why") refl)))
+
 disagreement-opens : (d : DisagreementView) → Opens (disagreement_line d)
 unfolding disagreement_line said_text
 disagreement-opens (EndsEarly suite) = name-opens suite (word-follows 101 refl (inner (word (codes "nded early") refl)))
@@ -167,10 +176,11 @@ disagreement-opens (StartsOutside n) =
           let more = follows.is a in
           subst (Quiet true) (sym (append_assoc (decimal n) words rest)) (quiet-dark-all (decimal n) (dark-decimal n) more.at_front more.within);
     }
-disagreement-opens (CargoSays text) = word-opens 99 refl (before (word (codes "argo: ") refl) (line text))
+disagreement-opens (CargoSays report) = word-opens 99 refl (before (word (codes "argo: ") refl) (line report.line))
 disagreement-opens (IsDamaged text) =
     word-opens 97 refl (before (word (codes " damaged line says that a test or a suite failed: ") refl) (line text))
 disagreement-opens HasNoEvent = word-opens 110 refl (inner (word (codes "o line of the input is of a test run") refl))
+disagreement-opens (CommandFails end) = word-opens 116 refl (before (word (codes "he command ") refl) (command-within end))
 
 not-run-opens : (suite : List ℕ) (n of : ℕ) → Opens (not_run_line suite n of)
 unfolding not_run_line
@@ -377,9 +387,17 @@ module _ (o : Options) (raw : o.raw ≡ false) where
       let parts = append_assoc (decimal more) (codes " more bytes)") (codes "\n") in
       lines-if (more == 0) (subst (λ l. Lines (codes "    (" ++ l)) parts (one-line (spaces-open 4 (word-opens 40 refl (inner words)))))
 
-  why-lines : (why : List ℕ) → Lines (why_lines o why)
+  hidden-line : (hidden : ℕ) → Lines (hidden_line hidden)
+  unfolding hidden_line
+  hidden-line hidden =
+      let words = also (inner-decimal hidden) (word (codes " more lines of output)") refl) in
+      let parts = append_assoc (decimal hidden) (codes " more lines of output)") (codes "\n") in
+      lines-if (hidden == 0) (subst (λ l. Lines (codes "    (" ++ l)) parts (one-line (spaces-open 4 (word-opens 40 refl (inner words)))))
+
+  why-lines : (why : ShownWhyView) → Lines (why_lines o why)
   unfolding why_lines
-  why-lines why = both (each (indented_line o.raw) indented-line _) (more-line (more_bytes why o.limit))
+  why-lines why =
+      both (each (indented_line o.raw) indented-line _) (both (more-line (more_bytes why.text o.limit)) (hidden-line why.hidden))
 
   head-line : (t : TestNoteView) (w : List ℕ) → Status w → Lines (failed_head o t w)
   unfolding failed_head
@@ -390,7 +408,7 @@ module _ (o : Options) (raw : o.raw ≡ false) where
 
   text-entry : (e : EntryView) → Lines (text_line o e)
   unfolding failed_text
-  text-entry (TestFailed t f w) = both (head-line t (failed_word f.kind) (failed-status f.kind)) (why-lines w.text)
+  text-entry (TestFailed t f w) = both (head-line t (failed_word f.kind) (failed-status f.kind)) (why-lines (shown_why o t f w))
   text-entry (LinesDisagree d) = one-line (disagreement-opens d)
   text-entry (SuiteNotRun suite n of) = one-line (not-run-opens suite n of)
   text-entry (TestPassed t) = no-lines

@@ -11,6 +11,7 @@ use Rattle.test_report_forms.specs.Github.{github_last, github_line}
 use Rattle.test_report_forms.specs.Html.{html_of}
 use Rattle.test_report_forms.specs.Junit.{junit_of}
 use Rattle.template.specs.Tree.{TreeView}
+use Rattle.test_report_laws.proofs.CommandInputs.{all-ended}
 use Rattle.test_report_laws.proofs.Lines.{all-blocks}
 use Rattle.test_report_laws.proofs.ShownValues.{unfiltered}
 use Rattle.test_report_laws.specs.Forms.{HtmlNamesCauses, MarkdownNamesCauses, NamesCauses, failed_name}
@@ -36,6 +37,7 @@ use Rattle.test_report_laws.specs.Whole.{all_notes}
 use Rattle.test_report_run.specs.declared.note.RunEnd.{RunEnd}
 use Rattle.test_report_laws.proofs.SameRun.{one-run}
 use Rattle.test_report_laws.specs.Report.{FailureHasReason, FilesNameReason, GithubNamesReason, HasReasonCase, HtmlNamesReason, JunitNamesReason, MarkdownNamesReason, NamesReason, SuccessMeans, TextNamesReason, is_reason}
+use Rattle.test_report_engine.specs.Lines.{InputView}
 use Rattle.test_report_engine.specs.Report.{IsReport}
 
 -- what status 0 means
@@ -47,8 +49,12 @@ success-means in-order inputs entries run are =
     let means = in-order files in (
       files,
       same.1,
-      (λ is. means.0 (sym (ap (λ (e : RunEnd). e.outcome) end) ∙ is)),
-      (λ is. means.1 (sym (ap (λ (e : RunEnd). e.outcome) end) ∙ is)),
+      (λ is.
+          let found = means.0 (sym (ap (λ (e : RunEnd). e.outcome) end) ∙ is) in
+          (found.0, all-ended files found.1 [] inputs files refl same.1.say, found.1)),
+      (λ is.
+          let found = means.1 (sym (ap (λ (e : RunEnd). e.outcome) end) ∙ is) in
+          (found.0, all-ended files found.1 [] inputs files refl same.1.say, found.1)),
     )
 
 -- an element of a list, and the one beside it
@@ -148,13 +154,13 @@ text-own o (LinesDisagree d) reason = (_, refl)
 text-own o (SuiteNotRun suite n of) reason = (_, refl)
 text-own o (SuiteOver s) reason = absurd (cc)
 
-github-own : (limit : ℕ) (e : EntryView) → IsTrue (is_reason e) → (b : Block) × (github_block limit e ≡ Some b)
-github-own limit (TestPassed t) reason = absurd (cc)
-github-own limit (TestSkipped t) reason = absurd (cc)
-github-own limit (TestFailed t f w) reason = (_, refl)
-github-own limit (LinesDisagree d) reason = (_, refl)
-github-own limit (SuiteNotRun suite n of) reason = (_, refl)
-github-own limit (SuiteOver s) reason = absurd (cc)
+github-own : (o : Options) (e : EntryView) → IsTrue (is_reason e) → (b : Block) × (github_block o e ≡ Some b)
+github-own o (TestPassed t) reason = absurd (cc)
+github-own o (TestSkipped t) reason = absurd (cc)
+github-own o (TestFailed t f w) reason = (_, refl)
+github-own o (LinesDisagree d) reason = (_, refl)
+github-own o (SuiteNotRun suite n of) reason = (_, refl)
+github-own o (SuiteOver s) reason = absurd (cc)
 
 -- entries are of notes
 of-notes : (notes : List NoteView) (entries : List EntryView) → AllZip IsEntryOf notes entries → All (λ e. (n : NoteView) × IsEntryOf n e) entries
@@ -164,21 +170,21 @@ of-notes (n ∷ ns) [] zip = absurd zip
 of-notes (n ∷ ns) (e ∷ es) zip = All-cons (λ e. (n : NoteView) × IsEntryOf n e) e es (n, zip.0) (of-notes ns es zip.1)
 
 -- the cause of an entry that is a reason
-cause-of : (limit : ℕ) (e : EntryView) → IsTrue (is_reason e) → (c : JunitCause) × (junit_cause limit e ≡ Some c)
-cause-of limit (TestPassed t) reason = absurd (cc)
-cause-of limit (TestSkipped t) reason = absurd (cc)
-cause-of limit (TestFailed t f w) reason = (_, refl)
-cause-of limit (LinesDisagree d) reason = (_, refl)
-cause-of limit (SuiteNotRun suite n of) reason = (_, refl)
-cause-of limit (SuiteOver s) reason = absurd (cc)
+cause-of : (o : Options) (e : EntryView) → IsTrue (is_reason e) → (c : JunitCause) × (junit_cause o e ≡ Some c)
+cause-of o (TestPassed t) reason = absurd (cc)
+cause-of o (TestSkipped t) reason = absurd (cc)
+cause-of o (TestFailed t f w) reason = (_, refl)
+cause-of o (LinesDisagree d) reason = (_, refl)
+cause-of o (SuiteNotRun suite n of) reason = (_, refl)
+cause-of o (SuiteOver s) reason = absurd (cc)
 
 -- JUnit's XML, which has the test case of each cause, has one of a reason
 module _ (o : Options) (entries : List EntryView) (end : RunEnd) (text : List ℕ) (t : TreeView) (reads : IsXml text t) (cases : HasJunitCases o entries end t)
     (fails : ¬ (RanNoTests end × IsTrue o.no_tests_pass)) where
   has-case : ((e : EntryView) × Contains entries e × IsTrue (is_reason e)) ⊎ RanNoTests end → HasReasonCase o entries end text
   has-case (inl found) =
-      let cause = cause-of o.limit found.0 found.2 in
-      let case = at-entry entries (λ e. IfSome (junit_cause o.limit e) (HasJunitCase t)) found.0 found.1 cases.causes in
+      let cause = cause-of o found.0 found.2 in
+      let case = at-entry entries (λ e. IfSome (junit_cause o e) (HasJunitCase t)) found.0 found.1 cases.causes in
       record {
         cause = cause.0;
         reason = inl (found.0, found.1, cause.1);
@@ -216,7 +222,7 @@ if-junit P last Q (Some f) text is each = λ q. subst (λ t. IfSome t (P f)) (sy
 
 -- a report, and the texts of files
 module _ (has_reason : FailureHasReason) where
-  reason-of : (line : EntryView → List ℕ) (last : List EntryView → RunEnd → List ℕ) (inputs : List (List ℕ)) (text : List ℕ) (end : RunEnd)
+  reason-of : (line : EntryView → List ℕ) (last : List EntryView → RunEnd → List ℕ) (inputs : List InputView) (text : List ℕ) (end : RunEnd)
       (report : IsReport line last inputs text end) → ¬ (Succeeds end)
       → ((e : EntryView) × Contains report.entries e × IsTrue (is_reason e)) ⊎ RanNoTests end
   reason-of line last inputs text end report fails =
@@ -226,7 +232,7 @@ module _ (has_reason : FailureHasReason) where
         | inr none ↦ inr (same ∙ none)
       ]
 
-  report-names : (name written : List ℕ → List ℕ) (line : EntryView → List ℕ) (last : List EntryView → RunEnd → List ℕ) (inputs : List (List ℕ))
+  report-names : (name written : List ℕ → List ℕ) (line : EntryView → List ℕ) (last : List EntryView → RunEnd → List ℕ) (inputs : List InputView)
       (text : List ℕ) (end : RunEnd) (report : IsReport line last inputs text end) → NamesCauses name written report.entries end text
       → ¬ (Succeeds end) → NamesReason name written report.entries end text
   report-names name written line last inputs text end report causes fails =
@@ -240,18 +246,18 @@ module _ (has_reason : FailureHasReason) where
       (reason-of (text_line o) (text_last o) inputs text end report fails)
 
   pub github-names : GithubNamesCauses → GithubNamesReason
-  github-names causes limit inputs text end report fails =
+  github-names causes o inputs text end report fails =
       let files = one-run inputs report.entries report.run report.are in
       let notes = of-notes (all_notes files.0) report.entries files.1.are in
-      let says = subst (GithubSays limit report.entries end) (sym report.is) (causes limit report.entries end notes) in
-      says-reason (github_block limit) (notice end) report.entries end text (github-own limit) says.causes (λ none. says.outcome)
-      (reason-of (github_line limit) (λ entries end. github_last end) inputs text end report fails)
+      let says = subst (GithubSays o report.entries end) (sym report.is) (causes o report.entries end notes) in
+      says-reason (github_block o) (notice end) report.entries end text (github-own o) says.causes (λ none. says.outcome)
+      (reason-of (github_line o) (λ entries end. github_last end) inputs text end report fails)
 
   pub html-names : HtmlNamesCauses → HtmlNamesReason
-  html-names causes limit inputs text end report =
-      let is = report.is ∙ ap (λ x. x ++ html_of limit report.entries end) (none-first report.entries) in
-      report-names (hole_text hole.Text) (hole_text hole.Text) (λ e. []) (html_of limit) inputs text end report
-      (subst (NamesCauses (hole_text hole.Text) (hole_text hole.Text) report.entries end) (sym is) (causes limit report.entries end))
+  html-names causes o inputs text end report =
+      let is = report.is ∙ ap (λ x. x ++ html_of o report.entries end) (none-first report.entries) in
+      report-names (hole_text hole.Text) (hole_text hole.Text) (λ e. []) (html_of o) inputs text end report
+      (subst (NamesCauses (hole_text hole.Text) (hole_text hole.Text) report.entries end) (sym is) (causes o report.entries end))
 
   pub junit-names : JunitNamesCauses → JunitNamesReason
   junit-names causes o inputs text end report fails to_pass =
@@ -261,10 +267,10 @@ module _ (has_reason : FailureHasReason) where
       (reason-of nothing (junit_of o) inputs text end report fails)
 
   pub markdown-names : MarkdownNamesCauses → MarkdownNamesReason
-  markdown-names causes limit inputs text end report =
-      let is = report.is ∙ ap (λ x. x ++ markdown_of limit report.entries end) (none-first report.entries) in
-      report-names (hole_text hole.Plain) (hole_text hole.Plain) (λ e. []) (markdown_of limit) inputs text end report
-      (subst (NamesCauses (hole_text hole.Plain) (hole_text hole.Plain) report.entries end) (sym is) (causes limit report.entries end))
+  markdown-names causes o inputs text end report =
+      let is = report.is ∙ ap (λ x. x ++ markdown_of o report.entries end) (none-first report.entries) in
+      report-names (hole_text hole.Plain) (hole_text hole.Plain) (λ e. []) (markdown_of o) inputs text end report
+      (subst (NamesCauses (hole_text hole.Plain) (hole_text hole.Plain) report.entries end) (sym is) (causes o report.entries end))
 
   pub files-name : JunitNamesCauses → HtmlNamesCauses → MarkdownNamesCauses → FilesNameReason
   files-name junit html markdown files inputs texts are fails =
@@ -277,8 +283,8 @@ module _ (has_reason : FailureHasReason) where
             (λ f to_pass. let own = junit f.options are.entries end in has-case f.options are.entries end _ own.0 own.1 own.2 to_pass found),
         if-there (NamesReason between-tags between-tags are.entries end) (λ (f : HtmlForm). html_last f are.entries end) files.html
             (text_view texts.html) are.say.html
-            (λ f. names-reason between-tags between-tags are.entries end _ (html f.model.limit are.entries end) found),
+            (λ f. names-reason between-tags between-tags are.entries end _ (html f.model.options are.entries end) found),
         if-there (NamesReason in-markdown in-markdown are.entries end) (λ (f : MarkdownForm). markdown_last f are.entries end)
             files.markdown (text_view texts.markdown) are.say.markdown
-            (λ f. names-reason in-markdown in-markdown are.entries end _ (markdown f.model.limit are.entries end) found),
+            (λ f. names-reason in-markdown in-markdown are.entries end _ (markdown f.model.options are.entries end) found),
       )

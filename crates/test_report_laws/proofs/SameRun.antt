@@ -1,5 +1,5 @@
 -- The run of a report is that of files, of which the laws of runs speak.
-use Rattle.std.proofs.Common.{◌≡◌, ◌∙◌, ◌++◌, ℕ, List, [], ◌∷◌, ap, map, refl, subst, sym}
+use Rattle.std.proofs.Common.{◌≡◌, ◌∙◌, ◌++◌, List, [], ◌∷◌, ap, map, refl, subst, sym}
 use Rattle.std.proofs.lemmas.List.Sums.{fold-append}
 use Rattle.std.specs.List.{AllZip, flat_map}
 use Rattle.test_report_events.specs.Event.{EventView}
@@ -8,7 +8,7 @@ use Rattle.test_report_run.specs.Run.{RunState, after, after_file, end_of, file_
 use Rattle.test_report_run.proofs.Lines.{notes-append}
 use Rattle.test_report_laws.specs.Whole as whole
 use Rattle.test_report_laws.specs.Report.{HasEvents, OneRun}
-use Rattle.test_report_engine.specs.Lines.{AreEventsOf}
+use Rattle.test_report_engine.specs.Lines.{AreEventsOf, InputView}
 use Rattle.test_report_engine.specs.Report.{after_end, after_line, end_notes, line_notes, notes_of, notes_of_input, notes_of_inputs, run_after, run_after_input, run_after_inputs}
 
 -- a line, and the end of an input
@@ -29,7 +29,7 @@ unfolding after_end
 same-after_end r = refl
 
 -- the events of lines, one after the other
-abbrev in-order : List (List EventView) → List EventView
+abbrev pub in-order : List (List EventView) → List EventView
 in-order lines = flat_map (λ line. line) lines
 
 -- lines
@@ -69,7 +69,7 @@ inputs-notes r (lines ∷ inputs) =
     ∙ ap (λ s. whole.notes_of_file r file ++ notes_of_inputs s inputs) (input-run r lines)
     ∙ ap (λ ns. whole.notes_of_file r file ++ ns) (inputs-notes (whole.run_after_file r file) inputs)
 
-have-events : (inputs : List (List ℕ)) (events : List (List (List EventView))) → AllZip AreEventsOf inputs events
+have-events : (inputs : List InputView) (events : List (List (List EventView))) → AllZip AreEventsOf inputs events
     → AllZip HasEvents inputs (map in-order events)
 have-events [] [] say = tt
 have-events [] (lines ∷ events) say = absurd say

@@ -18,6 +18,7 @@ use Rattle.test_report_forms.specs.Values.{failed_values, one_text, report_value
 use Rattle.test_report_forms.specs.Words.{outcome_word}
 use Rattle.test_report_laws.specs.Forms.{HasValues, NamesCauses, failed_name}
 use Rattle.test_report_run.specs.declared.note.RunEnd.{RunEnd}
+use Rattle.test_report_forms.specs.declared.options.Options.{Options}
 
 -- what is rendered has the values of the template's holes
 pub shown-holes : ShowsValues → (ps : Parts) (vs : Values) (hs : List HoleView) → list_all (has_hole ps) hs ≡ true
@@ -47,20 +48,20 @@ other-lines P o lines h =
     [ true ↦ λ all. All-tail P _ _ all | false ↦ λ all. all ] h
 
 -- a text that has the values of three holes names each cause
-module _ (text : List ℕ) (kind : Hole) (limit : ℕ) (entries : List EntryView) (end : RunEnd) where
+module _ (text : List ℕ) (kind : Hole) (o : Options) (entries : List EntryView) (end : RunEnd) where
   abbrev Written : List ℕ → Type 0
   Written t = HasPart text (hole_text kind t)
 
   abbrev pub AreWritten : List (List ℕ) → List ℕ → Type 0
-  AreWritten path name = All (λ i. Written (text_of name i)) (items_at path (values_of_run limit entries end))
+  AreWritten path name = All (λ i. Written (text_of name i)) (items_at path (values_of_run o entries end))
 
-  failed-names : AreWritten (codes "failures" ∷ codes "failed" ∷ []) (codes "name") → All (λ t. Written t.name) (failures_of limit entries)
+  failed-names : AreWritten (codes "failures" ∷ codes "failed" ∷ []) (codes "name") → All (λ t. Written t.name) (failures_of o entries)
   failed-names items =
       let tests = unmapped (λ i. Written (text_of (codes "name") i)) (λ t. values_of (failed_values t)) _
-      (subst (All (λ i. Written (text_of (codes "name") i))) (failed-at (report_of limit entries end)) items) in
+      (subst (All (λ i. Written (text_of (codes "name") i))) (failed-at (report_of o entries end)) items) in
       All-weaker (λ t. Written (text_of (codes "name") (values_of (failed_values t)))) (λ t. Written t.name) (λ t. subst Written (name-of t)) _ tests
 
-  own-name : (e : EntryView) → IfSome (failure_of_entry limit e) (λ t. Written t.name) → IfSome (failed_name e) Written
+  own-name : (e : EntryView) → IfSome (failure_of_entry o e) (λ t. Written t.name) → IfSome (failed_name e) Written
   own-name (TestFailed t f w) h = h
   own-name (LinesDisagree d) h = tt
   own-name (SuiteNotRun suite n of) h = tt
@@ -71,18 +72,18 @@ module _ (text : List ℕ) (kind : Hole) (limit : ℕ) (entries : List EntryView
   own-lines : AreWritten (codes "problems" ∷ codes "problem" ∷ []) (codes "line") → All Written (problem_lines end.outcome (cause_lines entries))
   own-lines items =
       unmapped (λ i. Written (text_of (codes "line") i)) (λ l. values_of (one_text (codes "line") l)) _
-      (subst (All (λ i. Written (text_of (codes "line") i))) (problems-at (report_of limit entries end)) items)
+      (subst (All (λ i. Written (text_of (codes "line") i))) (problems-at (report_of o entries end)) items)
 
   own-outcome : AreWritten [] (codes "outcome") → Written (outcome_word end.outcome)
   unfolding report_values run_values
-  own-outcome items = All-head (λ i. Written (text_of (codes "outcome") i)) (values_of_run limit entries end) [] items
+  own-outcome items = All-head (λ i. Written (text_of (codes "outcome") i)) (values_of_run o entries end) [] items
 
   pub names-causes : AreWritten (codes "failures" ∷ codes "failed" ∷ []) (codes "name") → AreWritten (codes "problems" ∷ codes "problem" ∷ []) (codes "line")
       → AreWritten [] (codes "outcome") → NamesCauses (hole_text kind) (hole_text kind) entries end text
   names-causes names lines word = record {
     tests =
-        All-weaker (λ e. IfSome (failure_of_entry limit e) (λ t. Written t.name)) (λ e. IfSome (failed_name e) Written) own-name entries
-        (unfiltered (λ t. Written t.name) (failure_of_entry limit) entries (failed-names names));
+        All-weaker (λ e. IfSome (failure_of_entry o e) (λ t. Written t.name)) (λ e. IfSome (failed_name e) Written) own-name entries
+        (unfiltered (λ t. Written t.name) (failure_of_entry o) entries (failed-names names));
     lines = unfiltered Written cause_line entries (other-lines Written end.outcome _ (own-lines lines));
     outcome = own-outcome word;
   }

@@ -14,13 +14,14 @@ use Rattle.test_report_forms.specs.Entry.{EntryView, LinesDisagree, SuiteNotRun,
 use Rattle.test_report_forms.specs.List.{KeyedLine, failed_line, failed_lines, failed_of, flaky_line, flaky_lines, flaky_of, flaky_passed, flaky_word, list_line, put_falling, put_rising, short_list, slow_line, slow_lines, slow_of, text_of_lines, timed}
 use Rattle.test_report_forms.specs.Names.{names_line}
 use Rattle.test_report_forms.specs.Shown.{bracket, front, indented_line, more_bytes, shown_text}
-use Rattle.test_report_forms.specs.Text.{attempts_note, failed_head, failed_text, more_line, outcome_line, summary_lines, text_last, text_line, why_lines}
+use Rattle.test_report_forms.specs.Text.{attempts_note, failed_head, failed_text, hidden_line, more_line, outcome_line, summary_lines, text_last, text_line, why_lines}
 use Rattle.test_report_forms.specs.Title.{title}
 use Rattle.test_report_forms.specs.Words.{color_of, failed_word, outcome_word, status_text, summary_line}
 use Rattle.test_report_forms.specs.declared.options.Options.{Options}
 use Rattle.test_report_laws.specs.Lines.{EndsWith, HasAfterRule, HasBlocks, IsInLine, IsLines, IsShortInLine, NamesNamesTests, TextNamesCauses, TextSays, names_block, rule, text_block}
 use Rattle.test_report_run.specs.Note.{TestNoteView}
 use Rattle.test_report_run.specs.declared.note.RunEnd.{RunEnd}
+use Rattle.test_report_forms.specs.ShownWhy.{ShownWhyView, shown_why}
 
 -- the parts of lines
 head-parts : (s a b t n e w : List ℕ) → (s ++ (a ++ (b ++ (t ++ (n ++ e))))) ++ w ≡ (s ++ (a ++ (b ++ (t ++ n)))) ++ (e ++ w)
@@ -72,12 +73,26 @@ module _ (o : Options) where
         | false ↦ inr (codes "    (" ++ (decimal more ++ codes " more bytes)"), three-parts (codes "    (") (decimal more) (codes " more bytes)") (codes "\n"))
       ]
 
-  lines-why : (why : List ℕ) → IsLines (why_lines o why)
+  lines-hidden : (hidden : ℕ) → IsLines (hidden_line hidden)
+  unfolding hidden_line
+  lines-hidden hidden =
+      elim (hidden == 0) as (λ b. IsLines (if b then [] else codes "    (" ++ (decimal hidden ++ codes " more lines of output)\n"))) [
+        | true ↦ inl refl
+        | false ↦ inr (
+          codes "    (" ++ (decimal hidden ++ codes " more lines of output)"),
+          three-parts (codes "    (") (decimal hidden) (codes " more lines of output)") (codes "\n"),
+        )
+      ]
+
+  lines-why : (why : ShownWhyView) → IsLines (why_lines o why)
   unfolding why_lines
-  lines-why why = lines-both _ (more_line (more_bytes why o.limit)) (lines-each (indented_line o.raw) lines-indented _) (lines-more (more_bytes why o.limit))
+  lines-why why =
+      let more = more_bytes why.text o.limit in
+      lines-both _ (more_line more ++ hidden_line why.hidden) (lines-each (indented_line o.raw) lines-indented _)
+      (lines-both (more_line more) (hidden_line why.hidden) (lines-more more) (lines-hidden why.hidden))
 
   -- entries
-  failed-written : (t : TestNoteView) (w why : List ℕ) → CleanLine w
+  failed-written : (t : TestNoteView) (w : List ℕ) (why : ShownWhyView) → CleanLine w
       → (line : List ℕ) → line ≡ status_text o.color w ++ (codes " " ++ (bracket t.time ++ (title t ++ attempts_note t.attempts)))
       → (failed_text o t w why ≡ line ++ (codes "\n" ++ why_lines o why)) × IsInLine line × IsLines (why_lines o why)
   unfolding failed_text failed_head
@@ -87,7 +102,7 @@ module _ (o : Options) where
       (parts ∙ ap (λ l. l ++ (codes "\n" ++ why_lines o why)) (sym is), subst IsInLine (sym is) (also (in-status o.color w h) (in-line test)), lines-why why)
 
   entry-written : (e : EntryView) → IsWritten (text_line o e) (text_block o e)
-  entry-written (TestFailed t f w) = failed-written t (failed_word f.kind) w.text (clean-failed_word f.kind) _ refl
+  entry-written (TestFailed t f w) = failed-written t (failed_word f.kind) (shown_why o t f w) (clean-failed_word f.kind) _ refl
   entry-written (LinesDisagree d) = (refl, in-line (clean-disagreement d), inl refl)
   entry-written (SuiteNotRun suite n of) = (refl, in-line (clean-not_run suite n of), inl refl)
   entry-written (TestPassed t) = refl

@@ -1,22 +1,26 @@
 -- The failed tests whose lines say that they failed.
-use Rattle.std.proofs.Common.{◌≡◌, ℕ, List, [], ◌∷◌, Bool, true, false, cond, Option, Some, None, refl, ap, arith, length, inl, inr, option_and_then, option_map, subst, sym, unwrap_or}
+use Rattle.std.proofs.Common.{◌≡◌, ◌∙◌, ℕ, List, [], ◌∷◌, Bool, true, false, cond, Option, Some, None, refl, ap, arith, length, inl, inr, option_and_then, option_map, subst, sym, unwrap_or}
 use Rattle.std.specs.List.{count_by, find, fold, position, range_with_len}
 use Rattle.std.specs.Option.{option_map_or}
-use Rattle.std.specs.Prelude.{◌==◌, ◌&&◌, ◌⊎◌, Contains, IsTrue, if◌then◌else◌, nat_lt, not}
+use Rattle.std.specs.Prelude.{◌⊎◌, Contains, IsTrue, if◌then◌else◌}
+use Rattle.std.proofs.lemmas.List.Elements.{Contains-append_right}
 use Rattle.std.proofs.lemmas.List.Quantifiers.{position-Some}
 use Rattle.std.proofs.lemmas.List.Sums.{sum_by-append}
 use Rattle.std.proofs.lemmas.Slice.Eq.{bytes_eq-Decides}
-use Rattle.test_report_events.specs.Event.{SuiteEndView, TestEndView, SuiteStarts, SuiteEnds, TestEnds, CargoFails}
+use Rattle.test_report_events.specs.Event.{EventView, SuiteEndView, TestEndView, SuiteStarts, SuiteEnds, TestEnds}
 use Rattle.test_report_events.specs.declared.event.TestResult.{TestResult}
 use Rattle.test_report_events.specs.declared.event.TestResult.TheVariants.{Ok, Failed, Ignored}
+use Rattle.test_report_laws.proofs.CargoReports.{only-settled_at, ready, reports-none}
 use Rattle.test_report_laws.proofs.EndSums.{by-early, by-last, last_by}
+use Rattle.test_report_laws.proofs.FileEnds.{reported_run, suites-alone}
 use Rattle.test_report_laws.proofs.Sums.{sum-if-none}
 use Rattle.test_report_run.specs.Ended.{end_notes, failure_of}
-use Rattle.test_report_laws.specs.Run.{FailureIsTold, NoFailureOfFileEnd, OneFailureOfLine, TellsFailure, is_failure, is_told_failure}
-use Rattle.test_report_run.specs.Note.{CargoSays, Disagrees, Fails, HasNoEvent, NoteView, StrayEnds, StraySuiteEnds, TestIs, TestNoteView}
+use Rattle.test_report_laws.specs.Run.{FailureIsTold, NoFailureOfFileEnd, OneFailureOfLine, TellsFailure, is_failure, is_told_failure, says_failed}
+use Rattle.test_report_run.specs.Note.{Disagrees, Fails, NoteView, StrayEnds, StraySuiteEnds, TestIs, TestNoteView}
 use Rattle.test_report_run.specs.Others.{OthersView}
 use Rattle.test_report_run.specs.Over.{early_notes, explained_of}
-use Rattle.test_report_run.specs.Run.{RunState, Step, all_ended_early, counts_tests, ended_at, ended_early, is_explained, names_in, no_event_notes, notes_at, open_suite, opened, running_ends, running_over, started_again, step, stray_ends, stray_over, stray_suite_notes, stray_test, suite_at, suite_place}
+use Rattle.test_report_run.specs.Run.{RunState, Step, counts_tests, ended_at, ended_early, names_in, open_suite, opened, running_ends, running_over, settled_at, started_again, step, stray_ends, stray_over, stray_suite_notes, stray_test, suite_at, suite_place}
+use Rattle.test_report_run.specs.Run as run
 use Rattle.test_report_run.specs.Running.{RunningView, attempts_of, ends_in_number, has_name, is_same, no_test, place_by_attempts, place_of_end, running_at, split_at, without_number}
 use Rattle.test_report_run.specs.Suite.{OverView, SuiteState, named, outside_start, suite_name, with_line}
 use Rattle.test_report_laws.proofs.Types.{Explanation}
@@ -78,13 +82,22 @@ one-ended r e (Some p) =
     let test = running_at r.running p.0 in
     one-end (suite_at r (position (λ s. is_same s.number test.suite) r.suites)) (running_over r e test p.1) e e.result
 
+one-told : (r : RunState) (e : EventView) → told (run.told r e).notes ≡ (if says_failed e then 1 else 0)
+one-told r (SuiteStarts key count) = none-again r key count (open_suite r key)
+one-told r (SuiteEnds e) = none-ended r e (open_suite r e.key)
+one-told r (TestEnds e) = one-ended r e (place_of_end r.running e.name)
+one-told r e = refl
+
 pub one-failure : OneFailureOfLine
-one-failure r (SuiteStarts key count) = none-again r key count (open_suite r key)
-one-failure r (SuiteEnds e) = none-ended r e (open_suite r e.key)
-one-failure r (TestEnds e) = one-ended r e (place_of_end r.running e.name)
-one-failure r (CargoFails f line plain) =
-    sum-if-none weight (length r.suites == 0 && not (is_explained r f)) (Disagrees (CargoSays plain)) refl
-one-failure r e = refl
+one-failure r e =
+    let before = (settled_at r e).notes in
+    let own = (run.told (ready r e) e).notes in
+    omega (
+      arith,
+      reports-none (only-settled_at r e) weight (λ report. refl),
+      one-told (ready r e) e,
+      sum_by-append weight before own,
+    )
 
 -- the end of a file tells of none
 none-early-all : (t : Step) (suites : List SuiteState) → told t.notes ≡ 0 → told (fold ended_early t suites).notes ≡ 0
@@ -95,15 +108,11 @@ none-early-all t (s ∷ suites) h =
 
 pub no-failure : NoFailureOfFileEnd
 no-failure r =
-    let none = step (record r { suites = [] }) [] in
-    let suites = fold ended_early none r.suites in
-    let over = all_ended_early r in
-    omega (
-      arith,
-      none-early-all (step (record (suites.run) { outside = outside_start }) suites.notes) (r.outside ∷ []) (none-early-all none r.suites refl),
-      sum_by-append weight over.notes (no_event_notes over.run),
-      sum-if-none weight (not over.run.has_event && not (nat_lt over.run.causes_at_file over.run.causes)) (Disagrees HasNoEvent) refl,
-    )
+    let now = reported_run r in
+    let none = step (record now { suites = [] }) [] in
+    let suites = fold ended_early none now.suites in
+    suites-alone weight (λ d. refl) r
+    ∙ none-early-all (step (record (suites.run) { outside = outside_start }) suites.notes) (now.outside ∷ []) (none-early-all none now.suites refl)
 
 -- a failed test has what its line says
 abbrev note_of : SuiteState → OverView → TestEndView → TestNoteView
@@ -165,5 +174,9 @@ told-by r e (Some p) h =
     )
 
 pub failure-told : FailureIsTold
-failure-told r e failed = subst (λ how. (t : TestNoteView) × TellsFailure (ends_as e how) t × Contains (notes_at r (TestEnds (ends_as e how))) (TestIs t))
-    (sym failed) (told-by r e (place_of_end r.running e.name) refl)
+failure-told r e failed =
+    let e' = TestEnds e in
+    let now = ready r e' in
+    let found = subst (λ how. (t : TestNoteView) × TellsFailure (ends_as e how) t × Contains (run.told now (TestEnds (ends_as e how))).notes (TestIs t))
+    (sym failed) (told-by now e (place_of_end now.running e.name) refl) in
+    (found.0, found.1, Contains-append_right (settled_at r e').notes (run.told now e').notes (TestIs found.0) found.2)

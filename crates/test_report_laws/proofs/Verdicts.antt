@@ -1,24 +1,26 @@
 -- The last lines of suites with a failed verdict.
-use Rattle.std.proofs.Common.{◌≡◌, ◌≢◌, ℕ, List, [], ◌∷◌, ◌++◌, ◌+◌, ◌<◌, ◌≤◌, Bool, true, false, cond, Option, Some, None, refl, ap, arith, inl, inr, length}
-use Rattle.std.specs.List.{count_by, fold, remove, sum_by}
+use Rattle.std.proofs.Common.{◌≡◌, ◌≢◌, ℕ, List, [], ◌∷◌, ◌++◌, ◌+◌, ◌<◌, ◌≤◌, Bool, true, false, cond, Option, Some, None, refl, ap, arith, inl, inr, length, subst, sym}
+use Rattle.std.specs.List.{All, count_by, fold, remove, sum_by}
 use Rattle.std.specs.Option.{option_map_or}
 use Rattle.std.specs.Prelude.{◌==◌, ◌||◌, if◌then◌else◌}
 use Rattle.std.proofs.lemmas.Bool.{cases_lt}
 use Rattle.std.proofs.lemmas.List.Elements.{All-get_or}
 use Rattle.std.proofs.lemmas.List.Sums.{count_by-le-length, get_or-le-sum_by, sum_by-append, sum_by-cons, sum_by-le-sum_by, sum_by-remove, sum_by-set, sum_by_push}
 use Rattle.test_report_events.specs.Event.{EventView, SuiteEndView, SuiteStarts, SuiteEnds}
-use Rattle.test_report_laws.proofs.Books.{Holds, IsIn, holds-whole, position-in, with-books}
+use Rattle.test_report_laws.proofs.Books.{Holds, IsIn, holds-settled, holds-whole, position-in, with-books}
+use Rattle.test_report_laws.proofs.CargoReports.{known-at, only-told, ready}
+use Rattle.test_report_laws.proofs.FileEnds.{end-parts, reported_run}
 use Rattle.test_report_laws.proofs.RunCauses.{causes-of, weight}
 use Rattle.test_report_laws.proofs.Outcomes.{outcome-means}
 use Rattle.test_report_laws.proofs.Shown.{early-shows, last-agrees, stray-one}
 use Rattle.test_report_laws.proofs.Sound.{all-known, all-sound, failed-rules}
 use Rattle.test_report_laws.proofs.Sums.{one-most}
-use Rattle.test_report_laws.proofs.Weights.{Keeps, has-number, keeps-line, numbered-end, numbered-line, unnumbered, weigh, weight_of}
+use Rattle.test_report_laws.proofs.Weights.{Keeps, has-number, keeps-line, numbered-end, numbered-line, numbered-ready, numbered-reported, ready-suites, unnumbered, weigh, weight_of}
 use Rattle.test_report_laws.specs.Run.{FailedVerdictShows, IsClean, IsSound, crashed_in, disagreements_in, failed_in, failed_verdicts_of, fails_by, is_crash, is_test, says_failed_verdict}
 use Rattle.test_report_run.specs.Note.{Fails, NoteView, OutcomeView, TestIs}
 use Rattle.test_report_run.specs.Others.{OthersView}
 use Rattle.test_report_run.specs.Over.{early_notes, last_notes}
-use Rattle.test_report_run.specs.Run.{RunState, Step, after, after_file, all_ended_early, ended_at, ended_early, file_notes, has_failed, heard, is_cause, learned, names_in, no_event_notes, notes_at, open_suite, opened, started_again, step, stray_suite_notes, suite_at, with_suite_at, without_tests}
+use Rattle.test_report_run.specs.Run.{RunState, Step, after, after_file, ended_at, ended_early, file_notes, has_failed, heard, is_cause, learned, names_in, notes_at, open_suite, opened, settled_at, started_again, step, stray_suite_notes, suite_at, with_suite_at, without_tests}
 use Rattle.test_report_run.specs.Said.{no_lines}
 use Rattle.test_report_run.specs.Suite.{SuiteState, failed_of, has_key, joined_by, outside_start, suite_start, with_line}
 use Rattle.test_report_laws.specs.Whole.{all_notes}
@@ -86,7 +88,25 @@ still-shown : (n known left rest more : ℕ) (old e : Bool) → (0 < n → 0 < k
     → ((old || e) ≡ true → 0 < known + more) → 0 < n + cond e 1 0 → 0 < known + more + rest
 still-shown n known left rest more old e before parts last some = grind arith
 
-seen-over : (n : ℕ) (notes : List NoteView) (r : RunState) (e : SuiteEndView) (at : ℕ) (over : Bool) → Holds failed-rules notes r
+-- the open suites are sound, and their failed tests are known
+abbrev AreKnown : List NoteView → RunState → Type 0
+AreKnown notes r = All IsSound r.suites × All (λ s. failed_of s.stats ≤ failed_in notes) r.suites
+
+known-ready : (notes : List NoteView) (r : RunState) (e : EventView) → Holds failed-rules notes r
+    → AreKnown (notes ++ (settled_at r e).notes) (ready r e)
+known-ready notes r e holds =
+    let now = holds-settled failed-rules notes r e holds in
+    ((all-sound _ _ now).1, all-known _ _ now)
+
+seen-ready : (n : ℕ) (notes : List NoteView) (r : RunState) (e : EventView) → Seen n notes r → Seen n (notes ++ (settled_at r e).notes) (ready r e)
+seen-ready n notes r e i some = omega (
+  arith,
+  i some,
+  sum_by-append weight notes (settled_at r e).notes,
+  ap (λ (suites : List SuiteState). sum_by (weigh failing) suites) (ready-suites r e),
+)
+
+seen-over : (n : ℕ) (notes : List NoteView) (r : RunState) (e : SuiteEndView) (at : ℕ) (over : Bool) → AreKnown notes r
     → weight_of unnumbered r ≡ 0 → Seen n notes r → at < length r.suites
     → let s = with_line (suite_at r (Some at)) e in
     let t = if over then step (without_tests (record r { suites = remove r.suites at }) s) (last_notes s (names_in r s))
@@ -96,8 +116,8 @@ seen-over n notes r e at true holds numbered i in' some =
     let old = suite_at r (Some at) in
     let s = with_line old e in
     let names = names_in r s in
-    let sound = All-get_or IsSound r.suites at r.outside in' (all-sound notes r holds).1 in
-    let known : failed_of old.stats ≤ count_by is_cause notes = omega (arith, all-known notes r holds at r.outside in', causes-of notes) in
+    let sound = All-get_or IsSound r.suites at r.outside in' holds.0 in
+    let known : failed_of old.stats ≤ count_by is_cause notes = omega (arith, holds.1 at r.outside in', causes-of notes) in
     let last = last-cause s names (count_by is_cause notes) (has-number r at numbered in') record { retried = sound.retried; passed = sound.passed }
     known in
     omega (
@@ -115,7 +135,7 @@ seen-over n notes r e at false holds numbered i in' some =
       sum_by-append weight notes [],
     )
 
-seen-last : (n : ℕ) (notes : List NoteView) (r : RunState) (e : SuiteEndView) (at : Option ℕ) → open_suite r e.key ≡ at → Holds failed-rules notes r
+seen-last : (n : ℕ) (notes : List NoteView) (r : RunState) (e : SuiteEndView) (at : Option ℕ) → open_suite r e.key ≡ at → AreKnown notes r
     → weight_of unnumbered r ≡ 0 → Seen n notes r
     → let t = option_map_or (ended_at r e) at (step r (stray_suite_notes e)) in
     Seen (n + cond e.failed_verdict 1 0) (notes ++ t.notes) (learned t.run t.notes)
@@ -134,8 +154,17 @@ seen-last n notes r e (Some at) is holds numbered i some =
 seen-line : (n : ℕ) (notes : List NoteView) (r : RunState) (e : EventView) → Holds failed-rules notes r → weight_of unnumbered r ≡ 0 → Seen n notes r
     → Seen (n + verdict e) (notes ++ notes_at r e) (after r e)
 seen-line n notes r (SuiteStarts key count) holds numbered i =
-    seen-first n notes r key count (open_suite r key) numbered i (position-in (has_key key) r.suites (open_suite r key) refl)
-seen-line n notes r (SuiteEnds e) holds numbered i = seen-last n notes r e (open_suite r e.key) refl holds numbered i
+    let line = SuiteStarts key count in
+    let now = ready r line in
+    known-at (λ known. Seen (n + verdict line) known (after r line)) notes r line
+    (seen-first n (notes ++ (settled_at r line).notes) now key count (open_suite now key) (numbered-ready r line numbered) (seen-ready n notes r line i)
+    (position-in (has_key key) now.suites (open_suite now key) refl))
+seen-line n notes r (SuiteEnds e) holds numbered i =
+    let line = SuiteEnds e in
+    let now = ready r line in
+    known-at (λ known. Seen (n + verdict line) known (after r line)) notes r line
+    (seen-last n (notes ++ (settled_at r line).notes) now e (open_suite now e.key) refl (known-ready notes r line holds) (numbered-ready r line numbered)
+    (seen-ready n notes r line i))
 seen-line n notes r e holds numbered i = seen-kept n notes r e refl (keeps-line r e refl) i
 
 -- the end of a file
@@ -155,26 +184,33 @@ early-causes t (s ∷ suites) none =
 -- and so do all that are open at the end of a file
 pub end-causes : (r : RunState) → weight_of unnumbered r ≡ 0 → length r.suites ≤ count_by is_cause (file_notes r)
 end-causes r numbered =
-    let none = step (record r { suites = [] }) [] in
-    let ended = fold ended_early none r.suites in
-    let last = early_notes ended.run.others r.outside (names_in (record (ended.run) { outside = outside_start }) r.outside) in
-    let over = all_ended_early r in
-    omega (arith, early-causes none r.suites numbered, sum_by-append weight ended.notes last, sum_by-append weight over.notes (no_event_notes over.run))
+    let now = reported_run r in
+    let none = step (record now { suites = [] }) [] in
+    let ended = fold ended_early none now.suites in
+    let last = early_notes ended.run.others now.outside (names_in (record (ended.run) { outside = outside_start }) now.outside) in
+    omega (
+      arith,
+      early-causes none now.suites (numbered-reported r numbered),
+      ap (λ (x : RunState). length x.suites) (only-told r).run_is,
+      sum_by-append weight ended.notes last,
+      end-parts weight r,
+    )
 
 -- tests that started outside of a suite make a cause known, too
 pub outside-cause : (r : RunState) → 0 < r.outside.started → 0 < count_by is_cause (file_notes r)
 outside-cause r some =
-    let ended = fold ended_early (step (record r { suites = [] }) []) r.suites in
-    let names = names_in (record (ended.run) { outside = outside_start }) r.outside in
-    let last = early_notes ended.run.others r.outside names in
-    let over = all_ended_early r in
+    let now = reported_run r in
+    let ended = fold ended_early (step (record now { suites = [] }) []) now.suites in
+    let names = names_in (record (ended.run) { outside = outside_start }) now.outside in
+    let last = early_notes ended.run.others now.outside names in
+    let started : 0 < now.outside.started = subst (λ (x : RunState). 0 < x.outside.started) (sym (only-told r).run_is) some in
     omega (
       arith,
-      early-shows ended.run.others r.outside names (λ zero. some),
+      early-shows ended.run.others now.outside names (λ zero. started),
       causes-of last,
       crashes-fail last,
       sum_by-append weight ended.notes last,
-      sum_by-append weight over.notes (no_event_notes over.run),
+      end-parts weight r,
     )
 
 seen-end : (n : ℕ) (notes : List NoteView) (r : RunState) → weight_of unnumbered r ≡ 0 → Seen n notes r → Seen n (notes ++ file_notes r) (after_file r)

@@ -4,14 +4,16 @@ use Rattle.std.specs.List.{position, remove, sum_by}
 use Rattle.std.specs.Option.{option_map_or}
 use Rattle.std.specs.Prelude.{◌==◌, if◌then◌else◌, is_none}
 use Rattle.std.proofs.lemmas.List.Sums.{get_or-le-sum_by, sum_by-remove, sum_by-set, sum_by_push}
-use Rattle.test_report_events.specs.Event.{EventView, SuiteEndView, TestEndView, SuiteStarts, SuiteEnds, TestStarts, TestEnds, OtherLine, HeadingLine, CargoFails, Prints, DamagedLine}
+use Rattle.test_report_events.specs.Event.{EventView, SuiteEndView, TestEndView, SuiteStarts, SuiteEnds, TestStarts, TestEnds, OtherLine, HeadingLine, CargoFails, Prints, DamagedLine, CommandStarts, CommandOver}
 use Rattle.test_report_events.specs.declared.event.TestResult.{TestResult}
 use Rattle.test_report_events.specs.declared.event.TestResult.TheVariants.{Ok, Failed, Ignored}
 use Rattle.test_report_laws.proofs.Books.{IsIn, ends-keep, place-in, position-in}
+use Rattle.test_report_laws.proofs.CargoReports.{only-cargo, only-settled_at, only-told, ready}
+use Rattle.test_report_laws.proofs.FileEnds.{reported_run}
 use Rattle.test_report_laws.proofs.OverRuns.{up-to-line}
 use Rattle.test_report_run.specs.Ended.{after_end}
 use Rattle.test_report_run.specs.Over.{last_notes}
-use Rattle.test_report_run.specs.Run.{RunState, after, after_file, ended_at, heard, names_in, open_suite, opened, run_start, running_ends, running_over, started_again, step, stray_ends, stray_over, stray_suite_notes, suite_at, suite_place, with_suite_at, without_tests}
+use Rattle.test_report_run.specs.Run.{RunState, after, after_file, ended_at, heard, names_in, open_suite, opened, run_start, running_ends, running_over, started_again, step, stray_ends, stray_over, stray_suite_notes, suite_at, suite_place, told, with_suite_at, without_tests}
 use Rattle.test_report_run.specs.Running.{RunningView, is_same, place_of_end, running_at}
 use Rattle.test_report_run.specs.Said.{no_lines}
 use Rattle.test_report_run.specs.Suite.{OverView, SuiteState, has_key, joined_by, named, suite_start, with_line, with_start}
@@ -74,19 +76,37 @@ is_of_suite (HeadingLine name path) = false
 is_of_suite (CargoFails f line plain) = false
 is_of_suite (Prints line plain) = false
 is_of_suite (DamagedLine text) = false
+is_of_suite CommandStarts = false
+is_of_suite (CommandOver end) = false
+
+-- failures of cargo that become known change no suite
+pub ready-suites : (r : RunState) (e : EventView) → (ready r e).suites ≡ r.suites
+ready-suites r e = ap (λ (x : RunState). x.suites) (only-settled_at r e).run_is
 
 -- any other line
-pub keeps-line : (r : RunState) (e : EventView) → is_of_suite e ≡ false → Keeps r (after r e)
-keeps-line r (SuiteStarts key count) never = absurd (cc)
-keeps-line r (SuiteEnds e) never = absurd (cc)
-keeps-line r (TestStarts name) other =
+keeps-told : (r : RunState) (e : EventView) → is_of_suite e ≡ false → Keeps r (told r e).run
+keeps-told r (SuiteStarts key count) never = absurd (cc)
+keeps-told r (SuiteEnds e) never = absurd (cc)
+keeps-told r (TestStarts name) other =
     let at = suite_place r name in keeps-set r r.running at (with_start (suite_at r at) name) (place-in r name) (λ g. refl)
-keeps-line r (TestEnds e) other = keeps-test r e (place_of_end r.running e.name)
-keeps-line r OtherLine other = λ g. refl
-keeps-line r (HeadingLine name path) other = λ g. refl
-keeps-line r (CargoFails f line plain) other = λ g. grind arith
-keeps-line r (Prints line plain) other = λ g. refl
-keeps-line r (DamagedLine text) other = λ g. refl
+keeps-told r (TestEnds e) other = keeps-test r e (place_of_end r.running e.name)
+keeps-told r OtherLine other = λ g. refl
+keeps-told r (HeadingLine name path) other = λ g. refl
+keeps-told r (CargoFails f line plain) other = λ g. ap (weight_of g) (only-cargo r f plain).run_is
+keeps-told r (Prints line plain) other = λ g. refl
+keeps-told r (DamagedLine text) other = λ g. refl
+keeps-told r CommandStarts other = λ g. refl
+keeps-told r (CommandOver end) other = λ g. refl
+
+-- what a line leaves of the suites, its own notes leave
+pub after-suites : (r : RunState) (e : EventView) → (after r e).suites ≡ (told (ready r e) e).run.suites
+after-suites r (Prints line plain) = refl
+after-suites r e = refl
+
+pub keeps-line : (r : RunState) (e : EventView) → is_of_suite e ≡ false → Keeps r (after r e)
+keeps-line r e other = λ g.
+    ap (λ (suites : List SuiteState). sum_by (weigh g) suites) (after-suites r e)
+    ∙ (keeps-told (ready r e) e other g ∙ ap (λ (suites : List SuiteState). sum_by (weigh g) suites) (ready-suites r e))
 
 -- an open suite has a number
 pub has-number : (r : RunState) (at : ℕ) → weight_of unnumbered r ≡ 0 → at < length r.suites → (suite_at r (Some at)).number ≢ None
@@ -128,15 +148,25 @@ numbered-last r e None in' none = none
 numbered-last r e (Some at) in' none = numbered-over r e at ((with_line (suite_at r (Some at)) e).open_lines == 0) in' none
 
 -- after each line and each end of a file
-pub numbered-line : (r : RunState) (e : EventView) → weight_of unnumbered r ≡ 0 → weight_of unnumbered (after r e) ≡ 0
-numbered-line r (SuiteStarts key count) none =
+pub numbered-ready : (r : RunState) (e : EventView) → weight_of unnumbered r ≡ 0 → weight_of unnumbered (ready r e) ≡ 0
+numbered-ready r e none = ap (λ (suites : List SuiteState). sum_by (weigh unnumbered) suites) (ready-suites r e) ∙ none
+
+numbered-told : (r : RunState) (e : EventView) → weight_of unnumbered r ≡ 0 → weight_of unnumbered (told r e).run ≡ 0
+numbered-told r (SuiteStarts key count) none =
     numbered-first r key count (open_suite r key) (position-in (has_key key) r.suites (open_suite r key) refl) none
-numbered-line r (SuiteEnds e) none =
+numbered-told r (SuiteEnds e) none =
     numbered-last r e (open_suite r e.key) (position-in (has_key e.key) r.suites (open_suite r e.key) refl) none
-numbered-line r e none = keeps-line r e refl unnumbered ∙ none
+numbered-told r e none = keeps-told r e refl unnumbered ∙ none
+
+pub numbered-line : (r : RunState) (e : EventView) → weight_of unnumbered r ≡ 0 → weight_of unnumbered (after r e) ≡ 0
+numbered-line r e none = ap (λ (suites : List SuiteState). sum_by (weigh unnumbered) suites) (after-suites r e)
+    ∙ numbered-told (ready r e) e (numbered-ready r e none)
+
+pub numbered-reported : (r : RunState) → weight_of unnumbered r ≡ 0 → weight_of unnumbered (reported_run r) ≡ 0
+numbered-reported r none = ap (weight_of unnumbered) (only-told r).run_is ∙ none
 
 pub none-open : (r : RunState) → (after_file r).suites ≡ []
-none-open r = (ends-keep (step (record r { suites = [] }) []) r.suites).0
+none-open r = (ends-keep (step (record (reported_run r) { suites = [] }) []) (reported_run r).suites).0
 
 pub numbered-end : (r : RunState) → weight_of unnumbered (after_file r) ≡ 0
 numbered-end r = ap (λ (suites : List SuiteState). sum_by (weigh unnumbered) suites) (none-open r)

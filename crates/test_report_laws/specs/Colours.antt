@@ -40,7 +40,7 @@ IsColoured text plain = (parts : List Part) × AreParts parts × (text ≡ writt
 
 -- the options of a report without colours
 abbrev pub without_color : Options → Options
-without_color o = record { limit = o.limit; raw = o.raw; color = false; no_tests_pass = o.no_tests_pass }
+without_color o = record { limit = o.limit; output = o.output; raw = o.raw; color = false; no_tests_pass = o.no_tests_pass }
 
 -- what the form for people writes of entries and at the end
 abbrev pub text_of_run : Options → List EntryView → RunEnd → List ℕ

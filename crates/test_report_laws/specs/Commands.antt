@@ -52,9 +52,9 @@ pub record IsCommand (line : List ℕ) : Type 0 where
 -- Each line that the form for GitHub writes of the entries of notes and at the end is a command, and nothing is after the last one. The lines are
 -- divided at each end of a line, so no message has one.
 abbrev pub OnlyCommands : Type 0
-OnlyCommands = (limit : ℕ) (entries : List EntryView) (end : RunEnd) → All (λ e. (n : NoteView) × IsEntryOf n e) entries
+OnlyCommands = (o : Options) (entries : List EntryView) (end : RunEnd) → All (λ e. (n : NoteView) × IsEntryOf n e) entries
     → (commands : List (List ℕ)) × All IsCommand commands
-    × (slice_split is_line_end (flat_map (github_line limit) entries ++ github_last end) ≡ commands ++ [] ∷ [])
+    × (slice_split is_line_end (flat_map (github_line o) entries ++ github_last end) ≡ commands ++ [] ∷ [])
 
 -- a text has none of the marks by which a CI system takes a part of a line for a command
 pub record HasNoMarks (text : List ℕ) : Type 0 where

@@ -53,16 +53,16 @@ NamesAreLines = (e : EntryView) → (names_line e ≡ []) ⊎ IsPlainLine (names
 
 -- What the form for GitHub writes of the entries of notes and at the end has no control characters.
 abbrev pub GithubHasNoControls : Type 0
-GithubHasNoControls = (limit : ℕ) (entries : List EntryView) (end : RunEnd) → All (λ e. (n : NoteView) × IsEntryOf n e) entries
-    → HasNoControls (flat_map (github_line limit) entries ++ github_last end)
+GithubHasNoControls = (o : Options) (entries : List EntryView) (end : RunEnd) → All (λ e. (n : NoteView) × IsEntryOf n e) entries
+    → HasNoControls (flat_map (github_line o) entries ++ github_last end)
 
 -- What the form for a browser writes has no control characters.
 abbrev pub HtmlHasNoControls : Type 0
-HtmlHasNoControls = (limit : ℕ) (entries : List EntryView) (end : RunEnd) → HasNoControls (html_of limit entries end)
+HtmlHasNoControls = (o : Options) (entries : List EntryView) (end : RunEnd) → HasNoControls (html_of o entries end)
 
 -- What the form for a summary writes has no control characters.
 abbrev pub MarkdownHasNoControls : Type 0
-MarkdownHasNoControls = (limit : ℕ) (entries : List EntryView) (end : RunEnd) → HasNoControls (markdown_of limit entries end)
+MarkdownHasNoControls = (o : Options) (entries : List EntryView) (end : RunEnd) → HasNoControls (markdown_of o entries end)
 
 -- the name of the failed test of an entry, if it has one
 abbrev pub failed_name : EntryView → Option (List ℕ)
@@ -82,8 +82,8 @@ pub record NamesCauses (name line : List ℕ → List ℕ) (entries : List Entry
 
 -- What the form for a browser writes names each cause of a run that does not succeed.
 abbrev pub HtmlNamesCauses : Type 0
-HtmlNamesCauses = (limit : ℕ) (entries : List EntryView) (end : RunEnd)
-    → NamesCauses (hole_text hole.Text) (hole_text hole.Text) entries end (html_of limit entries end)
+HtmlNamesCauses = (o : Options) (entries : List EntryView) (end : RunEnd)
+    → NamesCauses (hole_text hole.Text) (hole_text hole.Text) entries end (html_of o entries end)
 
 -- a text has the values of a hole, written as the hole says: the text with its name of each item on its path
 abbrev pub HasValues : Values → List ℕ → HoleView → Type 0
@@ -91,8 +91,8 @@ HasValues values text h = All (λ i. HasPart text (hole_text h.kind (text_of h.n
 
 -- What the form for a browser writes has every value that its template has a hole for.
 abbrev pub HtmlShowsValues : Type 0
-HtmlShowsValues = (limit : ℕ) (entries : List EntryView) (end : RunEnd)
-    → All (HasValues (values_of_run limit entries end) (html_of limit entries end)) page_holes
+HtmlShowsValues = (o : Options) (entries : List EntryView) (end : RunEnd)
+    → All (HasValues (values_of_run o entries end) (html_of o entries end)) page_holes
 
 -- a text has what a phrase renders of each item on its path
 abbrev pub HasPhrase : Values → List ℕ → PhraseView → Type 0
@@ -100,8 +100,8 @@ HasPhrase values text p = All (λ i. HasPart text (parts_text (template_parts p.
 
 -- What the form for a browser writes has every phrase of its template, with the values in their places.
 abbrev pub HtmlShowsPhrases : Type 0
-HtmlShowsPhrases = (limit : ℕ) (entries : List EntryView) (end : RunEnd)
-    → All (HasPhrase (values_of_run limit entries end) (html_of limit entries end)) page_phrases
+HtmlShowsPhrases = (o : Options) (entries : List EntryView) (end : RunEnd)
+    → All (HasPhrase (values_of_run o entries end) (html_of o entries end)) page_phrases
 
 -- a text has a heading with the word for the outcome of a run, and the numbers of the run, each with its word
 pub record SaysEnd (heading : List ℕ → List ℕ) (end : RunEnd) (text : List ℕ) : Type 0 where
@@ -110,7 +110,7 @@ pub record SaysEnd (heading : List ℕ → List ℕ) (end : RunEnd) (text : List
 
 -- What the form for a browser writes has the heading and the numbers of the run.
 abbrev pub HtmlSaysEnd : Type 0
-HtmlSaysEnd = (limit : ℕ) (entries : List EntryView) (end : RunEnd) → SaysEnd page_heading end (html_of limit entries end)
+HtmlSaysEnd = (o : Options) (entries : List EntryView) (end : RunEnd) → SaysEnd page_heading end (html_of o entries end)
 
 -- a page has what its section of failed tests renders of each failed test, with the status, the suite and the name one after another, what its list
 -- of problems renders of each problem, and a row for each suite
@@ -122,26 +122,26 @@ pub record HasItems (report : ReportView) (page : List ℕ) : Type 0 where
 
 -- What the form for a browser writes has the values of each failed test together, each problem in the list of problems, and each suite in a row.
 abbrev pub HtmlShowsItems : Type 0
-HtmlShowsItems = (limit : ℕ) (entries : List EntryView) (end : RunEnd) → HasItems (report_of limit entries end) (html_of limit entries end)
+HtmlShowsItems = (o : Options) (entries : List EntryView) (end : RunEnd) → HasItems (report_of o entries end) (html_of o entries end)
 
 -- What the form for a summary writes names each such cause.
 abbrev pub MarkdownNamesCauses : Type 0
-MarkdownNamesCauses = (limit : ℕ) (entries : List EntryView) (end : RunEnd)
-    → NamesCauses (hole_text hole.Plain) (hole_text hole.Plain) entries end (markdown_of limit entries end)
+MarkdownNamesCauses = (o : Options) (entries : List EntryView) (end : RunEnd)
+    → NamesCauses (hole_text hole.Plain) (hole_text hole.Plain) entries end (markdown_of o entries end)
 
 -- What the form for a summary writes has every value that its template has a hole for, written as the hole says.
 abbrev pub MarkdownShowsValues : Type 0
-MarkdownShowsValues = (limit : ℕ) (entries : List EntryView) (end : RunEnd)
-    → All (HasValues (values_of_run limit entries end) (markdown_of limit entries end)) markdown_holes
+MarkdownShowsValues = (o : Options) (entries : List EntryView) (end : RunEnd)
+    → All (HasValues (values_of_run o entries end) (markdown_of o entries end)) markdown_holes
 
 -- What the form for a summary writes has every phrase of its template, with the values in their places.
 abbrev pub MarkdownShowsPhrases : Type 0
-MarkdownShowsPhrases = (limit : ℕ) (entries : List EntryView) (end : RunEnd)
-    → All (HasPhrase (values_of_run limit entries end) (markdown_of limit entries end)) markdown_phrases
+MarkdownShowsPhrases = (o : Options) (entries : List EntryView) (end : RunEnd)
+    → All (HasPhrase (values_of_run o entries end) (markdown_of o entries end)) markdown_phrases
 
 -- What the form for a summary writes has the heading and the numbers of the run.
 abbrev pub MarkdownSaysEnd : Type 0
-MarkdownSaysEnd = (limit : ℕ) (entries : List EntryView) (end : RunEnd) → SaysEnd markdown_heading end (markdown_of limit entries end)
+MarkdownSaysEnd = (o : Options) (entries : List EntryView) (end : RunEnd) → SaysEnd markdown_heading end (markdown_of o entries end)
 
 -- a summary has what its two sections of failed tests render of each failed test: a row of the table, and details
 pub record HasRows (report : ReportView) (summary : List ℕ) : Type 0 where
@@ -150,16 +150,16 @@ pub record HasRows (report : ReportView) (summary : List ℕ) : Type 0 where
 
 -- What the form for a summary writes has a row and details for each failed test.
 abbrev pub MarkdownShowsTests : Type 0
-MarkdownShowsTests = (limit : ℕ) (entries : List EntryView) (end : RunEnd) → HasRows (report_of limit entries end) (markdown_of limit entries end)
+MarkdownShowsTests = (o : Options) (entries : List EntryView) (end : RunEnd) → HasRows (report_of o entries end) (markdown_of o entries end)
 
 -- What the form for a summary writes has the marks of its template and no others: lines, cells and each `<pre>` end where the template ends them.
 abbrev pub MarkdownKeepsMarks : Type 0
-MarkdownKeepsMarks = (limit : ℕ) (entries : List EntryView) (end : RunEnd)
-    → marks (markdown_of limit entries end) ≡ own_marks markdown_parts (values_of_run limit entries end)
+MarkdownKeepsMarks = (o : Options) (entries : List EntryView) (end : RunEnd)
+    → marks (markdown_of o entries end) ≡ own_marks markdown_parts (values_of_run o entries end)
 
 -- What the form for a browser writes is a header of HTML, a body and a line feed. The body reads back as one tree: that of the template of the page,
 -- with the values of the entries as data.
 abbrev pub HtmlReadsBack : Type 0
-HtmlReadsBack = (limit : ℕ) (entries : List EntryView) (end : RunEnd) → let body = parts_text page_parts (values_of_run limit entries end) in
-    (t : TreeView) × (html_of limit entries end ≡ codes "<!DOCTYPE html>\n" ++ (body ++ codes "\n")) × (read_tree body ≡ Some t)
-    × (filled_tree page_parts (values_of_run limit entries end) ≡ Some t)
+HtmlReadsBack = (o : Options) (entries : List EntryView) (end : RunEnd) → let body = parts_text page_parts (values_of_run o entries end) in
+    (t : TreeView) × (html_of o entries end ≡ codes "<!DOCTYPE html>\n" ++ (body ++ codes "\n")) × (read_tree body ≡ Some t)
+    × (filled_tree page_parts (values_of_run o entries end) ≡ Some t)

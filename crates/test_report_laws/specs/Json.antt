@@ -8,10 +8,11 @@ use Rattle.test_report_forms.specs.Entry.{EntryView}
 use Rattle.test_report_forms.specs.Json.{json_of, json_written}
 use Rattle.test_report_laws.specs.Commands.{HasNoMarks}
 use Rattle.test_report_run.specs.declared.note.RunEnd.{RunEnd}
+use Rattle.test_report_forms.specs.declared.options.Options.{Options}
 
 -- What the form in JSON writes has no command of a CI system.
 abbrev pub JsonHasNoCommands : Type 0
-JsonHasNoCommands = (limit : ℕ) (entries : List EntryView) (end : RunEnd) → HasNoMarks (json_written limit entries end)
+JsonHasNoCommands = (o : Options) (entries : List EntryView) (end : RunEnd) → HasNoMarks (json_written o entries end)
 
 -- a text has no `#`
 abbrev pub HasNoHash : List ℕ → Type 0
@@ -41,7 +42,7 @@ abbrev mutual
 -- What the form in JSON writes is a text and a line feed. The text reads back as the report, by the grammar of JSON and by `serde_json`, if the
 -- report is such a value and nests no deeper than `serde_json` reads.
 abbrev pub JsonReadsBack : Type 0
-JsonReadsBack = (limit : ℕ) (entries : List EntryView) (end : RunEnd) → IsPlainValue (json_of limit entries end)
-    → depth (json_of limit entries end) ≤ max_depth
-    → (line : List ℕ) × (json_written limit entries end ≡ line ++ codes "\n") × (document line ≡ Some (json_of limit entries end))
-    × (read line ≡ of_json (json_of limit entries end))
+JsonReadsBack = (o : Options) (entries : List EntryView) (end : RunEnd) → IsPlainValue (json_of o entries end)
+    → depth (json_of o entries end) ≤ max_depth
+    → (line : List ℕ) × (json_written o entries end ≡ line ++ codes "\n") × (document line ≡ Some (json_of o entries end))
+    × (read line ≡ of_json (json_of o entries end))

@@ -52,9 +52,9 @@ pub record JunitCause : Type 0 where
   pub suite : List ℕ
   pub case : CaseView
 
--- the cause of a failed test, with at most `limit` bytes of each reason
-abbrev pub failed_cause : ℕ → TestNoteView → FailureView → WhyView → JunitCause
-failed_cause limit t f w = record { suite = suite_name t.suite; case = failed_case t f w limit }
+-- the cause of a failed test
+abbrev pub failed_cause : Options → TestNoteView → FailureView → WhyView → JunitCause
+failed_cause o t f w = record { suite = suite_name t.suite; case = failed_case t f w o }
 
 -- another cause. If it names no suite, its test case is in the suite `test-report`
 abbrev pub other_cause : CauseView → JunitCause
@@ -65,13 +65,13 @@ abbrev pub no_test_cause : JunitCause
 no_test_cause = record { suite = suite_name (Some own_name); case = no_tests_case }
 
 -- the cause of an entry, if the entry has one
-abbrev pub junit_cause : ℕ → EntryView → Option JunitCause
-junit_cause limit (TestFailed t f w) = Some (failed_cause limit t f w)
-junit_cause limit (TestPassed t) = None
-junit_cause limit (TestSkipped t) = None
-junit_cause limit (LinesDisagree d) = option_map other_cause (cause_of_entry (LinesDisagree d))
-junit_cause limit (SuiteNotRun suite n of) = option_map other_cause (cause_of_entry (SuiteNotRun suite n of))
-junit_cause limit (SuiteOver s) = None
+abbrev pub junit_cause : Options → EntryView → Option JunitCause
+junit_cause o (TestFailed t f w) = Some (failed_cause o t f w)
+junit_cause o (TestPassed t) = None
+junit_cause o (TestSkipped t) = None
+junit_cause o (LinesDisagree d) = option_map other_cause (cause_of_entry (LinesDisagree d))
+junit_cause o (SuiteNotRun suite n of) = option_map other_cause (cause_of_entry (SuiteNotRun suite n of))
+junit_cause o (SuiteOver s) = None
 
 -- one of the elements among trees is such an element
 abbrev pub HasElement : (TreeView → Type 0) → Trees → Type 0
@@ -84,7 +84,7 @@ HasJunitCase t c =
 
 -- a tree has the test case of each cause, and one that says that no test ran, unless a run without tests is to pass
 pub record HasJunitCases (o : Options) (entries : List EntryView) (end : RunEnd) (t : TreeView) : Type 0 where
-  pub causes : All (λ e. IfSome (junit_cause o.limit e) (HasJunitCase t)) entries
+  pub causes : All (λ e. IfSome (junit_cause o e) (HasJunitCase t)) entries
   pub no_tests : no_tests_ran end.outcome ≡ true → o.no_tests_pass ≡ false → HasJunitCase t no_test_cause
 
 -- The tree that JUnit's XML reads back as has each such test case.

@@ -4,7 +4,7 @@ use Rattle.std.specs.List.{All, Contains, filter_map, flat_map, slice_split}
 use Rattle.test_report_forms.specs.Entry.{EntryView, IsEntryOf, LinesDisagree, SuiteNotRun, TestFailed, entry_view}
 use Rattle.test_report_forms.specs.Github.{github_last, github_line, message, properties, title_property}
 use Rattle.test_report_forms.specs.Names.{names_line}
-use Rattle.test_report_forms.specs.Shown.{bracket, front, limited, shown_line, shown_text}
+use Rattle.test_report_forms.specs.Shown.{bracket, front, shown_line, shown_text}
 use Rattle.test_report_forms.specs.Text.{attempts_note, text_last, text_line, why_lines}
 use Rattle.test_report_forms.specs.Title.{title}
 use Rattle.test_report_forms.specs.Words.{disagreement_line, failed_word, not_run_line, outcome_word, status_text, summary_line}
@@ -13,6 +13,7 @@ use Rattle.test_report_forms.specs.declared.options.Options.{Options}
 use Rattle.test_report_laws.specs.Status.{RanNoTests}
 use Rattle.test_report_run.specs.Note.{NoteView}
 use Rattle.test_report_run.specs.declared.note.RunEnd.{RunEnd}
+use Rattle.test_report_forms.specs.ShownWhy.{limited_why, shown_why}
 
 -- the text is within a line: it has no line feed
 pub record IsInLine (text : List ℕ) : Type 0 where
@@ -65,21 +66,21 @@ pub record HasAfterRule (text line : List ℕ) : Type 0 where
 abbrev pub text_block : Options → EntryView → Option Block
 text_block o (TestFailed t f w) = Some (record {
   line = status_text o.color (failed_word f.kind) ++ (codes " " ++ (bracket t.time ++ (title t ++ attempts_note t.attempts)));
-  below = why_lines o w.text;
+  below = why_lines o (shown_why o t f w);
 })
 text_block o (LinesDisagree d) = Some (record { line = disagreement_line d; below = [] })
 text_block o (SuiteNotRun suite n of) = Some (record { line = not_run_line suite n of; below = [] })
 text_block o _ = None
 
 -- the form for GitHub: the command of a failed test with the place, the name and why it failed, or the command of a cause
-abbrev pub github_block : ℕ → EntryView → Option Block
-github_block limit (TestFailed t f w) = Some (record {
-  line = codes "::error " ++ (properties w.place ++ (title_property t ++ (codes "::" ++ message (limited w.text limit))));
+abbrev pub github_block : Options → EntryView → Option Block
+github_block o (TestFailed t f w) = Some (record {
+  line = codes "::error " ++ (properties w.place ++ (title_property t ++ (codes "::" ++ message (limited_why (shown_why o t f w) o.limit))));
   below = [];
 })
-github_block limit (LinesDisagree d) = Some (record { line = codes "::error::" ++ message (disagreement_line d); below = [] })
-github_block limit (SuiteNotRun suite n of) = Some (record { line = codes "::error::" ++ message (not_run_line suite n of); below = [] })
-github_block limit _ = None
+github_block o (LinesDisagree d) = Some (record { line = codes "::error::" ++ message (disagreement_line d); below = [] })
+github_block o (SuiteNotRun suite n of) = Some (record { line = codes "::error::" ++ message (not_run_line suite n of); below = [] })
+github_block o _ = None
 
 -- the form of names: the name of a failed test
 abbrev pub names_block : EntryView → Option Block
@@ -111,14 +112,14 @@ abbrev pub notice : RunEnd → List ℕ
 notice end = codes "::notice::" ++ (summary_line end ++ (codes ", outcome " ++ outcome_word end.outcome))
 
 -- a report for GitHub has the command of each failed test and of each other cause, in the order of the entries, and the summary and the outcome last
-pub record GithubSays (limit : ℕ) (entries : List EntryView) (end : RunEnd) (text : List ℕ) : Type 0 where
-  pub causes : HasBlocks text (filter_map (github_block limit) entries)
+pub record GithubSays (o : Options) (entries : List EntryView) (end : RunEnd) (text : List ℕ) : Type 0 where
+  pub causes : HasBlocks text (filter_map (github_block o) entries)
   pub outcome : EndsWith text (notice end)
 
 -- What the form for GitHub writes of the entries of notes says so.
 abbrev pub GithubNamesCauses : Type 0
-GithubNamesCauses = (limit : ℕ) (entries : List EntryView) (end : RunEnd) → All (λ e. (n : NoteView) × IsEntryOf n e) entries
-    → GithubSays limit entries end (flat_map (github_line limit) entries ++ github_last end)
+GithubNamesCauses = (o : Options) (entries : List EntryView) (end : RunEnd) → All (λ e. (n : NoteView) × IsEntryOf n e) entries
+    → GithubSays o entries end (flat_map (github_line o) entries ++ github_last end)
 
 -- What the form of names writes has the name of each failed test in a line of its own, in the order of the entries.
 abbrev pub NamesNamesTests : Type 0

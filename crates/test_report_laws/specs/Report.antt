@@ -1,10 +1,10 @@
 -- Laws of reports.
-use Rattle.std.specs.Prelude.{◌≡◌, ◌<◌, ◌⊎◌, [], ℕ, Bool, true, false, Contains, IfSome, IsTrue, List, Some, codes}
+use Rattle.std.specs.Prelude.{◌≡◌, ◌<◌, ◌⊎◌, [], ℕ, All, Bool, true, false, Contains, IfSome, IsTrue, List, Some, codes}
 use Rattle.std.specs.List.{AllZip, flat_map}
 use Rattle.template.specs.Hole.{hole_text}
 use Rattle.template.specs.Shows.{HasPart}
 use Rattle.template.specs.declared.hole.Hole.TheVariants as hole
-use Rattle.test_report_events.specs.Event.{EventView}
+use Rattle.test_report_events.specs.Event.{EventView, WithStatus}
 use Rattle.test_report_forms.specs.Entry.{EntryView, IsEntryOf, LinesDisagree, SuiteNotRun, SuiteOver, TestFailed, TestPassed, TestSkipped}
 use Rattle.test_report_forms.specs.Github.{github_last, github_line}
 use Rattle.test_report_forms.specs.Html.{html_of}
@@ -25,43 +25,47 @@ use Rattle.test_report_run.specs.Run.{RunState, end_of}
 use Rattle.test_report_laws.specs.Status.{IsInOrder, RanNoTests, Succeeds}
 use Rattle.test_report_laws.specs.Whole.{all_notes, whole_end}
 use Rattle.test_report_run.specs.declared.note.RunEnd.{RunEnd}
-use Rattle.test_report_engine.specs.Lines.{AreEventsOf}
+use Rattle.test_report_engine.specs.Lines.{AreEventsOf, InputView}
 use Rattle.test_report_engine.specs.Report.{AreEntriesOf, AreTexts, IsReport}
 
 -- Inputs have at most one report in a form, and one end of the run.
 abbrev pub OneReport : Type 0
-OneReport = (line : EntryView → List ℕ) → (last : List EntryView → RunEnd → List ℕ) → (inputs : List (List ℕ))
+OneReport = (line : EntryView → List ℕ) → (last : List EntryView → RunEnd → List ℕ) → (inputs : List InputView)
     → (a : List ℕ) → (b : List ℕ) → (d : RunEnd) → (e : RunEnd)
     → IsReport line last inputs a d → IsReport line last inputs b e → (a ≡ b) × (d ≡ e)
 
 -- The run of a report is a run of which the laws of the module `run` speak.
 
 -- an input has these events: those of its lines, one after the other
-pub record HasEvents (input : List ℕ) (events : List EventView) : Type 0 where
+pub record HasEvents (input : InputView) (events : List EventView) : Type 0 where
   pub lines : List (List EventView)
   pub say : AreEventsOf input lines
   pub are : events ≡ flat_map (λ line. line) lines
 
 -- these files have the events of inputs, these entries are of what they make known, and this is their end
-pub record AreFilesOf (inputs : List (List ℕ)) (entries : List EntryView) (end : RunEnd) (files : List (List EventView)) : Type 0 where
+pub record AreFilesOf (inputs : List InputView) (entries : List EntryView) (end : RunEnd) (files : List (List EventView)) : Type 0 where
   pub say : AllZip HasEvents inputs files
   pub are : AllZip IsEntryOf (all_notes files) entries
   pub end_is : end ≡ whole_end files
 
 -- The entries and the end of a report are those of files to which these laws apply.
 abbrev pub OneRun : Type 0
-OneRun = (inputs : List (List ℕ)) → (entries : List EntryView) → (run : RunState) → AreEntriesOf inputs entries run
+OneRun = (inputs : List InputView) → (entries : List EntryView) → (run : RunState) → AreEntriesOf inputs entries run
     → (files : List (List EventView)) × AreFilesOf inputs entries (end_of run) files
 
 -- What the outcomes `Success` and `NoTestsRun` mean.
 
--- If the outcome in a report is `Success`, a test passed and nothing is wrong with the lines of the inputs. If it is `NoTestsRun`, no test passed, and
--- nothing is wrong either.
+-- an input is not the output of a command, or the command ended with status 0
+abbrev pub HasEndedWell : InputView → Type 0
+HasEndedWell input = IfSome input.command (λ end. end ≡ WithStatus 0)
+
+-- If the outcome in a report is `Success`, a test passed, each command ended with status 0, and nothing is wrong with the lines of the inputs. If it is
+-- `NoTestsRun`, no test passed, and nothing is wrong either.
 abbrev pub SuccessMeans : Type 0
-SuccessMeans = (inputs : List (List ℕ)) → (entries : List EntryView) → (run : RunState) → AreEntriesOf inputs entries run
+SuccessMeans = (inputs : List InputView) → (entries : List EntryView) → (run : RunState) → AreEntriesOf inputs entries run
     → (files : List (List EventView)) × AreFilesOf inputs entries (end_of run) files
-    × (Succeeds (end_of run) → (0 < passed_in (all_notes files)) × IsInOrder files)
-    × (RanNoTests (end_of run) → (passed_in (all_notes files) ≡ 0) × IsInOrder files)
+    × (Succeeds (end_of run) → (0 < passed_in (all_notes files)) × All HasEndedWell inputs × IsInOrder files)
+    × (RanNoTests (end_of run) → (passed_in (all_notes files) ≡ 0) × All HasEndedWell inputs × IsInOrder files)
 
 -- What every outcome except `Success` means.
 
@@ -76,7 +80,7 @@ is_reason (SuiteOver s) = false
 
 -- If the outcome in a report is not `Success`, an entry says why, or no test ran.
 abbrev pub FailureHasReason : Type 0
-FailureHasReason = (inputs : List (List ℕ)) → (entries : List EntryView) → (run : RunState) → AreEntriesOf inputs entries run
+FailureHasReason = (inputs : List InputView) → (entries : List EntryView) → (run : RunState) → AreEntriesOf inputs entries run
     → ¬ (Succeeds (end_of run))
     → ((e : EntryView) × Contains entries e × IsTrue (is_reason e)) ⊎ RanNoTests (end_of run)
 
@@ -107,45 +111,45 @@ NamesReason name line entries end text = NamesTest name entries text ⊎ (HasLin
 
 -- The report for people of a run that does not succeed names a reason in whole lines.
 abbrev pub TextNamesReason : Type 0
-TextNamesReason = (o : Options) → (inputs : List (List ℕ)) → (text : List ℕ) → (end : RunEnd)
+TextNamesReason = (o : Options) → (inputs : List InputView) → (text : List ℕ) → (end : RunEnd)
     → (report : IsReport (text_line o) (text_last o) inputs text end) → ¬ (Succeeds end)
     → SaysReason (text_block o) (codes "outcome no-tests-run") report.entries end text
 
 -- The report for GitHub of such a run names a reason.
 abbrev pub GithubNamesReason : Type 0
-GithubNamesReason = (limit : ℕ) → (inputs : List (List ℕ)) → (text : List ℕ) → (end : RunEnd)
-    → (report : IsReport (github_line limit) (λ entries end. github_last end) inputs text end) → ¬ (Succeeds end)
-    → SaysReason (github_block limit) (notice end) report.entries end text
+GithubNamesReason = (o : Options) → (inputs : List InputView) → (text : List ℕ) → (end : RunEnd)
+    → (report : IsReport (github_line o) (λ entries end. github_last end) inputs text end) → ¬ (Succeeds end)
+    → SaysReason (github_block o) (notice end) report.entries end text
 
 -- JUnit's XML reads back as a tree that has the test case of a reason why a run does not succeed: the cause of an entry, or that no test ran
 pub record HasReasonCase (o : Options) (entries : List EntryView) (end : RunEnd) (text : List ℕ) : Type 0 where
   pub cause : JunitCause
-  pub reason : ((e : EntryView) × Contains entries e × (junit_cause o.limit e ≡ Some cause)) ⊎ (RanNoTests end × (cause ≡ no_test_cause))
+  pub reason : ((e : EntryView) × Contains entries e × (junit_cause o e ≡ Some cause)) ⊎ (RanNoTests end × (cause ≡ no_test_cause))
   pub tree : TreeView
   pub reads : IsXml text tree
   pub has_case : HasJunitCase tree cause
 
 -- JUnit's XML of such a run has the test case of a reason, unless no test ran and a run without tests is to pass.
 abbrev pub JunitNamesReason : Type 0
-JunitNamesReason = (o : Options) → (inputs : List (List ℕ)) → (text : List ℕ) → (end : RunEnd)
+JunitNamesReason = (o : Options) → (inputs : List InputView) → (text : List ℕ) → (end : RunEnd)
     → (report : IsReport (λ entry. []) (junit_of o) inputs text end)
     → ¬ (Succeeds end) → ¬ (RanNoTests end × IsTrue o.no_tests_pass) → HasReasonCase o report.entries end text
 
 -- The page of such a run names a reason.
 abbrev pub HtmlNamesReason : Type 0
-HtmlNamesReason = (limit : ℕ) → (inputs : List (List ℕ)) → (text : List ℕ) → (end : RunEnd)
-    → (report : IsReport (λ entry. []) (html_of limit) inputs text end) → ¬ (Succeeds end)
+HtmlNamesReason = (o : Options) → (inputs : List InputView) → (text : List ℕ) → (end : RunEnd)
+    → (report : IsReport (λ entry. []) (html_of o) inputs text end) → ¬ (Succeeds end)
     → NamesReason (hole_text hole.Text) (hole_text hole.Text) report.entries end text
 
 -- The summary of such a run names a reason.
 abbrev pub MarkdownNamesReason : Type 0
-MarkdownNamesReason = (limit : ℕ) → (inputs : List (List ℕ)) → (text : List ℕ) → (end : RunEnd)
-    → (report : IsReport (λ entry. []) (markdown_of limit) inputs text end) → ¬ (Succeeds end)
+MarkdownNamesReason = (o : Options) → (inputs : List InputView) → (text : List ℕ) → (end : RunEnd)
+    → (report : IsReport (λ entry. []) (markdown_of o) inputs text end) → ¬ (Succeeds end)
     → NamesReason (hole_text hole.Plain) (hole_text hole.Plain) report.entries end text
 
 -- The texts of the files name a reason, too.
 abbrev pub FilesNameReason : Type 0
-FilesNameReason = (files : FileForms) → (inputs : List (List ℕ)) → (texts : FileTexts) → (are : AreTexts files inputs texts)
+FilesNameReason = (files : FileForms) → (inputs : List InputView) → (texts : FileTexts) → (are : AreTexts files inputs texts)
     → ¬ (Succeeds (end_of are.run))
     → IfSome files.junit (λ form. ¬ (RanNoTests (end_of are.run) × IsTrue form.options.no_tests_pass)
     → IfSome (text_view texts.junit) (HasReasonCase form.options are.entries (end_of are.run)))

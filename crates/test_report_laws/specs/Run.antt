@@ -1,9 +1,9 @@
 -- Laws of a run.
-use Rattle.std.specs.Prelude.{◌++◌, ◌≡◌, ◌≢◌, All, IfSome, None, ◌≤◌, ◌<◌, ◌⊎◌, ◌↔◌, ◌+◌, ◌&&◌, ◌∷◌, [], ℕ, Bool, true, false, Contains, IsTrue, List, if◌then◌else◌, length, nat_lt}
+use Rattle.std.specs.Prelude.{◌++◌, ◌≡◌, ◌≢◌, All, IfSome, None, Some, ◌≤◌, ◌<◌, ◌⊎◌, ◌↔◌, ◌+◌, ◌&&◌, [], ℕ, Bool, true, false, Contains, IsTrue, List, if◌then◌else◌, length, nat_lt}
 use Rattle.std.specs.List.{count_by, sum_by}
 use Rattle.run_events_stats.specs.declared.outcome.run_outcome.RunOutcome.{RunOutcome}
 use Rattle.run_events_stats.specs.declared.outcome.run_outcome.RunOutcome.TheVariants as outcome
-use Rattle.test_report_events.specs.Event.{EventView, SuiteEndView, TestEndView, SuiteStarts, SuiteEnds, TestStarts, TestEnds, OtherLine, HeadingLine, CargoFails, Prints, DamagedLine}
+use Rattle.test_report_events.specs.Event.{EventView, SuiteEndView, TestEndView, SuiteStarts, SuiteEnds, TestStarts, TestEnds, OtherLine, HeadingLine, CargoFails, Prints, DamagedLine, CommandStarts, CommandOver, CommandView, WithStatus}
 use Rattle.test_report_events.specs.declared.event.CargoFailure.{CargoFailure}
 use Rattle.test_report_events.specs.declared.event.TestResult.{TestResult}
 use Rattle.test_report_events.specs.declared.event.TestResult.TheVariants.{Ok, Failed, Ignored}
@@ -11,11 +11,11 @@ use Rattle.test_report_run.specs.Ended.{failure_of}
 use Rattle.test_report_run.specs.Note.{Disagrees, Fails, HasCrashed, HasFailed, HasNoEnd, HasTimedOut, IsFlaky, IsNotRun, IsSkipped, KindView, NoteView, OutcomeView, Passes, SuiteIs, SuiteNoteView, TestIs, TestNoteView}
 use Rattle.test_report_run.specs.Others.{OthersView}
 use Rattle.test_report_run.specs.Over.{early_notes, last_notes}
-use Rattle.test_report_run.specs.Run.{RunState, counts_tests, file_notes, has_failed, is_disagreement, notes_at, open_suite, run_start}
+use Rattle.test_report_run.specs.Run.{RunState, counts_tests, file_notes, has_failed, is_disagreement, notes_at, open_suite, run_start, told}
 use Rattle.test_report_run.specs.Running.{ends_in_number, without_number}
 use Rattle.test_report_run.specs.Said.{numbers_of}
 use Rattle.test_report_run.specs.Suite.{SuiteState, failed_of}
-use Rattle.test_report_laws.specs.Whole.{all_notes, notes_of, run_after, run_after_files, whole_end}
+use Rattle.test_report_laws.specs.Whole.{IsFileEndOf, IsLineOf, all_notes, notes_of, run_after, run_after_files, run_at_end, whole_end}
 use Rattle.test_report_run.specs.declared.note.RunEnd.{RunEnd}
 use Rattle.test_report_run.specs.declared.note.SaidNumbers.{SaidNumbers}
 
@@ -38,6 +38,8 @@ says_failed (HeadingLine name path) = false
 says_failed (CargoFails f line plain) = false
 says_failed (Prints line plain) = false
 says_failed (DamagedLine text) = false
+says_failed CommandStarts = false
+says_failed (CommandOver end) = false
 
 -- a failure of this kind has a line that says so
 abbrev pub is_told : KindView → Bool
@@ -225,10 +227,10 @@ abbrev pub EarlyEndShows : Type 0
 EarlyEndShows = (others : OthersView) → (s : SuiteState) → (names : List (List ℕ)) → (s.number ≡ None → 0 < s.started)
     → 0 < crashed_in (early_notes others s names) + disagreements_in (early_notes others s names)
 
--- A last line of a suite that is not open makes a disagreement known if and only if it has a failed verdict or counts tests that ran.
+-- A last line of a suite that is not open makes by itself a disagreement known if and only if it has a failed verdict or counts tests that ran.
 abbrev pub StrayEndShows : Type 0
 StrayEndShows = (r : RunState) → (e : SuiteEndView) → open_suite r e.key ≡ None
-    → disagreements_in (notes_at r (SuiteEnds e)) ≡ (if counts_tests e then 1 else 0)
+    → disagreements_in (told r (SuiteEnds e)).notes ≡ (if counts_tests e then 1 else 0)
 
 -- how many lines of a file say that a test failed
 abbrev pub failed_lines_in : List EventView → ℕ
@@ -272,6 +274,8 @@ says_failed_verdict (HeadingLine name path) = false
 says_failed_verdict (CargoFails f line plain) = false
 says_failed_verdict (Prints line plain) = false
 says_failed_verdict (DamagedLine text) = false
+says_failed_verdict CommandStarts = false
+says_failed_verdict (CommandOver end) = false
 
 -- how many last lines of suites in a file have a failed verdict
 abbrev pub failed_verdicts_in : List EventView → ℕ
@@ -297,6 +301,8 @@ is_damaged OtherLine = false
 is_damaged (HeadingLine name path) = false
 is_damaged (CargoFails f line plain) = false
 is_damaged (Prints line plain) = false
+is_damaged CommandStarts = false
+is_damaged (CommandOver end) = false
 
 -- how many lines of a file are damaged, and say that a test or a suite failed
 abbrev pub damaged_lines_in : List EventView → ℕ
@@ -322,15 +328,22 @@ is_event (HeadingLine name path) = false
 is_event (CargoFails f line plain) = false
 is_event (Prints line plain) = false
 is_event (DamagedLine text) = false
+is_event CommandStarts = false
+is_event (CommandOver end) = false
 
 -- how many lines of a file are events of a harness
 abbrev pub events_in : List EventView → ℕ
 events_in file = count_by is_event file
 
--- If a file has no event of a harness, the outcome is neither `Success` nor `NoTestsRun`.
+-- If a file has no event of a harness, and is not the output of a command that has ended, the outcome is neither `Success` nor `NoTestsRun`.
 abbrev pub NoEventShows : Type 0
-NoEventShows = (before : List (List EventView)) → (file : List EventView) → (rest : List (List EventView)) → events_in file ≡ 0
-    → let end = whole_end (before ++ file ∷ rest) in (end.outcome ≢ outcome.Success) × (end.outcome ≢ outcome.NoTestsRun)
+NoEventShows = (files : List (List EventView)) → (r : RunState) → (end : IsFileEndOf files r) → events_in end.file ≡ 0 → r.command ≡ None
+    → ((whole_end files).outcome ≢ outcome.Success) × ((whole_end files).outcome ≢ outcome.NoTestsRun)
+
+-- If a command could not be started, was ended by a signal, or ended with a status above 0, the outcome is neither `Success` nor `NoTestsRun`.
+abbrev pub CommandEndShows : Type 0
+CommandEndShows = (files : List (List EventView)) → (r : RunState) → IsFileEndOf files r → (end : CommandView) → r.command ≡ Some end → end ≢ WithStatus 0
+    → ((whole_end files).outcome ≢ outcome.Success) × ((whole_end files).outcome ≢ outcome.NoTestsRun)
 
 -- each test without end was skipped, and at least as many tests finished or were skipped as were announced
 pub record IsWhole (s : SuiteState) (names : List (List ℕ)) : Type 0 where
@@ -342,9 +355,8 @@ pub record IsWhole (s : SuiteState) (names : List (List ℕ)) : Type 0 where
 abbrev pub CleanEndIsWhole : Type 0
 CleanEndIsWhole = (s : SuiteState) → (names : List (List ℕ)) → IsClean (last_notes s names) → IsWhole s names
 
--- A failure of cargo while no suite is open is a disagreement, or something failed or disagreed before it.
+-- If cargo reports a failure while no suite is open, in a file that is not the output of a command, a test failed or a disagreement becomes known.
 abbrev pub CargoFailureShows : Type 0
-CargoFailureShows = (files : List (List EventView)) → (events : List EventView) → (r : RunState) → (f : CargoFailure) → (line plain : List ℕ)
-    → r ≡ run_after (run_after_files run_start files) events → r.suites ≡ []
-    → let known = all_notes files ++ (notes_of (run_after_files run_start files) events ++ notes_at r (CargoFails f line plain)) in
-    0 < failed_in known + disagreements_in known
+CargoFailureShows = (files : List (List EventView)) → (r : RunState) → (f : CargoFailure) → (line plain : List ℕ)
+    → (at : IsLineOf files r (CargoFails f line plain)) → r.suites ≡ [] → (run_at_end at).of_command ≡ false
+    → 0 < failed_in (all_notes files) + disagreements_in (all_notes files)

@@ -1,17 +1,17 @@
 -- What the outcome of a whole run says of its lines: what a run that succeeds has no line of, and why another one does not.
-use Rattle.std.specs.Prelude.{◌+◌, ◌++◌, ◌∷◌, [], ◌≡◌, ◌≢◌, ◌≤◌, ◌<◌, ◌⊎◌, ◌||◌, ℕ, Bool, true, false, All, Contains, IsTrue, List, None, Option, Some, length}
+use Rattle.std.specs.Prelude.{◌+◌, [], ◌≡◌, ◌≢◌, ◌≤◌, ◌<◌, ◌⊎◌, ◌||◌, ℕ, Bool, true, false, Contains, IfSome, IsTrue, List, None, Option, Some, length}
 use Rattle.std.specs.List.{sum_by}
 use Rattle.std.specs.Option.{option_map_or}
 use Rattle.run_events_stats.specs.declared.outcome.run_outcome.RunOutcome.TheVariants as outcome
-use Rattle.test_report_events.specs.Event.{EventView, SuiteEndView, SuiteStarts, SuiteEnds, TestStarts, TestEnds, OtherLine, HeadingLine, CargoFails, Prints, DamagedLine}
+use Rattle.test_report_events.specs.Event.{EventView, SuiteEndView, SuiteStarts, SuiteEnds, TestStarts, TestEnds, OtherLine, HeadingLine, CargoFails, Prints, DamagedLine, CommandStarts, CommandOver, WithStatus}
 use Rattle.test_report_events.specs.declared.event.CargoFailure.{CargoFailure}
 use Rattle.test_report_laws.specs.Run.{Agrees, IsClean, damaged_lines_of, events_in, failed_lines_of, failed_verdicts_of, not_run_in, passed_in, skipped_in}
 use Rattle.test_report_run.specs.Note.{Disagrees, IsNotRun, NoteView, SuiteIs, TestIs}
 use Rattle.test_report_run.specs.Over.{last_notes}
-use Rattle.test_report_run.specs.Run.{RunState, counts_tests, is_cause, names_in, open_suite, run_start, suite_at}
+use Rattle.test_report_run.specs.Run.{RunState, counts_tests, is_cause, names_in, open_suite, suite_at}
 use Rattle.test_report_run.specs.Said.{numbers_of}
 use Rattle.test_report_run.specs.Suite.{SuiteState, with_line}
-use Rattle.test_report_laws.specs.Whole.{all_notes, run_after, run_after_files, whole_end}
+use Rattle.test_report_laws.specs.Whole.{IsFileEndOf, IsLineOf, all_notes, run_at_end, whole_end}
 use Rattle.test_report_run.specs.declared.note.RunEnd.{RunEnd}
 
 -- a run with this end succeeded
@@ -54,23 +54,6 @@ FailureHasReason = (files : List (List EventView)) → ¬ (Succeeds (whole_end f
 
 -- What a run that succeeds has no line of.
 
--- a line of a run, and the run when the line is read: after files, and after lines of its own file
-pub record IsLineOf (files : List (List EventView)) (r : RunState) (e : EventView) : Type 0 where
-  pub before : List (List EventView)
-  pub lines : List EventView
-  pub rest : List EventView
-  pub after : List (List EventView)
-  pub are : files ≡ before ++ (lines ++ e ∷ rest) ∷ after
-  pub run_is : r ≡ run_after (run_after_files run_start before) lines
-
--- the run when the end of a file is read
-pub record IsFileEndOf (files : List (List EventView)) (r : RunState) : Type 0 where
-  pub before : List (List EventView)
-  pub file : List EventView
-  pub after : List (List EventView)
-  pub are : files ≡ before ++ file ∷ after
-  pub run_is : r ≡ run_after (run_after_files run_start before) file
-
 -- how many tests a line announces
 abbrev pub announced_by : EventView → ℕ
 announced_by (SuiteStarts key count) = option_map_or (λ n. n) count 0
@@ -82,6 +65,8 @@ announced_by (HeadingLine name path) = 0
 announced_by (CargoFails f line plain) = 0
 announced_by (Prints line plain) = 0
 announced_by (DamagedLine text) = 0
+announced_by CommandStarts = 0
+announced_by (CommandOver end) = 0
 
 -- how many tests the first lines of suites announce in all files
 abbrev pub announced_of : List (List EventView) → ℕ
@@ -107,8 +92,10 @@ pub record IsInOrder (files : List (List EventView)) : Type 0 where
   pub no_failed_verdict : failed_verdicts_of files ≡ 0
   -- no damaged line says that a test or a suite failed
   pub no_damaged_line : damaged_lines_of files ≡ 0
-  -- each file has an event of a harness
-  pub events : All (λ file. 0 < events_in file) files
+  -- each command ended with status 0
+  pub commands : (r : RunState) → IsFileEndOf files r → IfSome r.command (λ end. end ≡ WithStatus 0)
+  -- each file has an event of a harness, other than the output of a command
+  pub events : (r : RunState) → (end : IsFileEndOf files r) → r.command ≡ None → 0 < events_in end.file
   -- each last line that ends a suite says what the tests of the suite are
   pub last_lines : (r : RunState) → (e : SuiteEndView) → (at : ℕ) → IsLineOf files r (SuiteEnds e) → open_suite r e.key ≡ Some at
       → let s = with_line (suite_at r (Some at)) e in s.open_lines ≡ 0 → EndsInOrder s (names_in r s)
@@ -121,8 +108,9 @@ pub record IsInOrder (files : List (List EventView)) : Type 0 where
   pub none_outside : (r : RunState) → IsFileEndOf files r → r.outside.started ≡ 0
   -- at least as many tests finished or were skipped as were announced
   pub announced : announced_of files ≤ (whole_end files).stats.finished_count + (whole_end files).skipped
-  -- a failure of cargo is read only while a suite is open, when it is a print of a test
-  pub cargo : (r : RunState) → (f : CargoFailure) → (line plain : List ℕ) → IsLineOf files r (CargoFails f line plain) → r.suites ≢ []
+  -- a failure of cargo is read only while a suite is open, when it is a print of a test, or in the output of a command
+  pub cargo : (r : RunState) → (f : CargoFailure) → (line plain : List ℕ) → (at : IsLineOf files r (CargoFails f line plain))
+      → (run_at_end at).of_command ≡ false → r.suites ≢ []
 
 -- If a run succeeds, a test passed and nothing is wrong with its lines. If no test ran, no test passed, and nothing is wrong either.
 abbrev pub SuccessIsInOrder : Type 0

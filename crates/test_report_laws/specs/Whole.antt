@@ -1,9 +1,9 @@
 -- A run of several files, one after the other.
-use Rattle.std.specs.Prelude.{◌++◌, ◌∷◌, [], List}
+use Rattle.std.specs.Prelude.{◌≡◌, ◌++◌, ◌∷◌, [], List}
 use Rattle.std.specs.List.{fold}
 use Rattle.test_report_events.specs.Event.{EventView}
 use Rattle.test_report_run.specs.Note.{NoteView}
-use Rattle.test_report_run.specs.Run.{RunState, after_file, end_of, file_notes, run_start}
+use Rattle.test_report_run.specs.Run.{RunState, after, after_file, end_of, file_notes, run_start}
 pub use Rattle.test_report_run.specs.Run.{notes_of, run_after}
 use Rattle.test_report_run.specs.declared.note.RunEnd.{RunEnd}
 
@@ -31,3 +31,24 @@ all_notes files = notes_of_files run_start files
 -- the sums and the outcome of a whole run
 abbrev pub whole_end : List (List EventView) → RunEnd
 whole_end files = end_of (run_after_files run_start files)
+
+-- a line of a run, and the run when the line is read: after files, and after lines of its own file
+pub record IsLineOf (files : List (List EventView)) (r : RunState) (e : EventView) : Type 0 where
+  pub before : List (List EventView)
+  pub lines : List EventView
+  pub rest : List EventView
+  pub after : List (List EventView)
+  pub are : files ≡ before ++ (lines ++ e ∷ rest) ∷ after
+  pub run_is : r ≡ run_after (run_after_files run_start before) lines
+
+-- the run when the end of the file of a line is read
+abbrev pub run_at_end : {files : List (List EventView)} {r : RunState} {e : EventView} → IsLineOf files r e → RunState
+run_at_end {files} {r} {e} line = run_after (after r e) line.rest
+
+-- the run when the end of a file is read
+pub record IsFileEndOf (files : List (List EventView)) (r : RunState) : Type 0 where
+  pub before : List (List EventView)
+  pub file : List EventView
+  pub after : List (List EventView)
+  pub are : files ≡ before ++ file ∷ after
+  pub run_is : r ≡ run_after (run_after_files run_start before) file

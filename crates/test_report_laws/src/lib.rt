@@ -11,7 +11,7 @@
 //!
 //! ```rust
 //!     ensures in_order { IfOk result (λ success. IfSome (R.left source.old) (λ input.
-//!         (files : List (List EventView)) × AllZip HasEvents (input ∷ []) files
+//!         (files : List (List EventView)) × AllZip HasEvents (file input ∷ []) files
 //!         × (IsTrue success ↔ Succeeds (whole_end files)) × (IsTrue success → IsInOrder files))) }
 //! {
 //!     success_means();

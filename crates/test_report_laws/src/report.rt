@@ -15,9 +15,10 @@ pub fn one_run()
     ensures { OneRun }
 {}
 
-/// Says what the outcomes `Success` and `NoTestsRun` mean. If the outcome in a report is `Success`, a test passed
-/// and nothing is wrong with the lines of the inputs: `run::success_is_in_order` has the list. If the outcome is
-/// `NoTestsRun`, no test passed, and nothing is wrong either.
+/// Says what the outcomes `Success` and `NoTestsRun` mean. If the outcome in a report is `Success`, a test passed,
+/// each command whose output was read ended with status 0, and nothing is wrong with the lines of the inputs:
+/// `run::success_is_in_order` has the list. If the outcome is `NoTestsRun`, no test passed, and nothing is wrong
+/// either.
 pub fn success_means()
     ensures { SuccessMeans }
 {
