@@ -101,6 +101,13 @@ FAIL suite 1 pays
 outcome failed
 """
 
+
+def with_line(line, text):
+    """Returns the text of a report which fails because the end of its command is a disagreement, whose line this is."""
+    before, rule, after = text.partition("------------\n")
+    return f"{before}{line}\n{rule}{after.replace('outcome success', 'outcome failed')}"
+
+
 # What the report of a run without tests has in each form, if `--no-tests` is `fail` and if it is `pass`.
 NO_TESTS = {
     "text": (Parts(["\noutcome no-tests-run\n"]), Parts(["\noutcome no-tests-run\n"])),
@@ -133,6 +140,18 @@ GREEN_PARTS = {
     "html": Parts(["<h1>", "success", "</h1>"]),
     "markdown": Parts(["## Test report: success"], ["FAIL"]),
     "json": Parts(['{"outcome":"success",', '"passed":1,', '"written_name":"adds","result":"passed",'], ['"result":"failed"']),
+}
+
+# The line of a command that ended with status 7 though no test failed, and what the reports of such a run have.
+NO_REASON = "the command ended with status 7, and no line says why"
+UNEXPLAINED_PARTS = {
+    "text": with_line(NO_REASON, GREEN_TEXT),
+    "github": Parts([f"::error::{NO_REASON}\n", "::notice::", "failed"]),
+    "names": "",
+    "junit": Parts(['tests="2" failures="0" errors="1"', f'<error message="{NO_REASON}" type="disagreement">']),
+    "html": Parts(["<h1>", "failed", "</h1>", f"<li>{NO_REASON}</li>"]),
+    "markdown": Parts(["## Test report: failed", "the command ended with status 7&#44; and no line says why"]),
+    "json": Parts(['{"outcome":"failed",', '"passed":1,', f'"{NO_REASON}"'], ['"result":"failed"']),
 }
 
 # What is written of a run whose second file cannot be read: of the forms at the end, nothing.
@@ -201,6 +220,45 @@ def limits():
     for limit in ("80007", "18446744073709551615"):
         wanted = Parts([f"    {LONG_TEXT}\n"], ["more bytes"])
         yield Row(f"the limit {limit}", ["--limit", limit], LONG, 1, wanted)
+
+
+PANICS = (
+    "a line before\\n"
+    "thread 'worker' (2) panicked at src/a.rs:1:2:\\nno money\\na line between\\n"
+    "thread 'pays' (1) panicked at src/b.rs:3:4:\\nthe worker panicked\\n"
+)
+
+
+def outputs():
+    """Yields the rows of `--output`."""
+    panics = started(1) + failed("pays", PANICS) + ended("failed", 0, 1)
+    short = "pays: panicked at src/a.rs:1:2: no money\n"
+    whole = (
+        "    a line before\n    thread 'worker' (2) panicked at src/a.rs:1:2:\n    no money\n    a line between\n"
+        "    thread 'pays' (1) panicked at src/b.rs:3:4:\n    the worker panicked\n------------\n"
+    )
+    explained = whole.replace("    a line before\n", "FAIL suite 1 pays\n").replace("---", "    (1 more lines of output)\n---", 1)
+    cut = (
+        "FAIL suite 1 pays\n    thread 'worker' (2) panicked at src/a.rs:1:2:\n    no money\n    ..\n"
+        "    thread 'pays' (1) panicked at src/b.rs:3:4:\n    the worker panicked\n    (2 more lines of output)\n"
+    )
+    for arguments in ([], ["--output", "auto"], ["--output=whole"], ["--output", "whole", "--limit", "4096"]):
+        yield Row(f"{arguments}, an output that is not long", arguments, panics, 1, Parts([whole, short]))
+    yield Row("--output short", ["--output", "short"], panics, 1, Parts([explained, short], ["a line before"]))
+    for display in ("auto", "short"):
+        arguments = ["--output", display, "--limit", "130"]
+        yield Row(f"{arguments}", arguments, panics, 1, Parts([cut, short], ["a line before", "a line between"]))
+    lines = [f"line {number}" for number in range(1, 13)]
+    text = started(1) + failed("pays", "\\n".join(lines)) + ended("failed", 0, 1)
+    last = "".join(f"    {line}\n" for line in lines[2:]) + "    (2 more lines of output)\n"
+    yield Row("the last ten lines", ["--output", "short"], text, 1, Parts(["FAIL suite 1 pays\n" + last]))
+    errors = [*lines[:2], "error[E0425]: cannot find value", *lines[2:]]
+    text = started(1) + failed("pays", "\\n".join(errors)) + ended("failed", 0, 1)
+    first = "".join(f"    {line}\n" for line in errors[2:12]) + "    (3 more lines of output)\n"
+    yield Row("lines from an error on", ["--output", "short"], text, 1, Parts(["FAIL suite 1 pays\n" + first]))
+    yield Row("a whole output has no limit", ["--output", "whole"], LONG, 1, Parts([f"    {LONG_TEXT}\n"], ["more bytes"]))
+    yield Row("but one in annotations", ["--output", "whole", "--format", "github"], LONG, 1, Parts(["%0A(75911 more bytes)\n"]))
+    yield Row("an unknown output", ["--output", "long"], "", 2, "", Parts(["error: "]))
 
 
 def colours():
@@ -412,30 +470,31 @@ def command(words, status=0, stdout="", stderr="", options=(), **others):
 
 def commands():
     """Yields the rows of commands that end in some way."""
-    no_reason = "test-report: the command ended with status {}, and no line says why\n"
     for form in FORMS:
         yield command("cat red.jsonl; exit 101", 1, RED_PARTS[form], options=["--format", form])
-        yield command("cat green.jsonl; exit 7", 1, GREEN_PARTS[form], no_reason.format(7), ["--format", form])
+        yield command("cat green.jsonl; exit 7", 1, UNEXPLAINED_PARTS[form], options=["--format", form])
     yield command("cat green.jsonl", 0, GREEN_TEXT)
     yield command("cat green.jsonl >&2", 0, GREEN_TEXT)
     yield command("cat red.jsonl", 1, RED_TEXT)
     yield command("head -n 2 red.jsonl; sed -n 3p red.jsonl >&2; tail -n 1 red.jsonl", 1, RED_TEXT)
-    yield command("true", 1, Parts(["\noutcome "]))
+    yield command("true", 1, NO_TESTS["text"][0])
+    yield command("true", 0, NO_TESTS["text"][1], options=["--no-tests", "pass"])
     yield command("cat empty.jsonl", 0, NO_TESTS["text"][1], options=["--no-tests", "pass"])
-    yield command("cat empty.jsonl; exit 3", 1, NO_TESTS["text"][1], no_reason.format(3), ["--no-tests", "pass"])
+    yield command("cat empty.jsonl; exit 3", 1, Parts([NO_REASON.replace("7", "3") + "\n", "\noutcome failed\n"]),
+                  options=["--no-tests", "pass"])
     for number in (9, 15):
-        line = f"test-report: the command ended by signal {number}\n"
-        yield command(f"cat green.jsonl; kill -{number} $$", 1, GREEN_TEXT, line)
-        yield command(f"cat red.jsonl; kill -{number} $$", 1, RED_TEXT, line)
-    line = Parts(["test-report: the command could not be started: "])
+        line = f"the command ended by signal {number}"
+        yield command(f"cat green.jsonl; kill -{number} $$", 1, with_line(line, GREEN_TEXT))
+        yield command(f"cat red.jsonl; kill -{number} $$", 1, with_line(line, RED_TEXT))
+    not_started = Parts(["the command could not be started: ", "\noutcome failed\n"], ["no line of the input"])
     for words in (["./none"], ["."], [""], ["-"], ["none", "red.jsonl"]):
-        yield command(words, 1, Parts(["\noutcome "]), line)
-        yield command(words, 1, Parts(["\noutcome "]), line, ["--no-tests", "pass"])
+        yield command(words, 1, not_started)
+        yield command(words, 1, not_started, options=["--no-tests", "pass"])
     # A process in the background has the pipe open, and writes nothing or writes later.
     yield command("sleep 20 & cat green.jsonl", 0, GREEN_TEXT)
     yield command("(for line in 1 2 3 4; do sleep 0.8; sed -n ${line}p red.jsonl; done) &", 1, RED_TEXT)
     # A command that goes on without its streams is waited for.
-    yield command("cat green.jsonl; exec >&- 2>&-; sleep 1; exit 4", 1, GREEN_TEXT, no_reason.format(4))
+    yield command("cat green.jsonl; exec >&- 2>&-; sleep 1; exit 4", 1, with_line(NO_REASON.replace("7", "4"), GREEN_TEXT))
     yield command("cat red.jsonl", 1, RED_TEXT, options=OPTIONS, after=WRITTEN)
 
 
@@ -493,6 +552,6 @@ def added_arguments():
 
 def rows():
     """Returns all rows."""
-    kinds = (forms, several_files, limits, colours, progress, others, streams, files, links, devices, conflicts, commands,
-             surroundings, added_arguments)
+    kinds = (forms, several_files, limits, outputs, colours, progress, others, streams, files, links, devices, conflicts,
+             commands, surroundings, added_arguments)
     return [row for kind in kinds for row in kind()]

@@ -166,6 +166,7 @@ CONDITIONS = {
     "test_report_engine/src/report.rt": {
         "Report::read_file": Elsewhere(FAILED_DEVICE),
         "Report::read_piece": Elsewhere(FAILED_DEVICE),
+        "Report::end_command": Elsewhere(FAILED_DEVICE),
         "Report::finish": Elsewhere(FAILED_DEVICE),
     },
 }

@@ -14,7 +14,7 @@ PACKAGES = {
     ),
     "deodarsieve-c": ("c_values", "deodarsieve"),
     "deodarsieve-tests": (
-        "fixtures", "run_digest_engine_tests", "output_slice_tests", "test_report_engine_tests",
+        "fixtures",
     ),
 }
 FOLDERS = {LAYER: "deodarsieve", "deodarsieve-cli": "cli", "deodarsieve-c": "c", "deodarsieve-tests": "tests"}
@@ -100,7 +100,7 @@ ALLOC_NAMES = {
 }
 
 # Names of the layer that are in its hidden module `counted`.
-COUNTED = ("ByteSource", "CountedBytes", "HeadSpan", "is_decimal_digit", "last_head", "last_panic_head")
+COUNTED = ("ByteSource", "CountedBytes", "HeadSpan", "is_decimal_digit", "first_head", "last_head", "last_panic_head")
 
 # Words of contracts, proofs and refusals of memory. A doc comment of a published package with one is refused,
 # and any other comment with one is dropped.

@@ -2,10 +2,13 @@
 
 use clap::{Arg, ArgAction, ArgMatches, Command, value_parser};
 use std::alloc::{AllocError, Global};
-use test_report_forms::options::Options;
+use test_report_forms::options::{Options, OutputDisplay};
 
-/// The default of `--limit`: how many bytes of the reason of a failure are shown.
-const LIMIT: &str = "4096";
+/// How many bytes of the reason of a failure are shown if `--limit` is absent.
+const LIMIT: usize = 4_096;
+
+/// The values of `--output`.
+const DISPLAYS: &[&str] = &["auto", "short", "whole"];
 
 /// The values of `--format`.
 const FORMS: &[&str] = &[
@@ -52,8 +55,7 @@ pub(crate) fn command<'a>(alloc: Global) -> Result<Command<'a>, AllocError> {
         .long("limit")
         .value_name("BYTES")
         .value_parser(value_parser!(usize))
-        .default_value(LIMIT)
-        .help("Show at most BYTES bytes of the reason of each failed test");
+        .help("Show at most BYTES bytes of the reason of each failed test [default: 4096]");
     let raw = Arg::new(alloc, "raw")
         .long("raw")
         .action(ArgAction::SetTrue)
@@ -88,6 +90,9 @@ pub(crate) fn command<'a>(alloc: Global) -> Result<Command<'a>, AllocError> {
             "Write the lines that are no events to standard error; `auto` does so for standard input, and not for files",
         ))?
         .arg(limit)?
+        .arg(choice(alloc, "output", "HOW", DISPLAYS).help(
+            "How much of a failed test's output is shown: the part that explains the failure (`short`), all (`whole`), or all if that is within the limit",
+        ))?
         .arg(raw)?;
     Ok(command.after_help(AFTER_HELP))
 }
@@ -107,10 +112,40 @@ fn file<'a>(alloc: Global, name: &'a str) -> Arg<'a> {
     Arg::new(alloc, name).long(name).value_name("FILE")
 }
 
+/// Returns how much of a failed test's output is shown.
+fn output_of(matches: &ArgMatches<'_>) -> OutputDisplay {
+    match matches.get_str("output") {
+        Some("short") => OutputDisplay::Short,
+        Some("whole") => OutputDisplay::Whole,
+        _ => OutputDisplay::Auto,
+    }
+}
+
+/// Returns the limit if `--limit` is absent. If outputs are shown as a whole, there is none.
+fn default_limit(output: OutputDisplay) -> usize {
+    match output {
+        OutputDisplay::Auto | OutputDisplay::Short => LIMIT,
+        OutputDisplay::Whole => usize::MAX,
+    }
+}
+
+/// Returns the options of annotations: if `--limit` is absent, they have the default limit even if outputs are shown
+/// as a whole.
+pub(crate) fn annotation_options(matches: &ArgMatches<'_>, options: Options) -> Options {
+    Options {
+        limit: matches.get_one::<usize>("limit").unwrap_or(LIMIT),
+        ..options
+    }
+}
+
 /// Returns the options of the report. `colors` is true if standard output is coloured by default.
 pub(crate) fn options_of(matches: &ArgMatches<'_>, colors: bool) -> Options {
+    let output = output_of(matches);
     Options {
-        limit: matches.get_one::<usize>("limit").unwrap_or(0),
+        limit: matches
+            .get_one::<usize>("limit")
+            .unwrap_or(default_limit(output)),
+        output,
         raw: matches.get_flag("raw"),
         color: match matches.get_str("color") {
             Some("always") => true,

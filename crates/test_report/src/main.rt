@@ -11,7 +11,7 @@ mod output_files;
 mod progress;
 mod same_file;
 
-use crate::arguments::{command, options_of, shows_progress, wants_others};
+use crate::arguments::{annotation_options, command, options_of, shows_progress, wants_others};
 use crate::failure::{BAD_ARGUMENT, FAILED, Failure};
 use crate::files::{append, replace};
 use crate::others::Others;
@@ -242,7 +242,7 @@ fn report_of<'a, R: Files + AllocGlobal + Input + Print>(
             settings,
             line,
             others,
-            GithubForm::new(options),
+            GithubForm::new(annotation_options(matches, options)),
         ),
         Some("names") => report_in(rt, matches, settings, line, others, NamesForm),
         Some("junit") => report_in(

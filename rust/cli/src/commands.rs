@@ -20,9 +20,6 @@ Exit status:
   2  an argument or a line is invalid
   3  reading or writing failed";
 
-/// The default of `--limit`: how many bytes of the reason of a failure are shown.
-const LIMIT: &str = "4096";
-
 /// The values of `--format`.
 const FORMS: [&str; 7] = [
     "text", "github", "names", "junit", "html", "markdown", "json",
@@ -154,8 +151,11 @@ fn with_options(command: Command) -> Command {
                 .value_name("BYTES")
                 .value_parser(value_parser!(usize))
                 .value_hint(ValueHint::Other)
-                .default_value(LIMIT)
-                .help("Show at most BYTES bytes of the reason of each failed test"),
+                .help("Show at most BYTES bytes of the reason of each failed test [default: 4096]"),
+        )
+        .arg(
+            choice("output", "HOW", "auto", ["auto", "short", "whole"])
+                .help("How much of a failed test's output is shown: the part that explains the failure (`short`), all (`whole`), or all if that is within the limit"),
         )
         .arg(
             Arg::new("raw")

@@ -1,6 +1,5 @@
 //! The program `test-report`, which `cargo-test-report` is too.
 
-use crate::command::end::CommandEnd;
 use crate::command::stand_in::stand_in;
 use crate::commands::{cargo_test_report, test_report};
 use crate::interrupt::Interrupt;
@@ -8,7 +7,7 @@ use crate::output_files::{STANDARD_INPUT, refuse_conflicts, remove_old_files};
 use crate::program::{BAD_ARGUMENT, DEVICE_FAILED, Failure, KeepError, print_clap};
 use crate::progress_line::ProgressLine;
 use crate::replaced_file::{append, replace};
-use crate::run_input::{Ended, Input, PassOn, RunReader, Streams};
+use crate::run_input::{Input, PassOn, RunReader, Streams};
 use crate::standard_streams::{StandardOutput, check_output};
 use crate::test_report_engine::fault::Fault;
 use crate::test_report_engine::pieces::Pieces;
@@ -22,21 +21,17 @@ use crate::test_report_forms::json_form::JsonForm;
 use crate::test_report_forms::junit::JunitForm;
 use crate::test_report_forms::markdown::MarkdownForm;
 use crate::test_report_forms::names::NamesForm;
-use crate::test_report_forms::options::Options;
+use crate::test_report_forms::options::{Options, OutputDisplay};
 use crate::test_report_forms::text::TextForm;
 use clap::{ArgMatches, Command};
-use deodarsieve::RunOutcome;
 use std::cell::RefCell;
 use std::env;
 use std::ffi::OsString;
-use std::io::{self, ErrorKind, IsTerminal, Write};
+use std::io::{self, ErrorKind, IsTerminal};
 use std::process::ExitCode;
 
 /// The argument after which the command follows.
 const BEFORE_COMMAND: &str = "--";
-
-/// The exit status of a run whose command makes it fail.
-const COMMAND_FAILED: u8 = 1;
 
 /// Returns the value of an option that has a default.
 fn value<'a>(matches: &'a ArgMatches, name: &str) -> &'a str {
@@ -48,10 +43,22 @@ fn is_set(variable: &str) -> bool {
     env::var_os(variable).is_some_and(|value| !value.is_empty())
 }
 
+/// The default of `--limit`: how many bytes of the reason of a failure are shown.
+const LIMIT: usize = 4_096;
+
 /// Returns the options of the report.
 fn options_of(matches: &ArgMatches) -> Options {
+    let output = match value(matches, "output") {
+        "short" => OutputDisplay::Short,
+        "whole" => OutputDisplay::Whole,
+        _ => OutputDisplay::Auto,
+    };
     Options {
-        limit: matches.get_one("limit").copied().unwrap_or_default(),
+        limit: matches
+            .get_one("limit")
+            .copied()
+            .unwrap_or_else(|| default_limit(output)),
+        output,
         raw: matches.get_flag("raw"),
         color: match value(matches, "color") {
             "always" => true,
@@ -59,6 +66,27 @@ fn options_of(matches: &ArgMatches) -> Options {
             _ => io::stdout().is_terminal() && !is_set("NO_COLOR"),
         },
         no_tests_pass: value(matches, "no-tests") == "pass",
+    }
+}
+
+/// Returns the limit if `--limit` is absent. If outputs are shown as a whole, there is none.
+fn default_limit(output: OutputDisplay) -> usize {
+    match output {
+        OutputDisplay::Auto | OutputDisplay::Short => LIMIT,
+        OutputDisplay::Whole => usize::MAX,
+    }
+}
+
+/// Returns the options of annotations: if `--limit` is absent, they have the default limit even if outputs are shown
+/// as a whole.
+fn annotation_options(matches: &ArgMatches, options: Options) -> Options {
+    if matches.contains_id("limit") {
+        options
+    } else {
+        Options {
+            limit: LIMIT,
+            ..options
+        }
     }
 }
 
@@ -151,11 +179,10 @@ fn report_in<F: Form>(
     match (ended, output.into_writer().into_error()) {
         (Ok(ended), _) => {
             write_files(matches, &ended.texts)?;
-            let status = status_of(&ended, options);
             let status = if others.has_failed() {
                 DEVICE_FAILED
             } else {
-                status
+                exit_status(ended.run.outcome, options.no_tests_pass)
             };
             Ok(ExitCode::from(status))
         }
@@ -164,22 +191,6 @@ fn report_in<F: Form>(
         }
         (Err(failure), Some(error)) => Err(failure.caused_by(Some(error))),
         (Err(failure), None) => Err(failure),
-    }
-}
-
-/// Returns the exit status of a run. If its command makes it fail and the report does not say so, the reason is
-/// written to standard error.
-fn status_of(ended: &Ended, options: Options) -> u8 {
-    let outcome = ended.run.outcome;
-    let is_explained = matches!(outcome, RunOutcome::Failed { .. });
-    let problem = |end: &CommandEnd| end.problem(is_explained);
-    match ended.command.as_ref().and_then(problem) {
-        Some(problem) => {
-            // If standard error cannot be written, the exit status still says that the run failed.
-            let _ = writeln!(io::stderr(), "test-report: {problem}");
-            COMMAND_FAILED
-        }
-        None => exit_status(outcome, options.no_tests_pass),
     }
 }
 
@@ -196,7 +207,10 @@ fn report_of(matches: &ArgMatches, input: &Input) -> Result<ExitCode, Failure> {
     prepare(matches, input)?;
     let options = options_of(matches);
     match value(matches, "format") {
-        "github" => report_in(matches, input, options, GithubForm::new(options)),
+        "github" => {
+            let form = GithubForm::new(annotation_options(matches, options));
+            report_in(matches, input, options, form)
+        }
         "names" => report_in(matches, input, options, NamesForm),
         "junit" => report_in(matches, input, options, JunitForm::new(options)),
         "html" => report_in(matches, input, options, HtmlForm::new(options)),

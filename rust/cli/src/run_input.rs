@@ -1,6 +1,6 @@
 //! Reads the files of a run, or what its command writes, and shows the progress meanwhile.
 
-use crate::command::end::CommandEnd;
+use crate::command::end::end_of;
 use crate::command::prepared::prepare;
 use crate::command::running::{LOOK, RunningCommand};
 use crate::interrupt::Interrupt;
@@ -16,7 +16,7 @@ use crate::test_report_engine::pieces::Pieces;
 use crate::test_report_engine::report::Report;
 use crate::test_report_forms::files::FileTexts;
 use crate::test_report_forms::form::Form;
-use crate::test_report_run::note::RunEnd;
+use crate::test_report_run::note::{CommandEnd, RunEnd};
 use std::cell::RefCell;
 use std::ffi::OsString;
 use std::fs::File;
@@ -103,12 +103,10 @@ impl<'a, W: Write> Streams<'a, W> {
     }
 }
 
-/// The end of a run: its outcome, the texts of the files that the arguments ask for, and the end of its command if it
-/// had one.
+/// The end of a run: its sums and its outcome, and the texts of the files that the arguments ask for.
 pub struct Ended {
     pub run: RunEnd,
     pub texts: FileTexts,
-    pub command: Option<CommandEnd>,
 }
 
 /// A report while its run is read.
@@ -147,24 +145,19 @@ impl<'a, 'line, F: Form, W: Write> RunReader<'a, 'line, F, W> {
     ///
     /// Fails if a read or a write does.
     pub fn report(mut self, input: &Input) -> Result<Ended, Failure> {
-        let command = match input {
+        match input {
             Input::Files(files) => {
                 for path in files {
                     self.read_file(path)?;
                 }
-                None
             }
-            Input::Command(words) => Some(self.run_command(words)?),
-        };
+            Input::Command(words) => self.run_command(words)?,
+        }
         let texts = self.report.file_texts()?;
         let run = self
             .report
             .finish(&mut StdSink::new(&mut self.streams.output))?;
-        Ok(Ended {
-            run,
-            texts,
-            command,
-        })
+        Ok(Ended { run, texts })
     }
 
     /// Reads a file of the run.
@@ -197,26 +190,27 @@ impl<'a, 'line, F: Form, W: Write> RunReader<'a, 'line, F, W> {
         }
     }
 
-    /// Runs the command of the run, and reads what it writes.
-    fn run_command(&mut self, words: &[OsString]) -> Result<CommandEnd, Failure> {
+    /// Runs the command of the run, reads what it writes, and passes its end to the report.
+    fn run_command(&mut self, words: &[OsString]) -> Result<(), Failure> {
         self.streams.others.are_wanted = self.pass_on.of_command();
         self.message = self.message.map(|_| STILL_RUNNING);
         let prepared = prepare(words);
         if let Some(message) = prepared.message {
             self.streams.line.borrow_mut().say(message);
         }
+        self.report.start_command();
         let end = match RunningCommand::start(prepared.command()) {
             Ok((mut command, output)) => {
                 let reading = Reading::start(output).map_err(unread)?;
                 self.read_output(&reading, &mut command)?;
-                self.end_of(&mut command)?
+                self.wait_for(&mut command)?
             }
             Err(error) => CommandEnd::NotStarted {
                 error: error.to_string(),
             },
         };
-        self.take_end(&end)?;
-        Ok(end)
+        self.end_command(&end)?;
+        Ok(())
     }
 
     /// Reads what a command writes, until the pipe ends or the command is over.
@@ -242,10 +236,10 @@ impl<'a, 'line, F: Form, W: Write> RunReader<'a, 'line, F, W> {
     }
 
     /// Waits for the end of a command whose output has ended.
-    fn end_of(&mut self, command: &mut RunningCommand) -> Result<CommandEnd, Failure> {
+    fn wait_for(&mut self, command: &mut RunningCommand) -> Result<CommandEnd, Failure> {
         loop {
-            if let Some(end) = command.end().map_err(not_waited)? {
-                return Ok(end.clone());
+            if let Some(status) = command.status().map_err(not_waited)? {
+                return Ok(end_of(status));
             }
             thread::sleep(SHORT_LOOK);
             self.pass_signal_on(command);
@@ -254,13 +248,12 @@ impl<'a, 'line, F: Form, W: Write> RunReader<'a, 'line, F, W> {
         }
     }
 
-    /// Passes the end of a command to the report, which has no place for how it ended. So the caller has to write
-    /// [`CommandEnd::problem`]. A command that was not started has no output that could end.
-    fn take_end(&mut self, end: &CommandEnd) -> Result<(), Fault> {
-        match end {
-            CommandEnd::NotStarted { .. } => Ok(()),
-            CommandEnd::Signal(_) | CommandEnd::Status(_) => self.take_piece(&[]),
-        }
+    /// Passes the end of the command to the report.
+    fn end_command(&mut self, end: &CommandEnd) -> Result<(), Fault> {
+        let mut sink = StdSink::new(&mut self.streams.output);
+        let mut others = StdSink::new(&mut self.streams.others);
+        self.report
+            .end_command(end, &mut self.pieces, &mut sink, &mut others)
     }
 
     /// Returns the next piece, or `None` if something else is to be done first, at latest after `longest`.

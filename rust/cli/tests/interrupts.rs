@@ -226,10 +226,12 @@ fn a_command_starts_with_the_default_action_of_both_signals() {
             .args(["-c", script, common::path_of("test-report"), signal])
             .env("FAILED", FAILED);
         let output = command.output().expect("the program runs");
-        assert_eq!(
-            String::from_utf8_lossy(&output.stderr),
-            format!("test-report: the command ended by signal {number}\n")
+        let start = format!(
+            "no line of the input is of a test run\nthe command ended by signal {number}\n"
         );
+        let stdout = String::from_utf8_lossy(&output.stdout);
+        assert!(stdout.starts_with(&start), "{stdout}");
+        assert_eq!(String::from_utf8_lossy(&output.stderr), "");
         assert_eq!(output.status.code(), Some(1));
     }
 }

@@ -1,8 +1,7 @@
 //! A command that runs, while the program reads what it writes.
 
-use super::end::CommandEnd;
 use std::io::{self, PipeReader, pipe};
-use std::process::{Child, Command};
+use std::process::{Child, Command, ExitStatus};
 use std::thread;
 use std::time::{Duration, Instant};
 
@@ -21,7 +20,7 @@ const SHORT_LOOK: Duration = Duration::from_millis(5);
 #[derive(Debug)]
 pub struct RunningCommand {
     child: Child,
-    end: Option<CommandEnd>,
+    status: Option<ExitStatus>,
 
     /// When output last came, or the command ended.
     last: Instant,
@@ -39,7 +38,7 @@ impl RunningCommand {
         let child = command.spawn()?;
         let running = RunningCommand {
             child,
-            end: None,
+            status: None,
             last: Instant::now(),
         };
         Ok((running, output))
@@ -50,31 +49,31 @@ impl RunningCommand {
         self.last = now;
     }
 
-    /// Returns how the command ended, or `None` if it runs.
+    /// Returns the status with which the command ended, or `None` if it runs.
     ///
     /// Fails if the system does not say.
-    pub fn end(&mut self) -> io::Result<Option<&CommandEnd>> {
-        if self.end.is_none() {
-            self.end = self.child.try_wait()?.map(CommandEnd::of);
-            if self.end.is_some() {
+    pub fn status(&mut self) -> io::Result<Option<ExitStatus>> {
+        if self.status.is_none() {
+            self.status = self.child.try_wait()?;
+            if self.status.is_some() {
                 self.last = Instant::now();
             }
         }
-        Ok(self.end.as_ref())
+        Ok(self.status)
     }
 
     /// Returns true if the command has ended and nothing came since for two seconds.
     ///
     /// Fails if the system does not say whether the command runs.
     pub fn is_over(&mut self, now: Instant) -> io::Result<bool> {
-        let has_ended = self.end()?.is_some();
+        let has_ended = self.status()?.is_some();
         Ok(has_ended && now.saturating_duration_since(self.last) >= QUIET)
     }
 
     /// Asks the command to end, by SIGTERM, unless it has ended. Other systems end it.
     pub fn terminate(&mut self) {
         // A command that has been waited for has no number any more, and another process may have it.
-        if matches!(self.end(), Ok(None)) {
+        if matches!(self.status(), Ok(None)) {
             send_terminate(&mut self.child);
         }
     }
@@ -84,7 +83,7 @@ impl Drop for RunningCommand {
     fn drop(&mut self) {
         self.terminate();
         let start = Instant::now();
-        while matches!(self.end(), Ok(None)) && start.elapsed() < QUIET {
+        while matches!(self.status(), Ok(None)) && start.elapsed() < QUIET {
             thread::sleep(SHORT_LOOK);
         }
     }
@@ -129,6 +128,7 @@ use signal::send_terminate;
 mod tests {
     use super::*;
     use std::io::{BufRead, BufReader, Read};
+    use std::os::unix::process::ExitStatusExt;
 
     /// How long a command may take to end.
     const PATIENCE: Duration = Duration::from_secs(60);
@@ -140,12 +140,12 @@ mod tests {
         RunningCommand::start(command).expect("a shell starts")
     }
 
-    /// Returns how a command ends.
-    fn end_of(running: &mut RunningCommand) -> CommandEnd {
+    /// Returns the status with which a command ends.
+    fn status_of(running: &mut RunningCommand) -> ExitStatus {
         let start = Instant::now();
         while start.elapsed() < PATIENCE {
-            if let Some(end) = running.end().expect("the command is a child") {
-                return end.clone();
+            if let Some(status) = running.status().expect("the command is a child") {
+                return status;
             }
             thread::sleep(SHORT_LOOK);
         }
@@ -158,15 +158,15 @@ mod tests {
         let mut text = String::new();
         output.read_to_string(&mut text).expect("the pipe ends");
         assert_eq!(text, "a\nb\nc\n");
-        assert_eq!(end_of(&mut running), CommandEnd::Status(7));
+        assert_eq!(status_of(&mut running).code(), Some(7));
     }
 
     #[test]
     fn a_command_that_runs_is_asked_to_end() {
         let (mut running, _output) = start("exec sleep 100");
-        assert_eq!(running.end().expect("the command is a child"), None);
+        assert_eq!(running.status().expect("the command is a child"), None);
         running.terminate();
-        assert_eq!(end_of(&mut running), CommandEnd::Signal(15));
+        assert_eq!(status_of(&mut running).signal(), Some(15));
         running.terminate();
     }
 
@@ -205,7 +205,7 @@ mod tests {
         let (mut running, _output) = start("exit 0");
         let before = Instant::now();
         assert!(!running.is_over(before).expect("the command is a child"));
-        end_of(&mut running);
+        status_of(&mut running);
         let second = Duration::from_secs(1);
         let ended = Instant::now();
         let is_over =
