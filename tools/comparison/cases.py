@@ -150,6 +150,21 @@ def fixed_cases():
             yield Case("test-report", ["--format", form], text, f"{name} as {form}")
 
 
+def long_cases():
+    """Yields the cases of many lines, of long lines, and of lines that nest deeply."""
+    for tests, line in ((9_999, b"test pass\n"), (10_000, b"test pass\n"), (2_000, b"test " + 99 * b"fail," + b"pass\n")):
+        text = b"run %d 0 -\n" % tests + tests * line
+        yield Case("run-digest", ["count"], text, f"{tests} tests, {len(line)} bytes each")
+    start = b'{"type":"suite","event":"started","test_count":1'
+    test = b'{"type":"test","event":"started","name":"a"}\n{"type":"test","event":"failed","name":"a","message":"'
+    for size in (50_000, 5_000_000):
+        text = b"%s}\n%s%s\"}\n" % (start, test, size * b"y")
+        yield Case("test-report", [], text, f"a message of {size} bytes")
+    for depth in (126, 127, 50_000):
+        text = b'%s,"nextest":%s%s}\n' % (start, depth * b"[", depth * b"]")
+        yield Case("test-report", [], text, f"{depth} arrays")
+
+
 def replayed_cases():
     """Yields a case for each input of `run-digest` whose result is stored for the replay."""
     lines = (TOP / "rust/tests/data/upstream_replay.txt").read_text(encoding="utf-8").splitlines()
@@ -170,5 +185,6 @@ def all_cases(seed, number):
     }
     yield from fixed_cases()
     yield from replayed_cases()
+    yield from long_cases()
     for index in range(number):
         yield case_of(seed, index, stored)

@@ -85,8 +85,6 @@ pub struct ExecutionStatusesIter<'a, S: OutputSpec> {
     # A value leaves a box by `*`.
     ("test_report_run/src/run.rt", "Box::into_inner(suite)", "*suite"),
     ("test_report_run/src/run/suites.rt", "Box::into_inner(self.suites.remove(at))", "*self.suites.remove(at)"),
-    # Faults of memory are gone.
-    ("run_digest_engine_tests/src/words.rt", '        (Fault::OutOfMemory, 3, "out of memory"),\n', ""),
     # The crate's own moments are made otherwise.
     (
         "fixtures/src/lib.rt",
@@ -96,12 +94,6 @@ pub struct ExecutionStatusesIter<'a, S: OutputSpec> {
     }
 """,
         "Moment::UNIX_EPOCH",
-    ),
-    # No `&&str` is taken for a `&str` by `String::from`.
-    (
-        "run_digest_engine_tests/src/words.rt",
-        "String::from_str(rt.alloc(), word)?",
-        "String::from_str(rt.alloc(), *word)?",
     ),
     # No width, fill or precision changes the text, as with nextest's type.
     (
@@ -167,11 +159,6 @@ pub struct ExecutionStatusesIter<'a, S: OutputSpec> {
     # The layer has the decimal digits alone.
     (
         "output_slice/src/panic_head/characters.rt",
-        "GeneralCategory::for_char(c) == GeneralCategory::DecimalNumber",
-        "is_decimal_digit(c)",
-    ),
-    (
-        "output_slice_tests/src/slow.rt",
         "GeneralCategory::for_char(c) == GeneralCategory::DecimalNumber",
         "is_decimal_digit(c)",
     ),

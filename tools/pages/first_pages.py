@@ -10,7 +10,7 @@ from .page import Page
 
 SHORTEST, LONGEST = 4, 15
 # The folders of the proved sources, each with the file that names their modules.
-PROVED = [("uses/src", "lib.rt"), ("test_report_engine_tests/src/callers", "../callers.rt")]
+PROVED = [("uses/src", "lib.rt"), ("test_report_uses/src", "lib.rt")]
 
 
 def proved_sources(top):

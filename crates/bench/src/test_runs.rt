@@ -11,11 +11,12 @@ use std::fmt::Write;
 use test_report_engine::fault::Fault;
 use test_report_engine::others::Nowhere;
 use test_report_engine::report::Report;
-use test_report_forms::options::Options;
+use test_report_forms::options::{Options, OutputDisplay};
 use test_report_forms::text::TextForm;
 
 const OPTIONS: Options = Options {
     limit: 4_096,
+    output: OutputDisplay::Auto,
     raw: false,
     color: false,
     no_tests_pass: false,
@@ -23,6 +24,9 @@ const OPTIONS: Options = Options {
 
 /// The number of blocks of a log that a failed test writes, of 640 bytes each.
 const BLOCKS: usize = 80;
+
+/// The number of lines of this log, 9 in each block. The report counts them, and does not show them.
+const LOG_LINES: usize = 720;
 
 /// The way in which all tests of a run end.
 #[derive(Clone, Copy, Debug, PartialEq, Eq)]
@@ -186,7 +190,10 @@ fn failed_text(alloc: Global, count: usize) -> Result<String, AllocError> {
             text,
             "    thread 'module::tests::case_{number}' panicked at src/pool.rs:41:9:"
         )?;
-        text.push_str("    no room left\n")?;
+        writeln!(
+            text,
+            "    no room left\n    ({LOG_LINES} more lines of output)"
+        )?;
     }
     writeln!(
         text,

@@ -1,6 +1,6 @@
 //! Runs calls of the libraries. The calls are in libraries of their own.
 //!
-//! - `callers examples` runs the examples of use, which are in `uses`.
+//! - `callers examples` runs the examples of use, which are in `uses` and `test_report_uses`.
 //! - `callers allocation NAME` makes one call that allocates. It is for `./allocation-failures`, and the
 //!   calls are in `allocation_failures`.
 //! - `callers bench MEGABYTES` and `callers bench small` measure calls. They are for `./bench`, and the
@@ -28,9 +28,15 @@ fn measure<R: AllocGlobal + Clock + Print>(rt: &R, word: &str) -> io::Result<Opt
     }
 }
 
+/// Runs the examples of use.
+fn run_examples<R: AllocGlobal + Print>(rt: &R) -> io::Result<()> {
+    uses::run(rt)?;
+    test_report_uses::run(rt)
+}
+
 /// Runs all parts. Returns true if all results are right.
 fn run_all<R: AllocGlobal + Clock + Print>(rt: &R) -> io::Result<bool> {
-    uses::run(rt)?;
+    run_examples(rt)?;
     let are_right = allocation_failures::make_all(rt)?;
     Ok(bench::measure_all(rt, Size::SMALL)? && are_right)
 }
@@ -44,7 +50,7 @@ fn run<R: AllocGlobal + Clock + Print>(
 ) -> io::Result<Option<bool>> {
     match (part, word) {
         ("examples", None) => {
-            uses::run(rt)?;
+            run_examples(rt)?;
             Ok(Some(true))
         }
         ("allocation", Some(name)) => Ok(Some(allocation_failures::make(rt, name)?)),

@@ -2,7 +2,8 @@
 //! status of a run. The example in the page CALLING.md of a library is in the file `of_LIBRARY.rt`.
 //! Most examples in the comments at the head of a library's `src/lib.rt` are from these files, and
 //! `first_pages.rt` has those that no other file has. The examples of the crates `test_report_..` are
-//! in `test_report_engine_tests`. The program `callers` runs them, each on a small input.
+//! in `test_report_uses`. The program `callers` runs them, each on a small input, and calls the laws of
+//! `run_events`.
 #![tactic(auto)]
 
 mod demo;
@@ -10,6 +11,7 @@ mod displayer;
 mod exit_status;
 mod first_pages;
 mod junit;
+mod law_calls;
 mod of_output_slice;
 mod of_program_io;
 mod of_run_digest_engine;
@@ -40,5 +42,6 @@ fn run_on<R: AllocGlobal + Print>(
     demo::write_junit(rt, events)?;
     demo::record(rt)?;
     demo::exit(rt, units)?;
-    pages::show(rt, demo::PANICKED.stderr, units)
+    pages::show(rt, demo::PANICKED.stderr, units)?;
+    law_calls::show(rt)
 }

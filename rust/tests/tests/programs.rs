@@ -1,16 +1,17 @@
-//! The output of the test program is the text that is stored next to its input, in `crates`.
+//! The output of the test program is the text that is stored next to its input, in `data`.
 
 use std::fs::{self, File};
 use std::path::Path;
 use std::process::Command;
 
-/// Runs a program on the stored input of a crate, and compares its output and its exit status.
+/// Runs a program on its stored input, and compares its output and its exit status.
 fn gives_stored_output(program: &str, name: &str) {
-    let folder = Path::new(env!("CARGO_MANIFEST_DIR"))
-        .join("../../crates")
+    let stored = Path::new(env!("CARGO_MANIFEST_DIR"))
+        .join("data")
         .join(name);
-    let input = File::open(folder.join("stdin")).expect("the stored input can be opened");
-    let expected = fs::read_to_string(folder.join("stdout")).expect("the stored output is text");
+    let input = File::open(stored.with_extension("stdin")).expect("the stored input can be opened");
+    let expected =
+        fs::read_to_string(stored.with_extension("stdout")).expect("the stored output is text");
     let output = Command::new(program)
         .stdin(input)
         .output()

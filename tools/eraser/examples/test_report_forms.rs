@@ -1,6 +1,6 @@
 use deodarsieve_cli::test_report_forms::entry::Entry;
 use deodarsieve_cli::test_report_forms::form::Form;
-use deodarsieve_cli::test_report_forms::options::Options;
+use deodarsieve_cli::test_report_forms::options::{Options, OutputDisplay};
 use deodarsieve_cli::test_report_forms::text::TextForm;
 use deodarsieve_cli::test_report_run::note::{Disagreement, Note};
 
@@ -13,5 +13,11 @@ fn text_of_note(note: &Note, options: Options) -> String {
 }
 
 let note = Note::Disagreement(Disagreement::OutsideSuite { started: 2 });
-let options = Options { limit: 4_096, raw: false, color: false, no_tests_pass: false };
+let options = Options {
+    limit: 4_096,
+    output: OutputDisplay::Auto,
+    raw: false,
+    color: false,
+    no_tests_pass: false,
+};
 assert_eq!(text_of_note(&note, options), "2 tests started outside of a suite\n");

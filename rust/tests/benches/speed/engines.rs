@@ -12,7 +12,7 @@ use deodarsieve_cli::test_report_engine::report::Report;
 use deodarsieve_cli::test_report_forms::files::FileForms;
 use deodarsieve_cli::test_report_forms::html::HtmlForm;
 use deodarsieve_cli::test_report_forms::junit::JunitForm;
-use deodarsieve_cli::test_report_forms::options::Options;
+use deodarsieve_cli::test_report_forms::options::{Options, OutputDisplay};
 use deodarsieve_cli::test_report_forms::text::TextForm;
 use serde_json::Value;
 use std::hint::black_box;
@@ -20,6 +20,7 @@ use std::rc::Rc;
 
 const OPTIONS: Options = Options {
     limit: 4_096,
+    output: OutputDisplay::Auto,
     raw: false,
     color: false,
     no_tests_pass: false,
@@ -154,9 +155,10 @@ fn reported_failed(size: usize) -> Work {
         .repeat(BLOCKS);
     let head = |number| format!("thread '{}' panicked at src/pool.rs:41:9:", name(number));
     let more = |number| format!(", \"stdout\": \"{log}{}\\nno room left\\n\"", head(number));
+    let hidden = String::from_utf8_lossy(LOG).lines().count() * BLOCKS;
     let failure = |number| {
         format!(
-            "FAIL suite 1 {}\n    {}\n    no room left\n",
+            "FAIL suite 1 {}\n    {}\n    no room left\n    ({hidden} more lines of output)\n",
             name(number),
             head(number)
         )

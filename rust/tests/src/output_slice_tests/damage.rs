@@ -1,10 +1,8 @@
-// Made by tools/erase from crates/output_slice_tests/src/damage.rt. Do not edit.
 //! Outputs with one byte replaced.
 
 use crate::output_slice_tests::met::Met;
 use crate::output_slice_tests::trial::Trial;
-use std::io;
-use std::io::{BufRead, BufReader};
+use std::io::{self, BufRead, BufReader};
 
 /// The bytes that replace each byte in turn.
 const DAMAGE: [u8; 4] = [b'\'', b'\n', 0xff, b' '];
@@ -13,10 +11,10 @@ const DAMAGE: [u8; 4] = [b'\'', b'\n', 0xff, b' '];
 pub(crate) fn damaged_outputs() -> io::Result<Met> {
     let mut trial = Trial::new();
     let mut met = Met::NONE;
-    for line in BufReader::new(std::io::stdin()).lines() {
+    for line in BufReader::new(io::stdin()).lines() {
         let line = line?;
-        match hex::decode(line.as_str()) {
-            Ok(output) => count_damaged(output.as_slice(), &mut trial, &mut met)?,
+        match hex::decode(&line) {
+            Ok(output) => count_damaged(&output, &mut trial, &mut met),
             Err(_) => {
                 met.count_untried();
                 println!("no hex: {line}");
@@ -27,14 +25,13 @@ pub(crate) fn damaged_outputs() -> io::Result<Met> {
 }
 
 /// Tries an output with each byte replaced in turn.
-fn count_damaged(output: &[u8], trial: &mut Trial, met: &mut Met) -> io::Result<()> {
+fn count_damaged(output: &[u8], trial: &mut Trial, met: &mut Met) {
     for at in 0..output.len() {
         for byte in DAMAGE {
             trial.take(&output[..at]);
             trial.bytes.push(byte);
             trial.bytes.extend_from_slice(&output[at + 1..]);
-            met.count(trial)?;
+            met.count(trial);
         }
     }
-    Ok(())
 }

@@ -1,10 +1,7 @@
-// Made by tools/erase from crates/output_slice_tests/src/long_inputs.rt. Do not edit.
 //! Long inputs: the numbers of reads, and searches whose time must grow no faster than the input.
 
 use deodarsieve::TestOutputErrorSlice;
-use deodarsieve::counted::last_panic_head;
-use deodarsieve::counted::{ByteSource, CountedBytes};
-use std::io;
+use deodarsieve::counted::{ByteSource, CountedBytes, last_panic_head};
 
 /// The name of an input, and its bytes: a front, a piece `times` times, and an end.
 struct Long {
@@ -115,7 +112,7 @@ const SEARCHED: [Long; 7] = [
 
 /// Prints for each of the inputs to be read whether a head is found, and whether there are few
 /// reads: at most three for each byte, and eight more.
-pub(crate) fn few_reads() -> io::Result<()> {
+pub(crate) fn few_reads() {
     println!("reads of long inputs");
     for long in &READ {
         let bytes = long.bytes();
@@ -124,12 +121,11 @@ pub(crate) fn few_reads() -> io::Result<()> {
         let are_few = source.reads() <= 3 * bytes.len() as u128 + 8;
         println!("  {}: a head: {has_head}, few reads: {are_few}", long.shows);
     }
-    Ok(())
 }
 
 /// Prints for each of the inputs to be searched the start and the length of the slice that is
 /// found.
-pub(crate) fn linear_time() -> io::Result<()> {
+pub(crate) fn linear_time() {
     println!("searches of long inputs");
     for long in &SEARCHED {
         let bytes = long.bytes();
@@ -146,5 +142,4 @@ pub(crate) fn linear_time() -> io::Result<()> {
             None => println!("  {}: nothing", long.shows),
         }
     }
-    Ok(())
 }

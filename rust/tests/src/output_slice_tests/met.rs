@@ -1,8 +1,6 @@
-// Made by tools/erase from crates/output_slice_tests/src/met.rt. Do not edit.
 //! The numbers of inputs of a set, by their kinds.
 
 use crate::output_slice_tests::trial::{Reads, Trial};
-use std::io;
 
 /// The numbers of inputs of each kind, and the reads that exceed those of all other inputs.
 #[derive(Clone, Copy)]
@@ -34,7 +32,7 @@ impl Met {
 
     /// Tries the bytes of the trial and counts them. Prints them in hexadecimal if the searches do
     /// not agree.
-    pub(crate) fn count(&mut self, trial: &mut Trial) -> io::Result<()> {
+    pub(crate) fn count(&mut self, trial: &mut Trial) {
         trial.list();
         let taken = trial.taken.len();
         count_if(&mut self.inputs, true);
@@ -52,11 +50,10 @@ impl Met {
             }
             None => {
                 count_if(&mut self.disagreeing, true);
-                let bytes = hex::encode(trial.bytes.as_slice());
+                let bytes = hex::encode(&trial.bytes);
                 println!("the searches do not agree on {bytes}");
             }
         }
-        Ok(())
     }
 
     /// Counts an input that cannot be tried as one on which the searches do not agree.
@@ -66,7 +63,7 @@ impl Met {
 
     /// Prints the numbers of the set with this name. Returns true if the searches agree on all
     /// inputs.
-    pub(crate) fn print(&self, name: &str) -> io::Result<bool> {
+    pub(crate) fn print(&self, name: &str) -> bool {
         let Met {
             inputs,
             no_head,
@@ -88,7 +85,7 @@ impl Met {
             most_reads.count, most_reads.bytes
         );
         println!("  the searches do not agree: {disagreeing}");
-        Ok(disagreeing == 0)
+        disagreeing == 0
     }
 }
 

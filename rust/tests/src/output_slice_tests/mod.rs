@@ -1,7 +1,6 @@
-// Made by tools/erase from crates/output_slice_tests/src/main.rt. Do not edit.
 //! Tests of `output_slice` through its public calls only. Tests of one call on one short input are
-//! lines of `rust/tests/data/upstream_replay.txt`. This program has the other tests. Its output is
-//! compared with the file `stdout`.
+//! lines of `data/upstream_replay.txt`. This program has the other tests. `tests/programs.rs` compares its
+//! output with the file `data/output_slice_tests.stdout`.
 //!
 //! The head of a panic message is its beginning, such as `thread 'main' panicked at `. The program
 //! compares the searches for the last head (`last_head`, `last_panic_head`,
@@ -25,7 +24,7 @@
 //! one, how many reads a `CountedBytes` counts, and the results of searches in long inputs. A
 //! search whose time grows faster than its input would not finish in a reasonable time on these.
 //!
-//! The expected heads in the file `stdout` were worked out by hand. The expected numbers of inputs
+//! The expected heads in that file were worked out by hand. The expected numbers of inputs
 //! of each kind were computed with a regular expression engine and nextest-runner's pattern. If the
 //! program no longer made the inputs of some kind, its numbers would differ from these. The expected
 //! greatest numbers of reads are the measured ones. For every input the program also checks that a
@@ -53,17 +52,17 @@ mod trial;
 mod worked_heads;
 
 pub fn main() -> io::Result<ExitCode> {
-    parts_of_each_stream()?;
-    counted_reads()?;
-    reads_of_searches()?;
-    few_reads()?;
-    linear_time()?;
-    let mut all_agree = worked_heads()?.print("worked heads")?;
+    parts_of_each_stream();
+    counted_reads();
+    reads_of_searches();
+    few_reads();
+    linear_time();
+    let mut all_agree = worked_heads().print("worked heads");
     for set in &SETS {
-        all_agree &= all_inputs(set)?.print(set.name)?;
+        all_agree &= all_inputs(set).print(set.name);
     }
-    all_agree &= beginnings()?.print("beginnings")?;
-    all_agree &= damaged_outputs()?.print("damaged outputs")?;
+    all_agree &= beginnings().print("beginnings");
+    all_agree &= damaged_outputs()?.print("damaged outputs");
     if all_agree {
         Ok(ExitCode::SUCCESS)
     } else {

@@ -1,12 +1,9 @@
-// Made by tools/erase from crates/output_slice_tests/src/reads.rt. Do not edit.
 //! The reads that a source of bytes counts.
 
-use deodarsieve::counted::last_panic_head;
-use deodarsieve::counted::{ByteSource, CountedBytes};
-use std::io;
+use deodarsieve::counted::{ByteSource, CountedBytes, last_panic_head};
 
 /// Reads one byte twice, and prints it and the number of counted reads.
-pub(crate) fn counted_reads() -> io::Result<()> {
+pub(crate) fn counted_reads() {
     let mut source = CountedBytes::new(b"a'");
     let before = source.reads();
     let (first, again) = (source.byte(1), source.byte(1));
@@ -15,10 +12,9 @@ pub(crate) fn counted_reads() -> io::Result<()> {
         source.len()
     );
     println!("  reads: {before}, {}", source.reads());
-    Ok(())
 }
 
-/// Outputs whose reads are counted by hand in `stdout`: no bytes, no quote, a quote that begins no
+/// Outputs whose reads are counted by hand in `data/output_slice_tests.stdout`: no bytes, no quote, a quote that begins no
 /// name, a head, and a head with a number.
 const OUTPUTS: [&str; 5] = [
     "",
@@ -29,7 +25,7 @@ const OUTPUTS: [&str; 5] = [
 ];
 
 /// Searches each of the outputs for the last head, and prints the number of counted reads.
-pub(crate) fn reads_of_searches() -> io::Result<()> {
+pub(crate) fn reads_of_searches() {
     println!("reads of searches");
     for output in &OUTPUTS {
         let mut source = CountedBytes::new(output.as_bytes());
@@ -40,5 +36,4 @@ pub(crate) fn reads_of_searches() -> io::Result<()> {
             source.reads()
         );
     }
-    Ok(())
 }

@@ -1,8 +1,6 @@
-// Made by tools/erase from crates/output_slice_tests/src/slow.rt. Do not edit.
 //! Slow functions that follow the rules to the letter.
 
-use deodarsieve::counted::HeadSpan;
-use deodarsieve::counted::is_decimal_digit;
+use deodarsieve::counted::{HeadSpan, is_decimal_digit};
 use std::str;
 
 /// Returns the end of `text` if it is at `at`.

@@ -1,9 +1,7 @@
-// Made by tools/erase from crates/output_slice_tests/src/small_inputs.rt. Do not edit.
 //! All inputs of a few pieces.
 
 use crate::output_slice_tests::met::Met;
 use crate::output_slice_tests::trial::Trial;
-use std::io;
 
 /// Pieces, and the number of inputs that can be made of at most five or six of them.
 pub(crate) struct Set {
@@ -57,14 +55,14 @@ pub(crate) const SETS: [Set; 3] = [
 ];
 
 /// Tries the inputs of the set.
-pub(crate) fn all_inputs(set: &Set) -> io::Result<Met> {
+pub(crate) fn all_inputs(set: &Set) -> Met {
     let mut trial = Trial::new();
     let mut met = Met::NONE;
     for number in 0..set.inputs {
         join(&mut trial.bytes, set.pieces, number);
-        met.count(&mut trial)?;
+        met.count(&mut trial);
     }
-    Ok(met)
+    met
 }
 
 /// Joins the pieces of the input with this number. Input 0 has no piece. Then come the inputs of

@@ -1,10 +1,7 @@
-// Made by tools/erase from crates/output_slice_tests/src/trial.rt. Do not edit.
 //! One input, searched by the slow functions and by those that are tested.
 
 use crate::output_slice_tests::slow::{list_heads, list_taken, widened};
-use deodarsieve::counted::last_head;
-use deodarsieve::counted::{ByteSource, CountedBytes};
-use deodarsieve::counted::{HeadSpan, last_panic_head};
+use deodarsieve::counted::{ByteSource, CountedBytes, HeadSpan, last_head, last_panic_head};
 use deodarsieve::heuristic_panic_message;
 
 /// The number of reads of a search, and the number of bytes of its input.

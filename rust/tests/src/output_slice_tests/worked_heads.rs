@@ -1,9 +1,7 @@
-// Made by tools/erase from crates/output_slice_tests/src/worked_heads.rt. Do not edit.
 //! Worked inputs, and the heads that the slow functions list for them.
 
 use crate::output_slice_tests::met::Met;
 use crate::output_slice_tests::trial::Trial;
-use std::io;
 
 /// The names of inputs, and their bytes.
 const WORKED: [(&str, &[u8]); 7] = [
@@ -29,17 +27,17 @@ const WORKED: [(&str, &[u8]); 7] = [
 ];
 
 /// Tries the worked inputs, and prints their heads and whether each head is taken.
-pub(crate) fn worked_heads() -> io::Result<Met> {
+pub(crate) fn worked_heads() -> Met {
     let mut trial = Trial::new();
     let mut met = Met::NONE;
     for (shows, bytes) in WORKED {
         trial.take(bytes);
-        met.count(&mut trial)?;
+        met.count(&mut trial);
         println!("{shows}");
         for head in trial.heads.as_slice() {
             let is_taken = trial.taken.as_slice().contains(head);
             println!("  {} to {}, taken: {is_taken}", head.start, head.stop);
         }
     }
-    Ok(met)
+    met
 }

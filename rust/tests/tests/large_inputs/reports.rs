@@ -4,7 +4,7 @@
 use deodarsieve_cli::program_io::memory_device::{MemorySink, MemorySource};
 use deodarsieve_cli::test_report_engine::others::Nowhere;
 use deodarsieve_cli::test_report_engine::report::Report;
-use deodarsieve_cli::test_report_forms::options::Options;
+use deodarsieve_cli::test_report_forms::options::{Options, OutputDisplay};
 use deodarsieve_cli::test_report_forms::text::TextForm;
 use std::fmt::Write;
 
@@ -15,6 +15,7 @@ const LIMIT: usize = 4_096;
 fn reported(input: &str) -> String {
     let form = TextForm::new(Options {
         limit: LIMIT,
+        output: OutputDisplay::Auto,
         raw: false,
         color: false,
         no_tests_pass: false,
@@ -80,8 +81,9 @@ fn a_run_of_three_megabytes() {
         input += &started(&name);
         if number % 1_000 == 999 {
             input += &failed(&name, "log\nthread 'a' panicked at b:1:2:\nwhy\n");
-            failures +=
-                &format!("FAIL suite 1 {name}\n    thread 'a' panicked at b:1:2:\n    why\n");
+            failures += &format!(
+                "FAIL suite 1 {name}\n    log\n    thread 'a' panicked at b:1:2:\n    why\n"
+            );
             list += &format!("        FAIL suite 1 {name}: panicked at b:1:2: why\n");
         } else {
             input += &ok(&name);
@@ -93,8 +95,9 @@ fn a_run_of_three_megabytes() {
     assert_eq!(reported(&input), wanted);
 }
 
-/// Returns the report of a test that failed with this reason, of which the first bytes are shown.
-fn report_of_one(reason: &str) -> String {
+/// Returns the report of a test that failed with this reason, of which the first bytes are shown, and with this number of
+/// other lines of output.
+fn report_of_one(reason: &str, hidden: usize) -> String {
     let mut text = String::from("FAIL suite 1 a\n");
     for line in reason[..reason.len().min(LIMIT)].lines() {
         writeln!(text, "    {line}").expect("a string takes all text");
@@ -102,6 +105,9 @@ fn report_of_one(reason: &str) -> String {
     if reason.len() > LIMIT {
         let more = reason.len() - LIMIT;
         writeln!(text, "    ({more} more bytes)").expect("a string takes all text");
+    }
+    if hidden > 0 {
+        writeln!(text, "    ({hidden} more lines of output)").expect("a string takes all text");
     }
     let list = "        FAIL suite 1 a: panicked at b:1:2: why\n";
     format!("{text}{}{list}outcome failed\n", summary(0, 1))
@@ -121,7 +127,7 @@ fn a_test_with_a_megabyte_of_output() {
             failed("a", &stdout),
             suite_end("failed", ""),
         ];
-        let wanted = report_of_one(reason.trim_end());
+        let wanted = report_of_one(reason.trim_end(), before);
         assert_eq!(
             reported(&input.concat()),
             wanted,

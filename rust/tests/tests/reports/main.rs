@@ -9,12 +9,13 @@ use deodarsieve_cli::program_io::memory_device::{MemorySink, MemorySource};
 use deodarsieve_cli::test_report_engine::others::Nowhere;
 use deodarsieve_cli::test_report_engine::report::Report;
 use deodarsieve_cli::test_report_forms::form::Form;
-use deodarsieve_cli::test_report_forms::options::Options;
+use deodarsieve_cli::test_report_forms::options::{Options, OutputDisplay};
 use deodarsieve_cli::test_report_forms::text::TextForm;
 
 /// The options of most reports.
 const OPTIONS: Options = Options {
     limit: 4_096,
+    output: OutputDisplay::Auto,
     raw: false,
     color: false,
     no_tests_pass: false,
@@ -59,8 +60,13 @@ struct Case {
 
 /// Asserts the report of each case.
 fn assert_reports(cases: &[Case]) {
+    assert_reports_with(OPTIONS, cases);
+}
+
+/// Asserts the report of each case with these options.
+fn assert_reports_with(options: Options, cases: &[Case]) {
     for case in cases {
-        let (text, success) = reported(TextForm::new(OPTIONS), &[case.lines]);
+        let (text, success) = reported(TextForm::new(options), &[case.lines]);
         let wanted = format!(
             "{}------------\n     Summary {}\n{}outcome {}\n",
             case.notes, case.summary, case.list, case.outcome

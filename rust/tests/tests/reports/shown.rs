@@ -1,7 +1,7 @@
 //! How much is shown of the explanation of a failure, and in which form.
 
-use crate::{Case, OPTIONS, assert_reports, reported};
-use deodarsieve_cli::test_report_forms::options::Options;
+use crate::{Case, OPTIONS, assert_reports, assert_reports_with, reported};
+use deodarsieve_cli::test_report_forms::options::{Options, OutputDisplay};
 use deodarsieve_cli::test_report_forms::text::TextForm;
 
 /// A failed test with an explanation of nine bytes: a character of two bytes, an escape and three
@@ -10,6 +10,13 @@ const RUN: &str = r#"{"type":"suite","event":"started","test_count":1}
 {"type":"test","event":"started","name":"a"}
 {"type":"test","event":"failed","name":"a","message":"£\u001b[1m€"}
 {"type":"suite","event":"failed"}"#;
+
+/// A failed test whose output has twelve lines, one of which is blank, and a blank line after them.
+const TWELVE_LINES: &str = r#"{"type":"suite","event":"started","test_count":1}
+{"type":"test","event":"started","name":"a"}
+{"type":"test","event":"failed","name":"a","stdout":"1\n2\n3\n4\n5\n6\n7\n8\n\n10\n11\n12\n\n"}
+{"type":"suite","event":"failed"}
+"#;
 
 #[test]
 fn a_limit_cuts_before_a_character() {
@@ -67,7 +74,7 @@ fn reasons() {
 {"type":"suite","event":"failed"}
 "#,
             notes: "TIMEOUT [   2.500s] suite 1 a\n    timed out after 2.500s\n\
-                FAIL suite 1 b\n    other\n    why\n",
+                FAIL suite 1 b\n    other\n    why\n    x\n",
             summary: "[   2.500s] 2 tests run: 0 passed (0 flaky), 2 failed (1 timed out, 0 crashed), \
                 0 skipped, 0 not run",
             list: "     TIMEOUT [   2.500s] suite 1 a: timed out after 2.500s\n        \
@@ -75,13 +82,9 @@ fn reasons() {
             outcome: "failed",
         },
         Case {
-            name: "the last ten lines that are not blank",
-            lines: r#"{"type":"suite","event":"started","test_count":1}
-{"type":"test","event":"started","name":"a"}
-{"type":"test","event":"failed","name":"a","stdout":"1\n2\n3\n4\n5\n6\n7\n8\n\n10\n11\n12\n\n"}
-{"type":"suite","event":"failed"}
-"#,
-            notes: "FAIL suite 1 a\n    2\n    3\n    4\n    5\n    6\n    7\n    8\n    10\n    11\n    12\n",
+            name: "a whole output, and the first of its last ten lines that are not blank",
+            lines: TWELVE_LINES,
+            notes: "FAIL suite 1 a\n    1\n    2\n    3\n    4\n    5\n    6\n    7\n    8\n    \n    10\n    11\n    12\n",
             summary: "1 tests run: 0 passed (0 flaky), 1 failed (0 timed out, 0 crashed), 0 skipped, 0 not run",
             list: "        FAIL suite 1 a: 2\n",
             outcome: "failed",
@@ -93,10 +96,46 @@ fn reasons() {
 {"type":"test","event":"failed","name":"a","stdout":"log\r\nthread 'a' (7) panicked at src/a.rs:1:2:\r\nwhy\r\nmore\n"}
 {"type":"suite","event":"failed"}
 "#,
-            notes: "FAIL suite 1 a\n    thread 'a' (7) panicked at src/a.rs:1:2:\n    why\n    more\n",
+            notes: "FAIL suite 1 a\n    log\n    thread 'a' (7) panicked at src/a.rs:1:2:\n    why\n    more\n",
             summary: "1 tests run: 0 passed (0 flaky), 1 failed (0 timed out, 0 crashed), 0 skipped, 0 not run",
             list: "        FAIL suite 1 a: panicked at src/a.rs:1:2: why\n",
             outcome: "failed",
         },
+        Case {
+            name: "a crash after two panics, and its short reason",
+            lines: r#"{"type":"suite","event":"started","test_count":1}
+{"type":"test","event":"started","name":"a"}
+log
+thread 'worker' (8) panicked at src/b.rs:3:4:
+no money
+log
+thread 'a' (7) panicked at src/a.rs:1:2:
+the worker panicked
+"#,
+            notes: "CRASH suite 1 a\n    its process ended before it did\n    \
+                thread 'worker' (8) panicked at src/b.rs:3:4:\n    no money\n    log\n    \
+                thread 'a' (7) panicked at src/a.rs:1:2:\n    the worker panicked\n",
+            summary: "1 tests run: 0 passed (0 flaky), 1 failed (0 timed out, 1 crashed), 0 skipped, 0 not run",
+            list: "       CRASH suite 1 a: its process ended before it did: panicked at src/b.rs:3:4: no money\n",
+            outcome: "failed",
+        },
     ]);
+}
+
+#[test]
+fn short_reasons() {
+    let options = Options {
+        output: OutputDisplay::Short,
+        ..OPTIONS
+    };
+    let case = Case {
+        name: "the last ten lines that are not blank",
+        lines: TWELVE_LINES,
+        notes: "FAIL suite 1 a\n    2\n    3\n    4\n    5\n    6\n    7\n    8\n    10\n    11\n    12\n    \
+            (1 more lines of output)\n",
+        summary: "1 tests run: 0 passed (0 flaky), 1 failed (0 timed out, 0 crashed), 0 skipped, 0 not run",
+        list: "        FAIL suite 1 a: 2\n",
+        outcome: "failed",
+    };
+    assert_reports_with(options, &[case]);
 }

@@ -1,0 +1,61 @@
+//! Lines that cross the pieces in which an input is read, and lines that nest deeply.
+
+use crate::devices::{RUN, report_of_run, reports};
+
+/// The number of bytes of an input that are read at once.
+const PIECE: usize = 16_384;
+
+#[test]
+fn pieces_end_at_each_byte_of_a_run() {
+    let report = report_of_run();
+    for before in 0..=RUN.len() {
+        // The first piece ends with this number of bytes of the run.
+        let width = PIECE - before - 1;
+        let input = format!("{:x>width$}\n{RUN}", "");
+        assert!(reports(input.as_bytes(), &report), "{before} bytes");
+    }
+}
+
+/// Returns the run of a test with a message of this number of times 50,000 bytes.
+fn run_with_message(times: usize) -> String {
+    let mut run = String::from(
+        r#"{"type":"suite","event":"started","test_count":1}
+{"type":"test","event":"started","name":"a"}
+{"type":"test","event":"failed","name":"a","message":""#,
+    );
+    run.push_str(&"y".repeat(50_000 * times));
+    run.push_str("\"}\n{\"type\":\"suite\",\"event\":\"failed\"}");
+    run
+}
+
+#[test]
+fn a_line_of_many_pieces_is_shown_up_to_the_limit() {
+    for (times, more) in [(1, 45_904), (100, 4_995_904)] {
+        let input = run_with_message(times);
+        let report = format!(
+            "FAIL suite 1 a\n    {:y>4096}\n    ({more} more bytes)\n------------\n     \
+             Summary 1 tests run: 0 passed (0 flaky), 1 failed (0 timed out, 0 crashed), 0 skipped, 0 not run\n        \
+             FAIL suite 1 a: {:y>4096}\noutcome failed\n",
+            "", ""
+        );
+        assert!(reports(input.as_bytes(), &report), "{times} times");
+    }
+}
+
+#[test]
+fn lines_nest_at_most_127_deep() {
+    let event = "suite 1 ended early\nsuite 1: 3 of 3 tests were not run\n------------\n     \
+         Summary 0 tests run: 0 passed (0 flaky), 0 failed (0 timed out, 0 crashed), 0 skipped, 3 not run\n\
+         outcome failed\n";
+    let print = "no line of the input is of a test run\n------------\n     \
+         Summary 0 tests run: 0 passed (0 flaky), 0 failed (0 timed out, 0 crashed), 0 skipped, 0 not run\n\
+         outcome failed\n";
+    // The object itself is one level.
+    for (arrays, report) in [(1, event), (126, event), (127, print), (50_000, print)] {
+        let input = format!(
+            r#"{{"type":"suite","event":"started","test_count":3,"nextest":{:[>arrays$}{:]>arrays$}}}"#,
+            "", ""
+        );
+        assert!(reports(input.as_bytes(), report), "{arrays} arrays");
+    }
+}
