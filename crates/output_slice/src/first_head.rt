@@ -7,8 +7,8 @@ use crate::panic_head::HeadSpan;
 use crate::panic_head::ends::opened_head_end;
 use crate::panic_head::quotes::{WORD_SIZE, next_quote};
 
-/// Returns the first panic head in `bytes`, or `None`: the first of the heads of which [`last_head`] returns the
-/// last.
+/// Returns the first panic head in `bytes`, or `None` if there is none. What counts as a head is the same as for
+/// [`last_head`].
 ///
 /// [`last_head`]: crate::last_head::last_head
 pub fn first_head(bytes: &[u8]) -> Option<HeadSpan>

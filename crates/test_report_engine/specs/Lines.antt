@@ -31,7 +31,7 @@ pub record AreLineEvents (bytes : List ℕ) (events : List (List EventView)) : T
   pub are_lines : AreLines bytes lines
   pub say : AllZip LineSays lines events
 
--- an input: its bytes, and how the command ended whose output they are, if they are one's
+-- an input of a report: its bytes and, if a command wrote them, how that command ended
 pub record InputView : Type 0 where
   pub bytes : List ℕ
   pub command : Option CommandView

@@ -55,7 +55,7 @@ excerpt_lines e = option_map_or (λ x. x.lines) e 0
 abbrev pub output_excerpt : Options → FailureView → Option ExplanationView → Option ExcerptView
 output_excerpt o f e = if is_crash f.kind then option_map (explanation_excerpt o.limit) e else shown_output o (is_some f.message) (output f) e
 
--- how many lines of the output are neither shown nor blank, if so many are shown. They are not counted if the test crashed
+-- how many lines of the output are neither shown nor blank, when this many are shown. None are counted if the test crashed
 abbrev pub hidden_lines : FailureView → ℕ → ℕ
 hidden_lines f lines = if is_crash f.kind then 0 else written_count (output f) - lines
 

@@ -436,7 +436,7 @@ held_told r =
     if ended_well r.command then step (record r { held = []; causes = r.causes - length r.held }) []
     else step (record r { held = [] }) (map (λ report. Disagrees (CargoSays report)) r.held)
 
--- a file disagrees if it has no event of a harness, nothing failed or disagreed in it, and the end of its command says no more
+-- a file disagrees if it has no event of a harness and nothing failed or disagreed in it, unless its command ended with status 0 or was not started
 abbrev pub no_event_notes : RunState → List NoteView
 no_event_notes r =
     if not r.has_event && (not (nat_lt r.causes_at_file r.causes) && not (ended_well r.command || was_not_started r.command))
@@ -452,7 +452,7 @@ all_ended_early r =
 abbrev pub reports_told : RunState → Step
 reports_told r = let last = settled r in let held = held_told last.run in step held.run (last.notes ++ held.notes)
 
--- the end of a file, but for what the end of its command says
+-- the end of a file, without the note on how its command ended
 abbrev pub file_end : RunState → Step
 file_end r =
     let reports = reports_told r in

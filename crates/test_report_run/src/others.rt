@@ -55,7 +55,7 @@ enum Stage {
     /// There is nothing to search for: no failure came, the cause is known, or a heading came after the failure.
     Over,
 
-    /// Behind the failure, before the line `Caused by:`.
+    /// After the failure, before the line `Caused by:`.
     Failed,
 
     /// Right after the line `Caused by:`.

@@ -256,8 +256,8 @@ impl TestRun {
         }
     }
 
-    /// Adds a disagreement if no line of the file is an event of a harness, nothing failed or disagreed in it, and
-    /// the end of its command says no more.
+    /// Adds a disagreement if no line of the file is an event of a harness and nothing failed or disagreed in it,
+    /// unless its command ended with status 0 or was not started.
     fn push_no_event(&self, notes: &mut Vec<Note>) -> Result<(), AllocError>
         ensures { OnOk result (map note_view notes.new.items ≡ map note_view notes.old.items
             ++ spec.no_event_notes (run_state self.now)) }

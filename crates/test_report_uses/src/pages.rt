@@ -113,7 +113,7 @@ fn show_success<R: AllocGlobal + Print>(rt: &R, run: &str) -> io::Result<()> {
     }
 }
 
-/// Prints whether a run succeeded, of which it is known what its lines then say.
+/// Prints whether a run succeeded. The contract of the call says what the lines of such a run are.
 fn show_success_in_order<R: AllocGlobal + Print>(rt: &R, run: &str) -> io::Result<()> {
     let mut buffer = [0; 1_024];
     let mut source = MemorySource::new(run.as_bytes(), None);

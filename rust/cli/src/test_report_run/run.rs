@@ -199,8 +199,8 @@ impl TestRun {
         }
     }
 
-    /// Adds a disagreement if no line of the file is an event of a harness, nothing failed or disagreed in it, and
-    /// the end of its command says no more.
+    /// Adds a disagreement if no line of the file is an event of a harness and nothing failed or disagreed in it,
+    /// unless its command ended with status 0 or was not started.
     fn push_no_event(&self, notes: &mut Vec<Note>) {
         let explained = self.causes > self.causes_at_file || self.command_says_more();
         if !self.has_event && !explained {

@@ -6,8 +6,8 @@ use crate::output_slice::panic_head::HeadSpan;
 use crate::output_slice::panic_head::ends::opened_head_end;
 use crate::output_slice::panic_head::quotes::{WORD_SIZE, next_quote};
 
-/// Returns the first panic head in `bytes`, or `None`: the first of the heads of which [`last_head`] returns the
-/// last.
+/// Returns the first panic head in `bytes`, or `None` if there is none. What counts as a head is the same as for
+/// [`last_head`].
 ///
 /// [`last_head`]: crate::output_slice::last_head::last_head
 #[must_use]
