@@ -7,6 +7,7 @@
 #![forbid(unsafe_code)]
 
 mod c_values;
+pub mod devices;
 pub mod fixtures;
 pub mod named;
 pub mod output_slice_tests;

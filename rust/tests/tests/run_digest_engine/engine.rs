@@ -5,6 +5,7 @@ use deodarsieve_cli::program_io::memory_device::{MemorySink, MemorySource};
 use deodarsieve_cli::run_digest_engine::count::count;
 use deodarsieve_cli::run_digest_engine::extract::extract;
 use deodarsieve_cli::run_digest_engine::fault::Fault;
+use deodarsieve_tests::devices::Devices;
 
 /// A run of two tests, of which one is flaky and one fails.
 pub const RUN: &[u8] = b"run 2 0 -\ntest fail,pass\ntest fail slow\n";
@@ -19,20 +20,8 @@ pub const OUTPUT: &[u8] = b"foobar\nthread 'main' panicked at 'foo', src/lib.rs:
 /// The text that `extract` writes for [`OUTPUT`].
 pub const EXTRACT: &[u8] = b"panic-message 7 45\nthread 'main' panicked at 'foo', src/lib.rs:1\n";
 
-/// The room of the sink, and the calls of the source and of the sink that fail.
-#[derive(Clone, Copy)]
-pub struct Devices {
-    pub room: usize,
-    pub read_fails: Option<usize>,
-    pub write_fails: Option<usize>,
-}
-
 /// Devices that do not fail, with room for every text.
-pub const SOUND: Devices = Devices {
-    room: 5_000,
-    read_fails: None,
-    write_fails: None,
-};
+pub const SOUND: Devices = Devices::sound(5_000);
 
 /// The engine that reads the input.
 #[derive(Clone, Copy)]

@@ -1,8 +1,9 @@
 //! The engines over devices that fail.
 
-use crate::engine::{Devices, EXTRACT, Engine, OUTPUT, REPORT, RUN, SOUND};
+use crate::engine::{EXTRACT, Engine, OUTPUT, REPORT, RUN, SOUND};
 use crate::long_runs::run_of;
 use deodarsieve_cli::run_digest_engine::fault::Fault;
+use deodarsieve_tests::devices::Devices;
 
 /// Three sub-runs. Counted as one run, they would be cancelled by the interrupt.
 const SUB_RUNS: &[u8] =

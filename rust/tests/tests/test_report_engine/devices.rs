@@ -10,6 +10,7 @@ use deodarsieve_cli::test_report_forms::form::Form;
 use deodarsieve_cli::test_report_forms::options::{Options, OutputDisplay};
 use deodarsieve_cli::test_report_forms::text::TextForm;
 use deodarsieve_cli::test_report_run::note::RunEnd;
+use deodarsieve_tests::devices::Devices;
 
 /// The options of most reports.
 pub const OPTIONS: Options = Options {
@@ -42,20 +43,8 @@ pub fn report_of_run() -> String {
     PARTS.concat()
 }
 
-/// How much room the sink has, and which calls of the source and of the sink fail.
-#[derive(Clone, Copy)]
-pub struct Devices {
-    pub room: usize,
-    pub read_fails: Option<usize>,
-    pub write_fails: Option<usize>,
-}
-
 /// Devices that do not fail, with room for every report.
-pub const SOUND: Devices = Devices {
-    room: 20_000,
-    read_fails: None,
-    write_fails: None,
-};
+pub const SOUND: Devices = Devices::sound(20_000);
 
 /// Writes the report of a source in a form, and returns the end of the run. Neither device may have failed.
 pub fn reported<F: Form, R: Source, W: Sink>(

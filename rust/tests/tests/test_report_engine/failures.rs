@@ -1,7 +1,8 @@
 //! The report over devices that fail: what was written is a beginning of the report.
 
-use crate::devices::{Devices, PARTS, RUN, SOUND, gives, report_of_run};
+use crate::devices::{PARTS, RUN, SOUND, gives, report_of_run};
 use deodarsieve_cli::test_report_engine::fault::Fault;
+use deodarsieve_tests::devices::Devices;
 
 #[test]
 fn each_read_that_fails_is_reported() {
