@@ -44,14 +44,13 @@ suites-end r r1 r2 old n1 n2 s suites is end =
     ∙ ended-before old (step (record (over.run) { outside = outside_start }) over.notes) r.outside
 
 -- the suites that a loop took out are all suites of the run, and `empty` is left in place of the tests outside of a suite
-pub suites-taken : (r r1 r2 : RunState) (old n1 n2 : List NoteView) (yielded all : List (Box Suite Global)) (empty s : SuiteState)
-    → step r1 n1 ≡ fold ended_early (step (record r { suites = [] }) old) (map boxed_state yielded) → yielded ≡ all → r.suites ≡ map boxed_state all
+pub suites-taken : (r r1 r2 : RunState) (old n1 n2 : List NoteView) (yielded : List (Box Suite Global)) (empty s : SuiteState)
+    → step r1 n1 ≡ fold ended_early (step (record r { suites = [] }) old) (map boxed_state yielded) → map boxed_state yielded ≡ r.suites
     → s ≡ r1.outside → empty ≡ outside_start → step r2 n2 ≡ ended_early (step (record r1 { outside = empty }) n1) s
     → step r2 n2 ≡ with_before old (all_ended_early r)
-suites-taken r r1 r2 old n1 n2 yielded all empty s suites same views is none end =
+suites-taken r r1 r2 old n1 n2 yielded empty s suites same is none end =
     suites-end r r1 r2 old n1 n2 s
-    (suites ∙ ap (λ (xs : List (Box Suite Global)). fold ended_early (step (record r { suites = [] }) old) (map boxed_state xs)) same
-    ∙ ap (λ (xs : List SuiteState). fold ended_early (step (record r { suites = [] }) old) xs) (sym views)) is
+    (suites ∙ ap (λ (xs : List SuiteState). fold ended_early (step (record r { suites = [] }) old) xs) same) is
     (end ∙ ap (λ (x : SuiteState). ended_early (step (record r1 { outside = x }) n1) s) none)
 
 -- one more suite ends early

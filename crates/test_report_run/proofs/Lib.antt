@@ -6,9 +6,11 @@ pub mod Finishes
 pub mod FirstTests
 pub mod Firsts
 pub mod HeadingViews
+pub mod KeySteps
 pub mod LastPrints
 pub mod Lines
 pub mod LongestEnds
+pub mod OpenSteps
 pub mod OrderSteps
 pub mod Places
 pub mod Runs

@@ -5,6 +5,7 @@ use Rattle.std.specs.List.{position, remove}
 use Rattle.std.specs.Option.{option_map_or, option_or}
 use Rattle.std.proofs.Math.ListN.{set}
 use Rattle.std.proofs.lemmas.List.{get_or-map, get_or-set_same, map-set}
+use Rattle.std.proofs.lemmas.Option.{none-some}
 use Rattle.test_report_events.specs.Event.{SuiteEndView, TestEndView}
 use Rattle.test_report_run.specs.Note.{NoteView, text_view}
 use Rattle.test_report_run.specs.Others.{event_place}
@@ -87,6 +88,13 @@ running-over r taken e None found is left = cc
 running-over r taken e (Some p) found is left =
     let same : found ≡ test_at r.running p = cc in
     rw (same, left) refl
+
+-- no running test has the name of a test that ends
+pub none-over : (r taken : RunState) (e : TestEndView) (place : Option (ℕ × ℕ)) → None ≡ option_map (test_at r.running) place
+    → taken ≡ record r { running = option_map_or (λ (p : ℕ × ℕ). remove r.running p.0) place r.running }
+    → option_map_or (λ (p : ℕ × ℕ). running_ends r e p.0 p.1) place (stray_ends r e) ≡ stray_ends taken e
+none-over r taken e None found left = rw left refl
+none-over r taken e (Some p) found left = absurd (none-some (test_at r.running p) found)
 
 -- in a list of one suite, a test belongs to that suite
 first-of-one : {X : Type 0} (p : X → Bool) (x : X) → option_or (position p (x ∷ [])) (Some 0) ≡ Some 0

@@ -63,7 +63,7 @@ abbrev pub end_notes : SuiteState → OverView → TestEndView → List NoteView
 end_notes s t e = elim e.result as (λ _. List NoteView) [
   | Ok ↦ if nat_lt 1 t.attempts then [] else test_note s t Passes ∷ []
   | Failed ↦ failed_note s t e
-  | Ignored ↦ test_note s t IsSkipped ∷ []
+  | Ignored ↦ test_note s t (IsSkipped e.message) ∷ []
 ]
 
 -- the suite after the end of a test that was not running

@@ -1,10 +1,12 @@
 pub mod Counted
 pub mod Ended
 pub mod Headings
+pub mod Keys
 pub mod LastLine
 pub mod LongestEnd
 pub mod Name
 pub mod Note
+pub mod OpenSuites
 pub mod Orders
 pub mod Others
 pub mod Over

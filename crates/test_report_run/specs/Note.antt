@@ -45,10 +45,10 @@ pub record FailureView : Type 0 where
   pub message : Option (List ℕ)
   pub reason : Option (List ℕ)
 
--- how a test counts
+-- how a test counts. A skipped one may have a reason
 pub data OutcomeView : Type 0 where
   Passes : OutcomeView
-  IsSkipped : OutcomeView
+  IsSkipped : Option (List ℕ) → OutcomeView
   Fails : FailureView → OutcomeView
 
 -- a test, and how it counts
@@ -129,7 +129,7 @@ failure_view f = record {
 -- what the outcome of a test says
 abbrev pub outcome_view : TestOutcome → OutcomeView
 outcome_view outcome.Passed = Passes
-outcome_view outcome.Skipped = IsSkipped
+outcome_view (outcome.Skipped reason) = IsSkipped (text_view reason)
 outcome_view (outcome.Failed failure) = Fails (failure_view failure)
 
 -- what the note of a test says

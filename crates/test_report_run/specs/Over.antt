@@ -140,7 +140,7 @@ rest_of s e names = record {
 
 -- a test without end, of this name, was skipped
 abbrev pub skipped_note : SuiteState → List ℕ → NoteView
-skipped_note s name = test_note s (over_of name) IsSkipped
+skipped_note s name = test_note s (over_of name) (IsSkipped None)
 
 -- what becomes known when a suite ends with its last line while tests of these names run
 abbrev pub last_notes : SuiteState → List (List ℕ) → List NoteView

@@ -9,6 +9,7 @@ use Rattle.test_report_events.specs.declared.event.TestResult.TheVariants.{Ok, F
 use Rattle.test_report_run.specs.Ended.{after_end, after_stray, end_notes, stray_notes}
 use Rattle.test_report_run.specs.Headings.{NamedPaths, headings_of, shown_by, with_heading}
 use Rattle.test_report_run.specs.LongestEnd.{joined, with_kept}
+use Rattle.test_report_run.specs.OpenSuites.{suites_of}
 use Rattle.test_report_run.specs.Note.{CargoSays, CargoView, CommandFails, Disagrees, DisagreementView, EndsEarly, Fails, HasNoEvent, IsDamaged, IsNotRun, IsSkipped, NoteView, OutcomeView, Passes, SaysOther, StartsOutside, StrayEnds, StraySuiteEnds, SuiteIs, TestIs, cargo_view, command_view, text_view}
 use Rattle.test_report_run.specs.Over.{early_notes, last_notes}
 use Rattle.test_report_run.specs.Others.{OthersView, after_failure, after_heading, after_print, event_place, last_cause, no_others, others_view}
@@ -58,8 +59,8 @@ pub record RunState : Type 0 where
 abbrev pub run_state : TestRun → RunState
 run_state r = record {
   outside = state_of r.outside;
-  suites = map (λ suite. state_of suite.value) r.suites.items;
-  suites_started = r.suites_started;
+  suites = suites_of r.suites;
+  suites_started = r.suites.started;
   headings = headings_of r.headings;
   heading = text_view r.heading;
   has_event = r.has_event;
@@ -326,7 +327,7 @@ told r (CommandOver end) = step (record r { command = Some end }) []
 -- the test failed
 abbrev pub has_failed : OutcomeView → Bool
 has_failed Passes = false
-has_failed IsSkipped = false
+has_failed (IsSkipped reason) = false
 has_failed (Fails failure) = true
 
 -- the note is of a failed test

@@ -1,6 +1,7 @@
-//! Counts a test that finished.
+//! How a test finished, as the statistics and levels of the layer take it.
 
 ghost use Rattle.std.specs.Prelude.{◌≡◌, ◌↔◌, IsOk, OnErr, OnOk};
+ghost use Rattle.run_events_levels.specs.TestView.{finished_view};
 ghost use Rattle.run_events_stats.specs.Counters.{TestCountersFit, with_test};
 ghost use Rattle.test_report_run.specs.Counted.{finish_for, result_of, view_of_finish};
 ghost use Rattle.test_report_run.specs.Note.{kind_view};
@@ -15,8 +16,8 @@ use run_events_stats::stats::{CounterFull, RunStats};
 const HARNESS_FAILED: i32 = 101;
 
 /// How a test finished.
-#[derive(Clone, Copy, PartialEq, Eq)]
-pub(crate) enum Finish {
+#[derive(Clone, Copy, Debug, PartialEq, Eq)]
+pub enum Finish {
     /// It passed, or is flaky and counts as passed.
     Passed,
 
@@ -32,7 +33,7 @@ pub(crate) enum Finish {
 
 impl Finish {
     /// Returns how a test finished that failed in this way.
-    pub(crate) fn of_failure(kind: &FailureKind) -> Finish
+    pub fn of_failure(kind: &FailureKind) -> Finish
         ensures { result ≡ finish_for (kind_view kind.now) }
     {
         match kind {
@@ -64,6 +65,21 @@ fn described(finish: Finish) -> ExecutionResultDescription
     }
 }
 
+/// Returns a test that finished in this way, after this number of attempts. It was not slow.
+pub fn finished_test(finish: Finish, attempts: usize) -> FinishedTest
+    ensures { finished_view result ≡ view_of_finish finish attempts }
+{
+    FinishedTest {
+        result: described(finish),
+        attempts,
+        is_slow: false,
+        flaky_result: match finish {
+            Finish::FlakyFailed => FlakyResult::Fail,
+            Finish::Passed | Finish::Failed | Finish::TimedOut => FlakyResult::Pass,
+        },
+    }
+}
+
 /// Adds a test that finished to the statistics. Fails only if a counter is full, and changes nothing then.
 pub(crate) fn count(
     stats: &mut RunStats,
@@ -74,15 +90,6 @@ pub(crate) fn count(
     ensures room { IsOk result ↔ TestCountersFit (with_test stats.old (view_of_finish finish attempts)) }
     ensures kept { OnErr result (stats.new ≡ stats.old) }
 {
-    let flaky_result = match finish {
-        Finish::FlakyFailed => FlakyResult::Fail,
-        Finish::Passed | Finish::Failed | Finish::TimedOut => FlakyResult::Pass,
-    };
-    let test = FinishedTest {
-        result: described(finish),
-        attempts,
-        is_slow: false,
-        flaky_result,
-    };
+    let test = finished_test(finish, attempts);
     stats.try_on_test_view(&test.view())
 }

@@ -62,10 +62,13 @@ impl Suite {
         ensures tells { OnOk result (map note_view notes.new.items ≡ map note_view notes.old.items
             ++ spec.end_notes (state_of self.old) (over_view test)
             (test_end_view [] end details.entry)) }
+        ensures number { self.new.name.number ≡ self.old.name.number }
+        ensures key { text_view self.new.name.key ≡ text_view self.old.name.key }
     {
         if end == TestResult::Ignored {
             self.skipped = one_more(self.skipped)?;
-            notes.push(self.note(alloc, test, TestOutcome::Skipped)?)?;
+            let reason = owned(alloc, details.message)?;
+            notes.push(self.note(alloc, test, TestOutcome::Skipped { reason })?)?;
             return Ok(());
         }
         self.time = time_sum(self.time, details.time);
@@ -94,6 +97,8 @@ impl Suite {
         ensures tells { OnOk result (map note_view notes.new.items ≡ map note_view notes.old.items
             ++ spec.stray_notes (state_of self.old) (over_view test)
             (test_end_view [] end details.entry)) }
+        ensures number { self.new.name.number ≡ self.old.name.number }
+        ensures key { text_view self.new.name.key ≡ text_view self.old.name.key }
     {
         self.on_name(alloc, test.name.as_str())?;
         self.on_end(alloc, test, 0, end, details, notes)
@@ -112,6 +117,8 @@ impl Suite {
         ensures tells { OnOk result (map note_view notes.new.items ≡ map note_view notes.old.items
             ++ spec.failed_note (state_of self.old) (over_view test)
             (test_end_view [] ended.Failed details.entry)) }
+        ensures number { self.new.name.number ≡ self.old.name.number }
+        ensures key { text_view self.new.name.key ≡ text_view self.old.name.key }
     {
         let failure = failure_of(alloc, details)?;
         count(
@@ -147,8 +154,10 @@ impl Suite {
         order: usize,
         details: TestDetails<'_>,
     ) -> Result<(), RunError>
-        ensures { OnOk result (state_of self.new ≡ spec.after_flaky (state_of self.old)
+        ensures takes { OnOk result (state_of self.new ≡ spec.after_flaky (state_of self.old)
             (over_view test) order (test_end_view [] ended.Ok details.entry)) }
+        ensures number { self.new.name.number ≡ self.old.name.number }
+        ensures key { text_view self.new.name.key ≡ text_view self.old.name.key }
     {
         let at = self.flaky_place(order);
         let flaky = FlakyTest {

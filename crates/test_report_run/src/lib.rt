@@ -24,7 +24,7 @@
 //! ```
 #![tactic(auto)]
 
-mod counted;
+pub mod counted;
 mod cuts;
 mod ended;
 pub mod error;
@@ -32,6 +32,7 @@ mod headings;
 mod last_line;
 mod longest_end;
 pub mod note;
+mod open_suites;
 mod others;
 mod over;
 mod prints;

@@ -333,7 +333,8 @@ impl Suite {
             ++ map (spec.skipped_note (state_of self.now)) (names_of tests.items)) }
     {
         for test in tests {
-            notes.push(self.note(alloc, over(test), TestOutcome::Skipped)?)?;
+            let outcome = TestOutcome::Skipped { reason: None };
+            notes.push(self.note(alloc, over(test), outcome)?)?;
         }
         Ok(())
     }

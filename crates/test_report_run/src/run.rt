@@ -16,6 +16,7 @@ use crate::error::{RunError, one_more};
 use crate::headings::Headings;
 use crate::longest_end::LongestEnd;
 use crate::note::{CargoReport, CommandEnd, Disagreement, Note, RunEnd, TestOutcome};
+use crate::open_suites::OpenSuites;
 use crate::others::Others;
 use crate::run::lines::push_damaged;
 use crate::running::Running;
@@ -31,11 +32,8 @@ pub struct TestRun {
     /// The tests of the file that start outside of a suite.
     outside: Suite,
 
-    /// The open suites in the order of their first lines. They are boxed because a suite that ends is removed
-    /// from among them, which moves all later ones.
-    suites: Vec<Box<Suite>>,
-
-    suites_started: usize,
+    /// The open suites.
+    suites: OpenSuites,
 
     /// The headings of the file, and the name that the last one gives the suites after it.
     headings: Headings,
@@ -82,8 +80,7 @@ impl TestRun {
     {
         TestRun {
             outside: Suite::outside(alloc),
-            suites: Vec::new(alloc),
-            suites_started: 0,
+            suites: OpenSuites::new(alloc),
             headings: Headings::new(alloc),
             heading: None,
             has_event: false,
@@ -163,7 +160,7 @@ impl TestRun {
         ensures tells { OnOk result (map note_view notes.new.items ≡ map note_view notes.old.items
             ++ (spec.all_ended_early (run_state self.old)).notes) }
     {
-        for suite in std::mem::replace(&mut self.suites, Vec::new(alloc)) {
+        for suite in self.suites.take_all(alloc) {
             self.end_early(alloc, Box::into_inner(suite), notes)?;
         }
         let outside = std::mem::replace(&mut self.outside, Suite::outside(alloc));
@@ -282,7 +279,7 @@ impl TestRun {
             | Event::TestEnded { .. }
             | Event::Other => self.has_event = true,
             Event::CargoFailed { .. } => {
-                if self.suites.is_empty() {
+                if self.suites.list.is_empty() {
                     self.causes_at_cargo = self.causes;
                 }
             }

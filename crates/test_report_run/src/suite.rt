@@ -153,7 +153,9 @@ impl Suite {
 
     /// Takes another first line of the suite.
     pub(crate) fn join(&mut self, test_count: Option<u128>) -> Result<(), RunError>
-        ensures { OnOk result (state_of self.new ≡ joined_by (state_of self.old) test_count) }
+        ensures takes { OnOk result (state_of self.new ≡ joined_by (state_of self.old) test_count) }
+        ensures number { self.new.name.number ≡ self.old.name.number }
+        ensures key { text_view self.new.name.key ≡ text_view self.old.name.key }
     {
         self.open_lines = one_more(self.open_lines)?;
         self.test_count = sum(self.test_count, test_count)?;
@@ -165,6 +167,8 @@ impl Suite {
         ensures takes { OnOk result (state_of self.new
             ≡ with_line (state_of self.old) (suite_end_view end.entry)) }
         ensures last { IfOk result (λ last. last ≡ (self.new.open_lines == 0)) }
+        ensures number { self.new.name.number ≡ self.old.name.number }
+        ensures key { text_view self.new.name.key ≡ text_view self.old.name.key }
     {
         self.said = self.said.with_line(end)?;
         self.open_lines = self.open_lines.saturating_sub(1);
@@ -173,14 +177,18 @@ impl Suite {
 
     /// Takes the name in a line of a test of the suite.
     pub(crate) fn on_name(&mut self, alloc: Global, name: &str) -> Result<(), AllocError>
-        ensures { OnOk result (state_of self.new ≡ named (state_of self.old) name.now) }
+        ensures takes { OnOk result (state_of self.new ≡ named (state_of self.old) name.now) }
+        ensures number { self.new.name.number ≡ self.old.name.number }
+        ensures key { text_view self.new.name.key ≡ text_view self.old.name.key }
     {
         self.name.take_test(alloc, name)
     }
 
     /// Takes the start of a test.
     pub(crate) fn on_start(&mut self, alloc: Global, name: &str) -> Result<(), RunError>
-        ensures { OnOk result (state_of self.new ≡ with_start (state_of self.old) name.now) }
+        ensures takes { OnOk result (state_of self.new ≡ with_start (state_of self.old) name.now) }
+        ensures number { self.new.name.number ≡ self.old.name.number }
+        ensures key { text_view self.new.name.key ≡ text_view self.old.name.key }
     {
         self.started = one_more(self.started)?;
         self.on_name(alloc, name)?;

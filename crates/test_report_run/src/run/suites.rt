@@ -50,7 +50,8 @@ impl TestRun {
         at: usize,
         notes: &mut Vec<Note>,
     ) -> Result<(), RunError>
-        requires { at < length self.old.suites.items }
+        requires within { at < length self.old.suites.list.items }
+        requires has_key { spec.open_suite (run_state self.old) (text_view key) ≡ Some at }
         ensures takes { OnOk result (run_state self.new
             ≡ (spec.started_again (run_state self.old) (text_view key) test_count at).run) }
         ensures tells { OnOk result (map note_view notes.new.items ≡ map note_view notes.old.items
@@ -67,12 +68,12 @@ impl TestRun {
 
     /// Adds a first line to the open suite at a position.
     fn join(&mut self, test_count: Option<u128>, at: usize) -> Result<(), RunError>
-        requires { at < length self.old.suites.items }
+        requires { at < length self.old.suites.list.items }
         ensures { OnOk result (run_state self.new ≡ spec.with_suite_at (run_state self.old) (Some at)
             (joined_by (spec.suite_at (run_state self.old) (Some at)) test_count)) }
     {
         let place = self.others.event_place();
-        let suite = &mut self.suites[at];
+        let suite = &mut self.suites.list[at];
         suite.join(test_count)?;
         suite.last_event = place;
         Ok(())
@@ -80,39 +81,32 @@ impl TestRun {
 
     /// Removes the open suite at a position, and returns it.
     fn take_out(&mut self, at: usize) -> Suite
-        requires { at < length self.old.suites.items }
+        requires { at < length self.old.suites.list.items }
         ensures suite { state_of result ≡ spec.suite_at (run_state self.old) (Some at) }
         ensures left { run_state self.new
             ≡ record (run_state self.old) { suites = remove (run_state self.old).suites at } }
+        ensures key { spec.open_suite (run_state self.new) (state_of result).key ≡ None }
     {
-        Box::into_inner(self.suites.remove(at))
+        self.suites.remove(at)
     }
 
-    /// Opens a suite.
+    /// Opens a suite with a key that no open suite has, or without a key if all open suites have one.
     fn open(
         &mut self,
         alloc: Global,
         key: Option<String>,
         test_count: Option<u128>,
     ) -> Result<(), RunError>
+        requires { spec.open_suite (run_state self.old) (text_view key) ≡ None }
         ensures { OnOk result (run_state self.new
             ≡ spec.opened (run_state self.old) (text_view key) test_count) }
     {
-        self.suites_started = one_more(self.suites_started)?;
         let heading = match &self.heading {
             Some(heading) => Some(heading.clone()?),
             None => None,
         };
-        let suite = Suite::new(
-            alloc,
-            self.suites_started,
-            key,
-            heading,
-            test_count,
-            &self.others,
-        )?;
-        self.suites.push(Box::new(alloc, suite)?)?;
-        Ok(())
+        self.suites
+            .open(alloc, key, heading, test_count, &self.others)
     }
 
     /// Takes a last line of a suite.
@@ -150,7 +144,7 @@ impl TestRun {
         at: usize,
         notes: &mut Vec<Note>,
     ) -> Result<(), RunError>
-        requires { at < length self.old.suites.items }
+        requires { at < length self.old.suites.list.items }
         ensures takes { OnOk result (run_state self.new
             ≡ (spec.ended_at (run_state self.old) (suite_end_view end.entry) at).run) }
         ensures tells { OnOk result (map note_view notes.new.items ≡ map note_view notes.old.items
@@ -166,14 +160,14 @@ impl TestRun {
 
     /// Adds a last line to the open suite at a position. Returns true if the suite is over.
     fn add_last_line(&mut self, end: SuiteEnd<'_>, at: usize) -> Result<bool, RunError>
-        requires { at < length self.old.suites.items }
+        requires { at < length self.old.suites.list.items }
         ensures takes { OnOk result (run_state self.new ≡ spec.with_suite_at (run_state self.old) (Some at)
             (with_line (spec.suite_at (run_state self.old) (Some at)) (suite_end_view end.entry))) }
         ensures is_over { IfOk result (λ is_over. is_over
             ≡ ((with_line (spec.suite_at (run_state self.old) (Some at)) (suite_end_view end.entry)).open_lines == 0)) }
     {
         let place = self.others.event_place();
-        let suite = &mut self.suites[at];
+        let suite = &mut self.suites.list[at];
         let is_over = suite.on_last_line(end)?;
         suite.last_event = place;
         Ok(is_over)
@@ -213,22 +207,8 @@ impl TestRun {
     pub(crate) fn open_suite(&self, key: Option<&str>) -> Option<usize>
         ensures { result ≡ spec.open_suite (run_state self.now) (option_map (λ key. key.now) key.entry) }
     {
-        place_of_key(&self.suites, key)
+        self.suites.place_of_key(key)
     }
-}
-
-/// Returns the position of the first of these suites with a key, or without a key.
-fn place_of_key(suites: &[Box<Suite>], key: Option<&str>) -> Option<usize>
-    ensures { result ≡ position (λ suite. has_key (option_map (λ key. key.now) key.entry) (state_of suite.value)) suites.now }
-{
-    suites.iter().position(|suite| suite.has_key(key))
-}
-
-/// Returns the position of the first of these suites with a number.
-pub(crate) fn place_of_number(suites: &[Box<Suite>], number: Option<usize>) -> Option<usize>
-    ensures { result ≡ position (λ suite. is_same (state_of suite.value).number number) suites.now }
-{
-    suites.iter().position(|suite| suite.name.number == number)
 }
 
 /// Returns the text of a key.

@@ -10,7 +10,6 @@ ghost use Rattle.test_report_run.specs.Running.{running_test_view};
 use crate::error::{RunError, one_more};
 use crate::note::{Disagreement, Note};
 use crate::run::TestRun;
-use crate::run::suites::place_of_number;
 use crate::running::RunningTest;
 use crate::suite::OverTest;
 use std::alloc::Global;
@@ -34,7 +33,7 @@ impl TestRun {
         let place = self.others.event_place();
         match self.suite_of(name) {
             Some(at) => {
-                let suite = &mut self.suites[at];
+                let suite = &mut self.suites.list[at];
                 suite.on_start(alloc, name)?;
                 suite.last_event = place;
                 Ok(suite.name.number)
@@ -52,7 +51,7 @@ impl TestRun {
     fn suite_of(&self, name: &str) -> Option<usize>
         ensures { result ≡ spec.suite_place (run_state self.now) name.now }
     {
-        if self.suites.len() == 1 {
+        if self.suites.list.len() == 1 {
             return Some(0);
         }
         let named = match name.split_once('$') {
@@ -62,7 +61,8 @@ impl TestRun {
         if named.is_some() {
             return named;
         }
-        self.open_suite(None).or(self.suites.len().checked_sub(1))
+        self.open_suite(None)
+            .or(self.suites.list.len().checked_sub(1))
     }
 
     /// Takes the end of a test.
@@ -132,7 +132,7 @@ impl TestRun {
         let event = self.others.event_place();
         match place {
             Some(at) => {
-                let suite = &mut self.suites[at];
+                let suite = &mut self.suites.list[at];
                 suite.on_end(alloc, over, order, end, details, notes)?;
                 suite.last_event = event;
                 Ok(())
@@ -150,7 +150,7 @@ impl TestRun {
     fn suite_of_number(&self, number: Option<usize>) -> Option<usize>
         ensures { result ≡ spec.place_of_number (run_state self.now) number }
     {
-        place_of_number(&self.suites, number)
+        self.suites.place_of_number(number)
     }
 
     /// Takes the end of a test that is not running. The test is counted unless it passed. The end is a
@@ -203,7 +203,7 @@ impl TestRun {
         let event = self.others.event_place();
         match self.suite_of(name) {
             Some(at) => {
-                let suite = &mut self.suites[at];
+                let suite = &mut self.suites.list[at];
                 suite.on_stray_end(alloc, test, end, details, notes)?;
                 suite.last_event = event;
                 Ok(())

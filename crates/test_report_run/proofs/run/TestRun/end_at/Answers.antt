@@ -14,7 +14,7 @@ returns-then-branch-clause-takes c =
     let r = run_state c.args.self.now in
     let line = c.in_ok-add_last_line.ensures in
     let out = c.take_out-suite.ensures in
-    let inside : c.args.at < length r.suites = omega (arith, length-map c.args.self.now.suites.items boxed_state) in
+    let inside : c.args.at < length r.suites = omega (arith, length-map c.args.self.now.suites.list.items boxed_state) in
     let over = suite-over r _ _ (suite_end_view c.args.end) c.args.at (state_of c.take_out-suite.result) inside (cc) line.takes out.suite out.left in
     IfOk-equal c.end_suite.result _ _ _ c.end_suite.ensures.takes (ap (λ (t : Step). t.run) (sym over))
 
@@ -23,6 +23,6 @@ returns-then-branch-clause-tells c =
     let r = run_state c.args.self.now in
     let line = c.in_ok-add_last_line.ensures in
     let out = c.take_out-suite.ensures in
-    let inside : c.args.at < length r.suites = omega (arith, length-map c.args.self.now.suites.items boxed_state) in
+    let inside : c.args.at < length r.suites = omega (arith, length-map c.args.self.now.suites.list.items boxed_state) in
     let over = suite-over r _ _ (suite_end_view c.args.end) c.args.at (state_of c.take_out-suite.result) inside (cc) line.takes out.suite out.left in
     IfOk-equal c.end_suite.result _ _ _ c.end_suite.ensures.tells (ap (λ (t : Step). map note_view c.args.notes.now.items ++ t.notes) (sym over))

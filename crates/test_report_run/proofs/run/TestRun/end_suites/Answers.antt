@@ -1,5 +1,5 @@
 -- The open suites end early, and then the tests outside of a suite.
-use Rattle.std.proofs.Common.{◌≡◌, ◌∙◌, [], Box, Global, Vec, ap, arith, map, map-id, refl, sym}
+use Rattle.std.proofs.Common.{◌≡◌, ◌∙◌, [], ap, arith, map, map-id, sym}
 use Rattle.std.specs.List.{fold}
 use Rattle.std.proofs.lemmas.Iterator.Consumers.{YieldsList-end}
 use Rattle.std.proofs.lemmas.Iterator.Adapters.{YieldsList-from_vec}
@@ -22,27 +22,27 @@ loop-suite-preserved c =
 pub returns-clause-takes : goal.returns-clause-takes
 returns-clause-takes c =
     let gives = c.into_iter-suite-iterator.ensures.into_iter_gives in
-    let given = c.replace-suite-items.result in
+    let given = c.take_all-suite-items.result in
     let end = YieldsList-end (YieldsList-from_vec given.items gives.0 (omega (arith, gives.1, given.ok))) c.loop-suite.yielded _ c.loop-suite.yielded_by
     _ c.next.new.self c.in-None.is c.next.ensures.steps in
-    let all : c.loop-suite.yielded ≡ c.args.self.now.suites.items =
-    sym (map-id c.loop-suite.yielded) ∙ end.0 ∙ ap (λ (v : Vec (Box Suite Global) Global). v.items) c.replace-suite-items.ensures.value in
+    let all : map boxed_state c.loop-suite.yielded ≡ (run_state c.args.self.now).suites =
+    ap (map boxed_state) (sym (map-id c.loop-suite.yielded) ∙ end.0) ∙ c.take_all-suite-items.ensures.taken in
     on_ok_weaker c.end_early-2.result
     (λ e. ap (λ (t : Step). t.run) (suites-taken (run_state c.args.self.now) (run_state c.loop-suite.self) _ (map note_view c.args.notes.now.items)
-    (map note_view c.loop-suite.notes.items) _ c.loop-suite.yielded c.args.self.now.suites.items (state_of c.replace-outside.new.dest)
-    (state_of c.replace-outside.result) c.loop-suite.invariant all refl (ap state_of c.replace-outside.ensures.value)
+    (map note_view c.loop-suite.notes.items) _ c.loop-suite.yielded (state_of c.replace-outside.new.dest)
+    (state_of c.replace-outside.result) c.loop-suite.invariant all (ap state_of c.replace-outside.ensures.value)
     (ap state_of c.replace-outside.ensures.after ∙ c.outside.ensures) e)) c.end_early-2.ensures
 
 pub returns-clause-tells : goal.returns-clause-tells
 returns-clause-tells c =
     let gives = c.into_iter-suite-iterator.ensures.into_iter_gives in
-    let given = c.replace-suite-items.result in
+    let given = c.take_all-suite-items.result in
     let end = YieldsList-end (YieldsList-from_vec given.items gives.0 (omega (arith, gives.1, given.ok))) c.loop-suite.yielded _ c.loop-suite.yielded_by
     _ c.next.new.self c.in-None.is c.next.ensures.steps in
-    let all : c.loop-suite.yielded ≡ c.args.self.now.suites.items =
-    sym (map-id c.loop-suite.yielded) ∙ end.0 ∙ ap (λ (v : Vec (Box Suite Global) Global). v.items) c.replace-suite-items.ensures.value in
+    let all : map boxed_state c.loop-suite.yielded ≡ (run_state c.args.self.now).suites =
+    ap (map boxed_state) (sym (map-id c.loop-suite.yielded) ∙ end.0) ∙ c.take_all-suite-items.ensures.taken in
     on_ok_weaker c.end_early-2.result
     (λ e. ap (λ (t : Step). t.notes) (suites-taken (run_state c.args.self.now) (run_state c.loop-suite.self) _ (map note_view c.args.notes.now.items)
-    (map note_view c.loop-suite.notes.items) _ c.loop-suite.yielded c.args.self.now.suites.items (state_of c.replace-outside.new.dest)
-    (state_of c.replace-outside.result) c.loop-suite.invariant all refl (ap state_of c.replace-outside.ensures.value)
+    (map note_view c.loop-suite.notes.items) _ c.loop-suite.yielded (state_of c.replace-outside.new.dest)
+    (state_of c.replace-outside.result) c.loop-suite.invariant all (ap state_of c.replace-outside.ensures.value)
     (ap state_of c.replace-outside.ensures.after ∙ c.outside.ensures) e)) c.end_early-2.ensures

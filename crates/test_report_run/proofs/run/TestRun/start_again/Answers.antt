@@ -1,11 +1,24 @@
 -- A suite without a key ends early when another one starts.
-use Rattle.std.proofs.Common.{map}
+use Rattle.std.proofs.Common.{◌≡◌, ◌∙◌, None, Some, ap, map, sym, true}
+use Rattle.std.proofs.lemmas.List.Quantifiers.{position-Some}
 use Rattle.std.proofs.lemmas.Result.{on_ok_weaker}
 use Rattle.test_report_run.specs.Note.{note_view, text_view}
-use Rattle.test_report_run.specs.Run.{run_state, step}
-use Rattle.test_report_run.specs.Suite.{state_of}
+use Rattle.test_report_run.specs.Run.{Step, open_suite, run_state, step, suite_at}
+use Rattle.test_report_run.specs.Suite.{SuiteState, has_key, state_of}
+use Rattle.test_report_run.proofs.OpenSteps.{own-key}
 use Rattle.test_report_run.proofs.Runs.{again-tells, no-key}
 use Rattle.test_report_run.proofs.run.TestRun.start_again.Goals as goal
+
+pub open-requires : goal.open-requires
+open-requires c =
+    let r = run_state c.args.self.now in
+    let key = text_view c.args.key in
+    let out = c.take_out-suite.ensures in
+    let has : has_key key (suite_at r (Some c.args.at)) ≡ true = (position-Some (has_key key) r.suites c.args.at r.outside c.requires.has_key).1 in
+    let own : (state_of c.take_out-suite.result).key ≡ key =
+    ap (λ (s : SuiteState). s.key) out.suite ∙ own-key key (suite_at r (Some c.args.at)) has in
+    let gone : open_suite (run_state c.take_out-suite.new.self) key ≡ None = ap (open_suite (run_state c.take_out-suite.new.self)) (sym own) ∙ out.key in
+    ap (λ (t : Step). open_suite t.run key) c.in_ok-end_early.ensures ∙ gone
 
 pub returns-in_ok-end_early-clause-tells : goal.returns-in_ok-end_early-clause-tells
 returns-in_ok-end_early-clause-tells c =

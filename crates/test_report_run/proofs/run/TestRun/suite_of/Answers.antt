@@ -8,5 +8,5 @@ use Rattle.test_report_run.proofs.run.TestRun.suite_of.Goals as goal
 
 pub returns-then-len-eq1 : goal.returns-then-len-eq1
 returns-then-len-eq1 c =
-    let size = length-map c.args.self.now.suites.items boxed_state in
+    let size = length-map c.args.self.now.suites.list.items boxed_state in
     sym (place-of-one (run_state c.args.self.now) c.args.name.now (grind (arith, common_steps, size)))
