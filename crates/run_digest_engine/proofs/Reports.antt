@@ -70,4 +70,6 @@ pub agrees : (runs : List Run) (text : List ℕ) → ReportsRuns runs text → A
 agrees runs text (own, is_highest, is) lines written success reading digest =
     let same : runs ≡ digest.runs = one_reading lines runs digest.runs reading digest.reading in
     let one : own ≡ digest.outcome = one_highest (map run_outcome digest.runs) own digest.outcome (rw same at is_highest) digest.highest in
-    is ∙ ap (λ rs. reports_of rs own) same ∙ ap (reports_of digest.runs) one ∙ sym digest.text_is
+    let said : (outcome : RunOutcome) → IsHighest (map run_outcome runs) outcome → success ≡ is_success outcome = λ outcome highest.
+    digest.success_is ∙ ap is_success (one_highest (map run_outcome digest.runs) digest.outcome outcome digest.highest (rw same at highest)) in
+    (is ∙ ap (λ rs. reports_of rs own) same ∙ ap (reports_of digest.runs) one ∙ sym digest.text_is, said)
