@@ -14,12 +14,12 @@ use Rattle.template.specs.Reader.{in_order, with_byte}
 use Rattle.template.specs.Shown.{shown}
 use Rattle.template.specs.Template.{ItemValue, NoValues, Parts, ValueView, Values, items_of, section, values_of}
 use Rattle.template.specs.Tree.{AttributeView, ElementTree, NoTrees, OneTree, TreeView}
-use Rattle.test_report_forms.proofs.JunitParts.{attempt_elements, attempt_parts, case_contents, case_elements, case_open, case_parts, elements_in_case, elements_in_run, elements_in_suite, error_elements, failure_elements, flaky_elements, items_elements, kind_parts, kinds, of_kind, output_elements, reason_with, run_contents, run_tree, skipped_elements, suite_contents, suite_elements, suite_open, suite_parts, times_of}
+use Rattle.test_report_forms.proofs.JunitParts.{attempt_elements, attempt_parts, case_contents, case_elements, case_open, case_parts, elements_in_case, elements_in_run, elements_in_suite, error_elements, failure_elements, flaky_elements, items_elements, kind_parts, kinds, of_kind, output_elements, places_of, reason_with, run_contents, run_tree, skipped_elements, skipped_reason, suite_contents, suite_elements, suite_open, suite_parts, times_of}
 use Rattle.test_report_forms.specs.Junit.{junit_parts}
-use Rattle.test_report_forms.specs.JunitCase.{CaseKindView, CaseView, FailedCase, PassedCase, ReasonView, SkippedCase}
+use Rattle.test_report_forms.specs.JunitCase.{CaseKindView, CasePlaceView, CaseView, FailedCase, PassedCase, ReasonView, SkippedCase}
 use Rattle.test_report_forms.specs.JunitSuite.{SuiteView, counts_of, sums_of}
-use Rattle.test_report_forms.specs.JunitTree.{ChildView, IsCaseElement, IsChild, IsRunElement, IsSuiteElement, bare_child, case_attributes, children_of, output_child, reason_child, sums_attributes, suite_attributes, time_attribute}
-use Rattle.test_report_forms.specs.JunitValues.{attempts, case_values, counts_values, junit_values, kind_values, reason_items, reason_name, reason_values, suite_values}
+use Rattle.test_report_forms.specs.JunitTree.{ChildView, IsCaseElement, IsChild, IsRunElement, IsSuiteElement, bare_child, case_attributes, children_of, output_child, reason_child, skipped_child, sums_attributes, suite_attributes, time_attribute}
+use Rattle.test_report_forms.specs.JunitValues.{attempts, case_values, counts_values, junit_values, kind_values, place_item, reason_items, reason_name, reason_values, suite_values}
 use Rattle.test_report_forms.specs.Model.{suite_name}
 use Rattle.test_report_forms.specs.Values.{items, one_text, option_item, time_item}
 
@@ -52,6 +52,16 @@ own-times : (time : Option ℕ) → items_of (codes "time") (values_of (time_ite
 own-times None = refl
 own-times (Some t) = refl
 
+-- the items of a place
+no-places : (place : Option CasePlaceView) (key : List ℕ) → bytes_eq (codes "place") key ≡ false → items_of key (values_of (place_item place)) ≡ []
+no-places None key other = refl
+no-places (Some p) key other = rw other refl
+
+own-places : (place : Option CasePlaceView) → items_of (codes "place") (values_of (place_item place)) ≡ places_of place
+own-places None = refl
+own-places (Some p) = refl
+
+-- the kind of a test case has no time and no place
 no-attempts : (n : ℕ) (key : List ℕ) → bytes_eq (codes "flaky") key ≡ false → items_of key (values_of (section (codes "flaky") (attempts n))) ≡ []
 no-attempts zero key other = refl
 no-attempts (suc n) key other = rw other refl
@@ -65,33 +75,61 @@ reason-times false vs (Some text) = refl
 
 kind-times : (k : CaseKindView) → items_of (codes "time") (values_of (kind_values k)) ≡ []
 kind-times (PassedCase n) = no-attempts n (codes "time") refl
-kind-times SkippedCase = refl
+kind-times (SkippedCase None) = refl
+kind-times (SkippedCase (Some reason)) = refl
 kind-times (FailedCase r) = reason-times r.is_error _ r.output
+
+reason-places : (b : Bool) (vs : Values) (o : Option (List ℕ))
+    → items_of (codes "place") (values_of ((ItemValue (reason_name b) vs ∷ []) ++ option_item (codes "output") (codes "text") o)) ≡ []
+reason-places true vs None = refl
+reason-places true vs (Some text) = refl
+reason-places false vs None = refl
+reason-places false vs (Some text) = refl
+
+kind-places : (k : CaseKindView) → items_of (codes "place") (values_of (kind_values k)) ≡ []
+kind-places (PassedCase n) = no-attempts n (codes "place") refl
+kind-places (SkippedCase None) = refl
+kind-places (SkippedCase (Some reason)) = refl
+kind-places (FailedCase r) = reason-places r.is_error _ r.output
 
 -- the items among the values of a test case
 abbrev pub item : CaseView → Values
 item c = values_of (case_values c)
 
 abbrev case-front : CaseView → List ValueView
-case-front c = (one_text (codes "name") c.name ++ one_text (codes "suite") c.suite) ++ time_item c.time
+case-front c = (one_text (codes "name") c.name ++ one_text (codes "class") c.class) ++ time_item c.time
+
+abbrev case-placed : CaseView → List ValueView
+case-placed c = case-front c ++ place_item c.place
 
 case-times : (c : CaseView) → items_of (codes "time") (item c) ≡ times_of c.time
-case-times c = items_first (codes "time") (case-front c) (kind_values c.kind) (kind-times c.kind) ∙ own-times c.time
+case-times c =
+    items_first (codes "time") (case-placed c) (kind_values c.kind) (kind-times c.kind)
+    ∙ (items_first (codes "time") (case-front c) (place_item c.place) (no-places c.place (codes "time") refl) ∙ own-times c.time)
 
-case-kind : (key : List ℕ) → bytes_eq (codes "time") key ≡ false → (c : CaseView) → items_of key (item c) ≡ items_of key (values_of (kind_values c.kind))
-case-kind key other c = items_last key (case-front c) (kind_values c.kind) (no-times c.time key other)
+case-places : (c : CaseView) → items_of (codes "place") (item c) ≡ places_of c.place
+case-places c =
+    items_first (codes "place") (case-placed c) (kind_values c.kind) (kind-places c.kind)
+    ∙ (items_last (codes "place") (case-front c) (place_item c.place) (no-times c.time (codes "place") refl) ∙ own-places c.place)
 
-only-kind : (key : List ℕ) → bytes_eq (codes "time") key ≡ false → (c : CaseView) → of_kind key (item c) ≡ of_kind key (values_of (kind_values c.kind))
-only-kind key other c = ap (flat_map (λ i. elements (trees_of (kind_parts key) i))) (case-kind key other c)
+no-front : (key : List ℕ) → bytes_eq (codes "time") key ≡ false → bytes_eq (codes "place") key ≡ false → (c : CaseView)
+    → items_of key (values_of (case-placed c)) ≡ []
+no-front key timed placed c = items_last key (case-front c) (place_item c.place) (no-times c.time key timed) ∙ no-places c.place key placed
+
+only-kind : (key : List ℕ) → bytes_eq (codes "time") key ≡ false → bytes_eq (codes "place") key ≡ false → (c : CaseView)
+    → of_kind key (item c) ≡ of_kind key (values_of (kind_values c.kind))
+only-kind key timed placed c =
+    ap (flat_map (λ i. elements (trees_of (kind_parts key) i))) (items_last key (case-placed c) (kind_values c.kind) (no-front key timed placed c))
 
 only-kinds : (c : CaseView) → kinds (item c) ≡ kinds (values_of (kind_values c.kind))
 only-kinds c =
     rw (
-      only-kind (codes "failure") refl c,
-      only-kind (codes "error") refl c,
-      only-kind (codes "skipped") refl c,
-      only-kind (codes "flaky") refl c,
-      only-kind (codes "output") refl c,
+      only-kind (codes "failure") refl refl c,
+      only-kind (codes "error") refl refl c,
+      only-kind (codes "skipped") refl refl c,
+      only-kind (codes "reason") refl refl c,
+      only-kind (codes "flaky") refl refl c,
+      only-kind (codes "output") refl refl c,
     ) refl
 
 -- the elements in a test case
@@ -110,6 +148,17 @@ is-reason r = record {
   has = all-own (attribute (codes "message") r.message ∷ attribute (codes "type") r.type_of ∷ []);
   distinct = refl;
   are = data_tree (shown r.why);
+}
+
+is-skipped : (reason : List ℕ)
+    → IsChild (skipped_child (Some reason)) (ElementTree (codes "skipped") (attribute (codes "message") reason ∷ []) NoTrees)
+is-skipped reason = record {
+  own = attribute (codes "message") reason ∷ [];
+  trees = NoTrees;
+  is = refl;
+  has = all-own (attribute (codes "message") reason ∷ []);
+  distinct = refl;
+  are = no-text;
 }
 
 is-output : (text : List ℕ) → IsChild (output_child text) (ElementTree (codes "system-out") [] (in_order (fold with_byte [] (shown text)) NoTrees))
@@ -171,18 +220,24 @@ zip-failed false message type_of why (Some text) =
 
 zip-kind : (k : CaseKindView) → AllZip IsChild (children_of k) (kinds (values_of (kind_values k)))
 zip-kind (PassedCase n) = zip-passed n
-zip-kind SkippedCase =
-    subst (λ l. AllZip IsChild (children_of SkippedCase) ((l ++ []) ++ [])) (sym skipped_elements) (is-bare (codes "skipped") [] refl, tt)
+zip-kind (SkippedCase None) =
+    subst (λ l. AllZip IsChild (children_of (SkippedCase None)) ((l ++ []) ++ [])) (sym skipped_elements) (is-bare (codes "skipped") [] refl, tt)
+zip-kind (SkippedCase (Some reason)) =
+    subst (λ l. AllZip IsChild (children_of (SkippedCase (Some reason))) ((l ++ []) ++ []))
+    (sym (skipped_reason (values_of (one_text (codes "message") reason)))) (is-skipped reason, tt)
 zip-kind (FailedCase r) = zip-failed r.is_error r.message r.type_of r.why r.output
 
 -- test cases
 abbrev case-tree : CaseView → TreeView
-case-tree c = ElementTree (codes "testcase") (case_open (item c) c.time).attributes (trees_of case_contents (item c))
+case-tree c = ElementTree (codes "testcase") (case_open (item c) c.time c.place).attributes (trees_of case_contents (item c))
 
 -- their attributes have names of their own
-case-names : (c : CaseView) (time : Option ℕ) → have_own_names (case_attributes (record c { time = time })) ≡ true
-case-names c None = refl
-case-names c (Some t) = refl
+case-names : (c : CaseView) (time : Option ℕ) (place : Option CasePlaceView)
+    → have_own_names (case_attributes (record c { time = time; place = place })) ≡ true
+case-names c None None = refl
+case-names c None (Some p) = refl
+case-names c (Some t) None = refl
+case-names c (Some t) (Some p) = refl
 
 is-case : (c : CaseView) → IsCaseElement c (case-tree c)
 is-case c = record {
@@ -190,13 +245,14 @@ is-case c = record {
   trees = trees_of case_contents (item c);
   is = refl;
   has = all-own (case_attributes c);
-  distinct = case-names c c.time;
+  distinct = case-names c c.time c.place;
   are = subst (AllZip IsChild (children_of c.kind)) (sym (elements_in_case (item c) ∙ only-kinds c)) (zip-kind c.kind);
 }
 
 zip-cases : (cases : List CaseView) → AllZip IsCaseElement cases (flat_map (λ c. elements (trees_of case_parts (item c))) cases)
 zip-cases cases =
-    zip-each IsCaseElement (λ c. elements (trees_of case_parts (item c))) case-tree (λ c. case_elements (item c) c.time (case-times c)) is-case cases
+    zip-each IsCaseElement (λ c. elements (trees_of case_parts (item c))) case-tree (λ c. case_elements (item c) c.time c.place (case-times c) (case-places c))
+    is-case cases
 
 -- suites
 abbrev pub suite_item : SuiteView → Values

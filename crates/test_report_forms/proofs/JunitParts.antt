@@ -17,7 +17,9 @@ use Rattle.template.specs.Sections.{first_section}
 use Rattle.template.specs.Template.{NoValues, Parts, Values, items_of, text_of, values_of}
 use Rattle.template.specs.Tree.{AttributeView, ElementTree, NoTrees, OneTree, TextTree, TreeView}
 use Rattle.test_report_forms.specs.Junit.{junit_parts}
-use Rattle.test_report_forms.specs.JunitTree.{time_attribute}
+use Rattle.test_report_forms.specs.JunitCase.{CasePlaceView}
+use Rattle.test_report_forms.specs.JunitTree.{place_attributes, time_attribute}
+use Rattle.test_report_forms.specs.JunitValues.{place_values}
 use Rattle.test_report_forms.specs.Shown.{seconds}
 use Rattle.test_report_forms.specs.Values.{one_text}
 
@@ -39,6 +41,10 @@ attempt_parts = first_section (kind_parts (codes "flaky")) (codes "attempt" ∷ 
 abbrev pub times_of : Option ℕ → List Values
 times_of time = map (λ t. values_of (one_text (codes "seconds") t)) (option_to_list (option_map seconds time))
 
+-- the items of a place
+abbrev pub places_of : Option CasePlaceView → List Values
+places_of place = map (λ p. values_of (place_values p)) (option_to_list place)
+
 -- the reader in parts with a section for the time after n parts, and one text after it
 abbrev after_times : ℕ → Parts → Values → List Values → Reading
 after_times n ps vs times =
@@ -46,41 +52,54 @@ after_times n ps vs times =
     (fold (λ s i. read_parts (first_section ps (codes "time" ∷ [])) i s) (read_parts (first_parts n ps) vs at_start) times)
 
 -- a test case
-abbrev pub case_open : Values → Option ℕ → Open
-case_open vs time = record {
+abbrev pub case_open : Values → Option ℕ → Option CasePlaceView → Open
+case_open vs time place = record {
   name = codes "testcase";
-  attributes = attribute (codes "name") (text_of (codes "name") vs) ∷ attribute (codes "classname") (text_of (codes "suite") vs) ∷ time_attribute time;
+  attributes = attribute (codes "name") (text_of (codes "name") vs)
+      ∷ attribute (codes "classname") (text_of (codes "class") vs) ∷ (time_attribute time ++ place_attributes place);
   before = [];
 }
 
 abbrev pub case_contents : Parts
-case_contents = parts_between 7 5 [] case_parts
+case_contents = parts_between 8 6 [] case_parts
 
-case-start : (vs : Values) → read_parts (first_parts 7 case_parts) vs at_start ≡ after_times 5 case_parts vs (items_of (codes "time") vs)
+-- the reader after the start tag of a test case, which has a section for the time and one for the place
+abbrev after_tag : Values → List Values → List Values → Reading
+after_tag vs times places =
+    read_parts (parts_after 7 (first_parts 8 case_parts)) vs
+    (fold (λ s i. read_parts (first_section case_parts (codes "place" ∷ [])) i s)
+    (fold (λ s i. read_parts (first_section case_parts (codes "time" ∷ [])) i s) (read_parts (first_parts 5 case_parts) vs at_start) times) places)
+
+case-start : (vs : Values) → read_parts (first_parts 8 case_parts) vs at_start ≡ after_tag vs (items_of (codes "time") vs) (items_of (codes "place") vs)
 unfolding parse step chars encode_utf8 junit_parts suite_parts case_parts read_part read_parts
 case-start vs = refl
 
-case-timed : (vs : Values) (time : Option ℕ) → after_times 5 case_parts vs (times_of time) ≡ in_open (case_open vs time) []
+case-tagged : (vs : Values) (time : Option ℕ) (place : Option CasePlaceView)
+    → after_tag vs (times_of time) (places_of place) ≡ in_open (case_open vs time place) []
 unfolding parse step chars encode_utf8 junit_parts suite_parts case_parts read_part read_parts
-case-timed vs None = refl
-case-timed vs (Some t) = refl
+case-tagged vs None None = refl
+case-tagged vs None (Some p) = refl
+case-tagged vs (Some t) None = refl
+case-tagged vs (Some t) (Some p) = refl
 
 case-inner : are_contents (codes "testcase") case_contents ≡ true
 unfolding is_sound parse step chars encode_utf8 junit_parts suite_parts case_parts
 case-inner = refl
 
-case-last : (vs : Values) (time : Option ℕ) (back : List TreeView)
-    → trees_at (read_parts (parts_after 5 (parts_after 7 case_parts)) vs (in_open (case_open vs time) back))
-    ≡ Some (OneTree (ElementTree (codes "testcase") (case_open vs time).attributes (in_order back NoTrees)) (OneTree (TextTree (codes "\n")) NoTrees))
+case-last : (vs : Values) (time : Option ℕ) (place : Option CasePlaceView) (back : List TreeView)
+    → trees_at (read_parts (parts_after 6 (parts_after 8 case_parts)) vs (in_open (case_open vs time place) back))
+    ≡ Some (OneTree (ElementTree (codes "testcase") (case_open vs time place).attributes (in_order back NoTrees)) (OneTree (TextTree (codes "\n")) NoTrees))
 unfolding parse step chars encode_utf8 junit_parts suite_parts case_parts read_part read_parts
-case-last vs time back = refl
+case-last vs time place back = refl
 
-pub case_elements : (vs : Values) (time : Option ℕ) → items_of (codes "time") vs ≡ times_of time
-    → elements (trees_of case_parts vs) ≡ ElementTree (codes "testcase") (case_open vs time).attributes (trees_of case_contents vs) ∷ []
-case_elements vs time h =
+pub case_elements : (vs : Values) (time : Option ℕ) (place : Option CasePlaceView) → items_of (codes "time") vs ≡ times_of time
+    → items_of (codes "place") vs ≡ places_of place
+    → elements (trees_of case_parts vs) ≡ ElementTree (codes "testcase") (case_open vs time place).attributes (trees_of case_contents vs) ∷ []
+case_elements vs time place h k =
     ap (λ o. elements (unwrap_or o NoTrees))
-    (element_trees 7 5 [] case_parts vs (case_open vs time) (OneTree (TextTree (codes "\n")) NoTrees)
-    (case-start vs ∙ (ap (after_times 5 case_parts vs) h ∙ case-timed vs time)) case-inner (case-last vs time))
+    (element_trees 8 6 [] case_parts vs (case_open vs time place) (OneTree (TextTree (codes "\n")) NoTrees)
+    (case-start vs ∙ (ap (λ times. after_tag vs times (items_of (codes "place") vs)) h ∙ (ap (after_tag vs (times_of time)) k ∙ case-tagged vs time place)))
+    case-inner (case-last vs time place))
 
 -- what is in a test case
 abbrev pub items_elements : List ℕ → Parts → Values → List TreeView
@@ -96,7 +115,8 @@ case-closed = refl
 abbrev pub kinds : Values → List TreeView
 kinds vs =
     of_kind (codes "failure") vs
-    ++ (of_kind (codes "error") vs ++ (of_kind (codes "skipped") vs ++ (of_kind (codes "flaky") vs ++ (of_kind (codes "output") vs ++ []))))
+    ++ (of_kind (codes "error") vs
+    ++ (of_kind (codes "skipped") vs ++ (of_kind (codes "reason") vs ++ (of_kind (codes "flaky") vs ++ (of_kind (codes "output") vs ++ [])))))
 
 case-order : (vs : Values) → parts_elements case_contents vs ≡ kinds vs
 unfolding parse step chars encode_utf8 junit_parts suite_parts case_parts kind_parts filled_trees read_part read_parts
@@ -127,6 +147,11 @@ output_elements i = refl
 pub skipped_elements : elements (trees_of (kind_parts (codes "skipped")) NoValues) ≡ ElementTree (codes "skipped") [] NoTrees ∷ []
 unfolding parse step chars encode_utf8 junit_parts suite_parts case_parts kind_parts filled_trees read_part read_parts
 skipped_elements = refl
+
+pub skipped_reason : (i : Values) → elements (trees_of (kind_parts (codes "reason")) i)
+    ≡ ElementTree (codes "skipped") (attribute (codes "message") (text_of (codes "message") i) ∷ []) NoTrees ∷ []
+unfolding parse step chars encode_utf8 junit_parts suite_parts case_parts kind_parts filled_trees read_part read_parts
+skipped_reason i = refl
 
 pub attempt_elements : (i : Values) → elements (trees_of attempt_parts i)
     ≡ ElementTree (codes "flakyFailure") (attribute (codes "message") (codes "attempt failed") ∷ attribute (codes "type") (codes "flaky") ∷ []) NoTrees ∷ []

@@ -1,5 +1,7 @@
 pub mod Begins
+pub mod Both
 pub mod Cuts
+pub mod Dots
 pub mod Ends
 pub mod Filtered
 pub mod Heads
@@ -8,6 +10,7 @@ pub mod JsonStates
 pub mod JsonTexts
 pub mod JunitParts
 pub mod JunitElements
+pub mod JunitEntries
 pub mod Kept
 pub mod Page
 pub mod Places

@@ -5,14 +5,15 @@ use Rattle.output_slice.specs.First.{IsFirstTaken}
 use Rattle.output_slice.specs.Laws.{OneExtraction, TakenHeadsExist}
 use Rattle.output_slice.specs.Taken.{IsLastTaken, last_of}
 use Rattle.output_slice.specs.declared.panic_head.HeadSpan.{HeadSpan}
-use Rattle.test_report_forms.specs.Entry.{EntryView, IsEntryOf, IsTestEntry, TestFailed}
+use Rattle.test_report_forms.specs.CargoWhy.{cargo_why}
+use Rattle.test_report_forms.specs.Entry.{EntryView, IsEntryOf, IsTestEntry, LinesDisagree, TestFailed}
 use Rattle.test_report_forms.specs.Explanation.{FoundView, IsFoundIn, explanation_in}
-use Rattle.test_report_forms.specs.Laws.{OneWhy}
+use Rattle.test_report_forms.specs.Laws.{OneReason, OneWhy}
 use Rattle.test_report_forms.specs.Lines.{first_line}
 use Rattle.test_report_forms.specs.Place.{output, place_of}
 use Rattle.test_report_forms.specs.Short.{IsShort, short_of}
 use Rattle.test_report_forms.specs.Why.{IsShortOr, IsShortReason, first_part, own_reason, parts_of, slice_or_lines}
-use Rattle.test_report_run.specs.Note.{Disagrees, Fails, IsNotRun, IsSkipped, NoteView, OutcomeView, Passes, SuiteIs, TestIs, TestNoteView}
+use Rattle.test_report_run.specs.Note.{CargoSays, CommandFails, Disagrees, EndsEarly, Fails, HasNoEvent, IsDamaged, IsNotRun, IsSkipped, NoteView, OutcomeView, Passes, SaysOther, StartsOutside, StrayEnds, StraySuiteEnds, SuiteIs, TestIs, TestNoteView}
 
 module _ (heads : TakenHeadsExist) (extraction : OneExtraction) where
   last-same : (b : List ℕ) (f g : Option HeadSpan) → IsLastTaken b f → IsLastTaken b g → f ≡ g
@@ -46,14 +47,25 @@ module _ (heads : TakenHeadsExist) (extraction : OneExtraction) where
       let place = p.place ∙ ap (place_of t f) same ∙ sym q.place in
       λ i. record { short = short i; explanation = explanation i; place = place i }
 
-module _ (one : OneWhy) where
+  pub one-reason : OneReason
+  one-reason (CargoSays report) v w p q = p.2 ∙ ap (cargo_why report) (found-same report.prints p.0 q.0 p.1 q.1) ∙ sym q.2
+  one-reason (EndsEarly suite) v w p q = p ∙ sym q
+  one-reason (SaysOther suite said passed failed) v w p q = p ∙ sym q
+  one-reason (StrayEnds name how) v w p q = p ∙ sym q
+  one-reason (StraySuiteEnds key failed) v w p q = p ∙ sym q
+  one-reason (StartsOutside n) v w p q = p ∙ sym q
+  one-reason (IsDamaged text) v w p q = p ∙ sym q
+  one-reason HasNoEvent v w p q = p ∙ sym q
+  one-reason (CommandFails end) v w p q = p ∙ sym q
+
+module _ (one : OneWhy) (reason : OneReason) where
   test-same : (t : TestNoteView) (o : OutcomeView) (a b : EntryView) → IsTestEntry t o a → IsTestEntry t o b → a ≡ b
   test-same t Passes a b p q = p ∙ sym q
-  test-same t IsSkipped a b p q = p ∙ sym q
+  test-same t (IsSkipped reason) a b p q = p ∙ sym q
   test-same t (Fails f) a b p q = p.2 ∙ ap (TestFailed t f) (one t f p.0 q.0 p.1 q.1) ∙ sym q.2
 
   pub one-entry : (n : NoteView) (a b : EntryView) → IsEntryOf n a → IsEntryOf n b → a ≡ b
   one-entry (TestIs t) a b p q = test-same t t.outcome a b p q
-  one-entry (Disagrees d) a b p q = p ∙ sym q
+  one-entry (Disagrees d) a b p q = p.2 ∙ ap (LinesDisagree d) (reason d p.0 q.0 p.1 q.1) ∙ sym q.2
   one-entry (IsNotRun suite n of) a b p q = p ∙ sym q
   one-entry (SuiteIs s) a b p q = p ∙ sym q

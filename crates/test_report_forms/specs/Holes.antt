@@ -6,6 +6,7 @@ use Rattle.template.specs.Phrases.{has_phrase}
 use Rattle.template.specs.Shows.{parts_show}
 use Rattle.template.specs.Template.{Parts, ValueView, parts_text, values_of}
 use Rattle.template.specs.declared.hole.Hole.{Hole}
+use Rattle.template.specs.declared.hole.Hole.TheVariants as hole
 
 -- a hole: its kind, the lists that it is in, one in another, and its name
 pub record HoleView : Type 0 where
@@ -24,9 +25,9 @@ run_holes kind =
     ∷ codes "skipped" ∷ codes "not_run" ∷ [])
     ++ holes kind (codes "time" ∷ []) (codes "seconds" ∷ [])
 
--- the holes for the line of each problem
-abbrev pub problem_holes : Hole → List HoleView
-problem_holes kind = holes kind (codes "problems" ∷ codes "problem" ∷ []) (codes "line" ∷ [])
+-- the holes for each problem: of this kind for its line, and of a text for what explains it
+abbrev pub problem_holes : Hole → List (List ℕ) → List HoleView
+problem_holes kind path = holes kind path (codes "line" ∷ []) ++ holes hole.Text (path ++ (codes "why" ∷ [])) (codes "text" ∷ [])
 
 -- these parts have a hole
 abbrev pub has_hole : Parts → HoleView → Bool

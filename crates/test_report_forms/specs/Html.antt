@@ -7,13 +7,12 @@ use Rattle.template.specs.Hole.{hole_text}
 use Rattle.template.specs.Html.{is_html}
 use Rattle.template.specs.Parse.{template_parts}
 use Rattle.template.specs.Sections.{first_section, sections}
-use Rattle.template.specs.Shows.{parts_show}
 use Rattle.template.specs.Template.{Parts, Values, parts_text, values_of}
 use Rattle.template.specs.declared.hole.Hole.TheVariants as hole
 use Rattle.test_report_forms.specs.Entry.{EntryView}
 use Rattle.test_report_forms.specs.Holes.{HoleView, PhraseView, has_hole, holes, phrase_text, phrases, problem_holes, run_holes, shows_phrase}
-use Rattle.test_report_forms.specs.Model.{FailedView, RowView}
-use Rattle.test_report_forms.specs.Values.{failed_values, one_text, suite_values, values_of_run}
+use Rattle.test_report_forms.specs.Model.{FailedView, ProblemView, RowView}
+use Rattle.test_report_forms.specs.Values.{failed_values, problem_values, suite_values, values_of_run}
 use Rattle.test_report_forms.specs.declared.page_template.TheConstants.{PAGE}
 use Rattle.test_report_run.specs.declared.note.RunEnd.{RunEnd}
 use Rattle.test_report_forms.specs.declared.options.Options.{Options}
@@ -56,7 +55,7 @@ page_holes =
     run_holes hole.Text
     ++ (holes hole.Attribute [] (codes "outcome" ∷ [])
     ++ (bar_holes []
-    ++ (problem_holes hole.Text
+    ++ (problem_holes hole.Text (codes "problems" ∷ codes "problem" ∷ [])
     ++ (failed_holes (codes "failures" ∷ codes "failed" ∷ [])
     ++ (suite_holes (codes "suites" ∷ codes "suite" ∷ [])
     ++ (holes hole.Text (codes "slowest" ∷ codes "slow" ∷ []) (codes "name" ∷ codes "share" ∷ codes "seconds" ∷ [])
@@ -79,6 +78,10 @@ time_phrase = codes "{{#time}}, in {{seconds}}s{{/time}}</p>"
 -- the numbers and the time of a run
 abbrev pub summary_phrase : List ℕ
 summary_phrase = codes "<p class=\"summary\">" ++ (numbers_phrase ++ time_phrase)
+
+-- a problem: its line, and what explains it
+abbrev pub problem_phrase : List ℕ
+problem_phrase = codes "<li>{{line}}{{#why}}<pre><code>{{text}}</code></pre>{{/why}}</li>"
 
 -- the status, the suite and the name of a failed test
 abbrev pub title_phrase : List ℕ
@@ -115,7 +118,7 @@ abbrev pub page_phrases : List PhraseView
 page_phrases =
     phrases [] (heading_phrase ∷ summary_phrase ∷ (bar_phrase ++ codes "\n{{/bar}}") ∷ suite_columns ∷ [])
     ++ (phrases (codes "problems" ∷ []) (codes "<h2>Problems of the run</h2>\n" ∷ [])
-    ++ (phrases (codes "problems" ∷ codes "problem" ∷ []) (codes "<li>{{line}}</li>" ∷ [])
+    ++ (phrases (codes "problems" ∷ codes "problem" ∷ []) (problem_phrase ∷ [])
     ++ (phrases (codes "failures" ∷ []) (codes "<h2>Failed tests</h2>\n" ∷ [])
     ++ (phrases (codes "failures" ∷ codes "failed" ∷ []) (title_phrase ∷ codes "<pre><code>{{why}}</code></pre>" ∷ [])
     ++ (phrases (codes "failures" ∷ codes "failed" ∷ codes "note" ∷ [])
@@ -143,8 +146,8 @@ abbrev pub failed_text : FailedView → List ℕ
 failed_text t = parts_text failed_parts (values_of (failed_values t))
 
 -- what the page has of a problem
-abbrev pub problem_text : List ℕ → List ℕ
-problem_text line = parts_text problem_parts (values_of (one_text (codes "line") line))
+abbrev pub problem_text : ProblemView → List ℕ
+problem_text p = parts_text problem_parts (values_of (problem_values p))
 
 -- the status, the suite and the name of a failed test, one after another
 abbrev pub title_text : FailedView → List ℕ
@@ -156,7 +159,7 @@ suite_text r = phrase_text suite_phrase (suite_values r)
 
 -- The template of the page is one element without control characters. It ends by `/>` only elements that have no content in HTML, and none of these by
 -- an end tag. It has all holes and phrases. There is one section for each failed test, with the holes of a failed test, and one for each problem, with
--- the hole for its line.
+-- the holes for its line and for what explains it.
 pub record PageIsSound : Type 0 where
   pub document : is_document page_parts ≡ true
   pub html : is_html page_parts ≡ true
@@ -166,4 +169,4 @@ pub record PageIsSound : Type 0 where
   pub failed : sections page_parts (codes "failures" ∷ codes "failed" ∷ []) ≡ failed_parts ∷ []
   pub failed_holes : list_all (has_hole failed_parts) (failed_holes []) ≡ true
   pub problem : sections page_parts (codes "problems" ∷ codes "problem" ∷ []) ≡ problem_parts ∷ []
-  pub problem_hole : parts_show problem_parts hole.Text [] (codes "line") ≡ true
+  pub problem_holes : list_all (has_hole problem_parts) (problem_holes hole.Text []) ≡ true

@@ -48,7 +48,7 @@ unfoldable pub json_entry : Options → JsonState → EntryView → JsonState
 json_entry o j (TestPassed t) = add_test j t.suite (test_json t (codes "passed"))
 json_entry o j (TestSkipped t) = add_test j t.suite (test_json t (codes "skipped"))
 json_entry o j (TestFailed t f w) = add_test j t.suite (failed_json t f w o)
-json_entry o j (LinesDisagree d) = on_cause j (LinesDisagree d)
+json_entry o j (LinesDisagree d why) = on_cause j (LinesDisagree d why)
 json_entry o j (SuiteNotRun suite n of) = on_cause j (SuiteNotRun suite n of)
 json_entry o j (SuiteOver s) = end_suite j s
 

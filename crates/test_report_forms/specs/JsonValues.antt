@@ -92,7 +92,9 @@ open_suite_json s = object_of (option_member (codes "name") s.name ++ list_membe
 
 -- a problem of the run: a disagreement, or a suite whose tests were not all run
 unfoldable pub problem_json : CauseView → Json
-problem_json c = object_of ((text_member (codes "kind") c.kind ++ option_member (codes "suite") c.suite) ++ text_member (codes "line") c.line)
+problem_json c = object_of (
+    ((text_member (codes "kind") c.kind ++ option_member (codes "suite") c.suite) ++ text_member (codes "line") c.line)
+    ++ option_member (codes "why") c.why)
 
 -- the problem that no test ran
 unfoldable pub no_tests_json : Json

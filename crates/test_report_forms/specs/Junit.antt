@@ -6,7 +6,7 @@ use Rattle.template.specs.Parse.{template_parts}
 use Rattle.template.specs.Template.{Parts, Values, parts_text, values_of}
 use Rattle.test_report_forms.specs.Model.{CauseView, cause_of_entry, no_tests_ran}
 use Rattle.test_report_forms.specs.Entry.{EntryView, LinesDisagree, SuiteNotRun, SuiteOver, TestFailed, TestPassed, TestSkipped}
-use Rattle.test_report_forms.specs.JunitCase.{CaseView, case_view, failed_case, own_name, passed_case, problem_case, skipped_case}
+use Rattle.test_report_forms.specs.JunitCase.{CaseView, case_view, case_of_cause, failed_case, own_name, passed_case, problem_case, skipped_case}
 use Rattle.test_report_forms.specs.JunitSuite.{SuiteView, suite_view}
 use Rattle.test_report_forms.specs.JunitValues.{junit_values}
 use Rattle.test_report_forms.specs.Suites.{added_to, suite_over, without_first}
@@ -40,7 +40,7 @@ add_own j c = record j { own = j.own ++ (c ∷ []) }
 -- one more cause, in the suite that it names
 abbrev pub add_cause : JunitState → CauseView → JunitState
 add_cause j cause =
-    option_map_or (λ suite. add_case j (Some suite) (problem_case cause.line cause.kind)) cause.suite (add_own j (problem_case cause.line cause.kind))
+    option_map_or (λ suite. add_case j (Some suite) (case_of_cause cause)) cause.suite (add_own j (case_of_cause cause))
 
 -- what is kept, without that suite
 abbrev pub without_suite : JunitState → Option (List ℕ) → JunitState
@@ -59,7 +59,7 @@ unfoldable pub junit_entry : Options → JunitState → EntryView → JunitState
 junit_entry o j (TestPassed t) = add_case j t.suite (passed_case t)
 junit_entry o j (TestSkipped t) = add_case j t.suite (skipped_case t)
 junit_entry o j (TestFailed t f w) = add_case j t.suite (failed_case t f w o)
-junit_entry o j (LinesDisagree d) = option_map_or (add_cause j) (cause_of_entry (LinesDisagree d)) j
+junit_entry o j (LinesDisagree d why) = option_map_or (add_cause j) (cause_of_entry (LinesDisagree d why)) j
 junit_entry o j (SuiteNotRun suite n of) = option_map_or (add_cause j) (cause_of_entry (SuiteNotRun suite n of)) j
 junit_entry o j (SuiteOver s) = end_suite j s.name s.time
 
@@ -69,7 +69,7 @@ junit_state options entries = fold (junit_entry options) junit_start entries
 
 -- the test case that says that no test ran
 abbrev pub no_tests_case : CaseView
-no_tests_case = problem_case (codes "no test ran") (codes "no tests")
+no_tests_case = problem_case (codes "no test ran") (codes "no tests") []
 
 -- the test cases of causes that name no suite, with one more if no test ran
 abbrev pub own_cases : Bool → List CaseView → List CaseView

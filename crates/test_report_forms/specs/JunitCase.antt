@@ -1,15 +1,16 @@
 -- The test cases of JUnit's XML.
-use Rattle.std.specs.Prelude.{◌-◌, [], ℕ, Bool, true, false, not, List, codes, Option, None, option_map, string_bytes}
-use Rattle.test_report_forms.specs.Model.{FailedView, shown_failure_of, suite_name}
-use Rattle.test_report_forms.specs.Shown.{shown_name}
+use Rattle.std.specs.Prelude.{◌-◌, ◌==◌, [], ℕ, Bool, true, false, not, if◌then◌else◌, List, codes, map, min, Option, None, option_map, string_bytes, unwrap_or}
+use Rattle.test_report_forms.specs.Model.{CauseView, FailedView, shown_failure_of, shown_reason, suite_name}
+use Rattle.test_report_forms.specs.Shown.{shown_line, shown_name, shown_text}
 use Rattle.test_report_forms.specs.Title.{title_name}
 use Rattle.test_report_forms.specs.Lines.{without_returns}
-use Rattle.test_report_forms.specs.Why.{WhyView}
+use Rattle.test_report_forms.specs.Why.{PlaceView, WhyView}
 use Rattle.test_report_forms.specs.declared.junit_case.Case.{Case}
+use Rattle.test_report_forms.specs.declared.junit_case.CasePlace.{CasePlace}
 use Rattle.test_report_forms.specs.declared.junit_case.CaseKind.{CaseKind}
 use Rattle.test_report_forms.specs.declared.junit_case.CaseKind.TheVariants as kind
 use Rattle.test_report_forms.specs.declared.junit_case.Reason.{Reason}
-use Rattle.test_report_run.specs.Note.{FailureView, HasCrashed, HasFailed, HasNoEnd, HasTimedOut, IsFlaky, KindView, TestNoteView, text_view}
+use Rattle.test_report_run.specs.Note.{FailureView, Fails, HasCrashed, HasFailed, HasNoEnd, HasTimedOut, IsFlaky, IsSkipped, KindView, OutcomeView, Passes, TestNoteView, text_view}
 use Rattle.test_report_forms.specs.declared.options.Options.{Options}
 
 -- why a test case failed: an error or a failure, with its short reason, its type and its long reason, and the output of the test
@@ -20,17 +21,23 @@ pub record ReasonView : Type 0 where
   pub why : List ℕ
   pub output : Option (List ℕ)
 
--- the kind of a test case: passed after this number of attempts that failed, skipped, or failed
+-- a place in the sources: a file, and the number of a line
+pub record CasePlaceView : Type 0 where
+  pub file : List ℕ
+  pub line : List ℕ
+
+-- the kind of a test case: passed after this number of attempts that failed, skipped with a reason or without one, or failed
 pub data CaseKindView : Type 0 where
   PassedCase : ℕ → CaseKindView
-  SkippedCase : CaseKindView
+  SkippedCase : Option (List ℕ) → CaseKindView
   FailedCase : ReasonView → CaseKindView
 
 -- a test case
 pub record CaseView : Type 0 where
   pub name : List ℕ
-  pub suite : List ℕ
+  pub class : List ℕ
   pub time : Option ℕ
+  pub place : Option CasePlaceView
   pub kind : CaseKindView
 
 -- a reason that is kept
@@ -46,24 +53,62 @@ reason_view r = record {
 -- a kind that is kept
 abbrev pub case_kind_view : CaseKind → CaseKindView
 case_kind_view (kind.Passed failed) = PassedCase failed
-case_kind_view kind.Skipped = SkippedCase
+case_kind_view (kind.Skipped reason) = SkippedCase (text_view reason)
 case_kind_view (kind.Failed reason) = FailedCase (reason_view reason)
+
+-- a place that is kept
+abbrev pub case_place_view : CasePlace → CasePlaceView
+case_place_view p = record { file = string_bytes p.file; line = string_bytes p.line }
 
 -- a test case that is kept
 abbrev pub case_view : Case → CaseView
-case_view c = record { name = string_bytes c.name; suite = string_bytes c.suite; time = c.time; kind = case_kind_view c.kind }
+case_view c = record {
+  name = string_bytes c.name;
+  class = string_bytes c.class;
+  time = c.time;
+  place = option_map case_place_view c.place;
+  kind = case_kind_view c.kind;
+}
+
+-- a byte of a class: `_` is written for a dot
+abbrev pub class_byte : ℕ → ℕ
+class_byte b = if b == 46 then 95 else b
+
+-- the class of the test cases of a suite with this name
+abbrev pub class_name : List ℕ → List ℕ
+class_name name = map class_byte name
+
+-- a text of the input whole, as it is shown
+abbrev pub whole_text : List ℕ → List ℕ
+whole_text text = shown_text false (without_returns text)
+
+-- a place as it is shown
+abbrev pub shown_place : PlaceView → CasePlaceView
+shown_place p = record { file = shown_line p.file; line = p.line }
 
 -- the test case of a test
-abbrev pub test_case : TestNoteView → CaseKindView → CaseView
-test_case t kind = record { name = shown_name (title_name t); suite = suite_name t.suite; time = t.time; kind = kind }
+abbrev pub test_case : TestNoteView → Option CasePlaceView → CaseKindView → CaseView
+test_case t place kind = record {
+  name = shown_name (title_name t);
+  class = class_name (suite_name t.suite);
+  time = t.time;
+  place = place;
+  kind = kind;
+}
 
--- the test case of a test that passed
+-- the test case of a test that passed: at most 20 attempts that failed are in it
 abbrev pub passed_case : TestNoteView → CaseView
-passed_case t = test_case t (PassedCase (t.attempts - 1))
+passed_case t = test_case t None (PassedCase (min (t.attempts - 1) 20))
+
+-- why a test was skipped, if its line says so
+abbrev pub skip_reason : OutcomeView → Option (List ℕ)
+skip_reason Passes = None
+skip_reason (IsSkipped reason) = reason
+skip_reason (Fails failure) = None
 
 -- the test case of a test that was skipped
 abbrev pub skipped_case : TestNoteView → CaseView
-skipped_case t = test_case t SkippedCase
+skipped_case t = test_case t None (SkippedCase (option_map whole_text (skip_reason t.outcome)))
 
 -- a test that failed in this way has an error, and not a failure
 abbrev pub is_error : KindView → Bool
@@ -88,33 +133,37 @@ failed_reason failed f = record {
   message = failed.short;
   type_of = failed_type f.kind;
   why = failed.why;
-  output = option_map without_returns f.stdout;
+  output = option_map whole_text f.stdout;
 }
 
 -- the test case of a test that failed
 abbrev pub failed_case : TestNoteView → FailureView → WhyView → Options → CaseView
-failed_case t f w o = test_case t (FailedCase (failed_reason (shown_failure_of t f w o) f))
+failed_case t f w o = test_case t (option_map shown_place w.place) (FailedCase (failed_reason (shown_failure_of t f w o) f))
 
 -- the name of the run, and of the suite of causes that name no suite
 abbrev pub own_name : List ℕ
 own_name = codes "test-report"
 
--- why the run has a problem: this line
-abbrev pub problem_reason : List ℕ → List ℕ → ReasonView
-problem_reason line type_of = record { is_error = true; message = line; type_of = type_of; why = []; output = None }
+-- why the run has a problem: this line, and what explains it
+abbrev pub problem_reason : List ℕ → List ℕ → List ℕ → ReasonView
+problem_reason line type_of why = record { is_error = true; message = line; type_of = type_of; why = why; output = None }
 
 -- the test case of a problem of the run: its line is the name and the message
-abbrev pub problem_case : List ℕ → List ℕ → CaseView
-problem_case line type_of = record { name = line; suite = own_name; time = None; kind = FailedCase (problem_reason line type_of) }
+abbrev pub problem_case : List ℕ → List ℕ → List ℕ → CaseView
+problem_case line type_of why = record { name = line; class = own_name; time = None; place = None; kind = FailedCase (problem_reason line type_of why) }
+
+-- the test case of a cause
+abbrev pub case_of_cause : CauseView → CaseView
+case_of_cause c = problem_case c.line c.kind (unwrap_or (shown_reason c.why) [])
 
 -- a test case has a failure
 abbrev pub has_failure : CaseView → Bool
-has_failure c = elim c.kind as (λ _. Bool) [ PassedCase n ↦ false | SkippedCase ↦ false | FailedCase r ↦ not r.is_error ]
+has_failure c = elim c.kind as (λ _. Bool) [ PassedCase n ↦ false | SkippedCase reason ↦ false | FailedCase r ↦ not r.is_error ]
 
 -- a test case has an error
 abbrev pub has_error : CaseView → Bool
-has_error c = elim c.kind as (λ _. Bool) [ PassedCase n ↦ false | SkippedCase ↦ false | FailedCase r ↦ r.is_error ]
+has_error c = elim c.kind as (λ _. Bool) [ PassedCase n ↦ false | SkippedCase reason ↦ false | FailedCase r ↦ r.is_error ]
 
 -- a test case is skipped
 abbrev pub is_skipped : CaseView → Bool
-is_skipped c = elim c.kind as (λ _. Bool) [ PassedCase n ↦ false | SkippedCase ↦ true | FailedCase r ↦ false ]
+is_skipped c = elim c.kind as (λ _. Bool) [ PassedCase n ↦ false | SkippedCase reason ↦ true | FailedCase r ↦ false ]

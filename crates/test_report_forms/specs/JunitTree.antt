@@ -1,7 +1,7 @@
 -- The tree of JUnit's XML: an element for each suite, and in it one for each of its test cases.
 use Rattle.std.specs.Prelude.{◌≡◌, ◌++◌, ◌∷◌, [], ℕ, true, List, codes, map, Option, Some, option_map, option_to_list, replicate}
 use Rattle.std.specs.Fmt.{decimal}
-use Rattle.std.specs.List.{AllZip}
+use Rattle.std.specs.List.{AllZip, flat_map}
 use Rattle.template.specs.Children.{IsElement, attribute, elements}
 use Rattle.template.specs.Clean.{is_clean}
 use Rattle.template.specs.Document.{filled_tree, is_document}
@@ -10,7 +10,7 @@ use Rattle.template.specs.Shown.{shown}
 use Rattle.template.specs.Template.{values_of}
 use Rattle.template.specs.Tree.{AttributeView, TreeView}
 use Rattle.test_report_forms.specs.Junit.{junit_parts}
-use Rattle.test_report_forms.specs.JunitCase.{CaseKindView, CaseView, FailedCase, PassedCase, ReasonView, SkippedCase}
+use Rattle.test_report_forms.specs.JunitCase.{CaseKindView, CasePlaceView, CaseView, FailedCase, PassedCase, ReasonView, SkippedCase}
 use Rattle.test_report_forms.specs.JunitSuite.{SuiteView, counts_of, sums_of}
 use Rattle.test_report_forms.specs.JunitValues.{junit_values, reason_name}
 use Rattle.test_report_forms.specs.Model.{suite_name}
@@ -39,10 +39,14 @@ reason_child r = record {
 abbrev pub output_child : List ℕ → ChildView
 output_child text = record { name = codes "system-out"; attributes = []; text = text }
 
+-- the element of a test that was skipped, with the reason if there is one
+abbrev pub skipped_child : Option (List ℕ) → ChildView
+skipped_child reason = record { name = codes "skipped"; attributes = map (attribute (codes "message")) (option_to_list reason); text = [] }
+
 -- the elements in a test case of this kind
 abbrev pub children_of : CaseKindView → List ChildView
 children_of (PassedCase failed) = replicate failed (bare_child (codes "flakyFailure"))
-children_of SkippedCase = bare_child (codes "skipped") ∷ []
+children_of (SkippedCase reason) = skipped_child reason ∷ []
 children_of (FailedCase r) = reason_child r ∷ map output_child (option_to_list r.output)
 
 -- a tree is such an element
@@ -53,9 +57,18 @@ IsChild c t = IsElement c.name c.attributes (λ trees. trees ≡ text_tree (show
 abbrev pub time_attribute : Option ℕ → List AttributeView
 time_attribute time = map (attribute (codes "time")) (option_to_list (option_map seconds time))
 
+-- the attributes of a place
+abbrev pub file_and_line : CasePlaceView → List AttributeView
+file_and_line p = attribute (codes "file") p.file ∷ attribute (codes "line") p.line ∷ []
+
+-- the attributes of a place, if it is known
+abbrev pub place_attributes : Option CasePlaceView → List AttributeView
+place_attributes place = flat_map file_and_line (option_to_list place)
+
 -- the attributes of a test case
 abbrev pub case_attributes : CaseView → List AttributeView
-case_attributes c = attribute (codes "name") c.name ∷ attribute (codes "classname") c.suite ∷ time_attribute c.time
+case_attributes c =
+    attribute (codes "name") c.name ∷ attribute (codes "classname") c.class ∷ (time_attribute c.time ++ place_attributes c.place)
 
 -- a tree is the element of a test case, and the elements in it are those of its kind, in this order
 abbrev pub IsCaseElement : CaseView → TreeView → Type 0

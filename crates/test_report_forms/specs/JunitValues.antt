@@ -1,8 +1,8 @@
 -- The values of JUnit's XML.
-use Rattle.std.specs.Prelude.{◌++◌, ◌∷◌, [], ℕ, Bool, List, codes, if◌then◌else◌, Option, replicate}
+use Rattle.std.specs.Prelude.{◌++◌, ◌∷◌, [], ℕ, Bool, List, codes, if◌then◌else◌, Option, Some, None, option_to_list, replicate}
 use Rattle.std.specs.Fmt.{decimal}
 use Rattle.template.specs.Template.{ItemValue, NoValues, ValueView, section, values_of}
-use Rattle.test_report_forms.specs.JunitCase.{CaseKindView, CaseView, FailedCase, PassedCase, ReasonView, SkippedCase}
+use Rattle.test_report_forms.specs.JunitCase.{CaseKindView, CasePlaceView, CaseView, FailedCase, PassedCase, ReasonView, SkippedCase}
 use Rattle.test_report_forms.specs.JunitSuite.{SuiteView, counts_of, sums_of}
 use Rattle.test_report_forms.specs.Model.{suite_name}
 use Rattle.test_report_forms.specs.Values.{items, one_text, option_item, time_item}
@@ -31,15 +31,29 @@ abbrev pub reason_items : ReasonView → List ValueView
 reason_items r =
     (ItemValue (reason_name r.is_error) (values_of (reason_values r.message r.type_of r.why)) ∷ []) ++ option_item (codes "output") (codes "text") r.output
 
+-- the place of a test case
+abbrev pub place_values : CasePlaceView → List ValueView
+place_values p = one_text (codes "file") p.file ++ one_text (codes "line") p.line
+
+-- the place of a test case, if it is known
+abbrev pub place_item : Option CasePlaceView → List ValueView
+place_item place = items (codes "place") place_values (option_to_list place)
+
+-- that a test was skipped, with the reason if there is one
+abbrev pub skipped_items : Option (List ℕ) → List ValueView
+skipped_items None = ItemValue (codes "skipped") NoValues ∷ []
+skipped_items (Some reason) = ItemValue (codes "reason") (values_of (one_text (codes "message") reason)) ∷ []
+
 -- the kind of a test case
 abbrev pub kind_values : CaseKindView → List ValueView
 kind_values (PassedCase failed) = section (codes "flaky") (attempts failed)
-kind_values SkippedCase = ItemValue (codes "skipped") NoValues ∷ []
+kind_values (SkippedCase reason) = skipped_items reason
 kind_values (FailedCase r) = reason_items r
 
 -- the values of a test case
 abbrev pub case_values : CaseView → List ValueView
-case_values c = ((one_text (codes "name") c.name ++ one_text (codes "suite") c.suite) ++ time_item c.time) ++ kind_values c.kind
+case_values c =
+    (((one_text (codes "name") c.name ++ one_text (codes "class") c.class) ++ time_item c.time) ++ place_item c.place) ++ kind_values c.kind
 
 -- the values of a suite
 abbrev pub suite_values : SuiteView → List ValueView

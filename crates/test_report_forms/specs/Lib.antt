@@ -1,3 +1,4 @@
+pub mod CargoWhy
 pub mod Commands
 pub mod Entry
 pub mod Explanation
@@ -10,10 +11,13 @@ pub mod JsonText
 pub mod JsonValues
 pub mod Junit
 pub mod JunitCase
+pub mod JunitEntries
 pub mod JunitSuite
 pub mod JunitTree
 pub mod JunitValues
+pub mod KeptList
 pub mod Laws
+pub mod Levels
 pub mod Lines
 pub mod List
 pub mod Markdown
@@ -28,5 +32,6 @@ pub mod Text
 pub mod Title
 pub mod Values
 pub mod Why
+pub mod WhyLines
 pub mod Words
 pub mod Written

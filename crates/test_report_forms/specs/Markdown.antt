@@ -61,7 +61,7 @@ details_holes path =
 -- the holes that the summary has
 abbrev pub markdown_holes : List HoleView
 markdown_holes =
-    run_holes hole.Plain ++ (problem_holes hole.Plain
+    run_holes hole.Plain ++ (problem_holes hole.Plain (codes "problems" ∷ codes "problem" ∷ [])
     ++ (row_holes (codes "failures" ∷ codes "failed" ∷ []) ++ details_holes (codes "failures" ∷ codes "failed" ∷ [])))
 
 -- the heading, with the outcome
@@ -82,6 +82,10 @@ time_phrase = codes "{{#time}}, in {{*seconds}}s{{/time}}\n\n"
 abbrev pub summary_phrase : List ℕ
 summary_phrase = numbers_phrase ++ time_phrase
 
+-- a problem: its line, and what explains it
+abbrev pub problem_phrase : List ℕ
+problem_phrase = codes "- {{*line}}{{#why}}\n\n<pre>\n{{text}}</pre>\n{{/why}}\n"
+
 -- the row of a failed test: its status, its suite and name, its time and its short reason
 abbrev pub row_phrase : List ℕ
 row_phrase =
@@ -97,7 +101,7 @@ details_phrase =
 abbrev pub markdown_phrases : List PhraseView
 markdown_phrases =
     phrases [] (heading_phrase ∷ summary_phrase ∷ [])
-    ++ (phrases (codes "problems" ∷ codes "problem" ∷ []) (codes "- {{*line}}\n" ∷ [])
+    ++ (phrases (codes "problems" ∷ codes "problem" ∷ []) (problem_phrase ∷ [])
     ++ (phrases (codes "failures" ∷ []) (codes "| Result | Test | Time | Why |\n| --- | --- | ---: | --- |\n" ∷ [])
     ++ phrases (codes "failures" ∷ codes "failed" ∷ []) (row_phrase ∷ details_phrase ∷ [])))
 

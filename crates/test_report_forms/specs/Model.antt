@@ -11,6 +11,7 @@ use Rattle.test_report_forms.specs.Title.{title, title_name}
 use Rattle.test_report_forms.specs.Why.{WhyView}
 use Rattle.test_report_forms.specs.Words.{disagreement_line, failed_word, not_run_line}
 use Rattle.test_report_forms.specs.declared.cause.Cause.{Cause}
+use Rattle.test_report_forms.specs.declared.cause.Problem.{Problem}
 use Rattle.test_report_forms.specs.declared.failed_test.FailedTest.{FailedTest}
 use Rattle.test_report_forms.specs.declared.model.ReportModel.{ReportModel}
 use Rattle.test_report_forms.specs.declared.model.SuiteRow.{SuiteRow}
@@ -53,15 +54,21 @@ shown_failure_of t f w o = record {
   why = limited_why (shown_why o t f w) o.limit;
 }
 
--- a disagreement, or a suite whose tests were not all run: the suite that it names, its kind and its line
+-- a disagreement, or a suite whose tests were not all run: the suite that it names, its kind, its line, and what explains it
 pub record CauseView : Type 0 where
   pub suite : Option (List ℕ)
   pub kind : List ℕ
   pub line : List ℕ
+  pub why : Option (List ℕ)
 
 -- a cause that is kept
 abbrev pub cause_view : Cause → CauseView
-cause_view c = record { suite = option_map (λ s. s.now) c.suite; kind = c.kind.now; line = string_bytes c.line }
+cause_view c = record {
+  suite = option_map (λ s. s.now) c.suite;
+  kind = c.kind.now;
+  line = string_bytes c.line;
+  why = option_map (λ w. w.now) c.why;
+}
 
 -- the suite that a disagreement names
 abbrev pub suite_of : DisagreementView → Option (List ℕ)
@@ -80,8 +87,8 @@ abbrev pub cause_of_entry : EntryView → Option CauseView
 cause_of_entry (TestPassed t) = None
 cause_of_entry (TestSkipped t) = None
 cause_of_entry (TestFailed t f w) = None
-cause_of_entry (LinesDisagree d) = Some (record { suite = suite_of d; kind = codes "disagreement"; line = disagreement_line d })
-cause_of_entry (SuiteNotRun suite n of) = Some (record { suite = Some suite; kind = codes "not run"; line = not_run_line suite n of })
+cause_of_entry (LinesDisagree d why) = Some (record { suite = suite_of d; kind = codes "disagreement"; line = disagreement_line d; why = why })
+cause_of_entry (SuiteNotRun suite n of) = Some (record { suite = Some suite; kind = codes "not run"; line = not_run_line suite n of; why = None })
 cause_of_entry (SuiteOver s) = None
 
 -- the failed test of an entry, if it has one
@@ -89,7 +96,7 @@ abbrev pub failure_of_entry : Options → EntryView → Option FailedView
 failure_of_entry o (TestPassed t) = None
 failure_of_entry o (TestSkipped t) = None
 failure_of_entry o (TestFailed t f w) = Some (shown_failure_of t f w o)
-failure_of_entry o (LinesDisagree d) = None
+failure_of_entry o (LinesDisagree d why) = None
 failure_of_entry o (SuiteNotRun suite n of) = None
 failure_of_entry o (SuiteOver s) = None
 
@@ -100,10 +107,6 @@ failures_of o entries = filter_map (failure_of_entry o) entries
 -- the line of the cause of an entry
 abbrev pub cause_line : EntryView → Option (List ℕ)
 cause_line entry = option_map (λ c. c.line) (cause_of_entry entry)
-
--- the lines of the causes of a list of entries
-abbrev pub cause_lines : List EntryView → List (List ℕ)
-cause_lines entries = filter_map cause_line entries
 
 -- how many tests passed, failed, were skipped and were not run
 abbrev pub numbers_of : ℕ → ℕ → ℕ → ℕ → Numbers
@@ -153,7 +156,7 @@ row_of_entry (SuiteOver s) = row_of_suite s
 row_of_entry (TestPassed t) = None
 row_of_entry (TestSkipped t) = None
 row_of_entry (TestFailed t f w) = None
-row_of_entry (LinesDisagree d) = None
+row_of_entry (LinesDisagree d why) = None
 row_of_entry (SuiteNotRun suite n of) = None
 
 -- the rows that a list of entries adds to the table of suites
@@ -169,13 +172,13 @@ abbrev pub timed_entry : EntryView → Option KeyedLine
 timed_entry (TestPassed t) = timed_title t
 timed_entry (TestFailed t f w) = timed_title t
 timed_entry (TestSkipped t) = None
-timed_entry (LinesDisagree d) = None
+timed_entry (LinesDisagree d why) = None
 timed_entry (SuiteNotRun suite n of) = None
 timed_entry (SuiteOver s) = None
 
 -- the five slowest tests of a list of entries
 abbrev pub slowest_tests : List EntryView → List KeyedLine
-slowest_tests entries = fold put_falling [] (filter_map timed_entry entries)
+slowest_tests entries = fold (put_falling 5) [] (filter_map timed_entry entries)
 
 -- the outcome says that no test ran
 abbrev pub no_tests_ran : RunOutcome → Bool
@@ -184,14 +187,43 @@ no_tests_ran outcome.NoTestsRun = true
 no_tests_ran (outcome.Cancelled step) = false
 no_tests_ran (outcome.Failed step) = false
 
--- the lines of the problems, with `no test ran` first if no test ran
-abbrev pub problem_lines : RunOutcome → List (List ℕ) → List (List ℕ)
-problem_lines outcome lines = if no_tests_ran outcome then codes "no test ran" ∷ lines else lines
+-- a problem of the run: a line, and what explains it, as they are shown
+pub record ProblemView : Type 0 where
+  pub line : List ℕ
+  pub why : Option (List ℕ)
+
+-- a problem that is kept
+abbrev pub problem_view : Problem → ProblemView
+problem_view p = record { line = string_bytes p.line; why = text_view p.why }
+
+-- what explains a cause, as it is shown
+abbrev pub shown_reason : Option (List ℕ) → Option (List ℕ)
+shown_reason why = option_map (shown_text false) why
+
+-- a cause as it is shown
+abbrev pub problem_of : CauseView → ProblemView
+problem_of c = record { line = c.line; why = shown_reason c.why }
+
+-- the problem of an entry, if it has one
+abbrev pub problem_of_entry : EntryView → Option ProblemView
+problem_of_entry entry = option_map problem_of (cause_of_entry entry)
+
+-- the problems of a list of entries
+abbrev pub problems_of : List EntryView → List ProblemView
+problems_of entries = filter_map problem_of_entry entries
+
+-- the problem that no test ran
+abbrev pub no_tests_problem : ProblemView
+no_tests_problem = record { line = codes "no test ran"; why = None }
+
+-- the problems, with `no test ran` first if no test ran
+abbrev pub all_problems : RunOutcome → List ProblemView → List ProblemView
+all_problems outcome problems = if no_tests_ran outcome then no_tests_problem ∷ problems else problems
 
 -- a finished report
 pub record ReportView : Type 0 where
   pub end : RunEnd
-  pub problems : List (List ℕ)
+  pub problems : List ProblemView
   pub failed : List FailedView
   pub suites : List RowView
   pub slowest : List KeyedLine
@@ -200,7 +232,7 @@ pub record ReportView : Type 0 where
 abbrev pub report_of : Options → List EntryView → RunEnd → ReportView
 report_of o entries end = record {
   end = end;
-  problems = problem_lines end.outcome (cause_lines entries);
+  problems = all_problems end.outcome (problems_of entries);
   failed = failures_of o entries;
   suites = suite_rows entries;
   slowest = slowest_tests entries;
@@ -210,7 +242,7 @@ report_of o entries end = record {
 abbrev pub report_view : ReportModel → RunEnd → ReportView
 report_view m end = record {
   end = end;
-  problems = problem_lines end.outcome (map string_bytes m.problems.items);
+  problems = all_problems end.outcome (map problem_view m.problems.items);
   failed = map failed_view m.failed.items;
   suites = map row_view m.suites.items;
   slowest = map slow_line_view m.slowest.tests.items;
@@ -219,6 +251,7 @@ report_view m end = record {
 -- what is kept is of these entries
 pub record IsModelOf (m : ReportModel) (entries : List EntryView) : Type 0 where
   pub failed : map failed_view m.failed.items ≡ failures_of m.options entries
-  pub problems : map string_bytes m.problems.items ≡ cause_lines entries
+  pub problems : map problem_view m.problems.items ≡ problems_of entries
   pub suites : map row_view m.suites.items ≡ suite_rows entries
   pub slowest : map slow_line_view m.slowest.tests.items ≡ slowest_tests entries
+  pub most : m.slowest.most ≡ 5

@@ -80,12 +80,12 @@ unfoldable pub limited : List ℕ → ℕ → List ℕ
 limited text limit = shown_text false (front text limit) ++ more_note (more_bytes text limit)
 
 -- a line of a text after four spaces
-abbrev pub indented_line : Bool → List ℕ → List ℕ
-indented_line raw line = codes "    " ++ (shown_text raw line ++ codes "\n")
+abbrev pub indented_line : ℕ → Bool → List ℕ → List ℕ
+indented_line margin raw line = replicate margin 32 ++ (shown_text raw line ++ codes "\n")
 
--- a text, each of its lines after four spaces
-abbrev pub indented : Bool → List ℕ → List ℕ
-indented raw text = flat_map (indented_line raw) (slice_split (λ b. b == 10) text)
+-- a text, each of its lines after so many spaces
+abbrev pub indented : ℕ → Bool → List ℕ → List ℕ
+indented margin raw text = flat_map (indented_line margin raw) (slice_split (λ b. b == 10) text)
 
 -- a number below 1,000 with three digits
 abbrev pub three_digits : ℕ → List ℕ

@@ -1,29 +1,23 @@
 -- The form for people who read a terminal.
-use Rattle.std.specs.Prelude.{ℕ, List, ◌++◌, ◌==◌, [], codes, if◌then◌else◌, nat_lt}
+use Rattle.std.specs.Prelude.{ℕ, List, ◌++◌, [], codes, if◌then◌else◌, nat_lt}
+use Rattle.run_events_levels.specs.declared.levels.OutputOnTestFinished.{OutputOnTestFinished}
 use Rattle.std.specs.Fmt.{decimal}
 use Rattle.std.specs.Option.{option_map_or}
-use Rattle.test_report_forms.specs.Entry.{EntryView, TestFailed}
-use Rattle.test_report_forms.specs.List.{short_list}
-use Rattle.test_report_forms.specs.Model.{cause_line}
-use Rattle.test_report_forms.specs.Shown.{bracket, front, indented, more_bytes}
-use Rattle.test_report_forms.specs.ShownWhy.{ShownWhyView, shown_why}
+use Rattle.test_report_forms.specs.Entry.{EntryView, TestFailed, TestPassed, TestSkipped}
+use Rattle.test_report_forms.specs.Levels.{finished_output, has_line, skipped_output}
+use Rattle.test_report_forms.specs.List.{passed_word, short_list}
+use Rattle.test_report_forms.specs.Model.{CauseView, cause_of_entry}
+use Rattle.test_report_forms.specs.Shown.{bracket, indented}
+use Rattle.test_report_forms.specs.ShownWhy.{shown_why}
 use Rattle.test_report_forms.specs.Title.{title}
 use Rattle.test_report_forms.specs.Words.{failed_word, outcome_word, status_text, summary_line}
 use Rattle.test_report_forms.specs.declared.options.Options.{Options}
-use Rattle.test_report_run.specs.Note.{TestNoteView}
+use Rattle.test_report_forms.specs.Why.{WhyView}
+use Rattle.test_report_forms.specs.WhyLines.{why_lines}
+use Rattle.test_report_run.specs.Counted.{finish_for}
+use Rattle.test_report_run.specs.Note.{FailureView, TestNoteView}
+use Rattle.test_report_run.specs.declared.counted.Finish.TheVariants.{Passed}
 use Rattle.test_report_run.specs.declared.note.RunEnd.{RunEnd}
-
--- the line of the number of bytes that are not shown, if there are any
-unfoldable pub more_line : ℕ → List ℕ
-more_line more = if more == 0 then [] else codes "    (" ++ (decimal more ++ codes " more bytes)\n")
-
--- the line of the number of lines of the output that are not shown, if there are any
-unfoldable pub hidden_line : ℕ → List ℕ
-hidden_line hidden = if hidden == 0 then [] else codes "    (" ++ (decimal hidden ++ codes " more lines of output)\n")
-
--- the lines of why a test failed
-unfoldable pub why_lines : Options → ShownWhyView → List ℕ
-why_lines o why = indented o.raw (front why.text o.limit) ++ (more_line (more_bytes why.text o.limit) ++ hidden_line why.hidden)
 
 -- the number of attempts, if there were several
 unfoldable pub attempts_note : ℕ → List ℕ
@@ -34,14 +28,37 @@ unfoldable pub failed_head : Options → TestNoteView → List ℕ → List ℕ
 failed_head o t word =
     status_text o.color word ++ (codes " " ++ (bracket t.time ++ (title t ++ (attempts_note t.attempts ++ codes "\n"))))
 
--- a failed test, with why it failed
-unfoldable pub failed_text : Options → TestNoteView → List ℕ → ShownWhyView → List ℕ
-failed_text o t word why = failed_head o t word ++ why_lines o why
+-- the line of a test that did not fail
+unfoldable pub ended_head : Options → TestNoteView → List ℕ → List ℕ
+ended_head o t word = status_text o.color word ++ (codes " " ++ (bracket t.time ++ (title t ++ codes "\n")))
 
--- what is written of an entry: a failed test, or the line of a cause
+-- the line of a test that ended, if the test has one, and the lines under it, if they are shown at once
+abbrev pub ended_text : OutputOnTestFinished → List ℕ → List ℕ → List ℕ
+ended_text shows head below = if has_line shows then head ++ (if shows.show_immediate then below else []) else []
+
+-- a failed test, with why it failed
+unfoldable pub failed_text : Options → TestNoteView → FailureView → WhyView → List ℕ
+failed_text o t f w =
+    ended_text (finished_output o (finish_for f.kind) t.attempts) (failed_head o t (failed_word f.kind)) (why_lines 4 o (shown_why o t f w))
+
+-- a test that passed
+unfoldable pub passed_text : Options → TestNoteView → List ℕ
+passed_text o t = ended_text (finished_output o Passed t.attempts) (ended_head o t (passed_word t.attempts)) []
+
+-- a skipped test
+unfoldable pub skipped_text : Options → TestNoteView → List ℕ
+skipped_text o t = ended_text (skipped_output o) (ended_head o t (codes "SKIP")) []
+
+-- the line of a cause, and under it what explains the cause
+abbrev pub cause_text : Options → CauseView → List ℕ
+cause_text o c = c.line ++ (codes "\n" ++ option_map_or (indented 4 o.raw) c.why [])
+
+-- what is written of an entry: a test by its level, or a cause
 abbrev pub text_line : Options → EntryView → List ℕ
-text_line o (TestFailed t f w) = failed_text o t (failed_word f.kind) (shown_why o t f w)
-text_line o e = option_map_or (λ line. line ++ codes "\n") (cause_line e) []
+text_line o (TestFailed t f w) = failed_text o t f w
+text_line o (TestPassed t) = passed_text o t
+text_line o (TestSkipped t) = skipped_text o t
+text_line o e = option_map_or (cause_text o) (cause_of_entry e) []
 
 -- the line before the summary, and the summary
 unfoldable pub summary_lines : RunEnd → List ℕ

@@ -4,7 +4,7 @@ use Rattle.std.specs.Fmt.{decimal}
 use Rattle.template.specs.Template.{ItemValue, TextValue, ValueView, Values, section, values_of}
 use Rattle.test_report_forms.specs.Entry.{EntryView}
 use Rattle.test_report_forms.specs.List.{KeyedLine}
-use Rattle.test_report_forms.specs.Model.{FailedView, ReportView, RowView, numbers_of_run, report_of}
+use Rattle.test_report_forms.specs.Model.{FailedView, ProblemView, ReportView, RowView, numbers_of_run, report_of}
 use Rattle.test_report_forms.specs.Shown.{seconds}
 use Rattle.test_report_forms.specs.Words.{outcome_word}
 use Rattle.test_report_run.specs.declared.note.RunEnd.{RunEnd}
@@ -58,13 +58,17 @@ words_text n =
     or_no_tests (with_words (with_words (with_words (with_words [] n.passed (codes "passed")) n.failed (codes "failed")) n.skipped (codes "skipped"))
     n.not_run (codes "not run"))
 
+-- the values of a problem
+abbrev pub problem_values : ProblemView → List ValueView
+problem_values p = one_text (codes "line") p.line ++ option_item (codes "why") (codes "text") p.why
+
 -- a problem
-abbrev pub problem_item : List ℕ → List ValueView
-problem_item line = ItemValue (codes "problem") (values_of (one_text (codes "line") line)) ∷ []
+abbrev pub problem_item : ProblemView → List ValueView
+problem_item p = ItemValue (codes "problem") (values_of (problem_values p)) ∷ []
 
 -- the problems
-abbrev pub problem_items : List (List ℕ) → List ValueView
-problem_items lines = items (codes "problem") (one_text (codes "line")) lines
+abbrev pub problem_items : List ProblemView → List ValueView
+problem_items problems = items (codes "problem") problem_values problems
 
 -- the number of attempts, if there were several, and the time, if it is known
 abbrev pub note : ℕ → Option ℕ → List ValueView

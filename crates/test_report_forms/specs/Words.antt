@@ -21,11 +21,12 @@ failed_word HasNoEnd = codes "FAIL"
 failed_word IsFlaky = codes "FAIL"
 failed_word (HasCrashed crash) = codes "CRASH"
 
--- the colour of a word for a result: red for a failed test, and yellow for another
+-- the colour of a word for a result: red for a failed test, green for one that passed, and yellow for another
 abbrev pub color_of : List ℕ → List ℕ
 color_of word =
     if bytes_eq word (codes "FAIL") then codes "1;31"
-    else (if bytes_eq word (codes "TIMEOUT") then codes "1;31" else (if bytes_eq word (codes "CRASH") then codes "1;31" else codes "1;33"))
+    else (if bytes_eq word (codes "TIMEOUT") then codes "1;31" else (if bytes_eq word (codes "CRASH") then codes "1;31"
+    else (if bytes_eq word (codes "PASS") then codes "1;32" else codes "1;33")))
 
 -- a word for a result, coloured if `color` is true
 unfoldable pub status_text : Bool → List ℕ → List ℕ

@@ -2,12 +2,14 @@
 
 ghost use Rattle.std.specs.Prelude.{◌≡◌, ◌++◌, IfOk, OnOk, option_map, string_bytes};
 ghost use Rattle.test_report_forms.specs.Entry.{entry_view};
-ghost use Rattle.test_report_forms.specs.Model.{cause_of_entry, cause_view, suite_of};
+ghost use Rattle.test_report_forms.specs.Model as spec;
+ghost use Rattle.test_report_forms.specs.Model.{cause_of_entry, cause_view, problem_of, problem_view, suite_of};
 ghost use Rattle.test_report_forms.specs.Words.{command_words, disagreement_line, its_tests, not_run_line, result_word, said_numbers, said_text, key_and_verdict, verdict_word};
 ghost use Rattle.test_report_run.specs.Note.{command_view, disagreement_view, text_view};
 
 use crate::entry::Entry;
-use crate::shown::{push_line, push_name, push_name_and_space};
+use crate::junit_case::text_of;
+use crate::shown::{push_line, push_name, push_name_and_space, push_text};
 use std::alloc::{AllocError, Global};
 use std::fmt::Write;
 use test_report_events::event::TestResult;
@@ -24,23 +26,63 @@ pub(crate) struct Cause<'a> {
 
     /// The line of the report.
     pub(crate) line: String,
+
+    /// What explains the cause, if anything does.
+    pub(crate) why: Option<&'a str>,
+}
+
+/// A problem of the run: a cause as it is shown, or that no test ran.
+#[derive(Drop)]
+pub(crate) struct Problem {
+    /// The line of the report.
+    pub(crate) line: String,
+
+    /// What explains the problem, if anything does.
+    pub(crate) why: Option<String>,
+}
+
+impl Problem {
+    /// Returns a cause as it is shown.
+    pub(crate) fn of(alloc: Global, cause: Cause<'_>) -> Result<Problem, AllocError>
+        ensures { IfOk result (λ problem. problem_view problem ≡ problem_of (cause_view cause.entry)) }
+    {
+        Ok(Problem {
+            why: shown_reason(alloc, cause.why)?,
+            line: cause.line,
+        })
+    }
+}
+
+/// Returns what explains a cause as it is shown, or `None` if nothing does.
+pub(crate) fn shown_reason(alloc: Global, why: Option<&str>) -> Result<Option<String>, AllocError>
+    ensures { IfOk result (λ shown. text_view shown ≡ spec.shown_reason (option_map (λ w. w.now) why.entry)) }
+{
+    match why {
+        Some(why) => {
+            let mut shown = String::new(alloc);
+            push_text(&mut shown, why, false)?;
+            Ok(Some(shown))
+        }
+        None => Ok(None),
+    }
 }
 
 /// Returns the cause of an entry, or `None` if it has none.
 pub(crate) fn cause_of<'a>(
     alloc: Global,
-    entry: &Entry<'a>,
+    entry: &'a Entry<'_>,
 ) -> Result<Option<Cause<'a>>, AllocError>
     ensures { IfOk result (λ cause. option_map cause_view cause ≡ cause_of_entry (entry_view entry.now)) }
 {
     let mut line = String::new(alloc);
     match entry {
-        Entry::Disagreement(disagreement) => {
+        Entry::Disagreement { disagreement, why } => {
             push_disagreement(&mut line, disagreement)?;
             Ok(Some(Cause {
                 suite: suite_of(disagreement),
                 kind: "disagreement",
                 line,
+                why: text_of(why),
             }))
         }
         Entry::NotRun(not_run) => {
@@ -49,6 +91,7 @@ pub(crate) fn cause_of<'a>(
                 suite: Some(not_run.suite.as_str()),
                 kind: "not run",
                 line,
+                why: None,
             }))
         }
         Entry::Passed(_) | Entry::Skipped(_) | Entry::Failed { .. } | Entry::Suite(_) => Ok(None),

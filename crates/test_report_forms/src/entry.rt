@@ -4,13 +4,15 @@ ghost use Rattle.std.specs.Prelude.{IfOk};
 ghost use Rattle.test_report_forms.specs.Entry.{IsEntryOf, entry_view};
 ghost use Rattle.test_report_run.specs.Note.{note_view};
 
+use crate::cargo_why::reason_of;
 use crate::why::Why;
 use std::alloc::{AllocError, Global};
 use test_report_run::note::{
     Disagreement, Failure, NotRun, Note, SuiteNote, TestNote, TestOutcome,
 };
 
-/// A note of a run. That of a failed test has why the test failed, too.
+/// A note of a run. That of a failed test has why the test failed, too, and that of a failure of cargo what explains
+/// it.
 #[derive(Drop)]
 pub enum Entry<'a> {
     /// A test passed.
@@ -32,7 +34,13 @@ pub enum Entry<'a> {
     },
 
     /// The lines of the run contradict each other.
-    Disagreement(&'a Disagreement),
+    Disagreement {
+        /// The disagreement.
+        disagreement: &'a Disagreement,
+
+        /// What explains it, if it is a failure of cargo and anything does.
+        why: Option<String>,
+    },
 
     /// Some tests of a suite were not run.
     NotRun(&'a NotRun),
@@ -49,14 +57,17 @@ impl<'a> Entry<'a> {
         match note {
             Note::Test(test) => match &test.outcome {
                 TestOutcome::Passed => Ok(Entry::Passed(test)),
-                TestOutcome::Skipped => Ok(Entry::Skipped(test)),
+                TestOutcome::Skipped { .. } => Ok(Entry::Skipped(test)),
                 TestOutcome::Failed(failure) => Ok(Entry::Failed {
                     test,
                     failure,
                     why: Why::of(alloc, test, failure)?,
                 }),
             },
-            Note::Disagreement(disagreement) => Ok(Entry::Disagreement(disagreement)),
+            Note::Disagreement(disagreement) => Ok(Entry::Disagreement {
+                disagreement,
+                why: reason_of(alloc, disagreement)?,
+            }),
             Note::NotRun(not_run) => Ok(Entry::NotRun(not_run)),
             Note::Suite(suite) => Ok(Entry::Suite(suite)),
         }

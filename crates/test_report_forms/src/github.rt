@@ -3,18 +3,18 @@
 ghost use Rattle.std.specs.Prelude.{◌≡◌, ◌++◌, [], OnOk, option_map, string_bytes};
 ghost use Rattle.std.specs.Option.{option_map_or};
 ghost use Rattle.test_report_forms.specs.Entry.{entry_view};
-ghost use Rattle.test_report_forms.specs.Model.{cause_line};
-ghost use Rattle.test_report_forms.specs.Github.{column_property, data_char, error_command, failed_command, message, place_properties, properties, property, property_char, title_property, why_message};
+ghost use Rattle.test_report_forms.specs.Model.{cause_of_entry, cause_view};
+ghost use Rattle.test_report_forms.specs.Github.{cause_command, column_property, data_char, error_command, failed_command, message, place_properties, properties, property, property_char, title_property, why_message};
 ghost use Rattle.test_report_forms.specs.ShownWhy.{shown_why_view};
 ghost use Rattle.test_report_forms.specs.Why.{place_view, why_view};
 ghost use Rattle.test_report_run.specs.Note.{failure_view, test_view};
 
-use crate::cause::cause_of;
+use crate::cause::{Cause, cause_of};
 use crate::entry::Entry;
 use crate::form::Form;
 use crate::options::Options;
 use crate::place::Place;
-use crate::shown::push_line;
+use crate::shown::{push_line, push_text};
 use crate::shown_why::{ShownWhy, push_why, shown_why};
 use crate::summary::{outcome_text, push_summary};
 use crate::title::push_title;
@@ -56,19 +56,31 @@ impl GithubForm {
         text.push_str("::error ")?;
         push_properties(alloc, text, &why.place)?;
         push_title_property(alloc, text, test)?;
-        push_message(alloc, text, &shown, self.options.limit)
+        push_message(alloc, text, test, &shown, self.options.limit)
     }
 }
 
 /// Appends the annotation of the cause of an entry. Appends nothing if it has none.
-fn push_cause(alloc: Global, entry: &Entry<'_>, text: &mut String) -> Result<(), AllocError>
+fn push_cause_of(alloc: Global, entry: &Entry<'_>, text: &mut String) -> Result<(), AllocError>
     ensures { OnOk result (string_bytes text.new ≡ string_bytes text.old
-        ++ option_map_or error_command (cause_line (entry_view entry.now)) []) }
+        ++ option_map_or cause_command (cause_of_entry (entry_view entry.now)) []) }
 {
     match cause_of(alloc, entry)? {
-        Some(cause) => push_error(text, cause.line.as_str()),
+        Some(cause) => push_cause(text, cause),
         None => Ok(()),
     }
+}
+
+/// Appends the annotation of a cause: its line, and what explains the cause.
+fn push_cause(text: &mut String, cause: Cause<'_>) -> Result<(), AllocError>
+    ensures { OnOk result (string_bytes text.new ≡ string_bytes text.old ++ cause_command (cause_view cause.entry)) }
+{
+    let mut message = cause.line;
+    if let Some(why) = cause.why {
+        message.push('\n')?;
+        push_text(&mut message, why, false)?;
+    }
+    push_error(text, message.as_str())
 }
 
 /// Appends an annotation without a place.
@@ -93,18 +105,21 @@ fn push_title_property(alloc: Global, text: &mut String, test: &TestNote) -> Res
     push_property(text, title.as_str())
 }
 
-/// Appends the message that says why a test failed.
+/// Appends the message with the name of a failed test, and why it failed.
 #[tactic(auto, unfolding(crate::specs::Github::why_message))]
 fn push_message(
     alloc: Global,
     text: &mut String,
+    test: &TestNote,
     why: &ShownWhy,
     limit: usize,
 ) -> Result<(), AllocError>
     ensures { OnOk result (string_bytes text.new
-        ≡ string_bytes text.old ++ why_message limit (shown_why_view why.now)) }
+        ≡ string_bytes text.old ++ why_message limit (test_view test.now) (shown_why_view why.now)) }
 {
     let mut shown = String::new(alloc);
+    push_title(&mut shown, test)?;
+    shown.push('\n')?;
     push_why(&mut shown, why, limit)?;
     text.push_str("::")?;
     push_data(text, shown.as_str())?;
@@ -132,9 +147,9 @@ impl Form for GithubForm {
             },
             Entry::Passed(_)
             | Entry::Skipped(_)
-            | Entry::Disagreement(_)
+            | Entry::Disagreement { .. }
             | Entry::NotRun(_)
-            | Entry::Suite(_) => push_cause(alloc, entry, text),
+            | Entry::Suite(_) => push_cause_of(alloc, entry, text),
         }
     }
 

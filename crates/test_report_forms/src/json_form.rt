@@ -66,7 +66,7 @@ impl JsonForm {
                 let json = failed_json(alloc, test, failure, why, self.options)?;
                 self.add(alloc, &test.suite, json)
             }
-            Entry::Disagreement(_) | Entry::NotRun(_) => self.on_cause(alloc, entry),
+            Entry::Disagreement { .. } | Entry::NotRun(_) => self.on_cause(alloc, entry),
             Entry::Suite(suite) => self.on_suite(alloc, suite),
         }
     }

@@ -192,6 +192,7 @@ pub(crate) fn problem_json(alloc: Global, cause: &Cause<'_>) -> Result<String, A
     object.text(alloc, "kind", cause.kind)?;
     object.option(alloc, "suite", cause.suite)?;
     object.text(alloc, "line", cause.line.as_str())?;
+    object.option(alloc, "why", cause.why)?;
     object.into_json(alloc)
 }
 

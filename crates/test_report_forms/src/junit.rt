@@ -81,7 +81,7 @@ impl JunitForm {
                 let case = Case::failed(alloc, test, failure, why, self.options)?;
                 self.add(alloc, text_of(&test.suite), case)
             }
-            Entry::Disagreement(_) | Entry::NotRun(_) => self.on_cause(alloc, entry),
+            Entry::Disagreement { .. } | Entry::NotRun(_) => self.on_cause(alloc, entry),
             Entry::Suite(suite) => self.on_suite(alloc, suite),
         }
     }
@@ -103,8 +103,8 @@ impl JunitForm {
         ensures state { OnOk result (junit_view self.new ≡ spec.add_cause (junit_view self.old) (cause_view cause.entry)) }
         ensures options { self.new.options ≡ self.old.options }
     {
-        let Cause { suite, kind, line } = cause;
-        let case = Case::problem(alloc, line, kind)?;
+        let suite = cause.suite;
+        let case = Case::of_cause(alloc, cause)?;
         match suite {
             Some(suite) => self.add(alloc, Some(suite), case),
             None => {
@@ -197,7 +197,7 @@ fn with_no_tests(alloc: Global, mut own: Vec<Case>) -> Result<Vec<Case>, AllocEr
         ≡ map case_view own.items ++ (spec.no_tests_case ∷ [])) }
 {
     let line = String::from_str(alloc, NO_TESTS)?;
-    own.push(Case::problem(alloc, line, "no tests")?)?;
+    own.push(Case::problem(alloc, line, "no tests", String::new(alloc))?)?;
     Ok(own)
 }
 

@@ -2,24 +2,29 @@
 
 ghost use Rattle.std.specs.Prelude.{◌≡◌, IfOk, option_map, string_bytes};
 ghost use Rattle.test_report_forms.specs.JunitCase as spec;
-ghost use Rattle.test_report_forms.specs.JunitCase.{case_kind_view, case_view};
+ghost use Rattle.test_report_forms.specs.JunitCase.{case_kind_view, case_place_view, case_view};
+ghost use Rattle.test_report_forms.specs.Model.{cause_view};
 ghost use Rattle.test_report_forms.specs.Shown.{shown_name};
-ghost use Rattle.test_report_forms.specs.Lines.{without_returns};
-ghost use Rattle.test_report_forms.specs.Why.{why_view};
-ghost use Rattle.test_report_run.specs.Note.{failure_view, kind_view, test_view, text_view};
+ghost use Rattle.test_report_forms.specs.Why.{place_view, why_view};
+ghost use Rattle.test_report_run.specs.Note.{failure_view, kind_view, outcome_view, test_view, text_view};
 
+use crate::cause::{Cause, shown_reason};
 use crate::failed_test::{FailedTest, shown_failure};
 use crate::lines::without_returns;
 use crate::model::suite_name;
 use crate::options::Options;
-use crate::shown::push_name;
+use crate::place::Place;
+use crate::shown::{push_line, push_name, push_text};
 use crate::title::shown_name;
 use crate::why::Why;
 use std::alloc::{AllocError, Global};
-use test_report_run::note::{Failure, FailureKind, TestNote};
+use test_report_run::note::{Failure, FailureKind, TestNote, TestOutcome};
 
 /// The name of the run, and of the suite of causes that name no suite.
 pub(crate) const OWN_NAME: &str = "test-report";
+
+/// The most attempts that failed which a test case has.
+const MOST_ATTEMPTS: usize = 20;
 
 /// A test case. In its texts control characters are already escapes.
 #[derive(Drop)]
@@ -27,14 +32,27 @@ pub(crate) struct Case {
     /// Its name.
     pub(crate) name: String,
 
-    /// The name of its suite.
-    pub(crate) suite: String,
+    /// Its class: the name of its suite, in which `.` is written as `_`.
+    pub(crate) class: String,
 
     /// The time that the test took, in microseconds.
     pub(crate) time: Option<u64>,
 
+    /// The place in the sources, if the test failed and its place is known.
+    pub(crate) place: Option<CasePlace>,
+
     /// Its kind.
     pub(crate) kind: CaseKind,
+}
+
+/// A place in the sources.
+#[derive(Drop)]
+pub(crate) struct CasePlace {
+    /// The file.
+    pub(crate) file: String,
+
+    /// The number of the line, in decimal digits.
+    pub(crate) line: String,
 }
 
 /// The kinds of test cases.
@@ -43,8 +61,8 @@ pub(crate) enum CaseKind {
     /// The test passed after this number of attempts that failed.
     Passed(usize),
 
-    /// The test was skipped.
-    Skipped,
+    /// The test was skipped, for a reason if its line has one.
+    Skipped(Option<String>),
 
     /// The test failed, or the test case is of a problem of the run.
     Failed(Reason),
@@ -71,13 +89,21 @@ pub(crate) struct Reason {
 
 impl Case {
     /// Returns the test case of a test.
-    fn of_test(alloc: Global, test: &TestNote, kind: CaseKind) -> Result<Case, AllocError>
-        ensures { IfOk result (λ c. case_view c ≡ spec.test_case (test_view test.now) (case_kind_view kind)) }
+    fn of_test(
+        alloc: Global,
+        test: &TestNote,
+        place: Option<CasePlace>,
+        kind: CaseKind,
+    ) -> Result<Case, AllocError>
+        ensures { IfOk result (λ c. case_view c
+            ≡ spec.test_case (test_view test.now) (option_map case_place_view place) (case_kind_view kind)) }
     {
+        let suite = suite_name(alloc, text_of(&test.suite))?;
         Ok(Case {
             name: name_text(alloc, shown_name(test))?,
-            suite: suite_name(alloc, text_of(&test.suite))?,
+            class: class_name(alloc, suite.as_str())?,
             time: test.time,
+            place,
             kind,
         })
     }
@@ -86,18 +112,16 @@ impl Case {
     pub(crate) fn passed(alloc: Global, test: &TestNote) -> Result<Case, AllocError>
         ensures { IfOk result (λ c. case_view c ≡ spec.passed_case (test_view test.now)) }
     {
-        Case::of_test(
-            alloc,
-            test,
-            CaseKind::Passed(test.attempts.saturating_sub(1)),
-        )
+        let failed = test.attempts.saturating_sub(1).min(MOST_ATTEMPTS);
+        Case::of_test(alloc, test, None, CaseKind::Passed(failed))
     }
 
     /// Returns the test case of a test that was skipped.
     pub(crate) fn skipped(alloc: Global, test: &TestNote) -> Result<Case, AllocError>
         ensures { IfOk result (λ c. case_view c ≡ spec.skipped_case (test_view test.now)) }
     {
-        Case::of_test(alloc, test, CaseKind::Skipped)
+        let reason = whole_text(alloc, skip_reason(&test.outcome))?;
+        Case::of_test(alloc, test, None, CaseKind::Skipped(reason))
     }
 
     /// Returns the test case of a test that failed, with its output.
@@ -111,36 +135,47 @@ impl Case {
         ensures { IfOk result (λ c. case_view c
             ≡ spec.failed_case (test_view test.now) (failure_view failure.now) (why_view why.now) options) }
     {
+        let place = shown_place(alloc, why.place)?;
         let FailedTest { short, why, .. } = shown_failure(alloc, test, failure, why, options)?;
         let reason = Reason {
             is_error: is_error(&failure.kind),
             message: short,
             type_of: type_of(&failure.kind),
             why,
-            output: output_text(alloc, text_of(&failure.stdout))?,
+            output: whole_text(alloc, text_of(&failure.stdout))?,
         };
-        Case::of_test(alloc, test, CaseKind::Failed(reason))
+        Case::of_test(alloc, test, place, CaseKind::Failed(reason))
     }
 
-    /// Returns the test case of a problem of the run. Its line is its name.
+    /// Returns the test case of a cause.
+    pub(crate) fn of_cause(alloc: Global, cause: Cause<'_>) -> Result<Case, AllocError>
+        ensures { IfOk result (λ c. case_view c ≡ spec.case_of_cause (cause_view cause.entry)) }
+    {
+        let why = shown_reason(alloc, cause.why)?.unwrap_or(String::new(alloc));
+        Case::problem(alloc, cause.line, cause.kind, why)
+    }
+
+    /// Returns the test case of a problem of the run. Its line is its name, and `why` explains it.
     pub(crate) fn problem(
         alloc: Global,
         line: String,
         type_of: &'static str,
+        why: String,
     ) -> Result<Case, AllocError>
-        ensures { IfOk result (λ c. case_view c ≡ spec.problem_case (string_bytes line) type_of.now) }
+        ensures { IfOk result (λ c. case_view c ≡ spec.problem_case (string_bytes line) type_of.now (string_bytes why)) }
     {
         let reason = Reason {
             is_error: true,
             message: String::from_str(alloc, line.as_str())?,
             type_of,
-            why: String::new(alloc),
+            why,
             output: None,
         };
         Ok(Case {
             name: line,
-            suite: String::from_str(alloc, OWN_NAME)?,
+            class: String::from_str(alloc, OWN_NAME)?,
             time: None,
+            place: None,
             kind: CaseKind::Failed(reason),
         })
     }
@@ -151,7 +186,7 @@ impl Case {
     {
         match &self.kind {
             CaseKind::Failed(reason) => !reason.is_error,
-            CaseKind::Passed(_) | CaseKind::Skipped => false,
+            CaseKind::Passed(_) | CaseKind::Skipped(_) => false,
         }
     }
 
@@ -161,7 +196,7 @@ impl Case {
     {
         match &self.kind {
             CaseKind::Failed(reason) => reason.is_error,
-            CaseKind::Passed(_) | CaseKind::Skipped => false,
+            CaseKind::Passed(_) | CaseKind::Skipped(_) => false,
         }
     }
 
@@ -170,7 +205,7 @@ impl Case {
         ensures { result ≡ spec.is_skipped (case_view self.now) }
     {
         match &self.kind {
-            CaseKind::Skipped => true,
+            CaseKind::Skipped(_) => true,
             CaseKind::Passed(_) | CaseKind::Failed(_) => false,
         }
     }
@@ -185,13 +220,66 @@ fn name_text(alloc: Global, name: &str) -> Result<String, AllocError>
     Ok(text)
 }
 
-/// Returns the output of a test, in which each line ends with a line feed alone.
-fn output_text(alloc: Global, stdout: Option<&str>) -> Result<Option<String>, AllocError>
-    ensures { IfOk result (λ text. text_view text ≡ option_map (λ s. without_returns s.now) stdout.entry) }
+/// Returns the class of the test cases of a suite by the name of the suite: each `.` is written as `_`. Readers take what
+/// is before the last `.` for a package.
+fn class_name(alloc: Global, name: &str) -> Result<String, AllocError>
+    ensures { IfOk result (λ class. string_bytes class ≡ spec.class_name name.now) }
 {
-    match stdout {
-        Some(stdout) => Ok(Some(without_returns(alloc, stdout)?)),
+    name.replace(alloc, ".", "_")
+}
+
+/// Returns a text of the input whole, as it is shown, or `None` if there is none.
+fn whole_text(alloc: Global, text: Option<&str>) -> Result<Option<String>, AllocError>
+    ensures { IfOk result (λ shown. text_view shown ≡ option_map (λ t. spec.whole_text t.now) text.entry) }
+{
+    match text {
+        Some(text) => Ok(Some(shown_whole(alloc, text)?)),
         None => Ok(None),
+    }
+}
+
+/// Returns a text as it is shown, without the carriage returns that are right before a line feed.
+fn shown_whole(alloc: Global, text: &str) -> Result<String, AllocError>
+    ensures { IfOk result (λ shown. string_bytes shown ≡ spec.whole_text text.now) }
+{
+    let lines = without_returns(alloc, text)?;
+    let mut shown = String::new(alloc);
+    push_text(&mut shown, lines.as_str(), false)?;
+    Ok(shown)
+}
+
+/// Returns why a test was skipped, if its line says so.
+fn skip_reason(outcome: &TestOutcome) -> Option<&str>
+    ensures { option_map (λ r. r.now) result ≡ spec.skip_reason (outcome_view outcome.now) }
+{
+    match outcome {
+        TestOutcome::Skipped { reason } => text_of(reason),
+        TestOutcome::Passed | TestOutcome::Failed(_) => None,
+    }
+}
+
+/// Returns a place as it is shown, or `None` if it is not known.
+fn shown_place(alloc: Global, place: Option<Place<'_>>) -> Result<Option<CasePlace>, AllocError>
+    ensures { IfOk result (λ shown. option_map case_place_view shown
+        ≡ option_map spec.shown_place (option_map place_view place.entry)) }
+{
+    match place {
+        Some(place) => Ok(Some(CasePlace::of(alloc, place)?)),
+        None => Ok(None),
+    }
+}
+
+impl CasePlace {
+    /// Returns a place as it is shown.
+    fn of(alloc: Global, place: Place<'_>) -> Result<CasePlace, AllocError>
+        ensures { IfOk result (λ shown. case_place_view shown ≡ spec.shown_place (place_view place.entry)) }
+    {
+        let mut file = String::new(alloc);
+        push_line(&mut file, place.file)?;
+        Ok(CasePlace {
+            file,
+            line: String::from_str(alloc, place.line)?,
+        })
     }
 }
 

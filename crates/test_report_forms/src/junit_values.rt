@@ -5,20 +5,23 @@
 //! | `tests`, `failures`, `errors`, `skipped` | the run, and each `suite`: numbers of test cases |
 //! | `time` (its `seconds`) | the run, each `suite` and each `case`, if it is known |
 //! | `name` | each `suite` and each `case` |
-//! | `suite` | each `case`: the name of its suite |
+//! | `class` | each `case`: the name of its suite, with `_` for each `.` |
+//! | `place` (its `file` and `line`) | each `case` that failed, if its place is known |
 //! | `flaky` (its `attempt`s) | each `case` that passed after attempts that failed |
-//! | `skipped` | each `case` that was skipped |
+//! | `reason` (its `message`) | each `case` that was skipped with a reason |
+//! | `skipped` | each other `case` that was skipped |
 //! | `failure` or `error` (`message`, `type`, `why`), `output` (its `text`) | each `case` that failed |
 
-ghost use Rattle.std.specs.Prelude.{◌≡◌, ◌++◌, IfOk, OnOk, map, string_bytes};
+ghost use Rattle.std.specs.Prelude.{◌≡◌, ◌++◌, IfOk, OnOk, map, option_map, string_bytes};
 ghost use Rattle.std.specs.Fmt.{decimal};
 ghost use Rattle.template.specs.Template.{value_view};
-ghost use Rattle.test_report_forms.specs.JunitCase.{case_kind_view, case_view, reason_view};
+ghost use Rattle.test_report_forms.specs.JunitCase.{case_kind_view, case_place_view, case_view, reason_view};
 ghost use Rattle.test_report_forms.specs.JunitSuite.{suite_view};
 ghost use Rattle.test_report_forms.specs.JunitValues as spec;
 ghost use Rattle.test_report_forms.specs.Values.{one_text};
+ghost use Rattle.test_report_run.specs.Note.{text_view};
 
-use crate::junit_case::{Case, CaseKind, Reason, text_of};
+use crate::junit_case::{Case, CaseKind, CasePlace, Reason, text_of};
 use crate::junit_suite::JunitCounts;
 use crate::model::suite_name;
 use crate::open_suites::Suite;
@@ -88,15 +91,34 @@ fn case_values(alloc: Global, case: Case) -> Result<Vec<Value>, AllocError>
 {
     let Case {
         name,
-        suite,
+        class,
         time,
+        place,
         kind,
     } = case;
     let mut values = one_text(alloc, "name", name)?;
-    push_text(&mut values, "suite", suite)?;
+    push_text(&mut values, "class", class)?;
     push_time(alloc, &mut values, time)?;
+    push_place(alloc, &mut values, place)?;
     push_kind(alloc, &mut values, kind)?;
     Ok(values)
+}
+
+/// Adds a place, if it is known.
+fn push_place(
+    alloc: Global,
+    values: &mut Vec<Value>,
+    place: Option<CasePlace>,
+) -> Result<(), AllocError>
+    ensures { OnOk result (map value_view values.new.items
+        ≡ map value_view values.old.items ++ spec.place_item (option_map case_place_view place)) }
+{
+    let Some(CasePlace { file, line }) = place else {
+        return Ok(());
+    };
+    let mut item = one_text(alloc, "file", file)?;
+    push_text(&mut item, "line", line)?;
+    push_item(values, "place", item)
 }
 
 /// Adds the kind of a test case.
@@ -106,8 +128,23 @@ fn push_kind(alloc: Global, values: &mut Vec<Value>, kind: CaseKind) -> Result<(
 {
     match kind {
         CaseKind::Passed(failed) => push_section(values, "flaky", attempts(alloc, failed)?),
-        CaseKind::Skipped => push_item(values, "skipped", Vec::new(alloc)),
+        CaseKind::Skipped(reason) => push_skipped(alloc, values, reason),
         CaseKind::Failed(reason) => push_reason(alloc, values, reason),
+    }
+}
+
+/// Adds that a test was skipped.
+fn push_skipped(
+    alloc: Global,
+    values: &mut Vec<Value>,
+    reason: Option<String>,
+) -> Result<(), AllocError>
+    ensures { OnOk result (map value_view values.new.items
+        ≡ map value_view values.old.items ++ spec.skipped_items (text_view reason)) }
+{
+    match reason {
+        Some(reason) => push_item(values, "reason", one_text(alloc, "message", reason)?),
+        None => push_item(values, "skipped", Vec::new(alloc)),
     }
 }
 

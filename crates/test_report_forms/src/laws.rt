@@ -2,13 +2,15 @@
 //! the law.
 
 ghost use Rattle.test_report_forms.specs.Html.{PageIsSound};
+ghost use Rattle.test_report_forms.specs.JunitEntries.{JunitSaysEntries};
 ghost use Rattle.test_report_forms.specs.JunitTree.{JunitIsSound};
-ghost use Rattle.test_report_forms.specs.Laws.{OneEntry, OneWhy};
+ghost use Rattle.test_report_forms.specs.Laws.{OneEntry, OneReason, OneWhy};
 ghost use Rattle.test_report_forms.specs.Markdown.{MarkdownIsSound};
 
-/// Why a test failed is said in one way.
+/// Why a test failed, and what explains a failure of cargo, is said in one way.
 pub fn one_why()
-    ensures { OneWhy }
+    ensures failed { OneWhy }
+    ensures cargo { OneReason }
 {
     output_slice::laws::taken_heads_exist();
     output_slice::laws::one_extraction();
@@ -30,9 +32,9 @@ pub fn page_is_sound()
 {}
 
 /// In the template of the summary no value is a mark of Markdown. Its own texts have no control characters. It has a
-/// place for the outcome, the numbers and the time of the run, and for the line of each problem, and each phrase in
-/// `markdown_phrases`. It shows a failed test's status, suite, name, time and short reason in a row of the table, and its
-/// status, suite, name, attempts and reason in the details after the table.
+/// place for the outcome, the numbers and the time of the run, and for the line of each problem and what explains it,
+/// and each phrase in `markdown_phrases`. It shows a failed test's status, suite, name, time and short reason in a row
+/// of the table, and its status, suite, name, attempts and reason in the details after the table.
 pub fn markdown_is_sound()
     ensures { MarkdownIsSound }
 {}
@@ -43,4 +45,11 @@ pub fn markdown_is_sound()
 /// test case: its failure or error, its output, that it was skipped, or its attempts that failed.
 pub fn junit_is_sound()
     ensures { JunitIsSound }
+{}
+
+/// The suites of JUnit's XML have exactly one test case for each test that passed, was skipped or failed, for each
+/// contradiction, and for each suite whose tests were not all run. The suites with a name have those of this name, in
+/// order. A last suite has those of contradictions that name no suite, and one more if no test ran and that is a failure.
+pub fn junit_says_entries()
+    ensures { JunitSaysEntries }
 {}

@@ -29,6 +29,7 @@
 //! ```
 #![tactic(auto)]
 
+mod cargo_why;
 mod cause;
 mod commands;
 mod document;
@@ -48,6 +49,7 @@ mod junit_suite;
 mod junit_template;
 mod junit_values;
 pub mod laws;
+mod levels;
 mod lines;
 mod list;
 pub mod markdown;
@@ -69,4 +71,5 @@ pub mod text;
 mod title;
 pub mod values;
 pub mod why;
+mod why_lines;
 mod written;

@@ -1,91 +1,122 @@
 //! The list at the end of a report.
 
-ghost use Rattle.std.specs.Prelude.{◌≡◌, ◌++◌, ◌≤◌, ◌-◌, [], IfOk, OnOk, length, map, nat_lt, replicate, string_bytes};
-ghost use Rattle.std.specs.List.{fold, position};
-ghost use Rattle.test_report_forms.specs.Entry.{entry_view};
+ghost use Rattle.std.specs.Prelude.{◌≡◌, ◌++◌, [], OnOk, codes, map, string_bytes};
+ghost use Rattle.std.specs.List.{fold};
+ghost use Rattle.run_events_levels.specs.declared.levels.FinalStatusLevel.TheVariants as levels;
+ghost use Rattle.test_report_forms.specs.Entry.{TestFailed, entry_view};
+ghost use Rattle.test_report_forms.specs.Levels.{finished_output, listed_text, skipped_output};
 ghost use Rattle.test_report_forms.specs.List as spec;
-ghost use Rattle.test_report_forms.specs.List.{flaky_line_view, put_falling, put_rising, rising_place, slow_line_view, text_of_lines};
-ghost use Rattle.test_report_run.specs.Note.{test_view};
+ghost use Rattle.test_report_forms.specs.List.{put_falling, slow_line_view, text_of_lines};
+ghost use Rattle.test_report_forms.specs.Why.{why_view};
+ghost use Rattle.test_report_run.specs.Note.{failure_view, test_view};
 
 use crate::entry::Entry;
+use crate::levels::{finished_output, own_final_level, skipped_output};
 use crate::options::Options;
-use crate::shown::{front, push_bracket, push_text};
+use crate::shown::{front, push_bracket, push_spaces, push_text};
+use crate::shown_why::shown_why;
 use crate::slowest::Slowest;
-use crate::status::{failed_status, push_status};
+use crate::status::{failed_status, passed_status, push_status};
 use crate::title::push_title;
+use crate::why::Why;
+use crate::why_lines::push_why_lines;
+use run_events_levels::levels::{FinalStatusLevel, OutputStoreFinal};
 use std::alloc::{AllocError, Global};
-use std::fmt::Write;
-use test_report_run::note::TestNote;
+use test_report_run::counted::Finish;
+use test_report_run::note::{Failure, TestNote};
 
-/// The line of a flaky test, and how many tests had ended before it.
-#[derive(Drop)]
-struct FlakyLine {
-    ended: usize,
-    line: String,
-}
+/// The column in which the status of a test in the list ends.
+const STATUS_WIDTH: usize = 12;
 
-/// The list at the end of a report: the flaky tests, the failed ones and the slowest.
+/// The number of spaces before each line of why a test failed, in the list.
+const WHY_MARGIN: usize = 13;
+
+/// The list at the end of a report: the tests that are stored for it, in the order of their levels, and the slowest.
 #[derive(Drop)]
 pub(crate) struct ShortList {
-    flaky: Vec<FlakyLine>,
+    passed: String,
+    skipped: String,
+    flaky: String,
     failed: String,
     slowest: Slowest,
 }
 
 impl ShortList {
-    /// Returns an empty list.
-    pub(crate) fn new(alloc: Global) -> ShortList
-        ensures flaky { map flaky_line_view result.flaky.items ≡ [] }
+    /// Returns an empty list, which has at most `most` of the slowest tests.
+    pub(crate) fn new(alloc: Global, most: usize) -> ShortList
+        ensures passed { string_bytes result.passed ≡ [] }
+        ensures skipped { string_bytes result.skipped ≡ [] }
+        ensures flaky { string_bytes result.flaky ≡ [] }
         ensures failed { string_bytes result.failed ≡ [] }
         ensures slowest { map slow_line_view result.slowest.tests.items ≡ [] }
+        ensures most { result.slowest.most ≡ most }
     {
         ShortList {
-            flaky: Vec::new(alloc),
+            passed: String::new(alloc),
+            skipped: String::new(alloc),
+            flaky: String::new(alloc),
             failed: String::new(alloc),
-            slowest: Slowest::new(alloc),
+            slowest: Slowest::new(alloc, most),
         }
     }
 
     /// Adds the lines of an entry.
+    #[tactic(auto, unfolding(crate::specs::List::item_at))]
     pub(crate) fn on_entry(
         &mut self,
         alloc: Global,
         entry: &Entry<'_>,
         options: Options,
     ) -> Result<(), AllocError>
-        ensures flaky { OnOk result (map flaky_line_view self.new.flaky.items
-            ≡ fold put_rising (map flaky_line_view self.old.flaky.items) (spec.flaky_of options (entry_view entry.now))) }
-        ensures failed { OnOk result (string_bytes self.new.failed
-            ≡ string_bytes self.old.failed ++ spec.failed_of options (entry_view entry.now)) }
+        ensures passed { OnOk result (string_bytes self.new.passed ≡ string_bytes self.old.passed
+            ++ spec.item_at options levels.Pass (entry_view entry.now)) }
+        ensures skipped { OnOk result (string_bytes self.new.skipped ≡ string_bytes self.old.skipped
+            ++ spec.item_at options levels.Skip (entry_view entry.now)) }
+        ensures flaky { OnOk result (string_bytes self.new.flaky ≡ string_bytes self.old.flaky
+            ++ spec.item_at options levels.Flaky (entry_view entry.now)) }
+        ensures failed { OnOk result (string_bytes self.new.failed ≡ string_bytes self.old.failed
+            ++ spec.item_at options levels.Fail (entry_view entry.now)) }
         ensures slowest { OnOk result (map slow_line_view self.new.slowest.tests.items
-            ≡ fold put_falling (map slow_line_view self.old.slowest.tests.items)
+            ≡ fold (put_falling self.old.slowest.most) (map slow_line_view self.old.slowest.tests.items)
             (spec.slow_of options (entry_view entry.now))) }
+        ensures most { OnOk result (self.new.slowest.most ≡ self.old.slowest.most) }
     {
-        match entry {
-            Entry::Passed(test) => {
-                add_flaky(alloc, &mut self.flaky, test, options)?;
-                add_time(alloc, &mut self.slowest, test, options)
-            }
-            Entry::Failed { test, failure, why } => {
-                let status = failed_status(&failure.kind);
-                push_failed(&mut self.failed, test, status, why.short.as_str(), options)?;
-                add_time(alloc, &mut self.slowest, test, options)
-            }
-            Entry::Skipped(_) | Entry::Disagreement(_) | Entry::NotRun(_) | Entry::Suite(_) => {
-                Ok(())
-            }
+        let mut item = String::new(alloc);
+        push_item(alloc, &mut item, entry, options)?;
+        self.add(final_level_of(entry), item.as_str())?;
+        add_slow(alloc, &mut self.slowest, entry, options)
+    }
+
+    /// Adds a line to the part of the list for a level.
+    fn add(&mut self, level: FinalStatusLevel, line: &str) -> Result<(), AllocError>
+        ensures passed { OnOk result (string_bytes self.new.passed ≡ string_bytes self.old.passed
+            ++ spec.line_at levels.Pass level line.now) }
+        ensures skipped { OnOk result (string_bytes self.new.skipped ≡ string_bytes self.old.skipped
+            ++ spec.line_at levels.Skip level line.now) }
+        ensures flaky { OnOk result (string_bytes self.new.flaky ≡ string_bytes self.old.flaky
+            ++ spec.line_at levels.Flaky level line.now) }
+        ensures failed { OnOk result (string_bytes self.new.failed ≡ string_bytes self.old.failed
+            ++ spec.line_at levels.Fail level line.now) }
+        ensures slowest { self.new.slowest ≡ self.old.slowest }
+    {
+        match level {
+            FinalStatusLevel::Pass => self.passed.push_str(line),
+            FinalStatusLevel::Skip => self.skipped.push_str(line),
+            FinalStatusLevel::Flaky => self.flaky.push_str(line),
+            FinalStatusLevel::Fail => self.failed.push_str(line),
+            _ => Ok(()),
         }
     }
 
     /// Appends the list.
     pub(crate) fn push(&self, text: &mut String) -> Result<(), AllocError>
         ensures { OnOk result (string_bytes text.new ≡ string_bytes text.old
-            ++ (text_of_lines (map flaky_line_view self.now.flaky.items) ++ (string_bytes self.now.failed
-            ++ text_of_lines (map slow_line_view self.now.slowest.tests.items)))) }
+            ++ (string_bytes self.now.passed ++ (string_bytes self.now.skipped ++ (string_bytes self.now.flaky
+            ++ (string_bytes self.now.failed ++ text_of_lines (map slow_line_view self.now.slowest.tests.items)))))) }
     {
-        for flaky in &self.flaky {
-            text.push_str(flaky.line.as_str())?;
-        }
+        text.push_str(self.passed.as_str())?;
+        text.push_str(self.skipped.as_str())?;
+        text.push_str(self.flaky.as_str())?;
         text.push_str(self.failed.as_str())?;
         for slow in self.slowest.tests() {
             text.push_str(slow.line.as_str())?;
@@ -94,57 +125,117 @@ impl ShortList {
     }
 }
 
-/// Returns the position of the first test that ended later.
-fn later(lines: &[FlakyLine], ended: usize) -> Option<usize>
-    ensures { result ≡ position (λ f. nat_lt ended f.ended) lines.now }
+/// Returns the level at the end of the run of the test of an entry. It is `None` for an entry that is not of a test.
+fn final_level_of(entry: &Entry<'_>) -> FinalStatusLevel
+    ensures { result ≡ spec.final_level_of (entry_view entry.now) }
 {
-    lines.iter().position(|other| other.ended > ended)
+    match entry {
+        Entry::Passed(test) => own_final_level(Finish::Passed, test.attempts),
+        Entry::Skipped(_) => FinalStatusLevel::Skip,
+        Entry::Failed { test, failure, .. } => {
+            own_final_level(Finish::of_failure(&failure.kind), test.attempts)
+        }
+        Entry::Disagreement { .. } | Entry::NotRun(_) | Entry::Suite(_) => FinalStatusLevel::None,
+    }
 }
 
-/// Returns the position of a test among those that ended before and after it.
-fn flaky_place(lines: &[FlakyLine], ended: usize) -> usize
-    ensures place { result ≡ rising_place ended (map flaky_line_view lines.now) }
-    ensures within { result ≤ length lines.now }
-{
-    later(lines, ended).unwrap_or(lines.len())
-}
-
-/// Adds the line of a test that passed, if the test is flaky. The lines are in the order in which their tests
-/// ended.
-#[tactic(auto, unfolding(crate::specs::List::flaky_passed, crate::specs::List::flaky_line, crate::specs::List::put_rising))]
-fn add_flaky(
+/// Appends the lines of an entry in the list. Appends nothing if it has none.
+fn push_item(
     alloc: Global,
-    lines: &mut Vec<FlakyLine>,
+    text: &mut String,
+    entry: &Entry<'_>,
+    options: Options,
+) -> Result<(), AllocError>
+    ensures { OnOk result (string_bytes text.new
+        ≡ string_bytes text.old ++ spec.item options (entry_view entry.now)) }
+{
+    match entry {
+        Entry::Passed(test) => push_passed(alloc, text, test, options),
+        Entry::Skipped(test) => push_skipped(text, test, options),
+        Entry::Failed { test, failure, why } => {
+            push_failed(alloc, text, test, failure, why, options)
+        }
+        Entry::Disagreement { .. } | Entry::NotRun(_) | Entry::Suite(_) => Ok(()),
+    }
+}
+
+/// Appends the line of a test that passed, if the test is in the list.
+fn push_passed(
+    alloc: Global,
+    text: &mut String,
     test: &TestNote,
     options: Options,
 ) -> Result<(), AllocError>
-    ensures { OnOk result (map flaky_line_view lines.new.items ≡ fold put_rising
-        (map flaky_line_view lines.old.items) (spec.flaky_passed options (test_view test.now))) }
+    ensures { OnOk result (string_bytes text.new ≡ string_bytes text.old ++ listed_text
+        (finished_output options Finish.Passed test.now.attempts).store_final
+        (spec.ended_line options (test_view test.now) (spec.passed_word test.now.attempts)) []) }
 {
-    if test.attempts <= 1 {
-        return Ok(());
+    match finished_output(options, Finish::Passed, test.attempts).store_final {
+        OutputStoreFinal::Yes { .. } => {
+            let status = passed_status(alloc, test.attempts)?;
+            push_ended(text, test, status.as_str(), options)
+        }
+        OutputStoreFinal::No => Ok(()),
     }
-    let mut line = String::new(alloc);
-    let status = flaky_status(alloc, test.attempts)?;
-    push_list_line(&mut line, status.as_str(), test, options)?;
-    line.push('\n')?;
-    let ended = test.ended.unwrap_or(usize::MAX);
-    let at = flaky_place(lines.as_slice(), ended);
-    lines.insert(at, FlakyLine { ended, line })?;
-    Ok(())
 }
 
-/// Returns the word for a flaky test.
-#[tactic(auto, unfolding(crate::specs::List::flaky_word))]
-fn flaky_status(alloc: Global, attempts: usize) -> Result<String, AllocError>
-    ensures { IfOk result (λ word. string_bytes word ≡ spec.flaky_word attempts) }
+/// Appends the line of a skipped test, if the test is in the list.
+fn push_skipped(text: &mut String, test: &TestNote, options: Options) -> Result<(), AllocError>
+    ensures { OnOk result (string_bytes text.new ≡ string_bytes text.old ++ listed_text
+        (skipped_output options).store_final (spec.ended_line options (test_view test.now) (codes "SKIP")) []) }
 {
-    format!(in alloc; "FLAKY {attempts}/{attempts}")
+    match skipped_output(options).store_final {
+        OutputStoreFinal::Yes { .. } => push_ended(text, test, "SKIP", options),
+        OutputStoreFinal::No => Ok(()),
+    }
 }
 
-/// Appends the line of a failed test.
-#[tactic(auto, unfolding(crate::specs::List::failed_line))]
+/// Appends the line of a failed test, if the test is in the list, and why it failed, if that is shown there.
 fn push_failed(
+    alloc: Global,
+    text: &mut String,
+    test: &TestNote,
+    failure: &Failure,
+    why: &Why<'_>,
+    options: Options,
+) -> Result<(), AllocError>
+    ensures { OnOk result (string_bytes text.new ≡ string_bytes text.old
+        ++ spec.item options (TestFailed (test_view test.now) (failure_view failure.now) (why_view why.now))) }
+{
+    let status = failed_status(&failure.kind);
+    match finished_output(options, Finish::of_failure(&failure.kind), test.attempts).store_final {
+        OutputStoreFinal::Yes {
+            display_output: true,
+        } => {
+            push_reason(text, test, status, why.short.as_str(), options)?;
+            let shown = shown_why(alloc, options, test, failure, why)?;
+            push_why_lines(text, &shown, WHY_MARGIN, options)
+        }
+        OutputStoreFinal::Yes { .. } => {
+            push_reason(text, test, status, why.short.as_str(), options)
+        }
+        OutputStoreFinal::No => Ok(()),
+    }
+}
+
+/// Appends the line of a test that did not fail.
+#[tactic(auto, unfolding(crate::specs::List::ended_line))]
+fn push_ended(
+    text: &mut String,
+    test: &TestNote,
+    status: &str,
+    options: Options,
+) -> Result<(), AllocError>
+    ensures { OnOk result (string_bytes text.new ≡ string_bytes text.old
+        ++ spec.ended_line options (test_view test.now) status.now) }
+{
+    push_list_line(text, status, test, options)?;
+    text.push('\n')
+}
+
+/// Appends the line of a failed test, with its short reason.
+#[tactic(auto, unfolding(crate::specs::List::failed_line))]
+fn push_reason(
     text: &mut String,
     test: &TestNote,
     status: &str,
@@ -160,6 +251,27 @@ fn push_failed(
     text.push('\n')
 }
 
+/// Adds the test of an entry, if it ran and is one of the slowest so far.
+fn add_slow(
+    alloc: Global,
+    slowest: &mut Slowest,
+    entry: &Entry<'_>,
+    options: Options,
+) -> Result<(), AllocError>
+    ensures adds { OnOk result (map slow_line_view slowest.new.tests.items ≡ fold (put_falling slowest.old.most)
+        (map slow_line_view slowest.old.tests.items) (spec.slow_of options (entry_view entry.now))) }
+    ensures most { OnOk result (slowest.new.most ≡ slowest.old.most) }
+{
+    match entry {
+        Entry::Passed(test) | Entry::Failed { test, .. } => {
+            add_time(alloc, slowest, test, options)
+        }
+        Entry::Skipped(_) | Entry::Disagreement { .. } | Entry::NotRun(_) | Entry::Suite(_) => {
+            Ok(())
+        }
+    }
+}
+
 /// Adds a test that has a time, if it is one of the slowest so far.
 #[tactic(auto, unfolding(crate::specs::List::timed, crate::specs::List::slow_line))]
 fn add_time(
@@ -168,8 +280,9 @@ fn add_time(
     test: &TestNote,
     options: Options,
 ) -> Result<(), AllocError>
-    ensures { OnOk result (map slow_line_view slowest.new.tests.items ≡ fold put_falling
+    ensures adds { OnOk result (map slow_line_view slowest.new.tests.items ≡ fold (put_falling slowest.old.most)
         (map slow_line_view slowest.old.tests.items) (spec.timed options (test_view test.now))) }
+    ensures most { OnOk result (slowest.new.most ≡ slowest.old.most) }
 {
     let Some(time) = test.time else {
         return Ok(());
@@ -178,7 +291,7 @@ fn add_time(
         return Ok(());
     }
     let mut line = String::new(alloc);
-    push_list_line(&mut line, "SLOW", test, options)?;
+    push_list_line(&mut line, "SLOWEST", test, options)?;
     line.push('\n')?;
     slowest.add(time, line)
 }
@@ -195,20 +308,9 @@ fn push_list_line(
     ensures { OnOk result (string_bytes text.new ≡ string_bytes text.old
         ++ spec.list_line options status.now (test_view test.now)) }
 {
-    push_spaces(text, status)?;
+    push_spaces(text, STATUS_WIDTH.saturating_sub(status.len()))?;
     push_status(text, status, options)?;
     text.push(' ')?;
     push_bracket(text, test.time)?;
     push_title(text, test)
-}
-
-/// Appends the spaces in front of a status that ends in column 12.
-fn push_spaces(text: &mut String, status: &str) -> Result<(), AllocError>
-    ensures { OnOk result (string_bytes text.new
-        ≡ string_bytes text.old ++ replicate (12 - length status.now) 32) }
-{
-    for _column in status.len()..12 {
-        text.push(' ')?;
-    }
-    Ok(())
 }

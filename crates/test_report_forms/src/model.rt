@@ -5,10 +5,10 @@ ghost use Rattle.std.specs.List.{fold};
 ghost use Rattle.test_report_forms.specs.Entry.{EntryView, entry_view};
 ghost use Rattle.test_report_forms.specs.List.{put_falling, slow_line_view};
 ghost use Rattle.test_report_forms.specs.Model as spec;
-ghost use Rattle.test_report_forms.specs.Model.{IsModelOf, failed_view, row_view};
+ghost use Rattle.test_report_forms.specs.Model.{IsModelOf, failed_view, problem_view, row_view};
 ghost use Rattle.test_report_run.specs.Note.{suite_view, test_view, text_view};
 
-use crate::cause::cause_of;
+use crate::cause::{Problem, cause_of};
 use crate::entry::Entry;
 use crate::failed_test::{FailedTest, shown_failure};
 use crate::junit_case::text_of;
@@ -20,6 +20,9 @@ use crate::title::push_title;
 use run_events_stats::outcome::RunOutcome;
 use std::alloc::{AllocError, Global};
 use test_report_run::note::{SuiteNote, TestNote};
+
+/// The number of slowest tests that are listed.
+const SLOWEST: usize = 5;
 
 /// A suite in the table of suites.
 #[derive(Drop)]
@@ -44,8 +47,8 @@ pub struct ReportModel {
     /// The failed tests.
     pub(crate) failed: Vec<FailedTest>,
 
-    /// The lines of disagreements, and of suites whose tests were not all run.
-    pub(crate) problems: Vec<String>,
+    /// The disagreements, and the suites whose tests were not all run.
+    pub(crate) problems: Vec<Problem>,
 
     /// The suites that are over.
     pub(crate) suites: Vec<SuiteRow>,
@@ -65,7 +68,7 @@ impl ReportModel {
             failed: Vec::new(alloc),
             problems: Vec::new(alloc),
             suites: Vec::new(alloc),
-            slowest: Slowest::new(alloc),
+            slowest: Slowest::new(alloc, SLOWEST),
         }
     }
 
@@ -107,17 +110,17 @@ fn keep_failure(
     Ok(())
 }
 
-/// Keeps the line of a disagreement, or of a suite whose tests were not all run.
+/// Keeps a disagreement, or a suite whose tests were not all run.
 fn keep_problem(
     alloc: Global,
-    problems: &mut Vec<String>,
+    problems: &mut Vec<Problem>,
     entry: &Entry<'_>,
 ) -> Result<(), AllocError>
-    ensures { OnOk result (map string_bytes problems.new.items ≡ map string_bytes problems.old.items
-        ++ option_to_list (spec.cause_line (entry_view entry.now))) }
+    ensures { OnOk result (map problem_view problems.new.items ≡ map problem_view problems.old.items
+        ++ option_to_list (spec.problem_of_entry (entry_view entry.now))) }
 {
     if let Some(cause) = cause_of(alloc, entry)? {
-        problems.push(cause.line)?;
+        problems.push(Problem::of(alloc, cause)?)?;
     }
     Ok(())
 }
@@ -141,19 +144,23 @@ fn keep_suite(
 
 /// Keeps the test of an entry, if it ran and is one of the slowest.
 fn keep_time(alloc: Global, slowest: &mut Slowest, entry: &Entry<'_>) -> Result<(), AllocError>
-    ensures { OnOk result (map slow_line_view slowest.new.tests.items ≡ fold put_falling
+    ensures keeps { OnOk result (map slow_line_view slowest.new.tests.items ≡ fold (put_falling slowest.old.most)
         (map slow_line_view slowest.old.tests.items) (option_to_list (spec.timed_entry (entry_view entry.now)))) }
+    ensures most { OnOk result (slowest.new.most ≡ slowest.old.most) }
 {
     match entry {
         Entry::Passed(test) | Entry::Failed { test, .. } => keep_test(alloc, slowest, test),
-        Entry::Skipped(_) | Entry::Disagreement(_) | Entry::NotRun(_) | Entry::Suite(_) => Ok(()),
+        Entry::Skipped(_) | Entry::Disagreement { .. } | Entry::NotRun(_) | Entry::Suite(_) => {
+            Ok(())
+        }
     }
 }
 
 /// Keeps a test that ran, if it has a time and is one of the slowest.
 fn keep_test(alloc: Global, slowest: &mut Slowest, test: &TestNote) -> Result<(), AllocError>
-    ensures { OnOk result (map slow_line_view slowest.new.tests.items ≡ fold put_falling
+    ensures keeps { OnOk result (map slow_line_view slowest.new.tests.items ≡ fold (put_falling slowest.old.most)
         (map slow_line_view slowest.old.tests.items) (option_to_list (spec.timed_title (test_view test.now)))) }
+    ensures most { OnOk result (slowest.new.most ≡ slowest.old.most) }
 {
     let Some(time) = test.time else {
         return Ok(());

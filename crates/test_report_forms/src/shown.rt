@@ -1,6 +1,6 @@
 //! How text of the input is shown.
 
-ghost use Rattle.std.specs.Prelude.{◌≡◌, ◌≤◌, ◌++◌, IfOk, OnOk, length, nat_lt, string_bytes, if◌then◌else◌, true};
+ghost use Rattle.std.specs.Prelude.{◌≡◌, ◌≤◌, ◌++◌, IfOk, OnOk, length, nat_lt, replicate, string_bytes, if◌then◌else◌, true};
 ghost use Rattle.std.specs.Char.{encode_utf8};
 ghost use Rattle.std.specs.List.{list_all};
 ghost use Rattle.std.specs.Str.{chars};
@@ -195,13 +195,28 @@ pub(crate) fn push_more(text: &mut String, more: usize) -> Result<(), AllocError
     write!(text, "\n({more} more bytes)")
 }
 
-/// Appends a text, each of its lines after four spaces.
-pub(crate) fn push_indented(text: &mut String, shown: &str, raw: bool) -> Result<(), AllocError>
+/// Appends this number of spaces.
+pub(crate) fn push_spaces(text: &mut String, count: usize) -> Result<(), AllocError>
+    ensures { OnOk result (string_bytes text.new ≡ string_bytes text.old ++ replicate count 32) }
+{
+    for _space in 0..count {
+        text.push(' ')?;
+    }
+    Ok(())
+}
+
+/// Appends a text, each of its lines after `margin` spaces.
+pub(crate) fn push_indented(
+    text: &mut String,
+    shown: &str,
+    margin: usize,
+    raw: bool,
+) -> Result<(), AllocError>
     ensures { OnOk result (string_bytes text.new
-        ≡ string_bytes text.old ++ spec.indented raw shown.now) }
+        ≡ string_bytes text.old ++ spec.indented margin raw shown.now) }
 {
     for line in shown.split('\n') {
-        text.push_str("    ")?;
+        push_spaces(text, margin)?;
         push_text(text, line, raw)?;
         text.push('\n')?;
     }

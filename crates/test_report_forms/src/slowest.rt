@@ -6,9 +6,6 @@ ghost use Rattle.test_report_forms.specs.List.{falling_place, put_falling, slow_
 
 use std::alloc::{AllocError, Global};
 
-/// The number of slowest tests that are listed.
-const SLOWEST: usize = 5;
-
 /// The time of a test in microseconds, and the line that lists it.
 #[derive(Drop)]
 pub(crate) struct SlowTest {
@@ -20,17 +17,20 @@ pub(crate) struct SlowTest {
 #[derive(Drop)]
 pub(crate) struct Slowest {
     tests: Vec<SlowTest>,
+    most: usize,
 
-    ghost few: { vec_len tests ≤ 5 },
+    ghost few: { vec_len tests ≤ most },
 }
 
 impl Slowest {
-    /// Returns an empty list.
-    pub(crate) fn new(alloc: Global) -> Slowest
-        ensures { map slow_line_view result.tests.items ≡ [] }
+    /// Returns an empty list, which keeps at most `most` tests.
+    pub(crate) fn new(alloc: Global, most: usize) -> Slowest
+        ensures nothing { map slow_line_view result.tests.items ≡ [] }
+        ensures most { result.most ≡ most }
     {
         Slowest {
             tests: Vec::new(alloc),
+            most,
         }
     }
 
@@ -65,20 +65,21 @@ impl Slowest {
 
     /// Returns true if a test that took this time is one of the slowest.
     pub(crate) fn takes(&self, time: u64) -> bool
-        ensures { result ≡ false → (line : List ℕ) → put_falling (map slow_line_view self.now.tests.items)
+        ensures { result ≡ false → (line : List ℕ) → put_falling self.now.most (map slow_line_view self.now.tests.items)
             (record { key = time; line = line }) ≡ map slow_line_view self.now.tests.items }
     {
-        self.place(time) < SLOWEST
+        self.place(time) < self.most
     }
 
     /// Adds a test if it is one of the slowest so far.
     pub(crate) fn add(&mut self, time: u64, line: String) -> Result<(), AllocError>
-        ensures { OnOk result (map slow_line_view self.new.tests.items ≡ put_falling
+        ensures adds { OnOk result (map slow_line_view self.new.tests.items ≡ put_falling self.old.most
             (map slow_line_view self.old.tests.items) (record { key = time; line = string_bytes line })) }
+        ensures most { OnOk result (self.new.most ≡ self.old.most) }
     {
         let at = self.place(time);
         self.tests.insert(at, SlowTest { time, line })?;
-        self.tests.truncate(SLOWEST);
+        self.tests.truncate(self.most);
         Ok(())
     }
 }

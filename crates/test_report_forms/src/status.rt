@@ -1,12 +1,13 @@
 //! The words for the results of tests, and their colours.
 
-ghost use Rattle.std.specs.Prelude.{◌≡◌, ◌++◌, OnOk, string_bytes};
+ghost use Rattle.std.specs.Prelude.{◌≡◌, ◌++◌, IfOk, OnOk, string_bytes};
+ghost use Rattle.test_report_forms.specs.List.{passed_word};
 ghost use Rattle.test_report_forms.specs.Words as spec;
 ghost use Rattle.test_report_forms.specs.Words.{failed_word, status_text};
 ghost use Rattle.test_report_run.specs.Note.{kind_view};
 
 use crate::options::Options;
-use std::alloc::AllocError;
+use std::alloc::{AllocError, Global};
 use test_report_run::note::FailureKind;
 
 /// Returns the word for a failed test.
@@ -20,12 +21,24 @@ pub(crate) fn failed_status(kind: &FailureKind) -> &'static str
     }
 }
 
+/// Returns the word for a test that passed.
+#[tactic(auto, unfolding(crate::specs::List::flaky_word))]
+pub(crate) fn passed_status(alloc: Global, attempts: usize) -> Result<String, AllocError>
+    ensures { IfOk result (λ word. string_bytes word ≡ passed_word attempts) }
+{
+    if attempts <= 1 {
+        return String::from_str(alloc, "PASS");
+    }
+    format!(in alloc; "FLAKY {attempts}/{attempts}")
+}
+
 /// Returns the colour of a word, as the parameters of an escape sequence.
 fn color_of(status: &str) -> &'static str
     ensures { result.now ≡ spec.color_of status.now }
 {
     match status {
         "FAIL" | "TIMEOUT" | "CRASH" => "1;31",
+        "PASS" => "1;32",
         _ => "1;33",
     }
 }

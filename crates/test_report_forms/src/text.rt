@@ -1,28 +1,36 @@
 //! The form for people who read a terminal.
 
-ghost use Rattle.std.specs.Prelude.{◌≡◌, ◌++◌, [], OnOk, codes, string_bytes};
+ghost use Rattle.std.specs.Prelude.{◌≡◌, ◌++◌, [], OnOk, string_bytes};
 ghost use Rattle.std.specs.Option.{option_map_or};
 ghost use Rattle.test_report_forms.specs.Entry.{entry_view};
-ghost use Rattle.test_report_forms.specs.Model.{cause_line};
-ghost use Rattle.test_report_forms.specs.ShownWhy.{shown_why_view};
+ghost use Rattle.test_report_forms.specs.Model.{cause_of_entry, cause_view};
 ghost use Rattle.test_report_forms.specs.Text as spec;
-ghost use Rattle.test_report_run.specs.Note.{test_view};
+ghost use Rattle.test_report_forms.specs.Why.{why_view};
+ghost use Rattle.test_report_run.specs.Note.{failure_view, test_view};
 
-use crate::cause::cause_of;
+use crate::cause::{Cause, cause_of};
 use crate::entry::Entry;
 use crate::form::Form;
+use crate::levels::{finished_output, has_line, skipped_output};
 use crate::list::ShortList;
 use crate::options::Options;
-use crate::shown::{front, push_bracket, push_indented};
-use crate::shown_why::{ShownWhy, shown_why};
-use crate::status::{failed_status, push_status};
+use crate::shown::{push_bracket, push_indented};
+use crate::shown_why::shown_why;
+use crate::status::{failed_status, passed_status, push_status};
 use crate::summary::{outcome_text, push_summary};
 use crate::title::push_title;
+use crate::why::Why;
+use crate::why_lines::push_why_lines;
 use std::alloc::{AllocError, Global};
 use std::fmt::Write;
-use test_report_run::note::{RunEnd, TestNote};
+use test_report_run::counted::Finish;
+use test_report_run::note::{Failure, RunEnd, TestNote};
 
-/// The form for people: each failed test with why it failed, the disagreements, and at the end a summary.
+/// The number of spaces before each line of why a test failed.
+const WHY_MARGIN: usize = 4;
+
+/// The form for people: the tests that the levels show, failed ones with why they failed, the disagreements, and at the end
+/// a summary and a list of tests.
 #[derive(Drop)]
 pub struct TextForm {
     options: Options,
@@ -37,7 +45,7 @@ impl TextForm {
     {
         TextForm {
             options,
-            list: ShortList::new(alloc),
+            list: ShortList::new(alloc, options.slowest),
         }
     }
 
@@ -53,47 +61,117 @@ impl TextForm {
     {
         match entry {
             Entry::Failed { test, failure, why } => {
-                let status = failed_status(&failure.kind);
-                let why = shown_why(alloc, self.options, test, failure, why)?;
-                push_failed(text, test, status, &why, self.options)
+                push_failed(alloc, text, test, failure, why, self.options)
             }
-            Entry::Passed(_)
-            | Entry::Skipped(_)
-            | Entry::Disagreement(_)
-            | Entry::NotRun(_)
-            | Entry::Suite(_) => push_cause(alloc, entry, text),
+            Entry::Passed(test) => push_passed(alloc, text, test, self.options),
+            Entry::Skipped(test) => push_skipped(text, test, self.options),
+            Entry::Disagreement { .. } | Entry::NotRun(_) | Entry::Suite(_) => {
+                push_cause_of(alloc, entry, text, self.options)
+            }
         }
     }
 }
 
-/// Appends the line of the cause of an entry. Appends nothing if it has none.
-fn push_cause(alloc: Global, entry: &Entry<'_>, text: &mut String) -> Result<(), AllocError>
+/// Appends the cause of an entry. Appends nothing if it has none.
+fn push_cause_of(
+    alloc: Global,
+    entry: &Entry<'_>,
+    text: &mut String,
+    options: Options,
+) -> Result<(), AllocError>
     ensures { OnOk result (string_bytes text.new ≡ string_bytes text.old
-        ++ option_map_or (λ line. line ++ codes "\n") (cause_line (entry_view entry.now)) []) }
+        ++ option_map_or (spec.cause_text options) (cause_of_entry (entry_view entry.now)) []) }
 {
     match cause_of(alloc, entry)? {
-        Some(cause) => {
-            text.push_str(cause.line.as_str())?;
-            text.push('\n')
-        }
+        Some(cause) => push_cause(text, &cause, options),
         None => Ok(()),
     }
 }
 
-/// Appends a failed test, with why it failed.
+/// Appends the line of a cause, and under it what explains the cause.
+fn push_cause(text: &mut String, cause: &Cause<'_>, options: Options) -> Result<(), AllocError>
+    ensures { OnOk result (string_bytes text.new
+        ≡ string_bytes text.old ++ spec.cause_text options (cause_view cause.now)) }
+{
+    text.push_str(cause.line.as_str())?;
+    text.push('\n')?;
+    match cause.why {
+        Some(why) => push_indented(text, why, WHY_MARGIN, options.raw),
+        None => Ok(()),
+    }
+}
+
+/// Appends a failed test, with why it failed, as far as the levels show it.
 #[tactic(auto, unfolding(crate::specs::Text::failed_text))]
 fn push_failed(
+    alloc: Global,
     text: &mut String,
     test: &TestNote,
-    status: &str,
-    why: &ShownWhy,
+    failure: &Failure,
+    why: &Why<'_>,
     options: Options,
 ) -> Result<(), AllocError>
     ensures { OnOk result (string_bytes text.new ≡ string_bytes text.old
-        ++ spec.failed_text options (test_view test.now) status.now (shown_why_view why.now)) }
+        ++ spec.failed_text options (test_view test.now) (failure_view failure.now) (why_view why.now)) }
 {
-    push_head(text, test, status, options)?;
-    push_why(text, why, options)
+    let shows = finished_output(options, Finish::of_failure(&failure.kind), test.attempts);
+    if !has_line(shows) {
+        return Ok(());
+    }
+    push_head(text, test, failed_status(&failure.kind), options)?;
+    if !shows.show_immediate {
+        return Ok(());
+    }
+    let shown = shown_why(alloc, options, test, failure, why)?;
+    push_why_lines(text, &shown, WHY_MARGIN, options)
+}
+
+/// Appends the line of a test that passed, if the levels show it.
+#[tactic(auto, unfolding(crate::specs::Text::passed_text))]
+fn push_passed(
+    alloc: Global,
+    text: &mut String,
+    test: &TestNote,
+    options: Options,
+) -> Result<(), AllocError>
+    ensures { OnOk result (string_bytes text.new ≡ string_bytes text.old
+        ++ spec.passed_text options (test_view test.now)) }
+{
+    if !has_line(finished_output(options, Finish::Passed, test.attempts)) {
+        return Ok(());
+    }
+    let status = passed_status(alloc, test.attempts)?;
+    push_ended(text, test, status.as_str(), options)
+}
+
+/// Appends the line of a skipped test, if the levels show it.
+#[tactic(auto, unfolding(crate::specs::Text::skipped_text))]
+fn push_skipped(text: &mut String, test: &TestNote, options: Options) -> Result<(), AllocError>
+    ensures { OnOk result (string_bytes text.new ≡ string_bytes text.old
+        ++ spec.skipped_text options (test_view test.now)) }
+{
+    if !has_line(skipped_output(options)) {
+        return Ok(());
+    }
+    push_ended(text, test, "SKIP", options)
+}
+
+/// Appends the line of a test that did not fail.
+#[tactic(auto, unfolding(crate::specs::Text::ended_head))]
+fn push_ended(
+    text: &mut String,
+    test: &TestNote,
+    status: &str,
+    options: Options,
+) -> Result<(), AllocError>
+    ensures { OnOk result (string_bytes text.new ≡ string_bytes text.old
+        ++ spec.ended_head options (test_view test.now) status.now) }
+{
+    push_status(text, status, options)?;
+    text.push(' ')?;
+    push_bracket(text, test.time)?;
+    push_title(text, test)?;
+    text.push('\n')
 }
 
 /// Appends the line of a failed test.
@@ -127,41 +205,6 @@ fn push_attempts(text: &mut String, attempts: usize) -> Result<(), AllocError>
     write!(text, " ({attempts} attempts)")
 }
 
-/// Appends why a test failed, the number of bytes that are not shown, and the number of lines of the output that are
-/// not shown.
-#[tactic(auto, unfolding(crate::specs::Text::why_lines))]
-fn push_why(text: &mut String, why: &ShownWhy, options: Options) -> Result<(), AllocError>
-    ensures { OnOk result (string_bytes text.new
-        ≡ string_bytes text.old ++ spec.why_lines options (shown_why_view why.now)) }
-{
-    let first = front(why.text.as_str(), options.limit);
-    push_indented(text, first, options.raw)?;
-    push_more(text, why.text.len() - first.len())?;
-    push_hidden(text, why.hidden)
-}
-
-/// Appends a line that says how many bytes are not shown. Appends nothing if all are shown.
-#[tactic(auto, unfolding(crate::specs::Text::more_line))]
-fn push_more(text: &mut String, more: usize) -> Result<(), AllocError>
-    ensures { OnOk result (string_bytes text.new ≡ string_bytes text.old ++ spec.more_line more) }
-{
-    if more == 0 {
-        return Ok(());
-    }
-    writeln!(text, "    ({more} more bytes)")
-}
-
-/// Appends a line that says how many lines of the output are not shown. Appends nothing if all are shown.
-#[tactic(auto, unfolding(crate::specs::Text::hidden_line))]
-fn push_hidden(text: &mut String, hidden: usize) -> Result<(), AllocError>
-    ensures { OnOk result (string_bytes text.new ≡ string_bytes text.old ++ spec.hidden_line hidden) }
-{
-    if hidden == 0 {
-        return Ok(());
-    }
-    writeln!(text, "    ({hidden} more lines of output)")
-}
-
 /// Appends the line of the summary.
 #[tactic(auto, unfolding(crate::specs::Text::summary_lines))]
 fn push_summary_lines(text: &mut String, end: &RunEnd) -> Result<(), AllocError>
@@ -185,18 +228,14 @@ fn push_outcome(text: &mut String, end: &RunEnd) -> Result<(), AllocError>
 }
 
 impl Form for TextForm {
-    ghost use Rattle.std.specs.Prelude.{◌≡◌, map, string_bytes};
-    ghost use Rattle.test_report_forms.specs.List.{failed_lines, flaky_line_view, flaky_lines, slow_line_view, slow_lines};
+    ghost use Rattle.test_report_forms.specs.KeptList.{IsListOf};
     ghost use Rattle.test_report_forms.specs.Text.{text_last, text_line};
 
     ghost line = { λ form entry. text_line form.options entry };
 
     ghost last = { λ form entries end. text_last form.options entries end };
 
-    ghost Knows = { λ form entries.
-        (map flaky_line_view form.list.flaky.items ≡ flaky_lines form.options entries)
-        × (string_bytes form.list.failed ≡ failed_lines form.options entries)
-        × (map slow_line_view form.list.slowest.tests.items ≡ slow_lines form.options entries) };
+    ghost Knows = { λ form entries. IsListOf form.list form.options entries };
 
     fn on_entry(
         &mut self,

@@ -8,7 +8,7 @@
 //! | `finished`, `passed`, `flaky`, `failed`, `timed_out`, `crashed`, `skipped`, `not_run` | its tests, as numbers |
 //! | `time` | the run, if its time is known |
 //! | `bar` | the run, unless no test is known: a `part` with a `class` and a `number` for each number that is not 0 |
-//! | `problems` | a `problem` with a `line` |
+//! | `problems` | a `problem` with a `line` and, if anything explains it, `why` (its `text`) |
 //! | `failures` | a `failed` test with `status`, `suite` (its `name`), `name`, `note`, `short` and `why` |
 //! | `suites` | a `suite` with `name`, `words`, `bar` (as above) and `time` |
 //! | `slowest` | a `slow` test with `name`, `share` (of the longest time, in hundredths) and `seconds` |
@@ -18,10 +18,11 @@
 ghost use Rattle.std.specs.Prelude.{◌≡◌, ◌++◌, ◌∷◌, [], IfOk, OnOk, map, string_bytes};
 ghost use Rattle.template.specs.Template.{value_view};
 ghost use Rattle.test_report_forms.specs.List.{slow_line_view};
-ghost use Rattle.test_report_forms.specs.Model.{failed_view, problem_lines, report_view, row_view};
+ghost use Rattle.test_report_forms.specs.Model.{all_problems, failed_view, no_tests_problem, problem_view, report_view, row_view};
 ghost use Rattle.test_report_forms.specs.Values as spec;
 ghost use Rattle.test_report_run.specs.Note.{text_view};
 
+use crate::cause::Problem;
 use crate::failed_test::FailedTest;
 use crate::model::{ReportModel, SuiteRow, no_tests_ran};
 use crate::numbers::Numbers;
@@ -188,34 +189,47 @@ fn bar(alloc: Global, numbers: Numbers) -> Result<Vec<Value>, AllocError>
 }
 
 /// Adds a problem.
-fn push_problem(alloc: Global, problems: &mut Vec<Value>, line: String) -> Result<(), AllocError>
+fn push_problem(
+    alloc: Global,
+    problems: &mut Vec<Value>,
+    problem: Problem,
+) -> Result<(), AllocError>
     ensures { OnOk result (map value_view problems.new.items
-        ≡ map value_view problems.old.items ++ spec.problem_item (string_bytes line)) }
+        ≡ map value_view problems.old.items ++ spec.problem_item (problem_view problem)) }
 {
-    push_item(problems, "problem", one_text(alloc, "line", line)?)
+    let Problem { line, why } = problem;
+    let mut values = one_text(alloc, "line", line)?;
+    push_option(alloc, &mut values, "why", "text", why)?;
+    push_item(problems, "problem", values)
+}
+
+/// Returns the problem that no test ran.
+fn no_tests_problem(alloc: Global) -> Result<Problem, AllocError>
+    ensures { IfOk result (λ problem. problem_view problem ≡ no_tests_problem) }
+{
+    Ok(Problem {
+        line: String::from_str(alloc, "no test ran")?,
+        why: None,
+    })
 }
 
 /// Returns the problems, with `no test ran` first if no test ran.
 fn problem_items(
     alloc: Global,
-    lines: Vec<String>,
+    problems: Vec<Problem>,
     outcome: RunOutcome,
 ) -> Result<Vec<Value>, AllocError>
     ensures { IfOk result (λ v. map value_view v.items
-        ≡ spec.problem_items (problem_lines outcome (map string_bytes lines.items))) }
+        ≡ spec.problem_items (all_problems outcome (map problem_view problems.items))) }
 {
-    let mut problems = Vec::new(alloc);
+    let mut items = Vec::new(alloc);
     if no_tests_ran(outcome) {
-        push_problem(
-            alloc,
-            &mut problems,
-            String::from_str(alloc, "no test ran")?,
-        )?;
+        push_problem(alloc, &mut items, no_tests_problem(alloc)?)?;
     }
-    for line in lines {
-        push_problem(alloc, &mut problems, line)?;
+    for problem in problems {
+        push_problem(alloc, &mut items, problem)?;
     }
-    Ok(problems)
+    Ok(items)
 }
 
 /// Returns the number of attempts of a test, if there were several, and its time, if it is known.

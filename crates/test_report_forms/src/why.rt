@@ -349,7 +349,7 @@ fn reason_of(
 }
 
 /// Returns a copy of a text, or `None` if there is no text.
-fn copied(alloc: Global, text: &Option<String>) -> Result<Option<String>, AllocError>
+pub(crate) fn copied(alloc: Global, text: &Option<String>) -> Result<Option<String>, AllocError>
     ensures { IfOk result (λ copy. option_map string_bytes copy ≡ text_view text.now) }
 {
     if let Some(text) = text {

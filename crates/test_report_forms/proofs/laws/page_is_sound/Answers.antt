@@ -10,11 +10,10 @@ use Rattle.template.specs.Html.{is_html}
 use Rattle.template.specs.Parse.{parse}
 use Rattle.template.specs.Reader.{step}
 use Rattle.template.specs.Sections.{sections}
-use Rattle.template.specs.Shows.{parts_show}
 use Rattle.template.specs.Template.{NoParts, Parts}
 use Rattle.template.specs.declared.hole.Hole.TheVariants as hole
 use Rattle.test_report_forms.proofs.Page.{passed, passes}
-use Rattle.test_report_forms.specs.Holes.{has_hole, shows_phrase}
+use Rattle.test_report_forms.specs.Holes.{has_hole, problem_holes, shows_phrase}
 use Rattle.test_report_forms.specs.Html.{failed_holes, failed_parts, page_holes, page_parts, page_phrases, problem_parts}
 use Rattle.test_report_forms.specs.declared.page_template.TheConstants.{PAGE}
 use Rattle.test_report_forms.proofs.laws.page_is_sound.Goals as goal
@@ -68,9 +67,9 @@ has-failed-tests : passes has_failed (parse PAGE.now) ≡ true
 unfolding parse chars encode_utf8
 has-failed-tests = refl
 
--- the list of problems has a hole for their lines
+-- the list of problems has holes for their lines and for what explains them
 abbrev shows_problem : Parts → Bool
-shows_problem ps = parts_show ps hole.Text [] (codes "line")
+shows_problem ps = list_all (has_hole ps) (problem_holes hole.Text [])
 
 abbrev has_problems : Parts → Bool
 has_problems ps = is_one shows_problem (sections ps (codes "problems" ∷ codes "problem" ∷ []))
@@ -95,5 +94,5 @@ returns c =
       failed = failed.0;
       failed_holes = failed.1;
       problem = problem.0;
-      problem_hole = problem.1;
+      problem_holes = problem.1;
     }

@@ -10,4 +10,5 @@ returns c =
     let end = YieldsList-end (YieldsList-from_str_split {s = c.into_iter-line-iterator.result} 10 c.args.shown.now (omega arith) (cc) (cc) (cc))
     c.loop-line.yielded c.loop-line.line-iterator c.loop-line.yielded_by _ _ c.in-None.is c.next.ensures.steps in
     c.loop-line.invariant ∙ ap (λ l. string_bytes c.args.text.now ++ l)
-    (sym (flat_map-map (indented_line c.args.raw) (λ s. s.now) c.loop-line.yielded) ∙ ap (flat_map (indented_line c.args.raw)) end.0)
+    (sym (flat_map-map (indented_line c.args.margin c.args.raw) (λ s. s.now) c.loop-line.yielded)
+    ∙ ap (flat_map (indented_line c.args.margin c.args.raw)) end.0)

@@ -1,10 +1,6 @@
 use Rattle.std.proofs.Common.{◌≡◌, ◌++◌, map, string_bytes, take}
-use Rattle.test_report_forms.specs.List.{flaky_line_view, slow_line_view, text_of_lines}
+use Rattle.test_report_forms.specs.List.{slow_line_view, text_of_lines}
 use Rattle.test_report_forms.proofs.list.ShortList.push.Given as goal
-
-abbrev pub invariant-loop-flaky : goal.invariant-loop-flaky
-invariant-loop-flaky l =
-    string_bytes l.text ≡ string_bytes l.initial.text ++ text_of_lines (map flaky_line_view (take l.flaky-index l.self.flaky.items))
 
 abbrev pub invariant-loop-slow : goal.invariant-loop-slow
 invariant-loop-slow l =

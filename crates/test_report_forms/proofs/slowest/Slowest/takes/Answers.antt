@@ -7,8 +7,8 @@ use Rattle.test_report_forms.proofs.slowest.Slowest.takes.Goals as goal
 
 pub returns : goal.returns
 returns c = λ no line.
-    let few : length (map slow_line_view c.args.self.now.tests.items) ≤ 5 =
+    let few : length (map slow_line_view c.args.self.now.tests.items) ≤ c.args.self.now.most =
     rw length-map (omega (arith, c.args.self.now.few, c.args.self.now.tests.ok)) in
-    let late : 5 ≤ falling_place c.args.time (map slow_line_view c.args.self.now.tests.items) =
+    let late : c.args.self.now.most ≤ falling_place c.args.time (map slow_line_view c.args.self.now.tests.items) =
     grind (arith, nat_tests, no, c.place.ensures.place) in
-    put_falling-full _ _ few late
+    put_falling-full _ _ _ few late

@@ -1,0 +1,67 @@
+-- What the form for people shows of a test, by the levels of the layer.
+use Rattle.std.specs.Prelude.{◌||◌, ◌++◌, ℕ, Bool, List, [], if◌then◌else◌, max, None, unwrap_or}
+use Rattle.run_events_levels.specs.Level.{final_level_of, level_of}
+use Rattle.run_events_levels.specs.TestView.{TestView}
+use Rattle.run_events_levels.specs.Visibility.{asked_of, visibility}
+use Rattle.run_events_levels.specs.declared.levels.FinalStatusLevel.{FinalStatusLevel}
+use Rattle.run_events_levels.specs.declared.levels.FinalStatusLevel.TheVariants as final
+use Rattle.run_events_levels.specs.declared.levels.OutputOnTestFinished.{OutputOnTestFinished}
+use Rattle.run_events_levels.specs.declared.levels.OutputStoreFinal.{OutputStoreFinal}
+use Rattle.run_events_levels.specs.declared.levels.OutputStoreFinal.TheVariants as store
+use Rattle.run_events_levels.specs.declared.levels.StatusLevel.{StatusLevel}
+use Rattle.run_events_levels.specs.declared.levels.StatusLevel.TheVariants as level
+use Rattle.run_events_levels.specs.declared.levels.StatusLevels.{StatusLevels}
+use Rattle.run_events_results.specs.declared.results.ExecutionResultDescription.TheVariants as described
+use Rattle.run_events_settings.specs.declared.config.TestOutputDisplay.{TestOutputDisplay}
+use Rattle.run_events_settings.specs.declared.config.TestOutputDisplay.TheVariants as display
+use Rattle.test_report_forms.specs.declared.options.Options.{Options}
+use Rattle.test_report_run.specs.Counted.{view_of_finish}
+use Rattle.test_report_run.specs.declared.counted.Finish.{Finish}
+use Rattle.test_report_run.specs.declared.counted.Finish.TheVariants as finish
+
+-- the levels of a report
+abbrev pub levels_of : Options → StatusLevels
+levels_of o = record { status_level = o.status_level; final_status_level = o.final_status_level }
+
+-- when something is shown of a test that finished so, besides its line: why a failed test failed, and nothing of another test
+abbrev pub display_of : TestOutputDisplay → Finish → TestOutputDisplay
+display_of failures finish.Passed = display.Never
+display_of failures finish.FlakyFailed = failures
+display_of failures finish.Failed = failures
+display_of failures finish.TimedOut = failures
+
+-- the number of attempts that decides the levels of a test: a flaky test took several
+abbrev pub attempts_for : Finish → ℕ → ℕ
+attempts_for finish.FlakyFailed attempts = max attempts 2
+attempts_for how attempts = attempts
+
+-- what decides the levels of a test that finished so after this number of attempts
+abbrev pub own_view : Finish → ℕ → TestView
+own_view how attempts = view_of_finish how (attempts_for how attempts)
+
+-- the level of the test
+abbrev pub own_level : Finish → ℕ → StatusLevel
+own_level how attempts = unwrap_or (level_of (own_view how attempts)) level.Fail
+
+-- its level at the end of the run
+abbrev pub own_final_level : Finish → ℕ → FinalStatusLevel
+own_final_level how attempts = unwrap_or (final_level_of (own_view how attempts)) final.Fail
+
+-- what is shown of it, and what is stored for the list at the end
+unfoldable pub finished_output : Options → Finish → ℕ → OutputOnTestFinished
+finished_output o how attempts =
+    visibility (asked_of (levels_of o) (display_of o.failure_output how) (own_level how attempts) (own_final_level how attempts)
+    (own_view how attempts).result) None
+
+-- what is shown of a skipped test, and what is stored for the list at the end
+unfoldable pub skipped_output : Options → OutputOnTestFinished
+skipped_output o = visibility (asked_of (levels_of o) display.Never level.Skip final.Skip described.Pass) None
+
+-- a test has a line when it ends: the line is written, or something is shown under it
+abbrev pub has_line : OutputOnTestFinished → Bool
+has_line shows = shows.write_status_line || shows.show_immediate
+
+-- the lines of a test in the list at the end: its line and, if it is shown there, what is under it
+abbrev pub listed_text : OutputStoreFinal → List ℕ → List ℕ → List ℕ
+listed_text store.No line below = []
+listed_text (store.Yes output) line below = line ++ (if output then below else [])

@@ -1,0 +1,100 @@
+//! What the form for people shows of a test, by the levels of the layer.
+
+ghost use Rattle.std.specs.Prelude.{◌≡◌};
+ghost use Rattle.run_events_levels.specs.TestView.{finished_view};
+ghost use Rattle.test_report_forms.specs.Levels as spec;
+
+use crate::options::Options;
+use run_events_levels::levels::{
+    FinalStatusLevel, OutputOnTestFinished, StatusLevel, StatusLevels,
+};
+use run_events_levels::view::FinishedTest;
+use run_events_results::results::ExecutionResultDescription;
+use run_events_settings::config::TestOutputDisplay;
+use test_report_run::counted::{Finish, finished_test};
+
+/// Returns the levels of a report.
+fn levels_of(options: Options) -> StatusLevels
+    ensures { result ≡ spec.levels_of options }
+{
+    StatusLevels {
+        status_level: options.status_level,
+        final_status_level: options.final_status_level,
+    }
+}
+
+/// Returns when something is shown of a test besides its line: `failures` says when it is shown why a failed test failed.
+/// Nothing is shown of another test.
+fn display_of(failures: TestOutputDisplay, finish: Finish) -> TestOutputDisplay
+    ensures { result ≡ spec.display_of failures finish }
+{
+    match finish {
+        Finish::Passed => TestOutputDisplay::Never,
+        Finish::FlakyFailed | Finish::Failed | Finish::TimedOut => failures,
+    }
+}
+
+/// Returns the number of attempts that decides the levels of a test. A flaky test took several.
+fn attempts_for(finish: Finish, attempts: usize) -> usize
+    ensures { result ≡ spec.attempts_for finish attempts }
+{
+    match finish {
+        Finish::FlakyFailed => attempts.max(2),
+        Finish::Passed | Finish::Failed | Finish::TimedOut => attempts,
+    }
+}
+
+/// Returns a test that finished in this way, as the levels take it.
+fn own_test(finish: Finish, attempts: usize) -> FinishedTest
+    ensures { finished_view result ≡ spec.own_view finish attempts }
+{
+    finished_test(finish, attempts_for(finish, attempts))
+}
+
+/// Returns the level of a finished test at the end of the run.
+pub(crate) fn own_final_level(finish: Finish, attempts: usize) -> FinalStatusLevel
+    ensures { result ≡ spec.own_final_level finish attempts }
+{
+    own_test(finish, attempts).view().final_status_level()
+}
+
+/// Returns what is shown of a finished test, and what is stored for the list at the end.
+#[tactic(auto, unfolding(crate::specs::Levels::finished_output))]
+pub(crate) fn finished_output(
+    options: Options,
+    finish: Finish,
+    attempts: usize,
+) -> OutputOnTestFinished
+    ensures { result ≡ spec.finished_output options finish attempts }
+{
+    let test = own_test(finish, attempts);
+    let view = test.view();
+    levels_of(options).compute_output_on_test_finished(
+        display_of(options.failure_output, finish),
+        None,
+        view.status_level(),
+        view.final_status_level(),
+        view.result,
+    )
+}
+
+/// Returns what is shown of a skipped test, and what is stored for the list at the end.
+#[tactic(auto, unfolding(crate::specs::Levels::skipped_output))]
+pub(crate) fn skipped_output(options: Options) -> OutputOnTestFinished
+    ensures { result ≡ spec.skipped_output options }
+{
+    levels_of(options).compute_output_on_test_finished(
+        TestOutputDisplay::Never,
+        None,
+        StatusLevel::Skip,
+        FinalStatusLevel::Skip,
+        &ExecutionResultDescription::Pass,
+    )
+}
+
+/// Returns true if a test has a line when it ends: the line is written, or something is shown under it.
+pub(crate) fn has_line(shows: OutputOnTestFinished) -> bool
+    ensures { result ≡ spec.has_line shows }
+{
+    shows.write_status_line || shows.show_immediate
+}
