@@ -8,10 +8,11 @@ use Rattle.test_report_laws.proofs.CleanLines.{clean, clean-line, clean-number, 
 use Rattle.test_report_laws.proofs.CleanWords.{clean-disagreement, clean-not_run, clean-outcome, clean-summary, clean-title}
 use Rattle.test_report_laws.proofs.Numerals.{HasNumbers, IsColumn, IsNumbered, entry-numbers}
 use Rattle.test_report_forms.specs.Entry.{EntryView, IsEntryOf, LinesDisagree, SuiteNotRun, SuiteOver, TestFailed, TestPassed, TestSkipped}
-use Rattle.test_report_forms.specs.Github.{column_property, data_char, error_command, failed_command, github_last, github_line, message, place_properties, properties, property, property_char, title_property, why_message}
+use Rattle.test_report_forms.specs.Github.{cause_message, column_property, data_char, error_command, failed_command, github_last, github_line, message, place_properties, properties, property, property_char, title_property, why_message}
 use Rattle.test_report_forms.specs.Place.{PlaceView}
 use Rattle.test_report_forms.specs.Shown.{front, limited, more_bytes, more_note}
 use Rattle.test_report_forms.specs.Why.{WhyView}
+use Rattle.test_report_forms.specs.Words.{disagreement_line}
 use Rattle.test_report_laws.specs.Forms.{GithubHasNoControls, NamesAreLines}
 use Rattle.test_report_run.specs.Note.{FailureView, NoteView, TestNoteView}
 use Rattle.test_report_run.specs.declared.note.RunEnd.{RunEnd}
@@ -23,7 +24,7 @@ pub names-are-lines : NamesAreLines
 names-are-lines (TestFailed t f w) = inr (line-alone t.name)
 names-are-lines (TestPassed t) = inl refl
 names-are-lines (TestSkipped t) = inl refl
-names-are-lines (LinesDisagree d) = inl refl
+names-are-lines (LinesDisagree d why) = inl refl
 names-are-lines (SuiteNotRun suite n of) = inl refl
 names-are-lines (SuiteOver s) = inl refl
 
@@ -71,16 +72,21 @@ clean-command : (o : Options) (t : TestNoteView) (f : FailureView) (w : WhyView)
 unfolding failed_command title_property why_message
 clean-command o t f w h =
     let named = also (word (codes "title=") refl) (clean-property (clean (clean-title t))) in
-    let why = also (word (codes "::") refl) (also (clean-message (clean-limited_why (shown_why o t f w) o.limit)) (word (codes "\n") refl)) in
+    let named_why = also (clean (clean-title t)) (also (word (codes "\n") refl) (clean-limited_why (shown_why o t f w) o.limit)) in
+    let why = also (word (codes "::") refl) (also (clean-message named_why) (word (codes "\n") refl)) in
     also (word (codes "::error ") refl) (also (clean-properties w.place h) (also named why))
 
 clean-error : {text : List ℕ} → Clean text → Clean (error_command text)
 unfolding error_command
 clean-error h = also (word (codes "::error::") refl) (also (clean-message h) (word (codes "\n") refl))
 
+clean-cause : (line : List ℕ) (why : Option (List ℕ)) → Clean line → Clean (cause_message line why)
+clean-cause line None h = h
+clean-cause line (Some why) h = also h (also (word (codes "\n") refl) (clean-text false why refl))
+
 clean-github_line : (o : Options) (e : EntryView) → HasNumbers e → Clean (github_line o e)
 clean-github_line o (TestFailed t f w) h = clean-command o t f w h
-clean-github_line o (LinesDisagree d) h = clean-error (clean (clean-disagreement d))
+clean-github_line o (LinesDisagree d why) h = clean-error (clean-cause (disagreement_line d) why (clean (clean-disagreement d)))
 clean-github_line o (SuiteNotRun suite n of) h = clean-error (clean (clean-not_run suite n of))
 clean-github_line o (TestPassed t) h = nothing
 clean-github_line o (TestSkipped t) h = nothing

@@ -7,7 +7,7 @@ use Rattle.test_report_events.specs.Event.{BySignal, CommandView, NotStarted, Wi
 use Rattle.test_report_events.specs.declared.event.TestResult.{TestResult}
 use Rattle.test_report_events.specs.declared.event.TestResult.TheVariants as ended
 use Rattle.test_report_laws.proofs.CleanLines.{CleanLine, also, clean-decimal, clean-if, clean-line, clean-name, clean-option, clean-replicate, nothing, word}
-use Rattle.test_report_forms.specs.List.{flaky_word}
+use Rattle.test_report_forms.specs.List.{flaky_word, passed_word}
 use Rattle.test_report_forms.specs.Shown.{and_space, bracket, name_and_space, seconds, three_digits}
 use Rattle.test_report_forms.specs.Text.{attempts_note}
 use Rattle.test_report_forms.specs.Title.{title, title_name}
@@ -66,6 +66,9 @@ clean-result ended.Ignored = word (codes "ignored") refl
 pub clean-flaky_word : (attempts : ℕ) → CleanLine (flaky_word attempts)
 unfolding flaky_word
 clean-flaky_word attempts = also (word (codes "FLAKY ") refl) (also (clean-decimal attempts) (also (word (codes "/") refl) (clean-decimal attempts)))
+
+pub clean-passed_word : (attempts : ℕ) → CleanLine (passed_word attempts)
+clean-passed_word attempts = clean-if _ (clean-flaky_word attempts) (word (codes "PASS") refl)
 
 pub clean-attempts : (attempts : ℕ) → CleanLine (attempts_note attempts)
 unfolding attempts_note

@@ -1,24 +1,34 @@
 -- The form for people has no control characters except sequences for colours.
-use Rattle.std.proofs.Common.{◌≡◌, ◌∙◌, ◌-◌, refl, sym, subst, ap, arith, ℕ, Bool, true, false, List, [], ◌∷◌, ◌++◌, append-nil, append_assoc, codes, if◌then◌else◌, length, nat_lt, Option, Some, None}
+use Rattle.std.proofs.Common.{◌≡◌, ◌∙◌, ◌-◌, ◌==◌, refl, sym, subst, ap, arith, ℕ, Bool, true, false, List, [], ◌∷◌, ◌++◌, append-nil, append_assoc, codes, if◌then◌else◌, length, replicate, Option, Some, None}
 use Rattle.std.specs.List.{AllZip, Contains, flat_map}
 use Rattle.std.specs.Option.{option_map_or}
 use Rattle.std.specs.Str.{bytes_eq}
 use Rattle.template.proofs.Controls as clean
 use Rattle.template.proofs.Controls.{Clean, clean-decimal, clean-flat_map, clean-if, clean-replicate, nothing, word}
+use Rattle.run_events_levels.specs.LevelRanks.{final_level_rank}
+use Rattle.run_events_levels.specs.declared.levels.FinalStatusLevel.{FinalStatusLevel}
+use Rattle.run_events_levels.specs.declared.levels.FinalStatusLevel.TheVariants as final
+use Rattle.run_events_levels.specs.declared.levels.OutputOnTestFinished.{OutputOnTestFinished}
+use Rattle.run_events_levels.specs.declared.levels.OutputStoreFinal.{OutputStoreFinal}
+use Rattle.run_events_levels.specs.declared.levels.OutputStoreFinal.TheVariants as store
 use Rattle.test_report_forms.specs.Entry.{EntryView, LinesDisagree, SuiteNotRun, SuiteOver, TestFailed, TestPassed, TestSkipped}
-use Rattle.test_report_forms.specs.List.{KeyedLine, failed_line, failed_of, flaky_line, flaky_lines, flaky_of, flaky_passed, flaky_word, list_line, put_falling, put_rising, short_list, slow_line, slow_lines, slow_of, text_of_lines, timed}
-use Rattle.test_report_forms.specs.Shown.{front, indented_line, more_bytes}
-use Rattle.test_report_forms.specs.Text.{failed_head, failed_text, hidden_line, more_line, outcome_line, summary_lines, text_last, text_line, why_lines}
+use Rattle.test_report_forms.specs.Levels.{finished_output, has_line, listed_text, skipped_output}
+use Rattle.test_report_forms.specs.List.{KeyedLine, ended_line, failed_line, final_level_of, item, item_at, list_line, part_at, passed_word, put_falling, short_list, slow_line, slow_lines, slow_of, text_of_lines, timed}
+use Rattle.test_report_forms.specs.Shown.{front, indented, indented_line, more_bytes}
+use Rattle.test_report_forms.specs.Text.{ended_head, ended_text, failed_head, failed_text, outcome_line, passed_text, skipped_text, summary_lines, text_last, text_line}
+use Rattle.test_report_forms.specs.WhyLines.{hidden_line, more_line, why_lines}
 use Rattle.test_report_forms.specs.Words.{color_of, failed_word, status_text}
 use Rattle.test_report_forms.specs.declared.options.Options.{Options}
 use Rattle.test_report_laws.proofs.CleanLines as own
 use Rattle.test_report_laws.proofs.CleanLines.{CleanLine, clean-text}
-use Rattle.test_report_laws.proofs.CleanWords.{clean-attempts, clean-bracket, clean-disagreement, clean-failed_word, clean-flaky_word, clean-not_run, clean-outcome, clean-summary, clean-title}
-use Rattle.test_report_laws.proofs.KeyedLines.{Alike, alike-if, each-alike, falling-alike, fold-alike, rising-alike, text-alike}
+use Rattle.test_report_laws.proofs.CleanWords.{clean-attempts, clean-bracket, clean-disagreement, clean-failed_word, clean-not_run, clean-outcome, clean-passed_word, clean-summary, clean-title}
+use Rattle.test_report_laws.proofs.KeyedLines.{Alike, each-alike, falling-alike, fold-alike, text-alike}
 use Rattle.test_report_laws.specs.Colours.{AreParts, IsColoured, Other, Part, Sequence, TextIsColoured, kept, sequences, text_of_run, without_color, written}
 use Rattle.template.specs.Clean.{HasNoControls}
 use Rattle.test_report_laws.specs.Forms.{TextHasNoControls}
+use Rattle.test_report_run.specs.Counted.{finish_for}
 use Rattle.test_report_run.specs.Note.{TestNoteView}
+use Rattle.test_report_run.specs.declared.counted.Finish.TheVariants.{Passed}
 use Rattle.test_report_run.specs.declared.note.RunEnd.{RunEnd}
 use Rattle.test_report_forms.specs.ShownWhy.{ShownWhyView, shown_why}
 
@@ -63,6 +73,10 @@ also {xs} {ys} {us} {vs} a b = both xs ys us vs a b
 none : Coloured [] []
 none = record { is = ([], tt, refl, refl) }
 
+then-coloured : (b : Bool) {xs ys : List ℕ} → Coloured xs ys → Coloured (if b then xs else []) (if b then ys else [])
+then-coloured true h = h
+then-coloured false h = none
+
 same : {text : List ℕ} → Clean text → Coloured text text
 same {text} h = record { is = (Other text ∷ [], (h.is, tt), sym (append-nil text), sym (append-nil text)) }
 
@@ -75,7 +89,10 @@ is-sequence w =
     let red : Contains sequences (27 ∷ codes "[1;31m") = (0, omega arith, refl) in
     let pick = λ (b : Bool) (color : List ℕ) (other : Contains sequences (27 ∷ 91 ∷ (color ++ codes "m"))).
     elim b as (λ t. Contains sequences (27 ∷ 91 ∷ ((if t then codes "1;31" else color) ++ codes "m"))) [ true ↦ red | false ↦ other ] in
-    let last = pick (bytes_eq w (codes "CRASH")) (codes "1;33") (1, omega arith, refl) in
+    let passed =
+    elim (bytes_eq w (codes "PASS")) as (λ t. Contains sequences (27 ∷ 91 ∷ ((if t then codes "1;32" else codes "1;33") ++ codes "m")))
+    [ true ↦ (3, omega arith, refl) | false ↦ (1, omega arith, refl) ] in
+    let last = pick (bytes_eq w (codes "CRASH")) _ passed in
     pick (bytes_eq w (codes "FAIL")) _ (pick (bytes_eq w (codes "TIMEOUT")) _ last)
 
 status-parts : (a c m w z : List ℕ) → a ++ (c ++ (m ++ (w ++ z))) ≡ (a ++ (c ++ m)) ++ (w ++ z)
@@ -95,15 +112,20 @@ coloured-status true w h =
       );
     }
 
-clean-more_line : (more : ℕ) → Clean (more_line more)
-unfolding more_line
-clean-more_line more =
-    clean-if _ nothing (clean.also (word (codes "    (") refl) (clean.also (clean-decimal more) (word (codes " more bytes)\n") refl)))
+clean-spaces : (margin : ℕ) → Clean (replicate margin 32)
+clean-spaces margin = clean-replicate 32 margin refl
 
-clean-hidden_line : (hidden : ℕ) → Clean (hidden_line hidden)
+clean-more_line : (margin more : ℕ) → Clean (more_line margin more)
+unfolding more_line
+clean-more_line margin more =
+    let words = clean.also (word (codes "(") refl) (clean.also (clean-decimal more) (word (codes " more bytes)\n") refl)) in
+    clean-if _ nothing (clean.also (clean-spaces margin) words)
+
+clean-hidden_line : (margin hidden : ℕ) → Clean (hidden_line margin hidden)
 unfolding hidden_line
-clean-hidden_line hidden =
-    clean-if _ nothing (clean.also (word (codes "    (") refl) (clean.also (clean-decimal hidden) (word (codes " more lines of output)\n") refl)))
+clean-hidden_line margin hidden =
+    let words = clean.also (word (codes "(") refl) (clean.also (clean-decimal hidden) (word (codes " more lines of output)\n") refl)) in
+    clean-if _ nothing (clean.also (clean-spaces margin) words)
 
 each-coloured : (f g : EntryView → List ℕ) → ((e : EntryView) → Coloured (f e) (g e)) → (entries : List EntryView)
     → Coloured (flat_map f entries) (flat_map g entries)
@@ -127,42 +149,66 @@ module _ (o : Options) (raw : o.raw ≡ false) where
   abbrev AreColoured : List KeyedLine → List KeyedLine → Type 0
   AreColoured = AllZip (Alike Coloured)
 
-  coloured-flaky : (e : EntryView) → AreColoured (flaky_of o e) (flaky_of plain e)
-  unfolding flaky_passed flaky_line
-  coloured-flaky (TestPassed t) =
-      let item = coloured-item (flaky_word t.attempts) t (own.clean (clean-flaky_word t.attempts)) in
-      alike-if Coloured (nat_lt 1 t.attempts) (flaky_line o t) (flaky_line plain t) (record { key = refl; line = item })
-  coloured-flaky (TestSkipped t) = tt
-  coloured-flaky (TestFailed t f w) = tt
-  coloured-flaky (LinesDisagree d) = tt
-  coloured-flaky (SuiteNotRun suite n of) = tt
-  coloured-flaky (SuiteOver s) = tt
-
   coloured-timed : (t : TestNoteView) (time : Option ℕ)
       → AreColoured (option_map_or (λ time. slow_line o t time ∷ []) time []) (option_map_or (λ time. slow_line plain t time ∷ []) time [])
   unfolding slow_line
   coloured-timed t None = tt
-  coloured-timed t (Some time) = (record { key = refl; line = coloured-item (codes "SLOW") t (word (codes "SLOW") refl) }, tt)
+  coloured-timed t (Some time) = (record { key = refl; line = coloured-item (codes "SLOWEST") t (word (codes "SLOWEST") refl) }, tt)
 
   coloured-slow : (e : EntryView) → AreColoured (slow_of o e) (slow_of plain e)
   unfolding timed
   coloured-slow (TestPassed t) = coloured-timed t t.time
   coloured-slow (TestFailed t f w) = coloured-timed t t.time
   coloured-slow (TestSkipped t) = tt
-  coloured-slow (LinesDisagree d) = tt
+  coloured-slow (LinesDisagree d why) = tt
   coloured-slow (SuiteNotRun suite n of) = tt
   coloured-slow (SuiteOver s) = tt
 
-  coloured-failed : (e : EntryView) → Coloured (failed_of o e) (failed_of plain e)
+  -- why a test failed
+  clean-indented : (margin : ℕ) (line : List ℕ) → Clean (indented_line margin o.raw line)
+  clean-indented margin line = clean.also (clean-spaces margin) (clean.also (clean-text o.raw line raw) (word (codes "\n") refl))
+
+  coloured-why : (margin : ℕ) (why : ShownWhyView) → Coloured (why_lines margin o why) (why_lines margin plain why)
+  unfolding why_lines
+  coloured-why margin why =
+      let notes = clean.also (clean-more_line margin (more_bytes why.text o.limit)) (clean-hidden_line margin why.hidden) in
+      same (clean.also (clean-flat_map (indented_line margin o.raw) (clean-indented margin) _) notes)
+
+  coloured-ended : (t : TestNoteView) (w : List ℕ) → CleanLine w → Coloured (ended_line o t w) (ended_line plain t w)
+  unfolding ended_line
+  coloured-ended t w h = coloured-item w t (own.clean h)
+
+  coloured-reason : (t : TestNoteView) (w reason : List ℕ) → CleanLine w → Coloured (failed_line o t w reason) (failed_line plain t w reason)
   unfolding failed_line
-  coloured-failed (TestFailed t f w) =
-      let short = clean.also (word (codes ": ") refl) (clean.also (clean-text o.raw (front w.short o.limit) raw) (word (codes "\n") refl)) in
-      also (coloured-list_line (failed_word f.kind) t (own.clean (clean-failed_word f.kind))) (same short)
-  coloured-failed (TestPassed t) = none
-  coloured-failed (TestSkipped t) = none
-  coloured-failed (LinesDisagree d) = none
-  coloured-failed (SuiteNotRun suite n of) = none
-  coloured-failed (SuiteOver s) = none
+  coloured-reason t w reason h =
+      let short = clean.also (word (codes ": ") refl) (clean.also (clean-text o.raw (front reason o.limit) raw) (word (codes "\n") refl)) in
+      also (coloured-list_line w t (own.clean h)) (same short)
+
+  listed-coloured : (stored : OutputStoreFinal) {xs ys us vs : List ℕ} → Coloured xs ys → Coloured us vs
+      → Coloured (listed_text stored xs us) (listed_text stored ys vs)
+  listed-coloured store.No h more = none
+  listed-coloured (store.Yes output) h more = also h (then-coloured output more)
+
+  coloured-listed : (e : EntryView) → Coloured (item o e) (item plain e)
+  unfolding finished_output skipped_output
+  coloured-listed (TestFailed t f w) =
+      listed-coloured (finished_output o (finish_for f.kind) t.attempts).store_final
+      (coloured-reason t (failed_word f.kind) w.short (clean-failed_word f.kind)) (coloured-why 13 (shown_why o t f w))
+  coloured-listed (TestPassed t) =
+      listed-coloured (finished_output o Passed t.attempts).store_final
+      (coloured-ended t (passed_word t.attempts) (clean-passed_word t.attempts)) none
+  coloured-listed (TestSkipped t) =
+      listed-coloured (skipped_output o).store_final (coloured-ended t (codes "SKIP") (own.word (codes "SKIP") refl)) none
+  coloured-listed (LinesDisagree d why) = none
+  coloured-listed (SuiteNotRun suite n of) = none
+  coloured-listed (SuiteOver s) = none
+
+  coloured-at : (level : FinalStatusLevel) (e : EntryView) → Coloured (item_at o level e) (item_at plain level e)
+  unfolding item_at
+  coloured-at level e = then-coloured (final_level_rank (final_level_of e) == final_level_rank level) (coloured-listed e)
+
+  coloured-part : (level : FinalStatusLevel) (entries : List EntryView) → Coloured (part_at o level entries) (part_at plain level entries)
+  coloured-part level entries = each-coloured (item_at o level) (item_at plain level) (coloured-at level) entries
 
   lines-coloured : (xs ys : List KeyedLine) → AreColoured xs ys → Coloured (text_of_lines xs) (text_of_lines ys)
   lines-coloured xs ys h = text-alike Coloured none both xs ys h
@@ -170,23 +216,15 @@ module _ (o : Options) (raw : o.raw ≡ false) where
   coloured-list : (entries : List EntryView) → Coloured (short_list o entries) (short_list plain entries)
   unfolding short_list
   coloured-list entries =
-      let rising = each-alike Coloured (flaky_of o) (flaky_of plain) coloured-flaky entries in
       let falling = each-alike Coloured (slow_of o) (slow_of plain) coloured-slow entries in
-      let flaky = fold-alike Coloured put_rising (rising-alike Coloured) [] [] _ _ tt rising in
-      let slow = fold-alike Coloured put_falling (falling-alike Coloured) [] [] _ _ tt falling in
-      also (lines-coloured (flaky_lines o entries) (flaky_lines plain entries) flaky)
-      (also (each-coloured (failed_of o) (failed_of plain) coloured-failed entries)
-      (lines-coloured (slow_lines o entries) (slow_lines plain entries) slow))
+      let slow = fold-alike Coloured (put_falling o.slowest) (falling-alike Coloured o.slowest) [] [] _ _ tt falling in
+      also (coloured-part final.Pass entries) (also (coloured-part final.Skip entries) (also (coloured-part final.Flaky entries)
+      (also (coloured-part final.Fail entries) (lines-coloured (slow_lines o entries) (slow_lines plain entries) slow))))
 
   -- entries
-  clean-indented : (line : List ℕ) → Clean (indented_line o.raw line)
-  clean-indented line = clean.also (word (codes "    ") refl) (clean.also (clean-text o.raw line raw) (word (codes "\n") refl))
-
-  coloured-why : (why : ShownWhyView) → Coloured (why_lines o why) (why_lines plain why)
-  unfolding why_lines
-  coloured-why why =
-      let notes = clean.also (clean-more_line (more_bytes why.text o.limit)) (clean-hidden_line why.hidden) in
-      same (clean.also (clean-flat_map (indented_line o.raw) clean-indented _) notes)
+  clean-reason : (why : Option (List ℕ)) → Clean (option_map_or (indented 4 o.raw) why [])
+  clean-reason None = nothing
+  clean-reason (Some why) = clean-flat_map (indented_line 4 o.raw) (clean-indented 4) _
 
   coloured-head : (t : TestNoteView) (w : List ℕ) → CleanLine w → Coloured (failed_head o t w) (failed_head plain t w)
   unfolding failed_head
@@ -194,13 +232,27 @@ module _ (o : Options) (raw : o.raw ≡ false) where
       let title = clean.also (own.clean (clean-title t)) (clean.also (own.clean (clean-attempts t.attempts)) (word (codes "\n") refl)) in
       also (coloured-status o.color w (own.clean h)) (same (clean.also (word (codes " ") refl) (clean.also (own.clean (clean-bracket t.time)) title)))
 
+  coloured-end : (t : TestNoteView) (w : List ℕ) → CleanLine w → Coloured (ended_head o t w) (ended_head plain t w)
+  unfolding ended_head
+  coloured-end t w h =
+      let title = clean.also (own.clean (clean-title t)) (word (codes "\n") refl) in
+      also (coloured-status o.color w (own.clean h)) (same (clean.also (word (codes " ") refl) (clean.also (own.clean (clean-bracket t.time)) title)))
+
+  coloured-text : (shows : OutputOnTestFinished) {xs ys us vs : List ℕ} → Coloured xs ys → Coloured us vs
+      → Coloured (ended_text shows xs us) (ended_text shows ys vs)
+  coloured-text shows h more = then-coloured (has_line shows) (also h (then-coloured shows.show_immediate more))
+
   coloured-entry : (e : EntryView) → Coloured (text_line o e) (text_line plain e)
-  unfolding failed_text
-  coloured-entry (TestFailed t f w) = also (coloured-head t (failed_word f.kind) (clean-failed_word f.kind)) (coloured-why (shown_why o t f w))
-  coloured-entry (LinesDisagree d) = same (clean.also (own.clean (clean-disagreement d)) (word (codes "\n") refl))
+  unfolding failed_text passed_text skipped_text finished_output skipped_output
+  coloured-entry (TestFailed t f w) =
+      coloured-text (finished_output o (finish_for f.kind) t.attempts) (coloured-head t (failed_word f.kind) (clean-failed_word f.kind))
+      (coloured-why 4 (shown_why o t f w))
+  coloured-entry (TestPassed t) =
+      coloured-text (finished_output o Passed t.attempts) (coloured-end t (passed_word t.attempts) (clean-passed_word t.attempts)) none
+  coloured-entry (TestSkipped t) =
+      coloured-text (skipped_output o) (coloured-end t (codes "SKIP") (own.word (codes "SKIP") refl)) none
+  coloured-entry (LinesDisagree d why) = same (clean.also (own.clean (clean-disagreement d)) (clean.also (word (codes "\n") refl) (clean-reason why)))
   coloured-entry (SuiteNotRun suite n of) = same (clean.also (own.clean (clean-not_run suite n of)) (word (codes "\n") refl))
-  coloured-entry (TestPassed t) = none
-  coloured-entry (TestSkipped t) = none
   coloured-entry (SuiteOver s) = none
 
   coloured-last : (entries : List EntryView) (end : RunEnd) → Coloured (text_last o entries end) (text_last plain entries end)
@@ -217,5 +269,15 @@ text-is-coloured o entries end raw =
 pub text-has-no-controls : TextHasNoControls
 text-has-no-controls o entries end raw color =
     let parts = text-is-coloured o entries end raw in
-    let plain : without_color o ≡ o = λ i. record { limit = o.limit; output = o.output; raw = o.raw; color = sym color i; no_tests_pass = o.no_tests_pass } in
+    let plain : without_color o ≡ o = λ i. record {
+      limit = o.limit;
+      output = o.output;
+      raw = o.raw;
+      color = sym color i;
+      status_level = o.status_level;
+      final_status_level = o.final_status_level;
+      failure_output = o.failure_output;
+      slowest = o.slowest;
+      no_tests_pass = o.no_tests_pass;
+    } in
     subst (λ p. HasNoControls (text_of_run p entries end)) plain (subst HasNoControls (sym parts.3) (kept-clean parts.0 parts.1).is)

@@ -8,7 +8,7 @@ use Rattle.std.specs.List.{All, Contains, flat_map, join_with_byte, list_all, sl
 use Rattle.std.specs.Str.{chars}
 use Rattle.template.proofs.Lacks.{Lacks, both, lacks-flat_map, lacks-word, none, one-char, visible}
 use Rattle.test_report_forms.specs.Entry.{EntryView, IsEntryOf, LinesDisagree, SuiteNotRun, SuiteOver, TestFailed, TestPassed, TestSkipped}
-use Rattle.test_report_forms.specs.Github.{data_char, error_command, failed_command, github_last, github_line, message, place_properties, properties, column_property, property, property_char, title_property, why_message}
+use Rattle.test_report_forms.specs.Github.{cause_message, data_char, error_command, failed_command, github_last, github_line, message, named_why, place_properties, properties, column_property, property, property_char, title_property, why_message}
 use Rattle.test_report_forms.specs.Place.{PlaceView}
 use Rattle.test_report_forms.specs.Shown.{shown_line}
 use Rattle.test_report_forms.specs.Title.{title}
@@ -23,7 +23,7 @@ use Rattle.test_report_laws.specs.Forms.{is_unseen}
 use Rattle.test_report_laws.specs.Lines.{Block, GithubNamesCauses, IsInLine, github_block, notice}
 use Rattle.test_report_run.specs.Note.{FailureView, NoteView, TestNoteView}
 use Rattle.test_report_run.specs.declared.note.RunEnd.{RunEnd}
-use Rattle.test_report_forms.specs.ShownWhy.{limited_why, shown_why}
+use Rattle.test_report_forms.specs.ShownWhy.{shown_why}
 use Rattle.test_report_forms.specs.declared.options.Options.{Options}
 
 -- texts without an end of a line
@@ -212,14 +212,14 @@ unfolding title_property
 within-title t = both (plain (codes "title=") refl) (within (value-property (title t)))
 
 one-failed : (o : Options) (t : TestNoteView) (f : FailureView) (w : WhyView) → IsNumbered w.place → IsOne (failed_command o t f w) (Some (record {
-  line = failed_line w.place (title_property t) (message (limited_why (shown_why o t f w) o.limit));
+  line = failed_line w.place (title_property t) (message (named_why o.limit t (shown_why o t f w)));
   below = [];
 }))
 unfolding failed_command why_message
 one-failed o t f w h = (
-  end-last (codes "::error ") (properties w.place) (title_property t) (codes "::") (message (limited_why (shown_why o t f w) o.limit)) (codes "\n"),
-  whole-failed (title_property t) (message (limited_why (shown_why o t f w) o.limit)) (title-property t) (within-title t)
-      (inner-message (limited_why (shown_why o t f w) o.limit)) w.place h,
+  end-last (codes "::error ") (properties w.place) (title_property t) (codes "::") (message (named_why o.limit t (shown_why o t f w))) (codes "\n"),
+  whole-failed (title_property t) (message (named_why o.limit t (shown_why o t f w))) (title-property t) (within-title t)
+      (inner-message (named_why o.limit t (shown_why o t f w))) w.place h,
   refl,
 )
 
@@ -229,7 +229,7 @@ one-error text = (sym (append_assoc (codes "::error::") (message text) (codes "\
 
 one-entry : (o : Options) (e : EntryView) → HasNumbers e → IsOne (github_line o e) (github_block o e)
 one-entry o (TestFailed t f w) h = one-failed o t f w h
-one-entry o (LinesDisagree d) h = one-error (disagreement_line d)
+one-entry o (LinesDisagree d why) h = one-error (cause_message (disagreement_line d) why)
 one-entry o (SuiteNotRun suite n of) h = one-error (not_run_line suite n of)
 one-entry o (TestPassed t) h = refl
 one-entry o (TestSkipped t) h = refl

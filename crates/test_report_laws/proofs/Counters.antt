@@ -1,5 +1,5 @@
 -- A counter of statistics counts notes.
-use Rattle.std.proofs.Common.{◌≡◌, ℕ, List, [], ◌∷◌, ◌+◌, ◌≤◌, Bool, true, false, refl, ap, arith, sym, drop, length, take}
+use Rattle.std.proofs.Common.{◌≡◌, ℕ, List, [], ◌∷◌, ◌+◌, ◌≤◌, Bool, true, false, None, Option, refl, ap, arith, sym, drop, length, take}
 use Rattle.std.specs.List.{All, fold, position_or_len, sum_by}
 use Rattle.std.specs.Prelude.{if◌then◌else◌, nat_lt}
 use Rattle.std.proofs.lemmas.List.Elements.{All-append, All-cons, All-drop, All-head, All-nil, All-tail, All-take}
@@ -31,7 +31,7 @@ use Rattle.test_report_laws.proofs.Types.{Explanation}
 -- the statistics with a test that counts so after so many attempts
 abbrev pub with_outcome : RunStats → OutcomeView → ℕ → RunStats
 with_outcome stats Passes n = with_test stats (view_of_finish finish_passed n)
-with_outcome stats IsSkipped n = stats
+with_outcome stats (IsSkipped reason) n = stats
 with_outcome stats (Fails f) n = with_test stats (view_of_finish (finish_for f.kind) n)
 
 -- a flaky test had more than one attempt
@@ -118,7 +118,7 @@ module _ (counter : RunStats → ℕ) (rule : OutcomeView → ℕ → ℕ) (empt
     (counts : (stats : RunStats) (outcome : OutcomeView) (n : ℕ) → fits outcome n ≡ true
     → counter (with_outcome stats outcome n) ≡ counter stats + rule outcome n)
     (once : (n : ℕ) → nat_lt 1 n ≡ false → rule Passes n ≡ rule Passes 1)
-    (skips : (n : ℕ) → rule IsSkipped n ≡ 0) where
+    (skips : (reason : Option (List ℕ)) (n : ℕ) → rule (IsSkipped reason) n ≡ 0) where
   abbrev w : NoteView → ℕ
   w note = of_test rule note
 
@@ -163,7 +163,7 @@ module _ (counter : RunStats → ℕ) (rule : OutcomeView → ℕ → ℕ) (empt
   at-end s t order e Failed =
       let how = λ (kind : KindView). Fails record { kind = kind; stdout = e.stdout; message = e.message; reason = e.reason } in
       grind (arith, counts s.stats (how HasTimedOut) t.attempts refl, counts s.stats (how HasFailed) t.attempts refl)
-  at-end s t order e Ignored = omega (arith, skips t.attempts)
+  at-end s t order e Ignored = omega (arith, skips e.message t.attempts)
 
   no-suite : (s : SuiteState) (t : OverView) (e : TestEndView) (how : TestResult) → sum_by v (end_notes s t (record e { result = how })) ≡ 0
   no-suite s t e Ok = grind arith
@@ -188,7 +188,7 @@ module _ (counter : RunStats → ℕ) (rule : OutcomeView → ℕ → ℕ) (empt
     arith,
     ends.of-last w (λ d. refl) (λ suite n of. refl) s e names,
     last-suite (λ n. counter n.stats) s e names,
-    sum-none (λ name. w (skipped_note s name)) (λ name. skips 1) (take e.skipped names),
+    sum-none (λ name. w (skipped_note s name)) (λ name. skips None 1) (take e.skipped names),
     counts-failed HasNoEnd refl (λ n. refl) s.stats (lost e names),
     counts-flaky e.flaky_failed (with_failed s.stats (lost e names)) s.flaky late,
   )

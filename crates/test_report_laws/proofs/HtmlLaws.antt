@@ -19,7 +19,7 @@ use Rattle.test_report_laws.proofs.ReportValues.{failed-at, problems-at, suites-
 use Rattle.test_report_laws.proofs.ShownValues.{names-causes, shown-holes, unmapped}
 use Rattle.test_report_forms.specs.Html.{PageIsSound, failed_parts, heading_phrase, html_of, page_heading, page_holes, page_parts, page_phrases, page_text, problem_parts, suite_phrase, summary_phrase, time_phrase, title_phrase}
 use Rattle.test_report_forms.specs.Model.{ReportView, report_of}
-use Rattle.test_report_forms.specs.Values.{failed_values, one_text, report_values, run_values, suite_values, values_of_run}
+use Rattle.test_report_forms.specs.Values.{failed_values, problem_values, report_values, run_values, suite_values, values_of_run}
 use Rattle.test_report_forms.specs.Words.{outcome_word, run_numbers}
 use Rattle.test_report_laws.specs.Forms.{HasPhrase, HasValues, HtmlHasNoControls, HtmlNamesCauses, HtmlReadsBack, HtmlSaysEnd, HtmlShowsItems, HtmlShowsPhrases, HtmlShowsValues}
 
@@ -116,7 +116,7 @@ html-shows-items sound in_sections in_phrases o entries end =
           (in_sections page_parts vs at_failed failed_parts (subst (λ l. Contains l failed_parts) (sym sound.failed) (0, omega arith, refl)))));
       titles = unmapped (part (template_parts title_phrase)) (λ t. values_of (failed_values t)) _
           (subst (All (part (template_parts title_phrase))) (failed-at report) (phrase-of vs page page_phrases at_failed title_phrase refl all));
-      problems = unmapped (part problem_parts) (λ l. values_of (one_text (codes "line") l)) _
+      problems = unmapped (part problem_parts) (λ p. values_of (problem_values p)) _
           (subst (All (part problem_parts)) (problems-at report) (all-in-page vs (parts_text problem_parts) _
           (in_sections page_parts vs at_problem problem_parts (subst (λ l. Contains l problem_parts) (sym sound.problem) (0, omega arith, refl)))));
       suites = unmapped (part (template_parts suite_phrase)) (λ s. values_of (suite_values s)) _

@@ -1,7 +1,6 @@
 -- JUnit's XML has the test case of each cause.
-use Rattle.std.proofs.Common.{◌≡◌, ◌∙◌, ◌⊎◌, refl, sym, ap, inl, inr, ℕ, Bool, true, false, not, ◌&&◌, arith, List, [], ◌∷◌, ◌++◌, codes, cond, if◌then◌else◌, map, Option, Some, None, option_map, subst}
+use Rattle.std.proofs.Common.{◌≡◌, ◌∙◌, ◌⊎◌, refl, sym, ap, inl, inr, ℕ, Bool, true, false, not, ◌&&◌, arith, List, [], ◌∷◌, ◌++◌, codes, cond, if◌then◌else◌, map, Option, Some, None, option_map, subst, unwrap_or}
 use Rattle.std.proofs.lemmas.List.Elements.{All-cons, All-contains, All-head, All-nil, Contains-append_left, Contains-append_right}
-use Rattle.std.proofs.lemmas.Slice.Eq.{bytes_eq-Decides}
 use Rattle.std.specs.Char.{encode_utf8}
 use Rattle.std.specs.Fmt.{decimal}
 use Rattle.std.specs.List.{All, AllZip, find, flat_map, fold}
@@ -20,11 +19,12 @@ use Rattle.template.specs.Tree.{TreeView}
 use Rattle.template.specs.declared.hole.Hole.TheVariants as hole
 use Rattle.test_report_laws.proofs.Parts.{KeptHas, OneHas, all-weaker-named, in-left, in-right, one-last, some-weaker}
 use Rattle.test_report_forms.proofs.JunitElements.{item, run_item, run_suites, suite_cases, suite_item}
+use Rattle.test_report_forms.proofs.JunitEntries.{names-same}
 use Rattle.test_report_forms.specs.Entry.{EntryView, LinesDisagree, SuiteNotRun, SuiteOver, TestFailed, TestPassed, TestSkipped}
 use Rattle.test_report_forms.specs.Junit.{JunitState, add_case, add_cause, add_own, all_suites, close, end_suite, junit_entry, junit_of, junit_parts, junit_start, junit_state, junit_suites, junit_text, no_tests_case, own_cases, own_suite, without_suite, xml_header}
-use Rattle.test_report_forms.specs.JunitCase.{CaseView, failed_case, own_name, passed_case, problem_case, skipped_case}
+use Rattle.test_report_forms.specs.JunitCase.{CaseView, case_of_cause, failed_case, own_name, passed_case, skipped_case}
 use Rattle.test_report_forms.specs.JunitSuite.{SuiteView, counts_of}
-use Rattle.test_report_forms.specs.Suites.{added_to, is_named, new_suite, or_new, same_name, suite_over, with_case, without_first}
+use Rattle.test_report_forms.specs.Suites.{added_to, is_named, new_suite, or_new, suite_over, with_case, without_first}
 use Rattle.test_report_forms.specs.JunitTree.{IsCaseElement, IsRunElement, IsSuiteElement, sums_attributes, time_attribute}
 use Rattle.test_report_forms.specs.Model.{CauseView, cause_of_entry, no_tests_ran, suite_name}
 use Rattle.test_report_laws.specs.Junit.{HasElement, HasJunitCase, JunitCause, JunitNamesCauses, JunitReadsBack, JunitSaysNoTests, failed_cause, junit_cause, no_test_cause, other_cause}
@@ -40,16 +40,6 @@ one-kept : {X : Type 0} (P : X → Type 0) (xs ys : List X) → OneHas P xs → 
 one-kept P [] ys h = absurd h
 one-kept P (x ∷ xs) ys (inl h) = inl h
 one-kept P (x ∷ xs) ys (inr h) = inr (one-kept P xs ys h)
-
--- the suites of one name
-equal-names : (a b : List ℕ) → same_name (Some a) (Some b) ≡ true → Some a ≡ Some b
-equal-names a b e = ap Some ((bytes_eq-Decides a b).0 e)
-
-names-same : (a b : Option (List ℕ)) → same_name a b ≡ true → a ≡ b
-names-same (Some a) (Some b) e = equal-names a b e
-names-same (Some a) None e = cc
-names-same None (Some b) e = cc
-names-same None None e = refl
 
 -- an element of the second list
 one-right : {X : Type 0} (P : X → Type 0) (xs ys : List X) → OneHas P ys → OneHas P (xs ++ ys)
@@ -164,14 +154,14 @@ module _ (c : JunitCause) where
 
   add_cause-kept : (j : JunitState) (cause : Option CauseView) → IsThere j → IsThere (option_map_or (add_cause j) cause j)
   add_cause-kept j None h = h
-  add_cause-kept j (Some cause) h = cause-kept j (problem_case cause.line cause.kind) cause.suite h
+  add_cause-kept j (Some cause) h = cause-kept j (case_of_cause cause) cause.suite h
 
   entry-kept : (o : Options) (j : JunitState) (e : EntryView) → IsThere j → IsThere (junit_entry o j e)
   unfolding junit_entry
   entry-kept o j (TestPassed t) h = add-kept j t.suite (passed_case t) h
   entry-kept o j (TestSkipped t) h = add-kept j t.suite (skipped_case t) h
   entry-kept o j (TestFailed t f w) h = add-kept j t.suite (failed_case t f w o) h
-  entry-kept o j (LinesDisagree d) h = add_cause-kept j (cause_of_entry (LinesDisagree d)) h
+  entry-kept o j (LinesDisagree d why) h = add_cause-kept j (cause_of_entry (LinesDisagree d why)) h
   entry-kept o j (SuiteNotRun suite n of) h = add_cause-kept j (cause_of_entry (SuiteNotRun suite n of)) h
   entry-kept o j (SuiteOver s) h = end-kept j s.name s.time h
 
@@ -240,22 +230,22 @@ module _ (c : JunitCause) where
       }
 
 -- the cause of an entry is there
-cause-there : (j : JunitState) (line kind : List ℕ) (suite : Option (List ℕ))
-    → IsThere (other_cause (record { suite = suite; kind = kind; line = line })) (add_cause j (record { suite = suite; kind = kind; line = line }))
-cause-there j line kind None = inr (inr (record { name = refl; case = one-last _ j.own (problem_case line kind) refl }))
-cause-there j line kind (Some suite) =
-    inl (added-last (other_cause (record { suite = Some suite; kind = kind; line = line })) (Some suite) (problem_case line kind) j.suites refl refl)
+cause-there : (j : JunitState) (case : CaseView) (suite : Option (List ℕ))
+    → IsThere (record { suite = suite_name (Some (unwrap_or suite own_name)); case = case })
+    (option_map_or (λ suite. add_case j (Some suite) case) suite (add_own j case))
+cause-there j case None = inr (inr (record { name = refl; case = one-last _ j.own case refl }))
+cause-there j case (Some suite) = inl (added-last (record { suite = suite_name (Some suite); case = case }) (Some suite) case j.suites refl refl)
 
 some-cause : (j : JunitState) (cause : Option CauseView) → IfSome (option_map other_cause cause) (λ c. IsThere c (option_map_or (add_cause j) cause j))
 some-cause j None = tt
-some-cause j (Some cause) = cause-there j cause.line cause.kind cause.suite
+some-cause j (Some cause) = cause-there j (case_of_cause cause) cause.suite
 
 entry-there : (o : Options) (j : JunitState) (e : EntryView) → IfSome (junit_cause o e) (λ c. IsThere c (junit_entry o j e))
 unfolding junit_entry
 entry-there o j (TestPassed t) = tt
 entry-there o j (TestSkipped t) = tt
 entry-there o j (TestFailed t f w) = inl (added-last (failed_cause o t f w) t.suite (failed_case t f w o) j.suites refl refl)
-entry-there o j (LinesDisagree d) = some-cause j (cause_of_entry (LinesDisagree d))
+entry-there o j (LinesDisagree d why) = some-cause j (cause_of_entry (LinesDisagree d why))
 entry-there o j (SuiteNotRun suite n of) = some-cause j (cause_of_entry (SuiteNotRun suite n of))
 entry-there o j (SuiteOver s) = tt
 

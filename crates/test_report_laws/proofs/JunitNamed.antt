@@ -69,7 +69,7 @@ failed-others false message type_of why (Some text) = ((refl, (refl, tt)), (refl
 
 kind-others : (k : CaseKindView) → Others (codes "testcase") (children_of k) × Others (codes "testsuite") (children_of k)
 kind-others (PassedCase n) = attempts-others n
-kind-others SkippedCase = ((refl, tt), (refl, tt))
+kind-others (SkippedCase reason) = ((refl, tt), (refl, tt))
 kind-others (FailedCase r) = failed-others r.is_error r.message r.type_of r.why r.output
 
 -- a test case

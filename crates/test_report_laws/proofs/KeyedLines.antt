@@ -1,8 +1,8 @@
 -- Lines in order, of which two lists have the same places, and a relation holds of the lines at the same place.
-use Rattle.std.proofs.Common.{◌≡◌, ◌∙◌, ◌+◌, refl, ap, subst, ℕ, zero, suc, Bool, true, false, cond, not, List, [], ◌∷◌, ◌++◌, drop, if◌then◌else◌, nat_lt, take}
+use Rattle.std.proofs.Common.{◌≡◌, ◌∙◌, ◌+◌, refl, ap, subst, ℕ, zero, suc, Bool, cond, not, List, [], ◌∷◌, ◌++◌, drop, nat_lt, take}
 use Rattle.std.specs.List.{AllZip, flat_map, fold, insert, prefix_len}
 use Rattle.test_report_forms.specs.Entry.{EntryView}
-use Rattle.test_report_forms.specs.List.{KeyedLine, falling_place, put_falling, put_rising, rising_place, text_of_lines}
+use Rattle.test_report_forms.specs.List.{KeyedLine, falling_place, put_falling, text_of_lines}
 
 module _ (R : List ℕ → List ℕ → Type 0) where
   pub record Alike (a b : KeyedLine) : Type 0 where
@@ -40,21 +40,15 @@ module _ (R : List ℕ → List ℕ → Type 0) where
   same-place p (x ∷ xs) [] h = absurd h
   same-place p (x ∷ xs) (y ∷ ys) h = λ i. cond (p (h.0.key i)) (1 + same-place p xs ys h.1 i) 0
 
-  pub rising-alike : (xs ys : List KeyedLine) (a b : KeyedLine) → AllZip Alike xs ys → Alike a b → AllZip Alike (put_rising xs a) (put_rising ys b)
-  unfolding put_rising
-  rising-alike xs ys a b h is =
-      let place : rising_place a.key xs ≡ rising_place b.key ys =
-      ap (λ k. rising_place k xs) is.key ∙ same-place (λ k. not (nat_lt b.key k)) xs ys h in
-      subst (λ k. AllZip Alike (insert xs (rising_place a.key xs) a) (insert ys k b)) place (insert-alike (rising_place a.key xs) xs ys a b h is)
-
-  pub falling-alike : (xs ys : List KeyedLine) (a b : KeyedLine) → AllZip Alike xs ys → Alike a b → AllZip Alike (put_falling xs a) (put_falling ys b)
+  pub falling-alike : (most : ℕ) (xs ys : List KeyedLine) (a b : KeyedLine) → AllZip Alike xs ys → Alike a b
+      → AllZip Alike (put_falling most xs a) (put_falling most ys b)
   unfolding put_falling
-  falling-alike xs ys a b h is =
+  falling-alike most xs ys a b h is =
       let place : falling_place a.key xs ≡ falling_place b.key ys =
       ap (λ k. falling_place k xs) is.key ∙ same-place (λ k. not (nat_lt k b.key)) xs ys h in
       let at = falling_place a.key xs in
-      subst (λ k. AllZip Alike (take 5 (insert xs at a)) (take 5 (insert ys k b))) place
-      (take-alike 5 (insert xs at a) (insert ys at b) (insert-alike at xs ys a b h is))
+      subst (λ k. AllZip Alike (take most (insert xs at a)) (take most (insert ys k b))) place
+      (take-alike most (insert xs at a) (insert ys at b) (insert-alike at xs ys a b h is))
 
   pub fold-alike : (put : List KeyedLine → KeyedLine → List KeyedLine)
       → ((xs ys : List KeyedLine) (a b : KeyedLine) → AllZip Alike xs ys → Alike a b → AllZip Alike (put xs a) (put ys b))
@@ -68,10 +62,6 @@ module _ (R : List ℕ → List ℕ → Type 0) where
       → AllZip Alike (flat_map f entries) (flat_map g entries)
   each-alike f g h [] = tt
   each-alike f g h (e ∷ es) = append-alike (f e) (g e) (flat_map f es) (flat_map g es) (h e) (each-alike f g h es)
-
-  pub alike-if : (test : Bool) (a b : KeyedLine) → Alike a b → AllZip Alike (if test then a ∷ [] else []) (if test then b ∷ [] else [])
-  alike-if true a b is = (is, tt)
-  alike-if false a b is = tt
 
   pub text-alike : R [] [] → ((xs ys us vs : List ℕ) → R xs ys → R us vs → R (xs ++ us) (ys ++ vs)) → (xs ys : List KeyedLine)
       → AllZip Alike xs ys → R (text_of_lines xs) (text_of_lines ys)

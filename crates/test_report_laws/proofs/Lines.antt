@@ -66,6 +66,21 @@ next-block text rest (Some b) blocks h more =
     let parts : (b.line ++ (codes "\n" ++ b.below)) ++ rest ≡ b.line ++ (codes "\n" ++ (b.below ++ rest)) = simp append_assoc in
     (record { before = []; after = rest; is = ap (λ t. t ++ rest) h.0 ∙ parts; begins = inl refl; one_line = h.1; ends = h.2 }, more)
 
+-- what has these blocks has them after whole lines, too
+pub later-blocks : (front text : List ℕ) (blocks : List Block) → IsLines front → HasBlocks text blocks → HasBlocks (front ++ text) blocks
+later-blocks front text [] lines h = tt
+later-blocks front text (b ∷ blocks) lines h = (
+  record {
+    before = front ++ h.0.before;
+    after = h.0.after;
+    is = ap (λ t. front ++ t) h.0.is ∙ sym (append_assoc front h.0.before (b.line ++ (codes "\n" ++ (b.below ++ h.0.after))));
+    begins = lines-both front h.0.before lines h.0.begins;
+    one_line = h.0.one_line;
+    ends = h.0.ends;
+  },
+  h.1,
+)
+
 module _ (f : EntryView → List ℕ) (block : EntryView → Option Block) where
   abbrev IsOwn : EntryView → Type 0
   IsOwn e = IsWritten (f e) (block e)

@@ -98,18 +98,18 @@ abbrev pub HasNumbers : EntryView → Type 0
 HasNumbers (TestFailed t f w) = IsNumbered w.place
 HasNumbers (TestPassed t) = Unit {0}
 HasNumbers (TestSkipped t) = Unit {0}
-HasNumbers (LinesDisagree d) = Unit {0}
+HasNumbers (LinesDisagree d why) = Unit {0}
 HasNumbers (SuiteNotRun suite n of) = Unit {0}
 HasNumbers (SuiteOver s) = Unit {0}
 
 numbered-test : (t : TestNoteView) (o : OutcomeView) (e : EntryView) → IsTestEntry t o e → HasNumbers e
 numbered-test t Passes e h = subst HasNumbers (sym h) tt
-numbered-test t IsSkipped e h = subst HasNumbers (sym h) tt
+numbered-test t (IsSkipped reason) e h = subst HasNumbers (sym h) tt
 numbered-test t (Fails f) e h =
     subst HasNumbers (sym h.2) (subst IsNumbered (sym h.1.place) (numbered-place t f h.1.found))
 
 pub entry-numbers : (n : NoteView) (e : EntryView) → IsEntryOf n e → HasNumbers e
 entry-numbers (TestIs t) e h = numbered-test t t.outcome e h
-entry-numbers (Disagrees d) e h = subst HasNumbers (sym h) tt
+entry-numbers (Disagrees d) e h = subst HasNumbers (sym h.2) tt
 entry-numbers (IsNotRun suite n of) e h = subst HasNumbers (sym h) tt
 entry-numbers (SuiteIs s) e h = subst HasNumbers (sym h) tt

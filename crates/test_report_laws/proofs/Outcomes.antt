@@ -41,7 +41,7 @@ scripts_of s =
 -- suites have none
 scripts-counts : (stats : RunStats) (o : OutcomeView) (n : ℕ) → fits o n ≡ true → scripts_of (with_outcome stats o n) ≡ scripts_of stats + 0
 scripts-counts stats Passes n fit = omega arith
-scripts-counts stats IsSkipped n fit = omega arith
+scripts-counts stats (IsSkipped reason) n fit = omega arith
 scripts-counts stats (Fails f) n fit = omega arith
 
 none-of : (note : NoteView) → of_test (λ o n. 0) note ≡ 0
@@ -50,7 +50,7 @@ none-of note = refl
 
 no-scripts : (files : List (List EventView)) → sum_by (of_suite (λ s. scripts_of s.stats)) (all_notes files) ≡ 0
 no-scripts files =
-    let sums = sums-up scripts_of (λ o n. 0) refl scripts-counts (λ n h. refl) (λ n. refl) files in
+    let sums = sums-up scripts_of (λ o n. 0) refl scripts-counts (λ n h. refl) (λ reason n. refl) files in
     omega (arith, sum-none (of_test (λ o n. 0)) none-of (all_notes files))
 
 -- the outcome of one suite

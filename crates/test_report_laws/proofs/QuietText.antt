@@ -11,20 +11,30 @@ use Rattle.run_events_stats.specs.declared.outcome.run_outcome.RunOutcome.TheVar
 use Rattle.test_report_events.specs.Event.{BySignal, CommandView, NotStarted, WithStatus}
 use Rattle.test_report_events.specs.declared.event.TestResult.{TestResult}
 use Rattle.test_report_events.specs.declared.event.TestResult.TheVariants as ended
+use Rattle.run_events_levels.specs.LevelRanks.{final_level_rank}
+use Rattle.run_events_levels.specs.declared.levels.FinalStatusLevel.{FinalStatusLevel}
+use Rattle.run_events_levels.specs.declared.levels.FinalStatusLevel.TheVariants as final
+use Rattle.run_events_levels.specs.declared.levels.OutputOnTestFinished.{OutputOnTestFinished}
+use Rattle.run_events_levels.specs.declared.levels.OutputStoreFinal.{OutputStoreFinal}
+use Rattle.run_events_levels.specs.declared.levels.OutputStoreFinal.TheVariants as store
 use Rattle.test_report_forms.specs.Entry.{EntryView, LinesDisagree, SuiteNotRun, SuiteOver, TestFailed, TestPassed, TestSkipped}
-use Rattle.test_report_forms.specs.List.{KeyedLine, failed_line, failed_of, flaky_line, flaky_lines, flaky_of, flaky_passed, flaky_word, list_line, put_falling, put_rising, short_list, slow_line, slow_lines, slow_of, text_of_lines, timed}
+use Rattle.test_report_forms.specs.Levels.{finished_output, has_line, listed_text, skipped_output}
+use Rattle.test_report_forms.specs.List.{KeyedLine, ended_line, failed_line, final_level_of, flaky_word, item, item_at, list_line, part_at, passed_word, put_falling, short_list, slow_line, slow_lines, slow_of, text_of_lines, timed}
 use Rattle.test_report_forms.specs.Names.{names_line}
-use Rattle.test_report_forms.specs.Shown.{bracket, front, indented_line, more_bytes, name_and_space, shown_line, shown_name, shown_text, three_digits}
+use Rattle.test_report_forms.specs.Shown.{bracket, front, indented, indented_line, more_bytes, name_and_space, shown_line, shown_name, shown_text, three_digits}
 use Rattle.test_report_forms.specs.ShownWhy.{ShownWhyView, shown_why}
-use Rattle.test_report_forms.specs.Text.{attempts_note, failed_head, failed_text, hidden_line, more_line, outcome_line, summary_lines, text_last, text_line, why_lines}
+use Rattle.test_report_forms.specs.Text.{attempts_note, ended_head, ended_text, failed_head, failed_text, outcome_line, passed_text, skipped_text, summary_lines, text_last, text_line}
 use Rattle.test_report_forms.specs.Title.{title, title_name}
+use Rattle.test_report_forms.specs.WhyLines.{hidden_line, more_line, why_lines}
 use Rattle.test_report_forms.specs.Words.{color_of, command_words, disagreement_line, failed_numbers, failed_word, its_tests, key_and_verdict, not_run_line, other_numbers, outcome_word, passed_numbers, result_word, run_numbers, said_numbers, said_text, status_text, summary_line, verdict_word}
 use Rattle.test_report_forms.specs.declared.options.Options.{Options}
-use Rattle.test_report_laws.proofs.KeyedLines.{Alike, alike-if, each-alike, falling-alike, fold-alike, rising-alike, text-alike}
+use Rattle.test_report_laws.proofs.KeyedLines.{Alike, each-alike, falling-alike, fold-alike, text-alike}
 use Rattle.test_report_laws.proofs.Quiet.{Inner, Quiet, also, dark-decimal, inner-decimal, inner-if, inner-more, is_dark, is_inner, no-commands, quiet-byte, quiet-colon, quiet-dark, quiet-dark-all, quiet-feed, quiet-inner, quiet-nothing, quiet-space, word}
 use Rattle.test_report_laws.proofs.QuietShown.{After, quiet-line, quiet-name, quiet-text}
 use Rattle.test_report_laws.specs.Commands.{NamesHasNoCommands, TextHasNoCommands}
+use Rattle.test_report_run.specs.Counted.{finish_for}
 use Rattle.test_report_run.specs.Note.{CargoSays, CommandFails, DisagreementView, EndsEarly, HasCrashed, HasFailed, HasNoEnd, HasNoEvent, HasTimedOut, IsDamaged, IsFlaky, KindView, SaysOther, StartsOutside, StrayEnds, StraySuiteEnds, TestNoteView}
+use Rattle.test_report_run.specs.declared.counted.Finish.TheVariants.{Passed}
 use Rattle.test_report_run.specs.declared.note.RunEnd.{RunEnd}
 
 -- the program's own words, numbers and times
@@ -206,6 +216,10 @@ lines-if : (b : Bool) {text : List ℕ} → Lines text → Lines (if b then [] e
 lines-if true h = no-lines
 lines-if false h = h
 
+lines-then : (b : Bool) {text : List ℕ} → Lines text → Lines (if b then text else [])
+lines-then true h = h
+lines-then false h = no-lines
+
 after-feed : {rest : List ℕ} → Quiet true rest → After (10 ∷ rest)
 after-feed q = record { apart = refl; at_front = quiet-feed true q; within = quiet-feed false q }
 
@@ -235,13 +249,22 @@ unfolding flaky_word
 flaky-status attempts =
     status 70 _ refl (also (word (codes "LAKY ") refl) (also (inner-decimal attempts) (also (word (codes "/") refl) (inner-decimal attempts))))
 
-slow-status : Status (codes "SLOW")
-slow-status = status 83 (codes "LOW") refl (word (codes "LOW") refl)
+passed-status : (attempts : ℕ) → Status (passed_word attempts)
+passed-status attempts =
+    elim (nat_lt 1 attempts) as (λ b. Status (if b then flaky_word attempts else codes "PASS"))
+    [ true ↦ flaky-status attempts | false ↦ status 80 (codes "ASS") refl (word (codes "ASS") refl) ]
+
+skipped-status : Status (codes "SKIP")
+skipped-status = status 83 (codes "KIP") refl (word (codes "KIP") refl)
+
+slowest-status : Status (codes "SLOWEST")
+slowest-status = status 83 (codes "LOWEST") refl (word (codes "LOWEST") refl)
 
 inner-color : (w : List ℕ) → Inner (color_of w)
 inner-color w =
     let red = word (codes "1;31") refl in
-    let last = inner-if (bytes_eq w (codes "CRASH")) red (word (codes "1;33") refl) in
+    let other = inner-if (bytes_eq w (codes "PASS")) (word (codes "1;32") refl) (word (codes "1;33") refl) in
+    let last = inner-if (bytes_eq w (codes "CRASH")) red other in
     inner-if (bytes_eq w (codes "FAIL")) red (inner-if (bytes_eq w (codes "TIMEOUT")) red last)
 
 coloured-status : (color : Bool) {w : List ℕ} → Status w → Status (status_text color w)
@@ -275,6 +298,12 @@ opens-both {xs} {ys} h f = record { is = λ {rest} a. subst (Quiet true) (sym (a
 head-parts : (s b t a : List ℕ) → (s ++ (codes " " ++ (b ++ (t ++ a)))) ++ codes "\n" ≡ s ++ (codes " " ++ (b ++ (t ++ (a ++ codes "\n"))))
 head-parts s b t a = simp append_assoc
 
+note-parts : (m n w : List ℕ) → (m ++ (codes "(" ++ (n ++ w))) ++ codes "\n" ≡ m ++ (codes "(" ++ (n ++ (w ++ codes "\n")))
+note-parts m n w = simp append_assoc
+
+title-end : (s b t : List ℕ) → (s ++ (codes " " ++ (b ++ t))) ++ codes "\n" ≡ s ++ (codes " " ++ (b ++ (t ++ codes "\n")))
+title-end s b t = simp append_assoc
+
 -- the end
 summary-lines : (end : RunEnd) → Lines (summary_lines end)
 unfolding summary_lines
@@ -300,8 +329,8 @@ module _ (o : Options) (raw : o.raw ≡ false) where
       spaces-open (12 - length w) (status-opens (coloured-status o.color s)
       (before (word (codes " ") refl) (before (inner-bracket t.time) (title-within t))))
 
-  item : (w : List ℕ) (t : TestNoteView) → Status w → Lines (list_line o w t ++ codes "\n")
-  item w t s = one-line (list-opens w t s)
+  list-item : (w : List ℕ) (t : TestNoteView) → Status w → Lines (list_line o w t ++ codes "\n")
+  list-item w t s = one-line (list-opens w t s)
 
   -- each line of a list is a whole line
   abbrev Own : List ℕ → List ℕ → Type 0
@@ -313,42 +342,27 @@ module _ (o : Options) (raw : o.raw ≡ false) where
   own-line : (l : KeyedLine) → Lines l.line → Alike Own l l
   own-line l h = record { key = refl; line = h }
 
-  flaky-of : (e : EntryView) → AreLines (flaky_of o e)
-  unfolding flaky_passed flaky_line
-  flaky-of (TestPassed t) =
-      let is = own-line (flaky_line o t) (item (flaky_word t.attempts) t (flaky-status t.attempts)) in
-      alike-if Own (nat_lt 1 t.attempts) (flaky_line o t) (flaky_line o t) is
-  flaky-of (TestSkipped t) = tt
-  flaky-of (TestFailed t f w) = tt
-  flaky-of (LinesDisagree d) = tt
-  flaky-of (SuiteNotRun suite n of) = tt
-  flaky-of (SuiteOver s) = tt
-
   timed-of : (t : TestNoteView) (time : Option ℕ) → AreLines (option_map_or (λ time. slow_line o t time ∷ []) time [])
   unfolding slow_line
   timed-of t None = tt
-  timed-of t (Some time) = (own-line (slow_line o t time) (item (codes "SLOW") t slow-status), tt)
+  timed-of t (Some time) = (own-line (slow_line o t time) (list-item (codes "SLOWEST") t slowest-status), tt)
 
   slow-of : (e : EntryView) → AreLines (slow_of o e)
   unfolding timed
   slow-of (TestPassed t) = timed-of t t.time
   slow-of (TestFailed t f w) = timed-of t t.time
   slow-of (TestSkipped t) = tt
-  slow-of (LinesDisagree d) = tt
+  slow-of (LinesDisagree d why) = tt
   slow-of (SuiteNotRun suite n of) = tt
   slow-of (SuiteOver s) = tt
 
   lines-text : (lines : List KeyedLine) → AreLines lines → Lines (text_of_lines lines)
   lines-text lines h = text-alike Own no-lines (λ xs ys us vs a b. both a b) lines lines h
 
-  flaky-text : (entries : List EntryView) → Lines (text_of_lines (flaky_lines o entries))
-  flaky-text entries =
-      lines-text (flaky_lines o entries) (fold-alike Own put_rising (rising-alike Own) [] [] (flat_map (flaky_of o) entries) (flat_map (flaky_of o) entries) tt
-      (each-alike Own (flaky_of o) (flaky_of o) flaky-of entries))
-
   slow-text : (entries : List EntryView) → Lines (text_of_lines (slow_lines o entries))
   slow-text entries =
-      lines-text (slow_lines o entries) (fold-alike Own put_falling (falling-alike Own) [] [] (flat_map (slow_of o) entries) (flat_map (slow_of o) entries) tt
+      lines-text (slow_lines o entries) (fold-alike Own (put_falling o.slowest) (falling-alike Own o.slowest) [] []
+      (flat_map (slow_of o) entries) (flat_map (slow_of o) entries) tt
       (each-alike Own (slow_of o) (slow_of o) slow-of entries))
 
   -- text of the input
@@ -358,46 +372,72 @@ module _ (o : Options) (raw : o.raw ≡ false) where
   shown-opens : (text : List ℕ) → Opens (shown_text o.raw text)
   shown-opens text = subst (λ r. Opens (shown_text r text)) (sym raw) (record { is = λ a. quiet-text true text a })
 
-  failed-of : (e : EntryView) → Lines (failed_of o e)
+  -- why a test failed
+  indented-line : (margin : ℕ) (text : List ℕ) → Lines (indented_line margin o.raw text)
+  indented-line margin text =
+      subst Lines (append_assoc (replicate margin 32) (shown_text o.raw text) (codes "\n"))
+      (one-line {text = replicate margin 32 ++ shown_text o.raw text} (spaces-open margin (shown-opens text)))
+
+  note-line : (margin n : ℕ) (words : List ℕ) → Inner words → Lines (replicate margin 32 ++ (codes "(" ++ (decimal n ++ (words ++ codes "\n"))))
+  note-line margin n words h =
+      subst Lines (note-parts (replicate margin 32) (decimal n) words)
+      (one-line {text = replicate margin 32 ++ (codes "(" ++ (decimal n ++ words))}
+      (spaces-open margin (word-opens 40 refl (inner (also (inner-decimal n) h)))))
+
+  more-line : (margin more : ℕ) → Lines (more_line margin more)
+  unfolding more_line
+  more-line margin more = lines-if (more == 0) (note-line margin more (codes " more bytes)") (word (codes " more bytes)") refl))
+
+  hidden-line : (margin hidden : ℕ) → Lines (hidden_line margin hidden)
+  unfolding hidden_line
+  hidden-line margin hidden = lines-if (hidden == 0) (note-line margin hidden (codes " more lines of output)") (word (codes " more lines of output)") refl))
+
+  why-lines : (margin : ℕ) (why : ShownWhyView) → Lines (why_lines margin o why)
+  unfolding why_lines
+  why-lines margin why =
+      both (each (indented_line margin o.raw) (indented-line margin) _)
+      (both (more-line margin (more_bytes why.text o.limit)) (hidden-line margin why.hidden))
+
+  ended-line : (t : TestNoteView) (w : List ℕ) → Status w → Lines (ended_line o t w)
+  unfolding ended_line
+  ended-line t w s = list-item w t s
+
+  failed-line : (t : TestNoteView) (w reason : List ℕ) → Status w → Lines (failed_line o t w reason)
   unfolding failed_line
-  failed-of (TestFailed t f w) =
-      let short = shown_text o.raw (front w.short o.limit) in
-      let own = list_line o (failed_word f.kind) t in
-      let parts = append_assoc own (codes ": " ++ short) (codes "\n") in
-      let entry = list-opens (failed_word f.kind) t (failed-status f.kind) in
-      subst Lines parts (one-line (opens-both entry (colon-follows (shown-within (front w.short o.limit)))))
-  failed-of (TestPassed t) = no-lines
-  failed-of (TestSkipped t) = no-lines
-  failed-of (LinesDisagree d) = no-lines
-  failed-of (SuiteNotRun suite n of) = no-lines
-  failed-of (SuiteOver s) = no-lines
+  failed-line t w reason s =
+      let parts = append_assoc (list_line o w t) (codes ": " ++ shown_text o.raw (front reason o.limit)) (codes "\n") in
+      subst Lines parts (one-line (opens-both (list-opens w t s) (colon-follows (shown-within (front reason o.limit)))))
+
+  listed-lines : (kept : OutputStoreFinal) {own under : List ℕ} → Lines own → Lines under → Lines (listed_text kept own under)
+  listed-lines store.No h more = no-lines
+  listed-lines (store.Yes output) h more = both h (lines-then output more)
+
+  item-lines : (e : EntryView) → Lines (item o e)
+  item-lines (TestFailed t f w) =
+      listed-lines _ (failed-line t (failed_word f.kind) w.short (failed-status f.kind)) (why-lines 13 (shown_why o t f w))
+  item-lines (TestPassed t) = listed-lines _ (ended-line t (passed_word t.attempts) (passed-status t.attempts)) no-lines
+  item-lines (TestSkipped t) = listed-lines _ (ended-line t (codes "SKIP") skipped-status) no-lines
+  item-lines (LinesDisagree d why) = no-lines
+  item-lines (SuiteNotRun suite n of) = no-lines
+  item-lines (SuiteOver s) = no-lines
+
+  at-lines : (level : FinalStatusLevel) (e : EntryView) → Lines (item_at o level e)
+  unfolding item_at
+  at-lines level e = lines-then (final_level_rank (final_level_of e) == final_level_rank level) (item-lines e)
+
+  part-lines : (level : FinalStatusLevel) (entries : List EntryView) → Lines (part_at o level entries)
+  part-lines level entries = each (item_at o level) (at-lines level) entries
 
   list-lines : (entries : List EntryView) → Lines (short_list o entries)
   unfolding short_list
-  list-lines entries = both (flaky-text entries) (both (each (failed_of o) failed-of entries) (slow-text entries))
+  list-lines entries =
+      both (part-lines final.Pass entries) (both (part-lines final.Skip entries) (both (part-lines final.Flaky entries)
+      (both (part-lines final.Fail entries) (slow-text entries))))
 
   -- entries
-  indented-line : (text : List ℕ) → Lines (indented_line o.raw text)
-  indented-line text = one-line {text = codes "    " ++ shown_text o.raw text} (spaces-open 4 (shown-opens text))
-
-  more-line : (more : ℕ) → Lines (more_line more)
-  unfolding more_line
-  more-line more =
-      let words = also (inner-decimal more) (word (codes " more bytes)") refl) in
-      let parts = append_assoc (decimal more) (codes " more bytes)") (codes "\n") in
-      lines-if (more == 0) (subst (λ l. Lines (codes "    (" ++ l)) parts (one-line (spaces-open 4 (word-opens 40 refl (inner words)))))
-
-  hidden-line : (hidden : ℕ) → Lines (hidden_line hidden)
-  unfolding hidden_line
-  hidden-line hidden =
-      let words = also (inner-decimal hidden) (word (codes " more lines of output)") refl) in
-      let parts = append_assoc (decimal hidden) (codes " more lines of output)") (codes "\n") in
-      lines-if (hidden == 0) (subst (λ l. Lines (codes "    (" ++ l)) parts (one-line (spaces-open 4 (word-opens 40 refl (inner words)))))
-
-  why-lines : (why : ShownWhyView) → Lines (why_lines o why)
-  unfolding why_lines
-  why-lines why =
-      both (each (indented_line o.raw) indented-line _) (both (more-line (more_bytes why.text o.limit)) (hidden-line why.hidden))
+  reason-lines : (why : Option (List ℕ)) → Lines (option_map_or (indented 4 o.raw) why [])
+  reason-lines None = no-lines
+  reason-lines (Some why) = each (indented_line 4 o.raw) (indented-line 4) _
 
   head-line : (t : TestNoteView) (w : List ℕ) → Status w → Lines (failed_head o t w)
   unfolding failed_head
@@ -406,13 +446,29 @@ module _ (o : Options) (raw : o.raw ≡ false) where
       let parts = head-parts (status_text o.color w) (bracket t.time) (title t) (attempts_note t.attempts) in
       subst Lines parts (one-line (status-opens (coloured-status o.color s) rest))
 
+  ended-head : (t : TestNoteView) (w : List ℕ) → Status w → Lines (ended_head o t w)
+  unfolding ended_head
+  ended-head t w s =
+      let rest = before (word (codes " ") refl) (before (inner-bracket t.time) (title-within t)) in
+      let parts = title-end (status_text o.color w) (bracket t.time) (title t) in
+      subst Lines parts (one-line (status-opens (coloured-status o.color s) rest))
+
+  ended-text : (shows : OutputOnTestFinished) (head below : List ℕ) → Lines head → Lines below → Lines (ended_text shows head below)
+  ended-text shows head below h more = lines-then (has_line shows) (both h (lines-then shows.show_immediate more))
+
   text-entry : (e : EntryView) → Lines (text_line o e)
-  unfolding failed_text
-  text-entry (TestFailed t f w) = both (head-line t (failed_word f.kind) (failed-status f.kind)) (why-lines (shown_why o t f w))
-  text-entry (LinesDisagree d) = one-line (disagreement-opens d)
+  unfolding failed_text passed_text skipped_text
+  text-entry (TestFailed t f w) =
+      ended-text (finished_output o (finish_for f.kind) t.attempts) (failed_head o t (failed_word f.kind)) (why_lines 4 o (shown_why o t f w))
+      (head-line t (failed_word f.kind) (failed-status f.kind)) (why-lines 4 (shown_why o t f w))
+  text-entry (TestPassed t) =
+      ended-text (finished_output o Passed t.attempts) (ended_head o t (passed_word t.attempts)) []
+      (ended-head t (passed_word t.attempts) (passed-status t.attempts)) no-lines
+  text-entry (TestSkipped t) =
+      ended-text (skipped_output o) (ended_head o t (codes "SKIP")) [] (ended-head t (codes "SKIP") skipped-status) no-lines
+  text-entry (LinesDisagree d why) =
+      subst Lines (append_assoc (disagreement_line d) (codes "\n") _) (both (one-line (disagreement-opens d)) (reason-lines why))
   text-entry (SuiteNotRun suite n of) = one-line (not-run-opens suite n of)
-  text-entry (TestPassed t) = no-lines
-  text-entry (TestSkipped t) = no-lines
   text-entry (SuiteOver s) = no-lines
 
   text-end : (entries : List EntryView) (end : RunEnd) → Lines (text_last o entries end)
@@ -429,7 +485,7 @@ names-entry : (e : EntryView) → Lines (names_line e)
 names-entry (TestFailed t f w) = one-line (record { is = λ a. quiet-line true t.name a })
 names-entry (TestPassed t) = no-lines
 names-entry (TestSkipped t) = no-lines
-names-entry (LinesDisagree d) = no-lines
+names-entry (LinesDisagree d why) = no-lines
 names-entry (SuiteNotRun suite n of) = no-lines
 names-entry (SuiteOver s) = no-lines
 

@@ -1,10 +1,18 @@
 -- Why the run of a report does not succeed.
-use Rattle.std.proofs.Common.{◌≡◌, ◌∙◌, ◌++◌, ◌<◌, ℕ, zero, suc, List, [], ◌∷◌, Option, Some, None, IfSome, ap, arith, codes, inl, inr, length, option_map, refl, true, subst, sym}
+use Rattle.std.proofs.Common.{◌≡◌, ◌∙◌, ◌++◌, ◌<◌, ℕ, zero, suc, List, [], ◌∷◌, Option, Some, None, IfSome, ap, arith, codes, if◌then◌else◌, inl, inr, length, option_map, refl, true, subst, sym}
 use Rattle.std.specs.List.{All, AllZip, filter_map, flat_map, slice_index_or}
-use Rattle.std.specs.Prelude.{◌⊎◌, Contains, IsTrue}
+use Rattle.std.specs.Prelude.{◌||◌, ◌⊎◌, Bool, Contains, IsTrue, max, nat_le, nat_lt, unwrap_or}
+use Rattle.std.proofs.lemmas.Bool.Decides.{nat_tests}
 use Rattle.std.proofs.lemmas.Bool.{false_from_ne_true}
 use Rattle.std.proofs.lemmas.List.Elements.{All-cons, All-nil, Contains-append_right}
 use Rattle.test_report_forms.specs.Model.{cause_line, no_tests_ran}
+use Rattle.run_events_levels.specs.LevelRanks.{level_rank, final_level_rank}
+use Rattle.run_events_levels.specs.declared.levels.FinalStatusLevel.TheVariants as final
+use Rattle.run_events_levels.specs.declared.levels.OutputOnTestFinished.{OutputOnTestFinished}
+use Rattle.run_events_levels.specs.declared.levels.OutputStoreFinal.TheVariants as store
+use Rattle.run_events_levels.specs.declared.levels.StatusLevel.TheVariants as level
+use Rattle.run_events_settings.specs.Config.{is_immediate_display, is_final_display}
+use Rattle.test_report_forms.specs.Levels.{finished_output, has_line}
 use Rattle.test_report_forms.specs.Entry.{EntryView, IsEntryOf, IsTestEntry, LinesDisagree, SuiteNotRun, SuiteOver, TestFailed, TestPassed, TestSkipped}
 use Rattle.test_report_forms.specs.Files.{html_last, junit_last, markdown_last}
 use Rattle.test_report_forms.specs.Github.{github_last, github_line}
@@ -19,24 +27,28 @@ use Rattle.test_report_laws.specs.Junit.{HasJunitCase, HasJunitCases, IsXml, Jun
 use Rattle.template.specs.Hole.{hole_text}
 use Rattle.template.specs.Shows.{HasPart}
 use Rattle.template.specs.declared.hole.Hole.TheVariants as hole
+use Rattle.test_report_forms.specs.List.{list_line}
 use Rattle.test_report_forms.specs.Markdown.{markdown_of}
-use Rattle.test_report_forms.specs.Shown.{shown_name}
-use Rattle.test_report_forms.specs.Text.{text_last, text_line}
+use Rattle.test_report_forms.specs.Shown.{shown_name, front, shown_text}
+use Rattle.test_report_forms.specs.Text.{text_last, text_line, attempts_note}
 use Rattle.test_report_forms.specs.Title.{title_name}
-use Rattle.test_report_forms.specs.Words.{disagreement_line, not_run_line, outcome_word}
+use Rattle.test_report_forms.specs.Words.{disagreement_line, not_run_line, outcome_word, failed_word}
+use Rattle.test_report_forms.specs.ShownWhy.{shown_why}
+use Rattle.test_report_forms.specs.WhyLines.{why_lines}
 use Rattle.test_report_forms.specs.declared.html.HtmlForm.{HtmlForm}
 use Rattle.test_report_forms.specs.declared.junit.JunitForm.{JunitForm}
 use Rattle.test_report_forms.specs.declared.markdown.MarkdownForm.{MarkdownForm}
 use Rattle.test_report_forms.specs.declared.options.Options.{Options}
-use Rattle.test_report_run.specs.Note.{Disagrees, Fails, IsNotRun, IsSkipped, NoteView, OutcomeView, Passes, SuiteIs, TestIs, TestNoteView, text_view}
+use Rattle.test_report_run.specs.Counted.{finish_for}
+use Rattle.test_report_run.specs.Note.{Disagrees, Fails, HasCrashed, HasFailed, HasNoEnd, HasTimedOut, IsFlaky, IsNotRun, IsSkipped, KindView, NoteView, OutcomeView, Passes, SuiteIs, TestIs, TestNoteView, text_view}
 use Rattle.test_report_run.specs.Run.{end_of, has_failed}
-use Rattle.test_report_laws.specs.Lines.{Block, EndsWith, GithubNamesCauses, GithubSays, HasBlock, HasBlocks, SaysReason, TextNamesCauses, TextSays, github_block, notice, text_block}
+use Rattle.test_report_laws.specs.Lines.{Block, EndsWith, GithubNamesCauses, GithubSays, HasBlock, HasBlocks, SaysReason, TextNamesCauses, TextSays, ended_block, github_block, is_reason, notice, text_block, ended_words, HasCause, IsShortInLine, list_block, listed_block}
 use Rattle.test_report_laws.specs.Status as status
 use Rattle.test_report_laws.specs.Status.{RanNoTests, Succeeds}
 use Rattle.test_report_laws.specs.Whole.{all_notes}
 use Rattle.test_report_run.specs.declared.note.RunEnd.{RunEnd}
 use Rattle.test_report_laws.proofs.SameRun.{one-run}
-use Rattle.test_report_laws.specs.Report.{FailureHasReason, FilesNameReason, GithubNamesReason, HasReasonCase, HtmlNamesReason, JunitNamesReason, MarkdownNamesReason, NamesReason, SuccessMeans, TextNamesReason, is_reason}
+use Rattle.test_report_laws.specs.Report.{FailureHasReason, FilesNameReason, GithubNamesReason, HasReasonCase, HtmlNamesReason, JunitNamesReason, MarkdownNamesReason, NamesReason, SuccessMeans, TextNamesReason, shows_failures, lists_failures}
 use Rattle.test_report_engine.specs.Lines.{InputView}
 use Rattle.test_report_engine.specs.Report.{IsReport}
 
@@ -76,12 +88,12 @@ module _ {A B : Type 0} (R : A → B → Type 0) where
 -- the entry of a note that is a reason is one, too
 test-reason : (t : TestNoteView) (o : OutcomeView) (e : EntryView) → IsTestEntry t o e → has_failed o ≡ true → IsTrue (is_reason e)
 test-reason t Passes e is failed = absurd (cc)
-test-reason t IsSkipped e is failed = absurd (cc)
+test-reason t (IsSkipped reason) e is failed = absurd (cc)
 test-reason t (Fails f) e is failed = subst (λ x. IsTrue (is_reason x)) (sym is.2) refl
 
 entry-reason : (note : NoteView) (e : EntryView) → IsEntryOf note e → IsTrue (status.is_reason note) → IsTrue (is_reason e)
 entry-reason (TestIs t) e is reason = test-reason t t.outcome e is (grind arith)
-entry-reason (Disagrees d) e is reason = subst (λ x. IsTrue (is_reason x)) (sym is) refl
+entry-reason (Disagrees d) e is reason = subst (λ x. IsTrue (is_reason x)) (sym is.2) refl
 entry-reason (IsNotRun suite n of) e is reason = subst (λ x. IsTrue (is_reason x)) (sym is) refl
 entry-reason (SuiteIs s) e is reason = absurd (cc)
 
@@ -114,12 +126,12 @@ module _ (name line : List ℕ → List ℕ) (entries : List EntryView) (end : R
     has_name = refl;
     is_named = at-entry entries (λ e. IfSome (failed_name e) (λ n. HasPart text (name n))) (TestFailed t f w) is_one causes.tests;
   }
-  names-entry (LinesDisagree d) is_one reason = inr (inl record {
-    entry = LinesDisagree d;
+  names-entry (LinesDisagree d why) is_one reason = inr (inl record {
+    entry = LinesDisagree d why;
     own = disagreement_line d;
     is_one = is_one;
     has_line = refl;
-    is_there = at-entry entries (λ e. IfSome (cause_line e) (λ l. HasPart text (line l))) (LinesDisagree d) is_one causes.lines;
+    is_there = at-entry entries (λ e. IfSome (cause_line e) (λ l. HasPart text (line l))) (LinesDisagree d why) is_one causes.lines;
   })
   names-entry (SuiteNotRun suite n of) is_one reason = inr (inl record {
     entry = SuiteNotRun suite n of;
@@ -134,31 +146,99 @@ module _ (name line : List ℕ → List ℕ) (entries : List EntryView) (end : R
   names-reason (inl found) = names-entry found.0 found.1 found.2
   names-reason (inr none) = inr (inr record { is = none; said = subst (λ o. HasPart text (line (outcome_word o))) none causes.outcome })
 
+-- a text that has the block of each of these entries has that of a reason among them
+cause-at : (block : EntryView → Option Block) (entries : List EntryView) (text : List ℕ) → HasBlocks text (filter_map block entries) → (e : EntryView)
+    → Contains entries e → IsTrue (is_reason e) → (b : Block) × (block e ≡ Some b) → HasCause block entries text
+cause-at block entries text blocks e is_one reason b =
+    let each = unfiltered (HasBlock text) block entries (all-blocks text (filter_map block entries) blocks) in
+    let has = at-entry entries (λ e. IfSome (block e) (HasBlock text)) e is_one each in
+    record {
+      entry = e;
+      says_why = reason;
+      own = b.0;
+      is_one = is_one;
+      is_own = b.1;
+      has_block = subst (λ o. IfSome o (HasBlock text)) b.1 has;
+    }
+
 -- a text that has the block of each cause says a reason
 module _ (block : EntryView → Option Block) (last : List ℕ) (entries : List EntryView) (end : RunEnd) (text : List ℕ)
     (own : (e : EntryView) → IsTrue (is_reason e) → (b : Block) × (block e ≡ Some b)) where
   says-reason : HasBlocks text (filter_map block entries) → (RanNoTests end → EndsWith text last)
       → ((e : EntryView) × Contains entries e × IsTrue (is_reason e)) ⊎ RanNoTests end → SaysReason block last entries end text
-  says-reason blocks ends (inl found) =
-      let b = own found.0 found.2 in
-      let each = unfiltered (HasBlock text) block entries (all-blocks text (filter_map block entries) blocks) in
-      let has = at-entry entries (λ e. IfSome (block e) (HasBlock text)) found.0 found.1 each in
-      inl record { entry = found.0; own = b.0; is_one = found.1; is_own = b.1; has_block = subst (λ o. IfSome o (HasBlock text)) b.1 has }
+  says-reason blocks ends (inl found) = inl (cause-at block entries text blocks found.0 found.1 found.2 (own found.0 found.2))
   says-reason blocks ends (inr none) = inr (none, ends none)
 
-text-own : (o : Options) (e : EntryView) → IsTrue (is_reason e) → (b : Block) × (text_block o e ≡ Some b)
-text-own o (TestPassed t) reason = absurd (cc)
-text-own o (TestSkipped t) reason = absurd (cc)
-text-own o (TestFailed t f w) reason = (_, refl)
-text-own o (LinesDisagree d) reason = (_, refl)
-text-own o (SuiteNotRun suite n of) reason = (_, refl)
-text-own o (SuiteOver s) reason = absurd (cc)
+-- a test that has a line has a block
+shown-own : (shows : OutputOnTestFinished) (line below : List ℕ) → has_line shows ≡ true → (b : Block) × (ended_block shows line below ≡ Some b)
+shown-own shows line below has =
+    (_, ap (λ t. if t then Some (record { line = line; below = if shows.show_immediate then below else [] }) else None) has)
+
+-- a failed test has a line if the levels and displays show failed tests
+failed-shown : (o : Options) (kind : KindView) (attempts : ℕ) → shows_failures o ≡ true → has_line (finished_output o (finish_for kind) attempts) ≡ true
+unfolding finished_output
+failed-shown o HasFailed attempts h = h
+failed-shown o HasTimedOut attempts h = h
+failed-shown o HasNoEnd attempts h = h
+failed-shown o IsFlaky attempts h =
+    let several : nat_lt 1 (max attempts 2) ≡ true = grind (arith, nat_tests) in
+    let own = λ (t : Bool). nat_le (level_rank (unwrap_or (if t then Some level.Fail else Some level.Pass) level.Fail)) (level_rank o.status_level) in
+    ap (λ t. own t || is_immediate_display o.failure_output) several ∙ h
+failed-shown o (HasCrashed crash) attempts h = h
+
+text-own : (o : Options) → shows_failures o ≡ true → (e : EntryView) → IsTrue (is_reason e) → (b : Block) × (text_block o e ≡ Some b)
+text-own o shows (TestPassed t) reason = absurd (cc)
+text-own o shows (TestSkipped t) reason = absurd (cc)
+text-own o shows (TestFailed t f w) reason =
+    shown-own (finished_output o (finish_for f.kind) t.attempts) (ended_words o (failed_word f.kind) t (attempts_note t.attempts))
+    (why_lines 4 o (shown_why o t f w)) (failed-shown o f.kind t.attempts shows)
+text-own o shows (LinesDisagree d why) reason = (_, refl)
+text-own o shows (SuiteNotRun suite n of) reason = (_, refl)
+text-own o shows (SuiteOver s) reason = absurd (cc)
+
+-- a failed test is in the list if the levels and displays list failed tests
+failed-stored : (o : Options) (kind : KindView) (attempts : ℕ) → lists_failures o ≡ true
+    → (finished_output o (finish_for kind) attempts).store_final ≡ store.Yes (is_final_display o.failure_output)
+unfolding finished_output
+failed-stored o HasFailed attempts h = ap (λ s. if s then store.Yes (is_final_display o.failure_output) else store.No) h
+failed-stored o HasTimedOut attempts h = ap (λ s. if s then store.Yes (is_final_display o.failure_output) else store.No) h
+failed-stored o HasNoEnd attempts h = ap (λ s. if s then store.Yes (is_final_display o.failure_output) else store.No) h
+failed-stored o IsFlaky attempts h =
+    let several : nat_lt 1 (max attempts 2) ≡ true = grind (arith, nat_tests) in
+    let level = λ (t : Bool). unwrap_or (if t then Some final.Fail else Some final.Pass) final.Fail in
+    let own = λ (t : Bool). is_final_display o.failure_output || nat_le (final_level_rank (level t)) (final_level_rank o.final_status_level) in
+    ap (λ s. if s then store.Yes (is_final_display o.failure_output) else store.No) (ap own several ∙ h)
+failed-stored o (HasCrashed crash) attempts h = ap (λ s. if s then store.Yes (is_final_display o.failure_output) else store.No) h
+
+-- what the list and the other lines of a report for people say of a reason, if its levels and displays list failed tests
+module _ (o : Options) (entries : List EntryView) (end : RunEnd) (text : List ℕ) (says : TextSays o entries end text) (lists : lists_failures o ≡ true)
+    (short : All (IsShortInLine o) entries) where
+  abbrev no-tests : List ℕ
+  no-tests = codes "outcome no-tests-run"
+
+  list-entry : (e : EntryView) → Contains entries e → IsTrue (is_reason e)
+      → SaysReason (text_block o) no-tests entries end text ⊎ HasCause (list_block o) entries text
+  list-entry (TestPassed t) is_one reason = absurd (cc)
+  list-entry (TestSkipped t) is_one reason = absurd (cc)
+  list-entry (TestFailed t f w) is_one reason =
+      let line = list_line o (failed_word f.kind) t ++ (codes ": " ++ shown_text o.raw (front w.short o.limit)) in
+      let own = ap (λ s. listed_block s line (why_lines 13 o (shown_why o t f w))) (failed-stored o f.kind t.attempts lists) in
+      inr (cause-at (list_block o) entries text (says.listed short) (TestFailed t f w) is_one reason (_, own))
+  list-entry (LinesDisagree d why) is_one reason = inl (inl (cause-at (text_block o) entries text says.causes (LinesDisagree d why) is_one reason (_, refl)))
+  list-entry (SuiteNotRun suite n of) is_one reason =
+      inl (inl (cause-at (text_block o) entries text says.causes (SuiteNotRun suite n of) is_one reason (_, refl)))
+  list-entry (SuiteOver s) is_one reason = absurd (cc)
+
+  list-says : ((e : EntryView) × Contains entries e × IsTrue (is_reason e)) ⊎ RanNoTests end
+      → SaysReason (text_block o) no-tests entries end text ⊎ HasCause (list_block o) entries text
+  list-says (inl found) = list-entry found.0 found.1 found.2
+  list-says (inr none) = inl (inr (none, subst (λ out. EndsWith text (codes "outcome " ++ outcome_word out)) none says.outcome))
 
 github-own : (o : Options) (e : EntryView) → IsTrue (is_reason e) → (b : Block) × (github_block o e ≡ Some b)
 github-own o (TestPassed t) reason = absurd (cc)
 github-own o (TestSkipped t) reason = absurd (cc)
 github-own o (TestFailed t f w) reason = (_, refl)
-github-own o (LinesDisagree d) reason = (_, refl)
+github-own o (LinesDisagree d why) reason = (_, refl)
 github-own o (SuiteNotRun suite n of) reason = (_, refl)
 github-own o (SuiteOver s) reason = absurd (cc)
 
@@ -174,7 +254,7 @@ cause-of : (o : Options) (e : EntryView) → IsTrue (is_reason e) → (c : Junit
 cause-of o (TestPassed t) reason = absurd (cc)
 cause-of o (TestSkipped t) reason = absurd (cc)
 cause-of o (TestFailed t f w) reason = (_, refl)
-cause-of o (LinesDisagree d) reason = (_, refl)
+cause-of o (LinesDisagree d why) reason = (_, refl)
 cause-of o (SuiteNotRun suite n of) reason = (_, refl)
 cause-of o (SuiteOver s) reason = absurd (cc)
 
@@ -239,11 +319,14 @@ module _ (has_reason : FailureHasReason) where
       names-reason name written report.entries end text causes (reason-of line last inputs text end report fails)
 
   pub text-names : TextNamesCauses → TextNamesReason
-  text-names causes o inputs text end report fails =
+  text-names causes o inputs text end report fails (inl shows) =
       let says = subst (TextSays o report.entries end) (sym report.is) (causes o report.entries end) in
-      says-reason (text_block o) (codes "outcome no-tests-run") report.entries end text (text-own o) says.causes
+      inl (says-reason (text_block o) (codes "outcome no-tests-run") report.entries end text (text-own o shows) says.causes
       (λ none. subst (λ out. EndsWith text (codes "outcome " ++ outcome_word out)) none says.outcome)
-      (reason-of (text_line o) (text_last o) inputs text end report fails)
+      (reason-of (text_line o) (text_last o) inputs text end report fails))
+  text-names causes o inputs text end report fails (inr lists) =
+      let says = subst (TextSays o report.entries end) (sym report.is) (causes o report.entries end) in
+      list-says o report.entries end text says lists.0 lists.1 (reason-of (text_line o) (text_last o) inputs text end report fails)
 
   pub github-names : GithubNamesCauses → GithubNamesReason
   github-names causes o inputs text end report fails =

@@ -6,7 +6,7 @@ use Rattle.template.proofs.Items.{items_first, items_last, other_section, sectio
 use Rattle.template.specs.Shows.{items_at}
 use Rattle.template.specs.Template.{ValueView, Values, items_of, section, text_of, values_of}
 use Rattle.test_report_forms.specs.Model.{FailedView, ReportView, numbers_of_run}
-use Rattle.test_report_forms.specs.Values.{bar, failed_items, failed_values, one_text, problem_items, report_values, run_values, slow_items, suite_items, suite_values, time_item}
+use Rattle.test_report_forms.specs.Values.{bar, failed_items, failed_values, problem_items, problem_values, report_values, run_values, slow_items, suite_items, suite_values, time_item}
 use Rattle.test_report_run.specs.declared.note.RunEnd.{RunEnd}
 
 -- the values of the run are not in these lists
@@ -23,8 +23,8 @@ module _ (r : ReportView) where
   abbrev bar_values : List ValueView
   bar_values = section (codes "bar") (bar (numbers_of_run r.end))
 
-  abbrev problem_values : List ValueView
-  problem_values = section (codes "problems") (problem_items r.problems)
+  abbrev problem_lists : List ValueView
+  problem_lists = section (codes "problems") (problem_items r.problems)
 
   abbrev failure_values : List ValueView
   failure_values = section (codes "failures") (failed_items r.failed)
@@ -40,7 +40,7 @@ module _ (r : ReportView) where
   first_two = run_values r.end ++ bar_values
 
   abbrev first_three : List ValueView
-  first_three = first_two ++ problem_values
+  first_three = first_two ++ problem_lists
 
   abbrev first_four : List ValueView
   first_four = first_three ++ failure_values
@@ -60,7 +60,7 @@ module _ (r : ReportView) where
 
   -- the items of problems
   pub problems-at : items_at (codes "problems" ∷ codes "problem" ∷ []) (values_of (report_values r))
-      ≡ map (λ l. values_of (one_text (codes "line") l)) r.problems
+      ≡ map (λ p. values_of (problem_values p)) r.problems
   unfolding report_values
   problems-at =
       let key = codes "problems" in
@@ -68,15 +68,15 @@ module _ (r : ReportView) where
       (items_first key first_five slow_lists (other_section key (codes "slowest") _ refl)
       ∙ (items_first key first_four suite_lists (other_section key (codes "suites") _ refl)
       ∙ (items_first key first_three failure_values (other_section key (codes "failures") _ refl)
-      ∙ items_last key first_two problem_values (none-of-two key refl refl))))
-      ∙ section_items key (codes "problem") (λ l. values_of (one_text (codes "line") l)) r.problems
+      ∙ items_last key first_two problem_lists (none-of-two key refl refl))))
+      ∙ section_items key (codes "problem") (λ p. values_of (problem_values p)) r.problems
 
   -- the items of failed tests
   pub failed-at : items_at (codes "failures" ∷ codes "failed" ∷ []) (values_of (report_values r)) ≡ map (λ t. values_of (failed_values t)) r.failed
   unfolding report_values
   failed-at =
       let key = codes "failures" in
-      let before = none-of-both key first_two problem_values (none-of-two key refl refl) (other_section key (codes "problems") _ refl) in
+      let before = none-of-both key first_two problem_lists (none-of-two key refl refl) (other_section key (codes "problems") _ refl) in
       ap (flat_map (items_at (codes "failed" ∷ [])))
       (items_first key first_five slow_lists (other_section key (codes "slowest") _ refl)
       ∙ (items_first key first_four suite_lists (other_section key (codes "suites") _ refl) ∙ items_last key first_three failure_values before))
@@ -87,7 +87,7 @@ module _ (r : ReportView) where
   unfolding report_values
   suites-at =
       let key = codes "suites" in
-      let three = none-of-both key first_two problem_values (none-of-two key refl refl) (other_section key (codes "problems") _ refl) in
+      let three = none-of-both key first_two problem_lists (none-of-two key refl refl) (other_section key (codes "problems") _ refl) in
       let before = none-of-both key first_three failure_values three (other_section key (codes "failures") _ refl) in
       ap (flat_map (items_at (codes "suite" ∷ [])))
       (items_first key first_five slow_lists (other_section key (codes "slowest") _ refl) ∙ items_last key first_four suite_lists before)

@@ -163,7 +163,7 @@ HasShort _ = Unit {0}
 
 test-short : (t : TestNoteView) (o : OutcomeView) (e : EntryView) → IsTestEntry t o e → HasShort e
 test-short t Passes e h = subst HasShort (sym h) tt
-test-short t IsSkipped e h = subst HasShort (sym h) tt
+test-short t (IsSkipped reason) e h = subst HasShort (sym h) tt
 test-short t (Fails f) e h =
     let found = h.1.found in
     subst HasShort (sym h.2)
@@ -171,7 +171,7 @@ test-short t (Fails f) e h =
 
 entry-short : (n : NoteView) (e : EntryView) → IsEntryOf n e → HasShort e
 entry-short (TestIs t) e h = test-short t t.outcome e h
-entry-short (Disagrees d) e h = subst HasShort (sym h) tt
+entry-short (Disagrees d) e h = subst HasShort (sym h.2) tt
 entry-short (IsNotRun suite n of) e h = subst HasShort (sym h) tt
 entry-short (SuiteIs s) e h = subst HasShort (sym h) tt
 
@@ -227,6 +227,6 @@ short-is-in-line o n (entry.Failed test failure why) is =
     shown-in-line o.raw (string_bytes why.short) o.limit (IsUtf8-string_bytes why.short) (entry-short n _ is)
 short-is-in-line o n (entry.Passed test) is = tt
 short-is-in-line o n (entry.Skipped test) is = tt
-short-is-in-line o n (entry.Disagreement d) is = tt
+short-is-in-line o n (entry.Disagreement d why) is = tt
 short-is-in-line o n (entry.NotRun d) is = tt
 short-is-in-line o n (entry.Suite d) is = tt

@@ -77,12 +77,12 @@ last-agrees s names some sound =
     let notes = last_by s e names in
     let passed : t.stats.passed ≡ s.stats.passed + passed_in notes = omega (
       arith,
-      after-last (λ x. x.passed) passed_weight refl passed-counts (λ n h. refl) (λ n. refl) s e names sound.retried,
+      after-last (λ x. x.passed) passed_weight refl passed-counts (λ n h. refl) (λ reason n. refl) s e names sound.retried,
       count-of (λ x. has_passed x.outcome) passed_weight (λ x. refl) notes,
     ) in
     let finished : t.stats.finished_count ≡ s.stats.finished_count + (passed_in notes + failed_in notes) = omega (
       arith,
-      after-last (λ x. x.finished_count) finished_weight refl finished-counts (λ n h. refl) (λ n. refl) s e names sound.retried,
+      after-last (λ x. x.finished_count) finished_weight refl finished-counts (λ n h. refl) (λ reason n. refl) s e names sound.retried,
       finished-of notes,
     ) in
     let failed : failed_of t.stats ≡ failed_of s.stats + failed_in notes = omega (arith, sound.passed) in

@@ -1,5 +1,5 @@
 -- What a form that renders a template shows of the values of a run.
-use Rattle.std.proofs.Common.{◌≡◌, ℕ, true, false, List, [], ◌∷◌, codes, if◌then◌else◌, map, Option, Some, None, subst}
+use Rattle.std.proofs.Common.{◌≡◌, ℕ, true, false, List, [], ◌∷◌, codes, if◌then◌else◌, map, Option, Some, None, option_map, subst}
 use Rattle.std.proofs.lemmas.Bool.{and_parts}
 use Rattle.std.proofs.lemmas.List.Elements.{All-cons, All-head, All-nil, All-tail, All-weaker}
 use Rattle.std.specs.List.{All, cons_option, filter_map, list_all}
@@ -13,8 +13,8 @@ use Rattle.template.specs.declared.hole.Hole.{Hole}
 use Rattle.test_report_laws.proofs.ReportValues.{failed-at, name-of, problems-at}
 use Rattle.test_report_forms.specs.Entry.{EntryView, LinesDisagree, SuiteNotRun, SuiteOver, TestFailed, TestPassed, TestSkipped}
 use Rattle.test_report_forms.specs.Holes.{HoleView, has_hole}
-use Rattle.test_report_forms.specs.Model.{cause_line, cause_lines, failure_of_entry, failures_of, no_tests_ran, problem_lines, report_of}
-use Rattle.test_report_forms.specs.Values.{failed_values, one_text, report_values, run_values, values_of_run}
+use Rattle.test_report_forms.specs.Model.{CauseView, ProblemView, all_problems, cause_line, cause_of_entry, failure_of_entry, failures_of, no_tests_problem, no_tests_ran, problem_of, problem_of_entry, problems_of, report_of}
+use Rattle.test_report_forms.specs.Values.{failed_values, problem_values, report_values, run_values, values_of_run}
 use Rattle.test_report_forms.specs.Words.{outcome_word}
 use Rattle.test_report_laws.specs.Forms.{HasValues, NamesCauses, failed_name}
 use Rattle.test_report_run.specs.declared.note.RunEnd.{RunEnd}
@@ -42,9 +42,9 @@ unfiltered P f [] h = All-nil (λ x. IfSome (f x) P)
 unfiltered P f (x ∷ xs) h =
     let both = kept-head P (f x) (filter_map f xs) h in All-cons (λ y. IfSome (f y) P) x xs both.0 (unfiltered P f xs both.1)
 
-other-lines : (P : List ℕ → Type 0) (o : RunOutcome) (lines : List (List ℕ)) → All P (problem_lines o lines) → All P lines
-other-lines P o lines h =
-    elim (no_tests_ran o) as (λ b. All P (if b then codes "no test ran" ∷ lines else lines) → All P lines)
+other-problems : (P : ProblemView → Type 0) (o : RunOutcome) (problems : List ProblemView) → All P (all_problems o problems) → All P problems
+other-problems P o problems h =
+    elim (no_tests_ran o) as (λ b. All P (if b then no_tests_problem ∷ problems else problems) → All P problems)
     [ true ↦ λ all. All-tail P _ _ all | false ↦ λ all. all ] h
 
 -- a text that has the values of three holes names each cause
@@ -63,16 +63,21 @@ module _ (text : List ℕ) (kind : Hole) (o : Options) (entries : List EntryView
 
   own-name : (e : EntryView) → IfSome (failure_of_entry o e) (λ t. Written t.name) → IfSome (failed_name e) Written
   own-name (TestFailed t f w) h = h
-  own-name (LinesDisagree d) h = tt
+  own-name (LinesDisagree d why) h = tt
   own-name (SuiteNotRun suite n of) h = tt
   own-name (TestPassed t) h = tt
   own-name (TestSkipped t) h = tt
   own-name (SuiteOver s) h = tt
 
-  own-lines : AreWritten (codes "problems" ∷ codes "problem" ∷ []) (codes "line") → All Written (problem_lines end.outcome (cause_lines entries))
-  own-lines items =
-      unmapped (λ i. Written (text_of (codes "line") i)) (λ l. values_of (one_text (codes "line") l)) _
+  own-problems : AreWritten (codes "problems" ∷ codes "problem" ∷ []) (codes "line")
+      → All (λ p. Written p.line) (all_problems end.outcome (problems_of entries))
+  own-problems items =
+      unmapped (λ i. Written (text_of (codes "line") i)) (λ p. values_of (problem_values p)) _
       (subst (All (λ i. Written (text_of (codes "line") i))) (problems-at (report_of o entries end)) items)
+
+  own-line : (cause : Option CauseView) → IfSome (option_map problem_of cause) (λ p. Written p.line) → IfSome (option_map (λ c. c.line) cause) Written
+  own-line None h = h
+  own-line (Some cause) h = h
 
   own-outcome : AreWritten [] (codes "outcome") → Written (outcome_word end.outcome)
   unfolding report_values run_values
@@ -84,6 +89,8 @@ module _ (text : List ℕ) (kind : Hole) (o : Options) (entries : List EntryView
     tests =
         All-weaker (λ e. IfSome (failure_of_entry o e) (λ t. Written t.name)) (λ e. IfSome (failed_name e) Written) own-name entries
         (unfiltered (λ t. Written t.name) (failure_of_entry o) entries (failed-names names));
-    lines = unfiltered Written cause_line entries (other-lines Written end.outcome _ (own-lines lines));
+    lines =
+        All-weaker (λ e. IfSome (problem_of_entry e) (λ p. Written p.line)) (λ e. IfSome (cause_line e) Written) (λ e. own-line (cause_of_entry e)) entries
+        (unfiltered (λ p. Written p.line) problem_of_entry entries (other-problems (λ p. Written p.line) end.outcome _ (own-problems lines)));
     outcome = own-outcome word;
   }

@@ -42,7 +42,7 @@ passed_weight outcome n = one (has_passed outcome)
 pub passed-counts : (stats : RunStats) (outcome : OutcomeView) (n : ℕ) → fits outcome n ≡ true
     → (with_outcome stats outcome n).passed ≡ stats.passed + passed_weight outcome n
 passed-counts stats Passes n fit = grind arith
-passed-counts stats IsSkipped n fit = omega arith
+passed-counts stats (IsSkipped reason) n fit = omega arith
 passed-counts stats (Fails f) n fit = passed-kind stats f.kind n fit
 
 -- `finished_count`
@@ -52,7 +52,7 @@ finished_weight outcome n = one (has_passed outcome) + one (has_failed outcome)
 pub finished-counts : (stats : RunStats) (outcome : OutcomeView) (n : ℕ) → fits outcome n ≡ true
     → (with_outcome stats outcome n).finished_count ≡ stats.finished_count + finished_weight outcome n
 finished-counts stats Passes n fit = refl
-finished-counts stats IsSkipped n fit = omega arith
+finished-counts stats (IsSkipped reason) n fit = omega arith
 finished-counts stats (Fails f) n fit = refl
 
 -- `flaky`
@@ -66,7 +66,7 @@ flaky-kind stats kind n = refl
 flaky-counts : (stats : RunStats) (outcome : OutcomeView) (n : ℕ) → fits outcome n ≡ true
     → (with_outcome stats outcome n).flaky ≡ stats.flaky + flaky_weight outcome n
 flaky-counts stats Passes n fit = grind arith
-flaky-counts stats IsSkipped n fit = omega arith
+flaky-counts stats (IsSkipped reason) n fit = omega arith
 flaky-counts stats (Fails f) n fit = flaky-kind stats f.kind n
 
 -- `failed_timed_out`
@@ -81,7 +81,7 @@ timed_out-kind stats kind n = refl
 timed_out-counts : (stats : RunStats) (outcome : OutcomeView) (n : ℕ) → fits outcome n ≡ true
     → (with_outcome stats outcome n).failed_timed_out ≡ stats.failed_timed_out + timed_out_weight outcome n
 timed_out-counts stats Passes n fit = refl
-timed_out-counts stats IsSkipped n fit = omega arith
+timed_out-counts stats (IsSkipped reason) n fit = omega arith
 timed_out-counts stats (Fails f) n fit = timed_out-kind stats f.kind n
 
 -- the three counters of failed tests together
@@ -96,7 +96,7 @@ failed-kind stats kind n fit = omega arith
 pub failed-counts : (stats : RunStats) (outcome : OutcomeView) (n : ℕ) → fits outcome n ≡ true
     → failed_tests (with_outcome stats outcome n) ≡ failed_tests stats + failed_weight outcome n
 failed-counts stats Passes n fit = grind arith
-failed-counts stats IsSkipped n fit = omega arith
+failed-counts stats (IsSkipped reason) n fit = omega arith
 failed-counts stats (Fails f) n fit = failed-kind stats f.kind n fit
 
 -- the tests that crashed
@@ -196,7 +196,7 @@ same-not_run notes = sum-same (of_suite (λ s. s.not_run)) not_run_of each notes
 pub failed-total : (files : List (List EventView)) → failed_tests (fold with_note no_suites (all_notes files)).stats ≡ failed_in (all_notes files)
 failed-total files = omega (
   arith,
-  total failed_tests failed_weight refl failed-counts (λ n h. refl) (λ n. refl) (λ a b. omega arith) files,
+  total failed_tests failed_weight refl failed-counts (λ n h. refl) (λ reason n. refl) (λ a b. omega arith) files,
   count-of (λ t. has_failed t.outcome) failed_weight (λ t. refl) (all_notes files),
 )
 
@@ -209,8 +209,8 @@ counted files o =
     let skipped = (skipped-sums files).whole in
     let sum_crashed = sum-of (λ e. e.crashed) (λ s. s.crashed) (λ e s. refl) refl notes in
     let sum_skipped = sum-of (λ e. e.skipped) (λ s. s.skipped) (λ e s. refl) refl notes in
-    let finished = total (λ s. s.finished_count) finished_weight refl finished-counts (λ n h. refl) (λ n. refl) (λ a b. refl) files in
-    let passed = total (λ s. s.passed) passed_weight refl passed-counts (λ n h. refl) (λ n. refl) (λ a b. refl) files in
+    let finished = total (λ s. s.finished_count) finished_weight refl finished-counts (λ n h. refl) (λ reason n. refl) (λ a b. refl) files in
+    let passed = total (λ s. s.passed) passed_weight refl passed-counts (λ n h. refl) (λ reason n. refl) (λ a b. refl) files in
     let passed_count = count-of (λ t. has_passed t.outcome) passed_weight (λ t. refl) notes in
     let finished_count = finished-of notes in
     record {
@@ -219,12 +219,12 @@ counted files o =
       failed = omega arith;
       flaky = omega (
         arith,
-        total (λ s. s.flaky) flaky_weight refl flaky-counts (λ n h. ap one h) (λ n. refl) (λ a b. refl) files,
+        total (λ s. s.flaky) flaky_weight refl flaky-counts (λ n h. ap one h) (λ reason n. refl) (λ a b. refl) files,
         count-of (λ t. has_passed t.outcome && nat_lt 1 t.attempts) flaky_weight (λ t. refl) notes,
       );
       timed_out = omega (
         arith,
-        total (λ s. s.failed_timed_out) timed_out_weight refl timed_out-counts (λ n h. refl) (λ n. refl) (λ a b. refl) files,
+        total (λ s. s.failed_timed_out) timed_out_weight refl timed_out-counts (λ n h. refl) (λ reason n. refl) (λ a b. refl) files,
         count-of (λ t. fails_by is_timed_out t.outcome) timed_out_weight (λ t. refl) notes,
       );
       crashed = omega (arith, crashed.high refl, count-of (λ t. fails_by is_crash t.outcome) crashed_weight (λ t. refl) notes);

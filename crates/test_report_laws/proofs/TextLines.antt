@@ -1,31 +1,45 @@
 -- The lines of the form for people, and of the form of names.
-use Rattle.std.proofs.Common.{◌≡◌, ◌∙◌, ◌-◌, ◌==◌, refl, sym, subst, ap, ℕ, Bool, true, false, List, [], ◌∷◌, ◌++◌, append-nil, append_assoc, codes, if◌then◌else◌, inl, inr, length, nat_lt, replicate, Option, Some, None}
+use Rattle.std.proofs.Common.{◌≡◌, ◌∙◌, ◌-◌, ◌==◌, refl, sym, subst, ap, ℕ, Bool, true, false, List, [], ◌∷◌, ◌++◌, append-nil, append_assoc, codes, if◌then◌else◌, inl, inr, length, replicate, Option, Some, None, arith, nat_lt}
 use Rattle.std.proofs.lemmas.List.Elements.{All-cons, All-head, All-nil, All-tail}
+use Rattle.std.proofs.lemmas.Bool.Decides.{nat_tests}
+use Rattle.std.specs.Prelude.{max, unwrap_or}
 use Rattle.std.specs.Fmt.{decimal}
-use Rattle.std.specs.List.{All, AllZip, filter_map, flat_map}
+use Rattle.std.specs.List.{All, AllZip, filter_map, flat_map, slice_split}
 use Rattle.std.specs.Option.{option_map_or}
 use Rattle.std.specs.Str.{bytes_eq}
 use Rattle.test_report_laws.proofs.CleanLines as clean
 use Rattle.test_report_laws.proofs.CleanLines.{CleanLine, clean-line, clean-replicate, word}
-use Rattle.test_report_laws.proofs.CleanWords.{clean-attempts, clean-bracket, clean-disagreement, clean-failed_word, clean-flaky_word, clean-not_run, clean-outcome, clean-summary, clean-title}
-use Rattle.test_report_laws.proofs.KeyedLines.{Alike, alike-if, each-alike, falling-alike, fold-alike, rising-alike, text-alike}
-use Rattle.test_report_laws.proofs.Lines.{AddsNoRule, HasNoRule, IsWritten, also, blocks-lines, has-blocks, in-line, line-end, lines-both, lines-each, no-rule-both, no-rule-line, no-rules, none-after}
+use Rattle.test_report_laws.proofs.CleanWords.{clean-attempts, clean-bracket, clean-disagreement, clean-failed_word, clean-not_run, clean-outcome, clean-passed_word, clean-summary, clean-title}
+use Rattle.test_report_laws.proofs.KeyedLines.{Alike, each-alike, falling-alike, fold-alike, text-alike}
+use Rattle.test_report_laws.proofs.Lines.{AddsNoRule, HasNoRule, IsWritten, also, blocks-lines, has-blocks, in-line, line-end, lines-both, lines-each, no-rule-both, no-rule-line, no-rules, none-after, later-blocks}
+use Rattle.run_events_levels.specs.LevelRanks.{final_level_rank}
+use Rattle.run_events_levels.specs.declared.levels.FinalStatusLevel.{FinalStatusLevel}
+use Rattle.run_events_levels.specs.declared.levels.FinalStatusLevel.TheVariants as final
+use Rattle.run_events_levels.specs.declared.levels.OutputOnTestFinished.{OutputOnTestFinished}
+use Rattle.run_events_levels.specs.declared.levels.OutputStoreFinal.{OutputStoreFinal}
+use Rattle.run_events_levels.specs.declared.levels.OutputStoreFinal.TheVariants as store
+use Rattle.run_events_settings.specs.Config.{is_final_display}
 use Rattle.test_report_forms.specs.Entry.{EntryView, LinesDisagree, SuiteNotRun, SuiteOver, TestFailed, TestPassed, TestSkipped}
-use Rattle.test_report_forms.specs.List.{KeyedLine, failed_line, failed_lines, failed_of, flaky_line, flaky_lines, flaky_of, flaky_passed, flaky_word, list_line, put_falling, put_rising, short_list, slow_line, slow_lines, slow_of, text_of_lines, timed}
+use Rattle.test_report_forms.specs.Levels.{finished_output, has_line, listed_text, skipped_output, own_final_level}
+use Rattle.test_report_forms.specs.List.{KeyedLine, ended_line, failed_line, final_level_of, item, item_at, list_line, part_at, passed_word, put_falling, short_list, slow_line, slow_lines, slow_of, text_of_lines, timed, line_at}
 use Rattle.test_report_forms.specs.Names.{names_line}
-use Rattle.test_report_forms.specs.Shown.{bracket, front, indented_line, more_bytes, shown_text}
-use Rattle.test_report_forms.specs.Text.{attempts_note, failed_head, failed_text, hidden_line, more_line, outcome_line, summary_lines, text_last, text_line, why_lines}
+use Rattle.test_report_forms.specs.Shown.{bracket, front, indented, indented_line, more_bytes, shown_text}
+use Rattle.test_report_forms.specs.Text.{attempts_note, ended_head, ended_text, failed_head, failed_text, outcome_line, passed_text, skipped_text, summary_lines, text_last, text_line}
 use Rattle.test_report_forms.specs.Title.{title}
 use Rattle.test_report_forms.specs.Words.{color_of, failed_word, outcome_word, status_text, summary_line}
 use Rattle.test_report_forms.specs.declared.options.Options.{Options}
-use Rattle.test_report_laws.specs.Lines.{EndsWith, HasAfterRule, HasBlocks, IsInLine, IsLines, IsShortInLine, NamesNamesTests, TextNamesCauses, TextSays, names_block, rule, text_block}
-use Rattle.test_report_run.specs.Note.{TestNoteView}
+use Rattle.test_report_laws.specs.Lines.{AreInLines, EndsWith, HasAfterRule, HasBlocks, IsInLine, IsLines, IsShortInLine, IsWhyInLines, NamesNamesTests, TextNamesCauses, TextSays, ended_block, ended_words, names_block, rule, text_block, list_block, listed_block}
+use Rattle.test_report_forms.specs.Why.{WhyView}
+use Rattle.test_report_forms.specs.WhyLines.{hidden_line, more_line, why_lines}
+use Rattle.test_report_run.specs.Counted.{finish_for}
+use Rattle.test_report_run.specs.Note.{FailureView, HasCrashed, HasFailed, HasNoEnd, HasTimedOut, IsFlaky, KindView, TestNoteView}
+use Rattle.test_report_run.specs.declared.counted.Finish.TheVariants.{Passed}
 use Rattle.test_report_run.specs.declared.note.RunEnd.{RunEnd}
 use Rattle.test_report_forms.specs.ShownWhy.{ShownWhyView, shown_why}
 
 -- the parts of lines
-head-parts : (s a b t n e w : List ℕ) → (s ++ (a ++ (b ++ (t ++ (n ++ e))))) ++ w ≡ (s ++ (a ++ (b ++ (t ++ n)))) ++ (e ++ w)
-head-parts s a b t n e w = simp append_assoc
+words-end : (s a b t n e : List ℕ) → s ++ (a ++ (b ++ (t ++ (n ++ e)))) ≡ (s ++ (a ++ (b ++ (t ++ n)))) ++ e
+words-end s a b t n e = simp append_assoc
 
 item-parts : (p s a b t r : List ℕ) → (p ++ (s ++ (a ++ (b ++ t)))) ++ r ≡ (p ++ s) ++ (a ++ ((b ++ t) ++ r))
 item-parts p s a b t r = simp append_assoc
@@ -33,8 +47,17 @@ item-parts p s a b t r = simp append_assoc
 three-parts : (l c s e : List ℕ) → l ++ (c ++ (s ++ e)) ≡ (l ++ (c ++ s)) ++ e
 three-parts l c s e = simp append_assoc
 
+four-parts : (l c n s e : List ℕ) → l ++ (c ++ (n ++ (s ++ e))) ≡ (l ++ (c ++ (n ++ s))) ++ e
+four-parts l c n s e = simp append_assoc
+
+indented-parts : (l s e : List ℕ) → l ++ (s ++ e) ≡ (l ++ s) ++ e
+indented-parts l s e = simp append_assoc
+
 end-parts : (x s l a w e : List ℕ) → x ++ (s ++ (l ++ (a ++ (w ++ e)))) ≡ (x ++ (s ++ l)) ++ ((a ++ w) ++ e)
 end-parts x s l a w e = simp append_assoc
+
+list-parts : (x s p k f l t o : List ℕ) → x ++ (s ++ ((p ++ (k ++ (f ++ (l ++ t)))) ++ o)) ≡ (x ++ (s ++ (p ++ (k ++ f)))) ++ (l ++ (t ++ o))
+list-parts x s p k f l t o = simp append_assoc
 
 rule-parts : (x a e p s l o : List ℕ) → x ++ ((a ++ (e ++ (p ++ (s ++ e)))) ++ (l ++ o)) ≡ x ++ (a ++ (e ++ ((p ++ s) ++ (e ++ (l ++ o)))))
 rule-parts x a e p s l o = simp append_assoc
@@ -47,7 +70,8 @@ in-if false p q = q
 in-color : (w : List ℕ) → IsInLine (color_of w)
 in-color w =
     let red = in-line (word (codes "1;31") refl) in
-    let other = in-if (bytes_eq w (codes "CRASH")) red (in-line (word (codes "1;33") refl)) in
+    let passed = in-if (bytes_eq w (codes "PASS")) (in-line (word (codes "1;32") refl)) (in-line (word (codes "1;33") refl)) in
+    let other = in-if (bytes_eq w (codes "CRASH")) red passed in
     in-if (bytes_eq w (codes "FAIL")) red (in-if (bytes_eq w (codes "TIMEOUT")) red other)
 
 escape-byte : IsInLine (27 ∷ [])
@@ -62,51 +86,78 @@ in-status false w h = in-line h
 
 -- the lines of why a test failed
 module _ (o : Options) where
-  lines-indented : (line : List ℕ) → IsLines (indented_line o.raw line)
-  lines-indented line = inr (codes "    " ++ shown_text o.raw line, sym (append_assoc (codes "    ") (shown_text o.raw line) (codes "\n")))
+  lines-indented : (margin : ℕ) (line : List ℕ) → IsLines (indented_line margin o.raw line)
+  lines-indented margin line = inr (replicate margin 32 ++ shown_text o.raw line, indented-parts (replicate margin 32) (shown_text o.raw line) (codes "\n"))
 
-  lines-more : (more : ℕ) → IsLines (more_line more)
+  lines-more : (margin more : ℕ) → IsLines (more_line margin more)
   unfolding more_line
-  lines-more more =
-      elim (more == 0) as (λ b. IsLines (if b then [] else codes "    (" ++ (decimal more ++ codes " more bytes)\n"))) [
-        | true ↦ inl refl
-        | false ↦ inr (codes "    (" ++ (decimal more ++ codes " more bytes)"), three-parts (codes "    (") (decimal more) (codes " more bytes)") (codes "\n"))
-      ]
+  lines-more margin more =
+      let words = replicate margin 32 ++ (codes "(" ++ (decimal more ++ codes " more bytes)")) in
+      let parts = four-parts (replicate margin 32) (codes "(") (decimal more) (codes " more bytes)") (codes "\n") in
+      elim (more == 0) as (λ b. IsLines (if b then [] else replicate margin 32 ++ (codes "(" ++ (decimal more ++ codes " more bytes)\n"))))
+      [ true ↦ inl refl | false ↦ inr (words, parts) ]
 
-  lines-hidden : (hidden : ℕ) → IsLines (hidden_line hidden)
+  lines-hidden : (margin hidden : ℕ) → IsLines (hidden_line margin hidden)
   unfolding hidden_line
-  lines-hidden hidden =
-      elim (hidden == 0) as (λ b. IsLines (if b then [] else codes "    (" ++ (decimal hidden ++ codes " more lines of output)\n"))) [
-        | true ↦ inl refl
-        | false ↦ inr (
-          codes "    (" ++ (decimal hidden ++ codes " more lines of output)"),
-          three-parts (codes "    (") (decimal hidden) (codes " more lines of output)") (codes "\n"),
-        )
-      ]
+  lines-hidden margin hidden =
+      let words = replicate margin 32 ++ (codes "(" ++ (decimal hidden ++ codes " more lines of output)")) in
+      let parts = four-parts (replicate margin 32) (codes "(") (decimal hidden) (codes " more lines of output)") (codes "\n") in
+      elim (hidden == 0) as (λ b. IsLines (if b then [] else replicate margin 32 ++ (codes "(" ++ (decimal hidden ++ codes " more lines of output)\n"))))
+      [ true ↦ inl refl | false ↦ inr (words, parts) ]
 
-  lines-why : (why : ShownWhyView) → IsLines (why_lines o why)
+  lines-why : (margin : ℕ) (why : ShownWhyView) → IsLines (why_lines margin o why)
   unfolding why_lines
-  lines-why why =
+  lines-why margin why =
       let more = more_bytes why.text o.limit in
-      lines-both _ (more_line more ++ hidden_line why.hidden) (lines-each (indented_line o.raw) lines-indented _)
-      (lines-both (more_line more) (hidden_line why.hidden) (lines-more more) (lines-hidden why.hidden))
+      lines-both _ (more_line margin more ++ hidden_line margin why.hidden) (lines-each (indented_line margin o.raw) (lines-indented margin) _)
+      (lines-both (more_line margin more) (hidden_line margin why.hidden) (lines-more margin more) (lines-hidden margin why.hidden))
 
   -- entries
-  failed-written : (t : TestNoteView) (w : List ℕ) (why : ShownWhyView) → CleanLine w
-      → (line : List ℕ) → line ≡ status_text o.color w ++ (codes " " ++ (bracket t.time ++ (title t ++ attempts_note t.attempts)))
-      → (failed_text o t w why ≡ line ++ (codes "\n" ++ why_lines o why)) × IsInLine line × IsLines (why_lines o why)
+  in-words : (w : List ℕ) (t : TestNoteView) (note : List ℕ) → CleanLine w → CleanLine note → IsInLine (ended_words o w t note)
+  in-words w t note h more =
+      also (in-status o.color w h)
+      (in-line (clean.also (word (codes " ") refl) (clean.also (clean-bracket t.time) (clean.also (clean-title t) more))))
+
+  under-line : (shown : Bool) (below : List ℕ) → IsLines below → IsLines (if shown then below else [])
+  under-line true below h = h
+  under-line false below h = inl refl
+
+  ended-written : (shows : OutputOnTestFinished) (line head below : List ℕ) → head ≡ line ++ codes "\n" → IsInLine line → IsLines below
+      → IsWritten (ended_text shows head below) (ended_block shows line below)
+  ended-written shows line head below is one lines =
+      let under = if shows.show_immediate then below else [] in
+      elim (has_line shows) as (λ b. IsWritten (if b then head ++ under else []) (if b then Some (record { line = line; below = under }) else None)) [
+        | true ↦ (ap (λ h. h ++ under) is ∙ append_assoc line (codes "\n") under, one, under-line shows.show_immediate below lines)
+        | false ↦ refl
+      ]
+
+  failed-written : (t : TestNoteView) (f : FailureView) (w : WhyView) → IsWritten (text_line o (TestFailed t f w)) (text_block o (TestFailed t f w))
   unfolding failed_text failed_head
-  failed-written t w why h line is =
-      let test = clean.also (word (codes " ") refl) (clean.also (clean-bracket t.time) (clean.also (clean-title t) (clean-attempts t.attempts))) in
-      let parts = head-parts (status_text o.color w) (codes " ") (bracket t.time) (title t) (attempts_note t.attempts) (codes "\n") (why_lines o why) in
-      (parts ∙ ap (λ l. l ++ (codes "\n" ++ why_lines o why)) (sym is), subst IsInLine (sym is) (also (in-status o.color w h) (in-line test)), lines-why why)
+  failed-written t f w =
+      let note = attempts_note t.attempts in
+      let status = status_text o.color (failed_word f.kind) in
+      ended-written (finished_output o (finish_for f.kind) t.attempts) (ended_words o (failed_word f.kind) t note) (failed_head o t (failed_word f.kind))
+      (why_lines 4 o (shown_why o t f w)) (words-end status (codes " ") (bracket t.time) (title t) note (codes "\n"))
+      (in-words (failed_word f.kind) t note (clean-failed_word f.kind) (clean-attempts t.attempts)) (lines-why 4 (shown_why o t f w))
+
+  other-written : (shows : OutputOnTestFinished) (t : TestNoteView) (w : List ℕ) → CleanLine w
+      → IsWritten (ended_text shows (ended_head o t w) []) (ended_block shows (ended_words o w t []) [])
+  unfolding ended_head
+  other-written shows t w h =
+      ended-written shows (ended_words o w t []) (ended_head o t w) []
+      (words-end (status_text o.color w) (codes " ") (bracket t.time) (title t) [] (codes "\n")) (in-words w t [] h clean.nothing) (inl refl)
+
+  lines-reason : (why : Option (List ℕ)) → IsLines (option_map_or (indented 4 o.raw) why [])
+  lines-reason None = inl refl
+  lines-reason (Some why) = lines-each (indented_line 4 o.raw) (lines-indented 4) _
 
   entry-written : (e : EntryView) → IsWritten (text_line o e) (text_block o e)
-  entry-written (TestFailed t f w) = failed-written t (failed_word f.kind) (shown_why o t f w) (clean-failed_word f.kind) _ refl
-  entry-written (LinesDisagree d) = (refl, in-line (clean-disagreement d), inl refl)
+  unfolding passed_text skipped_text
+  entry-written (TestFailed t f w) = failed-written t f w
+  entry-written (LinesDisagree d why) = (refl, in-line (clean-disagreement d), lines-reason why)
   entry-written (SuiteNotRun suite n of) = (refl, in-line (clean-not_run suite n of), inl refl)
-  entry-written (TestPassed t) = refl
-  entry-written (TestSkipped t) = refl
+  entry-written (TestPassed t) = other-written (finished_output o Passed t.attempts) t (passed_word t.attempts) (clean-passed_word t.attempts)
+  entry-written (TestSkipped t) = other-written (skipped_output o) t (codes "SKIP") (word (codes "SKIP") refl)
   entry-written (SuiteOver s) = refl
 
   -- the lines of the list, each with a space
@@ -149,86 +200,230 @@ module _ (o : Options) where
   own-line : (l : KeyedLine) → IsItem l.line → Alike Own l l
   own-line l h = record { key = refl; line = h }
 
-  flaky-items : (e : EntryView) → AreItems (flaky_of o e)
-  unfolding flaky_passed flaky_line
-  flaky-items (TestPassed t) =
-      let item = item-own (flaky_word t.attempts) t (clean-flaky_word t.attempts) in
-      alike-if Own (nat_lt 1 t.attempts) (flaky_line o t) (flaky_line o t) (own-line (flaky_line o t) item)
-  flaky-items (TestSkipped t) = tt
-  flaky-items (TestFailed t f w) = tt
-  flaky-items (LinesDisagree d) = tt
-  flaky-items (SuiteNotRun suite n of) = tt
-  flaky-items (SuiteOver s) = tt
-
   timed-items : (t : TestNoteView) (time : Option ℕ) → AreItems (option_map_or (λ time. slow_line o t time ∷ []) time [])
   unfolding slow_line
   timed-items t None = tt
-  timed-items t (Some time) = (own-line (slow_line o t time) (item-own (codes "SLOW") t (word (codes "SLOW") refl)), tt)
+  timed-items t (Some time) = (own-line (slow_line o t time) (item-own (codes "SLOWEST") t (word (codes "SLOWEST") refl)), tt)
 
   slow-items : (e : EntryView) → AreItems (slow_of o e)
   unfolding timed
   slow-items (TestPassed t) = timed-items t t.time
   slow-items (TestFailed t f w) = timed-items t t.time
   slow-items (TestSkipped t) = tt
-  slow-items (LinesDisagree d) = tt
+  slow-items (LinesDisagree d why) = tt
   slow-items (SuiteNotRun suite n of) = tt
   slow-items (SuiteOver s) = tt
 
   items-text : (lines : List KeyedLine) → AreItems lines → IsItem (text_of_lines lines)
   items-text lines h = text-alike Own no-item (λ xs ys us vs a b. item-both xs us a b) lines lines h
 
-  flaky-text : (entries : List EntryView) → IsItem (text_of_lines (flaky_lines o entries))
-  flaky-text entries =
-      items-text (flaky_lines o entries) (fold-alike Own put_rising (rising-alike Own) [] [] (flat_map (flaky_of o) entries) (flat_map (flaky_of o) entries) tt
-      (each-alike Own (flaky_of o) (flaky_of o) flaky-items entries))
-
   slow-text : (entries : List EntryView) → IsItem (text_of_lines (slow_lines o entries))
   slow-text entries =
-      items-text (slow_lines o entries) (fold-alike Own put_falling (falling-alike Own) [] [] (flat_map (slow_of o) entries) (flat_map (slow_of o) entries) tt
+      items-text (slow_lines o entries) (fold-alike Own (put_falling o.slowest) (falling-alike Own o.slowest) [] []
+      (flat_map (slow_of o) entries) (flat_map (slow_of o) entries) tt
       (each-alike Own (slow_of o) (slow_of o) slow-items entries))
 
+  -- why a test failed, in the list
+  margin-no-rule : (line rest : List ℕ) → IsInLine line → line ≡ replicate 13 32 ++ rest → AddsNoRule (line ++ codes "\n")
+  margin-no-rule line rest one is = no-rule-line line [] (replicate 12 32 ++ rest) one is
+
+  in-margin : (text : List ℕ) → IsInLine text → IsInLine (replicate 13 32 ++ text)
+  in-margin text h = also (in-line (clean-replicate 32 13 refl)) h
+
+  indented-no-rule : (line : List ℕ) → IsInLine (shown_text o.raw line) → AddsNoRule (indented_line 13 o.raw line)
+  indented-no-rule line h =
+      let shown = shown_text o.raw line in
+      subst AddsNoRule (sym (indented-parts (replicate 13 32) shown (codes "\n")))
+      (margin-no-rule (replicate 13 32 ++ shown) shown (in-margin shown h) refl)
+
+  each-no-rule : (lines : List (List ℕ)) → All (λ line. IsInLine (shown_text o.raw line)) lines → AddsNoRule (flat_map (indented_line 13 o.raw) lines)
+  each-no-rule [] h = no-rules
+  each-no-rule (l ∷ ls) h =
+      let P : List ℕ → Type 0 = λ line. IsInLine (shown_text o.raw line) in
+      no-rule-both (indented_line 13 o.raw l) (flat_map (indented_line 13 o.raw) ls) (indented-no-rule l (All-head P l ls h))
+      (each-no-rule ls (All-tail P l ls h))
+
+  note-no-rule : (n : ℕ) (words : List ℕ) → CleanLine words → AddsNoRule (replicate 13 32 ++ (codes "(" ++ (decimal n ++ (words ++ codes "\n"))))
+  note-no-rule n words h =
+      let text = codes "(" ++ (decimal n ++ words) in
+      subst AddsNoRule (sym (four-parts (replicate 13 32) (codes "(") (decimal n) words (codes "\n")))
+      (margin-no-rule (replicate 13 32 ++ text) text
+      (in-margin text (in-line (clean.also (word (codes "(") refl) (clean.also (clean.clean-decimal n) h)))) refl)
+
+  more-no-rule : (more : ℕ) → AddsNoRule (more_line 13 more)
+  unfolding more_line
+  more-no-rule more =
+      elim (more == 0) as (λ b. AddsNoRule (if b then [] else replicate 13 32 ++ (codes "(" ++ (decimal more ++ codes " more bytes)\n"))))
+      [ true ↦ no-rules | false ↦ note-no-rule more (codes " more bytes)") (word (codes " more bytes)") refl) ]
+
+  hidden-no-rule : (hidden : ℕ) → AddsNoRule (hidden_line 13 hidden)
+  unfolding hidden_line
+  hidden-no-rule hidden =
+      elim (hidden == 0) as (λ b. AddsNoRule (if b then [] else replicate 13 32 ++ (codes "(" ++ (decimal hidden ++ codes " more lines of output)\n"))))
+      [ true ↦ no-rules | false ↦ note-no-rule hidden (codes " more lines of output)") (word (codes " more lines of output)") refl) ]
+
+  why-no-rule : (why : ShownWhyView) → All (λ line. IsInLine (shown_text o.raw line)) (slice_split (λ b. b == 10) (front why.text o.limit))
+      → AddsNoRule (why_lines 13 o why)
+  unfolding why_lines
+  why-no-rule why h =
+      no-rule-both _ (more_line 13 (more_bytes why.text o.limit) ++ hidden_line 13 why.hidden) (each-no-rule _ h)
+      (no-rule-both (more_line 13 (more_bytes why.text o.limit)) (hidden_line 13 why.hidden) (more-no-rule (more_bytes why.text o.limit))
+      (hidden-no-rule why.hidden))
+
+  -- the lines of entries in the list
+  lines-listed : (kept : OutputStoreFinal) (line below : List ℕ) → IsLines line → IsLines below → IsLines (listed_text kept line below)
+  lines-listed store.No line below h more = inl refl
+  lines-listed (store.Yes output) line below h more = lines-both line (if output then below else []) h (under-line output below more)
+
+  rule-under : (output : Bool) (below : List ℕ) → (output ≡ true → AddsNoRule below) → AddsNoRule (if output then below else [])
+  rule-under true below h = h refl
+  rule-under false below h = no-rules
+
+  rule-listed : (stored output : Bool) (line below : List ℕ) → AddsNoRule line → (output ≡ true → AddsNoRule below)
+      → AddsNoRule (listed_text (if stored then store.Yes output else store.No) line below)
+  rule-listed true output line below h more = no-rule-both line (if output then below else []) h (rule-under output below more)
+  rule-listed false output line below h more = no-rules
+
+  rule-own : (kept : OutputStoreFinal) (line : List ℕ) → AddsNoRule line → AddsNoRule (listed_text kept line [])
+  rule-own store.No line h = no-rules
+  rule-own (store.Yes output) line h = no-rule-both line (if output then [] else []) h (rule-under output [] (λ e. no-rules))
+
+  -- why a failed test failed is shown in the list if the options say so
+  failed-stored : (kind : KindView) (attempts : ℕ) → (stored : Bool)
+      × ((finished_output o (finish_for kind) attempts).store_final ≡ (if stored then store.Yes (is_final_display o.failure_output) else store.No))
+  unfolding finished_output
+  failed-stored HasFailed attempts = (_, refl)
+  failed-stored HasTimedOut attempts = (_, refl)
+  failed-stored HasNoEnd attempts = (_, refl)
+  failed-stored IsFlaky attempts = (_, refl)
+  failed-stored (HasCrashed crash) attempts = (_, refl)
+
+  -- each line of the entry is shown in one line
+  pub record IsEntryInLines (e : EntryView) : Type 0 where
+    pub short : IsShortInLine o e
+    pub why : is_final_display o.failure_output ≡ true → IsWhyInLines o e
+
+  ended-item : (t : TestNoteView) (w : List ℕ) → CleanLine w → IsItem (ended_line o t w)
+  unfolding ended_line
+  ended-item t w h = item-own w t h
+
+  failed-lines : (t : TestNoteView) (w short : List ℕ) → IsLines (failed_line o t w short)
+  unfolding failed_line
+  failed-lines t w short =
+      let shown = shown_text o.raw (front short o.limit) in
+      inr (list_line o w t ++ (codes ": " ++ shown), three-parts (list_line o w t) (codes ": ") shown (codes "\n"))
+
+  failed-no-rule : (t : TestNoteView) (w short : List ℕ) → CleanLine w → IsInLine (shown_text o.raw (front short o.limit))
+      → AddsNoRule (failed_line o t w short)
+  unfolding failed_line
+  failed-no-rule t w short clean h =
+      let rest = codes ": " ++ shown_text o.raw (front short o.limit) in
+      let parts = three-parts (list_line o w t) (codes ": ") (shown_text o.raw (front short o.limit)) (codes "\n") in
+      subst AddsNoRule (sym parts) (item-line w t rest clean (also (in-line (word (codes ": ") refl)) h)).no_rule
+
+  item-lines : (e : EntryView) → IsLines (item o e)
+  item-lines (TestFailed t f w) = lines-listed _ _ _ (failed-lines t (failed_word f.kind) w.short) (lines-why 13 (shown_why o t f w))
+  item-lines (TestPassed t) = lines-listed _ _ _ (ended-item t (passed_word t.attempts) (clean-passed_word t.attempts)).lines (inl refl)
+  item-lines (TestSkipped t) = lines-listed _ _ _ (ended-item t (codes "SKIP") (word (codes "SKIP") refl)).lines (inl refl)
+  item-lines (LinesDisagree d why) = inl refl
+  item-lines (SuiteNotRun suite n of) = inl refl
+  item-lines (SuiteOver s) = inl refl
+
+  item-no-rule : (e : EntryView) → IsEntryInLines e → AddsNoRule (item o e)
+  item-no-rule (TestFailed t f w) h =
+      let stored = failed-stored f.kind t.attempts in
+      let line = failed_line o t (failed_word f.kind) w.short in
+      let why = why_lines 13 o (shown_why o t f w) in
+      subst (λ s. AddsNoRule (listed_text s line why)) (sym stored.1)
+      (rule-listed stored.0 (is_final_display o.failure_output) line why
+      (failed-no-rule t (failed_word f.kind) w.short (clean-failed_word f.kind) h.short)
+      (λ shown. why-no-rule (shown_why o t f w) (h.why shown)))
+  item-no-rule (TestPassed t) h = rule-own _ _ (ended-item t (passed_word t.attempts) (clean-passed_word t.attempts)).no_rule
+  item-no-rule (TestSkipped t) h = rule-own _ _ (ended-item t (codes "SKIP") (word (codes "SKIP") refl)).no_rule
+  item-no-rule (LinesDisagree d why) h = no-rules
+  item-no-rule (SuiteNotRun suite n of) h = no-rules
+  item-no-rule (SuiteOver s) h = no-rules
+
   -- the failed tests in the list
-  failed-lines : (e : EntryView) → IsLines (failed_of o e)
-  unfolding failed_line
-  failed-lines (TestFailed t f w) =
-      let short = shown_text o.raw (front w.short o.limit) in
-      inr (list_line o (failed_word f.kind) t ++ (codes ": " ++ short), three-parts (list_line o (failed_word f.kind) t) (codes ": ") short (codes "\n"))
-  failed-lines (TestPassed t) = inl refl
-  failed-lines (TestSkipped t) = inl refl
-  failed-lines (LinesDisagree d) = inl refl
-  failed-lines (SuiteNotRun suite n of) = inl refl
-  failed-lines (SuiteOver s) = inl refl
+  listed-written : (kept : OutputStoreFinal) (line below : List ℕ) → IsInLine line → IsLines below
+      → IsWritten (listed_text kept (line ++ codes "\n") below) (listed_block kept line below)
+  listed-written store.No line below one lines = refl
+  listed-written (store.Yes output) line below one lines =
+      (append_assoc line (codes "\n") (if output then below else []), one, under-line output below lines)
 
-  failed-item : (e : EntryView) → IsShortInLine o e → AddsNoRule (failed_of o e)
+  failed-listed : (t : TestNoteView) (f : FailureView) (w : WhyView) → IsInLine (shown_text o.raw (front w.short o.limit))
+      → IsWritten (item o (TestFailed t f w)) (list_block o (TestFailed t f w))
   unfolding failed_line
-  failed-item (TestFailed t f w) h =
-      let w' = failed_word f.kind in
-      let rest = codes ": " ++ shown_text o.raw (front w.short o.limit) in
-      let parts = three-parts (list_line o w' t) (codes ": ") (shown_text o.raw (front w.short o.limit)) (codes "\n") in
-      subst AddsNoRule (sym parts) (item-line w' t rest (clean-failed_word f.kind) (also (in-line (word (codes ": ") refl)) h)).no_rule
-  failed-item (TestPassed t) h = no-rules
-  failed-item (TestSkipped t) h = no-rules
-  failed-item (LinesDisagree d) h = no-rules
-  failed-item (SuiteNotRun suite n of) h = no-rules
-  failed-item (SuiteOver s) h = no-rules
+  failed-listed t f w h =
+      let status = failed_word f.kind in
+      let shown = shown_text o.raw (front w.short o.limit) in
+      let kept = (finished_output o (finish_for f.kind) t.attempts).store_final in
+      let line = list_line o status t ++ (codes ": " ++ shown) in
+      let why = why_lines 13 o (shown_why o t f w) in
+      let one = also (in-list_line status t (clean-failed_word f.kind)) (also (in-line (word (codes ": ") refl)) h) in
+      subst (λ l. IsWritten (listed_text kept l why) (listed_block kept line why))
+      (sym (three-parts (list_line o status t) (codes ": ") shown (codes "\n"))) (listed-written kept line why one (lines-why 13 (shown_why o t f w)))
 
-  failed-items : (entries : List EntryView) → All (IsShortInLine o) entries → AddsNoRule (failed_lines o entries)
-  failed-items [] h = no-rules
-  failed-items (e ∷ es) h =
-      no-rule-both (failed_of o e) (failed_lines o es) (failed-item e (All-head (IsShortInLine o) e es h))
-      (failed-items es (All-tail (IsShortInLine o) e es h))
+  failed-level : (kind : KindView) (attempts : ℕ) → own_final_level (finish_for kind) attempts ≡ final.Fail
+  failed-level HasFailed attempts = refl
+  failed-level HasTimedOut attempts = refl
+  failed-level HasNoEnd attempts = refl
+  failed-level IsFlaky attempts =
+      let several : nat_lt 1 (max attempts 2) ≡ true = grind (arith, nat_tests) in
+      ap (λ (t : Bool). unwrap_or (if t then Some final.Fail else Some final.Pass) final.Fail) several
+  failed-level (HasCrashed crash) attempts = refl
+
+  at-written : (e : EntryView) → IsShortInLine o e → IsWritten (item_at o final.Fail e) (list_block o e)
+  unfolding item_at
+  at-written (TestFailed t f w) h =
+      subst (λ own. IsWritten (line_at final.Fail own (item o (TestFailed t f w))) (list_block o (TestFailed t f w)))
+      (sym (failed-level f.kind t.attempts)) (failed-listed t f w h)
+  at-written (TestPassed t) h =
+      let level = λ (b : Bool). unwrap_or (if b then Some final.Flaky else Some final.Pass) final.Fail in
+      elim (nat_lt 1 t.attempts) as (λ b. line_at final.Fail (level b) (item o (TestPassed t)) ≡ []) [ true ↦ refl | false ↦ refl ]
+  at-written (TestSkipped t) h = refl
+  at-written (LinesDisagree d why) h = refl
+  at-written (SuiteNotRun suite n of) h = refl
+  at-written (SuiteOver s) h = refl
+
+  -- the parts of the list
+  at-lines : (level : FinalStatusLevel) (e : EntryView) → IsLines (item_at o level e)
+  unfolding item_at
+  at-lines level e = under-line (final_level_rank (final_level_of e) == final_level_rank level) (item o e) (item-lines e)
+
+  at-no-rule : (level : FinalStatusLevel) (e : EntryView) → IsEntryInLines e → AddsNoRule (item_at o level e)
+  unfolding item_at
+  at-no-rule level e h =
+      elim (final_level_rank (final_level_of e) == final_level_rank level) as (λ b. AddsNoRule (if b then item o e else []))
+      [ true ↦ item-no-rule e h | false ↦ no-rules ]
+
+  part-lines : (level : FinalStatusLevel) (entries : List EntryView) → IsLines (part_at o level entries)
+  part-lines level entries = lines-each (item_at o level) (at-lines level) entries
+
+  part-no-rule : (level : FinalStatusLevel) (entries : List EntryView) → AreInLines o entries → AddsNoRule (part_at o level entries)
+  part-no-rule level [] h = no-rules
+  part-no-rule level (e ∷ es) h =
+      let own : IsEntryInLines e =
+      record { short = All-head (IsShortInLine o) e es h.short; why = λ shown. All-head (IsWhyInLines o) e es (h.why shown) } in
+      let rest : AreInLines o es =
+      record { short = All-tail (IsShortInLine o) e es h.short; why = λ shown. All-tail (IsWhyInLines o) e es (h.why shown) } in
+      no-rule-both (item_at o level e) (part_at o level es) (at-no-rule level e own) (part-no-rule level es rest)
 
   list-lines : (entries : List EntryView) → IsLines (short_list o entries)
   unfolding short_list
   list-lines entries =
-      lines-both (text_of_lines (flaky_lines o entries)) _ (flaky-text entries).lines
-      (lines-both (failed_lines o entries) _ (lines-each (failed_of o) failed-lines entries) (slow-text entries).lines)
+      lines-both (part_at o final.Pass entries) _ (part-lines final.Pass entries)
+      (lines-both (part_at o final.Skip entries) _ (part-lines final.Skip entries)
+      (lines-both (part_at o final.Flaky entries) _ (part-lines final.Flaky entries)
+      (lines-both (part_at o final.Fail entries) _ (part-lines final.Fail entries) (slow-text entries).lines)))
 
-  list-no-rule : (entries : List EntryView) → All (IsShortInLine o) entries → AddsNoRule (short_list o entries)
+  list-no-rule : (entries : List EntryView) → AreInLines o entries → AddsNoRule (short_list o entries)
   unfolding short_list
   list-no-rule entries h =
-      no-rule-both (text_of_lines (flaky_lines o entries)) _ (flaky-text entries).no_rule
-      (no-rule-both (failed_lines o entries) _ (failed-items entries h) (slow-text entries).no_rule)
+      no-rule-both (part_at o final.Pass entries) _ (part-no-rule final.Pass entries h)
+      (no-rule-both (part_at o final.Skip entries) _ (part-no-rule final.Skip entries h)
+      (no-rule-both (part_at o final.Flaky entries) _ (part-no-rule final.Flaky entries h)
+      (no-rule-both (part_at o final.Fail entries) _ (part-no-rule final.Fail entries h) (slow-text entries).no_rule)))
 
 -- the end
 in-outcome : (end : RunEnd) → IsInLine (codes "outcome " ++ outcome_word end.outcome)
@@ -264,7 +459,23 @@ module _ (o : Options) (entries : List EntryView) (end : RunEnd) where
     one_line = in-outcome end;
   }
 
-  text-summary : All (IsShortInLine o) entries → HasAfterRule Text (codes "     Summary " ++ summary_line end)
+  text-listed : All (IsShortInLine o) entries → HasBlocks Text (filter_map (list_block o) entries)
+  unfolding text_last short_list
+  text-listed h =
+      let passed = part_at o final.Pass entries in
+      let skipped = part_at o final.Skip entries in
+      let flaky = part_at o final.Flaky entries in
+      let slow = text_of_lines (slow_lines o entries) in
+      let front = Lines ++ (summary_lines end ++ (passed ++ (skipped ++ flaky))) in
+      let lines = lines-both Lines _ lines-entries (lines-both (summary_lines end) _ (lines-summary end)
+      (lines-both passed _ (part-lines o final.Pass entries)
+      (lines-both skipped flaky (part-lines o final.Skip entries) (part-lines o final.Flaky entries)))) in
+      subst (λ t. HasBlocks t (filter_map (list_block o) entries))
+      (sym (list-parts Lines (summary_lines end) passed skipped flaky (part_at o final.Fail entries) slow (outcome_line end)))
+      (later-blocks front _ (filter_map (list_block o) entries) lines
+      (has-blocks (item_at o final.Fail) (list_block o) entries (slow ++ outcome_line end) (λ k d low. at-written o _ (h k d low))))
+
+  text-summary : AreInLines o entries → HasAfterRule Text (codes "     Summary " ++ summary_line end)
   unfolding text_last summary_lines
   text-summary h =
       let free = (list-no-rule o entries h).before (outcome_line end ++ []) ((outcome-no-rule end).before [] none-after) in record {
@@ -280,6 +491,7 @@ module _ (o : Options) (entries : List EntryView) (end : RunEnd) where
   text-says = record {
     causes = has-blocks (text_line o) (text_block o) entries (text_last o entries end) (λ k d low. entry-written o _);
     summary = text-summary;
+    listed = text-listed;
     outcome = text-ends;
   }
 
@@ -291,7 +503,7 @@ name-written : (e : EntryView) → IsWritten (names_line e) (names_block e)
 name-written (TestFailed t f w) = (refl, in-line (clean-line t.name), inl refl)
 name-written (TestPassed t) = refl
 name-written (TestSkipped t) = refl
-name-written (LinesDisagree d) = refl
+name-written (LinesDisagree d why) = refl
 name-written (SuiteNotRun suite n of) = refl
 name-written (SuiteOver s) = refl
 

@@ -7,9 +7,9 @@ use Rattle.test_report_forms.specs.Text.{text_last, text_line}
 use Rattle.test_report_forms.specs.declared.options.Options.{Options}
 use Rattle.test_report_run.specs.declared.note.RunEnd.{RunEnd}
 
--- the sequences that a terminal takes for a colour: red, yellow and the end of a colour
+-- the sequences that a terminal takes for a colour: red, yellow, the end of a colour, and green
 abbrev pub sequences : List (List ℕ)
-sequences = (27 ∷ codes "[1;31m") ∷ (27 ∷ codes "[1;33m") ∷ (27 ∷ codes "[0m") ∷ []
+sequences = (27 ∷ codes "[1;31m") ∷ (27 ∷ codes "[1;33m") ∷ (27 ∷ codes "[0m") ∷ (27 ∷ codes "[1;32m") ∷ []
 
 -- a part of a text: one of these sequences, or other text
 pub data Part : Type 0 where
@@ -40,7 +40,17 @@ IsColoured text plain = (parts : List Part) × AreParts parts × (text ≡ writt
 
 -- the options of a report without colours
 abbrev pub without_color : Options → Options
-without_color o = record { limit = o.limit; output = o.output; raw = o.raw; color = false; no_tests_pass = o.no_tests_pass }
+without_color o = record {
+  limit = o.limit;
+  output = o.output;
+  raw = o.raw;
+  color = false;
+  status_level = o.status_level;
+  final_status_level = o.final_status_level;
+  failure_output = o.failure_output;
+  slowest = o.slowest;
+  no_tests_pass = o.no_tests_pass;
+}
 
 -- what the form for people writes of entries and at the end
 abbrev pub text_of_run : Options → List EntryView → RunEnd → List ℕ

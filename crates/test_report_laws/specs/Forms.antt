@@ -69,7 +69,7 @@ abbrev pub failed_name : EntryView → Option (List ℕ)
 failed_name (TestFailed t f w) = Some (shown_name (title_name t))
 failed_name (TestPassed t) = None
 failed_name (TestSkipped t) = None
-failed_name (LinesDisagree d) = None
+failed_name (LinesDisagree d why) = None
 failed_name (SuiteNotRun suite n of) = None
 failed_name (SuiteOver s) = None
 
@@ -117,7 +117,7 @@ HtmlSaysEnd = (o : Options) (entries : List EntryView) (end : RunEnd) → SaysEn
 pub record HasItems (report : ReportView) (page : List ℕ) : Type 0 where
   pub failed : All (λ t. HasPart page (failed_text t)) report.failed
   pub titles : All (λ t. HasPart page (title_text t)) report.failed
-  pub problems : All (λ l. HasPart page (problem_text l)) report.problems
+  pub problems : All (λ p. HasPart page (problem_text p)) report.problems
   pub suites : All (λ r. HasPart page (suite_text r)) report.suites
 
 -- What the form for a browser writes has the values of each failed test together, each problem in the list of problems, and each suite in a row.

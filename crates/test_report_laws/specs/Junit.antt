@@ -11,7 +11,8 @@ use Rattle.template.specs.Shows.{HasPart}
 use Rattle.template.specs.Tree.{TreeView, Trees}
 use Rattle.test_report_forms.specs.Entry.{EntryView, LinesDisagree, SuiteNotRun, SuiteOver, TestFailed, TestPassed, TestSkipped}
 use Rattle.test_report_forms.specs.Junit.{junit_of, junit_parts, junit_suites, no_tests_case, values_at_end, xml_header}
-use Rattle.test_report_forms.specs.JunitCase.{CaseView, failed_case, own_name, problem_case}
+use Rattle.test_report_forms.specs.JunitCase.{CaseView, case_of_cause, failed_case, own_name}
+use Rattle.test_report_forms.specs.JunitEntries.{SaysEntries}
 use Rattle.test_report_forms.specs.JunitSuite.{SuiteView}
 use Rattle.test_report_forms.specs.JunitTree.{IsCaseElement, IsRunElement, IsSuiteElement}
 use Rattle.test_report_forms.specs.Model.{CauseView, cause_of_entry, no_tests_ran, suite_name}
@@ -47,6 +48,12 @@ abbrev pub JunitHasCases : Type 0
 JunitHasCases = (o : Options) (entries : List EntryView) (end : RunEnd)
     → (t : TreeView) × IsXml (junit_of o entries end) t × HasNamed (junit_suites o entries end) t
 
+-- The tree that JUnit's XML reads back as is that of suites that have exactly one test case for each entry that is not the end of a suite, in
+-- order. Its numbers are the numbers of these test cases.
+abbrev pub JunitSaysNotes : Type 0
+JunitSaysNotes = (o : Options) (entries : List EntryView) (end : RunEnd)
+    → (t : TreeView) × IsXml (junit_of o entries end) t × IsRunElement (junit_suites o entries end) end.time t × SaysEntries o entries end
+
 -- a cause: its test case, and the name of the suite of this
 pub record JunitCause : Type 0 where
   pub suite : List ℕ
@@ -58,7 +65,7 @@ failed_cause o t f w = record { suite = suite_name t.suite; case = failed_case t
 
 -- another cause. If it names no suite, its test case is in the suite `test-report`
 abbrev pub other_cause : CauseView → JunitCause
-other_cause c = record { suite = suite_name (Some (unwrap_or c.suite own_name)); case = problem_case c.line c.kind }
+other_cause c = record { suite = suite_name (Some (unwrap_or c.suite own_name)); case = case_of_cause c }
 
 -- the cause that no test ran
 abbrev pub no_test_cause : JunitCause
@@ -69,7 +76,7 @@ abbrev pub junit_cause : Options → EntryView → Option JunitCause
 junit_cause o (TestFailed t f w) = Some (failed_cause o t f w)
 junit_cause o (TestPassed t) = None
 junit_cause o (TestSkipped t) = None
-junit_cause o (LinesDisagree d) = option_map other_cause (cause_of_entry (LinesDisagree d))
+junit_cause o (LinesDisagree d why) = option_map other_cause (cause_of_entry (LinesDisagree d why))
 junit_cause o (SuiteNotRun suite n of) = option_map other_cause (cause_of_entry (SuiteNotRun suite n of))
 junit_cause o (SuiteOver s) = None
 

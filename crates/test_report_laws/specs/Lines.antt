@@ -1,19 +1,29 @@
 -- The lines of the forms that write each entry at once.
-use Rattle.std.specs.Prelude.{◌≡◌, ◌≢◌, ◌==◌, ◌++◌, ◌⊎◌, ℕ, false, List, [], ◌∷◌, Some, None, Option, ⊤, codes}
+use Rattle.std.specs.Prelude.{◌≡◌, ◌≢◌, ◌==◌, ◌++◌, ◌⊎◌, ℕ, Bool, true, false, if◌then◌else◌, IsTrue, List, [], ◌∷◌, Some, None, Option, ⊤, codes}
 use Rattle.std.specs.List.{All, Contains, filter_map, flat_map, slice_split}
-use Rattle.test_report_forms.specs.Entry.{EntryView, IsEntryOf, LinesDisagree, SuiteNotRun, TestFailed, entry_view}
-use Rattle.test_report_forms.specs.Github.{github_last, github_line, message, properties, title_property}
+use Rattle.std.specs.Option.{option_map_or}
+use Rattle.run_events_settings.specs.Config.{is_final_display}
+use Rattle.run_events_levels.specs.declared.levels.OutputOnTestFinished.{OutputOnTestFinished}
+use Rattle.run_events_levels.specs.declared.levels.OutputStoreFinal.{OutputStoreFinal}
+use Rattle.run_events_levels.specs.declared.levels.OutputStoreFinal.TheVariants as store
+use Rattle.test_report_forms.specs.Entry.{EntryView, IsEntryOf, LinesDisagree, SuiteNotRun, SuiteOver, TestFailed, TestPassed, TestSkipped, entry_view}
+use Rattle.test_report_forms.specs.Github.{cause_message, github_last, github_line, message, named_why, properties, title_property}
+use Rattle.test_report_forms.specs.Levels.{finished_output, has_line, skipped_output}
+use Rattle.test_report_forms.specs.List.{list_line, passed_word}
 use Rattle.test_report_forms.specs.Names.{names_line}
-use Rattle.test_report_forms.specs.Shown.{bracket, front, shown_line, shown_text}
-use Rattle.test_report_forms.specs.Text.{attempts_note, text_last, text_line, why_lines}
+use Rattle.test_report_forms.specs.Shown.{bracket, front, indented, shown_line, shown_text}
+use Rattle.test_report_forms.specs.Text.{attempts_note, text_last, text_line}
 use Rattle.test_report_forms.specs.Title.{title}
 use Rattle.test_report_forms.specs.Words.{disagreement_line, failed_word, not_run_line, outcome_word, status_text, summary_line}
 use Rattle.test_report_forms.specs.declared.entry.Entry.{Entry}
 use Rattle.test_report_forms.specs.declared.options.Options.{Options}
 use Rattle.test_report_laws.specs.Status.{RanNoTests}
-use Rattle.test_report_run.specs.Note.{NoteView}
+use Rattle.test_report_run.specs.Counted.{finish_for}
+use Rattle.test_report_run.specs.Note.{NoteView, TestNoteView}
+use Rattle.test_report_run.specs.declared.counted.Finish.TheVariants.{Passed}
 use Rattle.test_report_run.specs.declared.note.RunEnd.{RunEnd}
-use Rattle.test_report_forms.specs.ShownWhy.{limited_why, shown_why}
+use Rattle.test_report_forms.specs.ShownWhy.{shown_why}
+use Rattle.test_report_forms.specs.WhyLines.{why_lines}
 
 -- the text is within a line: it has no line feed
 pub record IsInLine (text : List ℕ) : Type 0 where
@@ -62,23 +72,49 @@ pub record HasAfterRule (text line : List ℕ) : Type 0 where
   pub one_line : IsInLine line
   pub last : All (λ l. l ≢ rule) (slice_split (λ b. b == 10) after)
 
--- the form for people: a line with the status, the time, the name and the attempts of a failed test, and under it why it failed; or the line of a cause
+-- the block of a test that ended: its line if it has one, and the lines under it if they are shown at once
+abbrev pub ended_block : OutputOnTestFinished → List ℕ → List ℕ → Option Block
+ended_block shows line below = if has_line shows then Some (record { line = line; below = if shows.show_immediate then below else [] }) else None
+
+-- the line of a test that ended, as far as its name
+abbrev pub ended_words : Options → List ℕ → TestNoteView → List ℕ → List ℕ
+ended_words o word t note = status_text o.color word ++ (codes " " ++ (bracket t.time ++ (title t ++ note)))
+
+-- the form for people: a line with the status, the time, the name and the attempts of a failed test, and under it why it failed; a line with the
+-- status, the time and the name of another test; or the line of a cause, and under it what explains the cause
 abbrev pub text_block : Options → EntryView → Option Block
-text_block o (TestFailed t f w) = Some (record {
-  line = status_text o.color (failed_word f.kind) ++ (codes " " ++ (bracket t.time ++ (title t ++ attempts_note t.attempts)));
-  below = why_lines o (shown_why o t f w);
-})
-text_block o (LinesDisagree d) = Some (record { line = disagreement_line d; below = [] })
+text_block o (TestFailed t f w) =
+    ended_block (finished_output o (finish_for f.kind) t.attempts) (ended_words o (failed_word f.kind) t (attempts_note t.attempts))
+    (why_lines 4 o (shown_why o t f w))
+text_block o (TestPassed t) = ended_block (finished_output o Passed t.attempts) (ended_words o (passed_word t.attempts) t []) []
+text_block o (TestSkipped t) = ended_block (skipped_output o) (ended_words o (codes "SKIP") t []) []
+text_block o (LinesDisagree d why) = Some (record { line = disagreement_line d; below = option_map_or (indented 4 o.raw) why [] })
 text_block o (SuiteNotRun suite n of) = Some (record { line = not_run_line suite n of; below = [] })
 text_block o _ = None
 
--- the form for GitHub: the command of a failed test with the place, the name and why it failed, or the command of a cause
+-- the block of a failed test in the list at the end, if it is in the list: its line, and why it failed if that is shown there
+abbrev pub listed_block : OutputStoreFinal → List ℕ → List ℕ → Option Block
+listed_block store.No line below = None
+listed_block (store.Yes output) line below = Some (record { line = line; below = if output then below else [] })
+
+-- the list at the end of the form for people: a line with the status, the time, the name and the short reason of a failed test, and under it why it
+-- failed
+abbrev pub list_block : Options → EntryView → Option Block
+list_block o (TestFailed t f w) =
+    listed_block (finished_output o (finish_for f.kind) t.attempts).store_final
+    (list_line o (failed_word f.kind) t ++ (codes ": " ++ shown_text o.raw (front w.short o.limit))) (why_lines 13 o (shown_why o t f w))
+list_block o _ = None
+
+-- the form for GitHub: the command of a failed test with the place, the name and why it failed, or the command of a cause with what explains it
 abbrev pub github_block : Options → EntryView → Option Block
 github_block o (TestFailed t f w) = Some (record {
-  line = codes "::error " ++ (properties w.place ++ (title_property t ++ (codes "::" ++ message (limited_why (shown_why o t f w) o.limit))));
+  line = codes "::error " ++ (properties w.place ++ (title_property t ++ (codes "::" ++ message (named_why o.limit t (shown_why o t f w)))));
   below = [];
 })
-github_block o (LinesDisagree d) = Some (record { line = codes "::error::" ++ message (disagreement_line d); below = [] })
+github_block o (LinesDisagree d why) = Some (record {
+  line = codes "::error::" ++ message (cause_message (disagreement_line d) why);
+  below = [];
+})
 github_block o (SuiteNotRun suite n of) = Some (record { line = codes "::error::" ++ message (not_run_line suite n of); below = [] })
 github_block o _ = None
 
@@ -92,14 +128,27 @@ abbrev pub IsShortInLine : Options → EntryView → Type 0
 IsShortInLine o (TestFailed t f w) = IsInLine (shown_text o.raw (front w.short o.limit))
 IsShortInLine o _ = ⊤
 
+-- each line of why a failed test failed is shown in one line
+abbrev pub IsWhyInLines : Options → EntryView → Type 0
+IsWhyInLines o (TestFailed t f w) =
+    All (λ line. IsInLine (shown_text o.raw line)) (slice_split (λ b. b == 10) (front (shown_why o t f w).text o.limit))
+IsWhyInLines o _ = ⊤
+
+-- the short reason of each entry is shown in one line, and each line of why a test failed, too, if it is shown in the list
+pub record AreInLines (o : Options) (entries : List EntryView) : Type 0 where
+  pub short : All (IsShortInLine o) entries
+  pub why : is_final_display o.failure_output ≡ true → All (IsWhyInLines o) entries
+
 -- The short reason of each entry of a note is shown in one line.
 abbrev pub ShortIsInLine : Type 0
 ShortIsInLine = (o : Options) (n : NoteView) (e : Entry) → IsEntryOf n (entry_view e) → IsShortInLine o (entry_view e)
 
--- a report for people has the block of each failed test and of each other cause, in the order of the entries, then the summary, and the outcome last
+-- a report for people has the block of each test that the levels show and of each other cause, in the order of the entries, then the summary, the
+-- block of each failed test in the list, and the outcome last
 pub record TextSays (o : Options) (entries : List EntryView) (end : RunEnd) (text : List ℕ) : Type 0 where
   pub causes : HasBlocks text (filter_map (text_block o) entries)
-  pub summary : All (IsShortInLine o) entries → HasAfterRule text (codes "     Summary " ++ summary_line end)
+  pub summary : AreInLines o entries → HasAfterRule text (codes "     Summary " ++ summary_line end)
+  pub listed : All (IsShortInLine o) entries → HasBlocks text (filter_map (list_block o) entries)
   pub outcome : EndsWith text (codes "outcome " ++ outcome_word end.outcome)
 
 -- What the form for people writes says so.
@@ -125,9 +174,19 @@ GithubNamesCauses = (o : Options) (entries : List EntryView) (end : RunEnd) → 
 abbrev pub NamesNamesTests : Type 0
 NamesNamesTests = (entries : List EntryView) → HasBlocks (flat_map names_line entries) (filter_map names_block entries)
 
--- the text has the block of an entry
+-- the entry says why a run does not succeed: a failed test, a disagreement, or a suite whose tests were not all run
+abbrev pub is_reason : EntryView → Bool
+is_reason (TestPassed t) = false
+is_reason (TestSkipped t) = false
+is_reason (TestFailed t f w) = true
+is_reason (LinesDisagree d why) = true
+is_reason (SuiteNotRun suite n of) = true
+is_reason (SuiteOver s) = false
+
+-- the text has the block of an entry that says why a run does not succeed
 pub record HasCause (block : EntryView → Option Block) (entries : List EntryView) (text : List ℕ) : Type 0 where
   pub entry : EntryView
+  pub says_why : IsTrue (is_reason entry)
   pub own : Block
   pub is_one : Contains entries entry
   pub is_own : block entry ≡ Some own

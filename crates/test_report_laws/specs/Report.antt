@@ -1,16 +1,20 @@
 -- Laws of reports.
-use Rattle.std.specs.Prelude.{◌≡◌, ◌<◌, ◌⊎◌, [], ℕ, All, Bool, true, false, Contains, IfSome, IsTrue, List, Some, codes}
+use Rattle.std.specs.Prelude.{◌≡◌, ◌<◌, ◌||◌, ◌⊎◌, nat_le, [], ℕ, All, Bool, Contains, IfSome, IsTrue, List, Some, codes}
 use Rattle.std.specs.List.{AllZip, flat_map}
 use Rattle.template.specs.Hole.{hole_text}
 use Rattle.template.specs.Shows.{HasPart}
 use Rattle.template.specs.declared.hole.Hole.TheVariants as hole
+use Rattle.run_events_levels.specs.LevelRanks.{final_level_rank, level_rank}
+use Rattle.run_events_levels.specs.declared.levels.FinalStatusLevel.TheVariants as final
+use Rattle.run_events_levels.specs.declared.levels.StatusLevel.TheVariants as level
+use Rattle.run_events_settings.specs.Config.{is_final_display, is_immediate_display}
 use Rattle.test_report_events.specs.Event.{EventView, WithStatus}
-use Rattle.test_report_forms.specs.Entry.{EntryView, IsEntryOf, LinesDisagree, SuiteNotRun, SuiteOver, TestFailed, TestPassed, TestSkipped}
+use Rattle.test_report_forms.specs.Entry.{EntryView, IsEntryOf}
 use Rattle.test_report_forms.specs.Github.{github_last, github_line}
 use Rattle.test_report_forms.specs.Html.{html_of}
 use Rattle.test_report_forms.specs.Junit.{junit_of}
 use Rattle.test_report_laws.specs.Forms.{failed_name}
-use Rattle.test_report_laws.specs.Lines.{SaysReason, github_block, notice, text_block}
+use Rattle.test_report_laws.specs.Lines.{HasCause, IsShortInLine, SaysReason, github_block, is_reason, list_block, notice, text_block}
 use Rattle.test_report_laws.specs.Junit.{HasJunitCase, IsXml, JunitCause, junit_cause, no_test_cause}
 use Rattle.test_report_forms.specs.Markdown.{markdown_of}
 use Rattle.test_report_forms.specs.Model.{cause_line}
@@ -69,15 +73,6 @@ SuccessMeans = (inputs : List InputView) → (entries : List EntryView) → (run
 
 -- What every outcome except `Success` means.
 
--- the entry says why a run does not succeed: a failed test, a disagreement, or a suite whose tests were not all run
-abbrev pub is_reason : EntryView → Bool
-is_reason (TestPassed t) = false
-is_reason (TestSkipped t) = false
-is_reason (TestFailed t f w) = true
-is_reason (LinesDisagree d) = true
-is_reason (SuiteNotRun suite n of) = true
-is_reason (SuiteOver s) = false
-
 -- If the outcome in a report is not `Success`, an entry says why, or no test ran.
 abbrev pub FailureHasReason : Type 0
 FailureHasReason = (inputs : List InputView) → (entries : List EntryView) → (run : RunState) → AreEntriesOf inputs entries run
@@ -109,11 +104,23 @@ pub record SaysNoTests (line : List ℕ → List ℕ) (end : RunEnd) (text : Lis
 abbrev pub NamesReason : (name line : List ℕ → List ℕ) → List EntryView → RunEnd → List ℕ → Type 0
 NamesReason name line entries end text = NamesTest name entries text ⊎ (HasLine line entries text ⊎ SaysNoTests line end text)
 
--- The report for people of a run that does not succeed names a reason in whole lines.
+-- the levels and displays of a report for people show failed tests when they end: their lines are written, or why they failed is shown at once
+abbrev pub shows_failures : Options → Bool
+shows_failures o = nat_le (level_rank level.Fail) (level_rank o.status_level) || is_immediate_display o.failure_output
+
+-- they list failed tests: the list at the end shows why they failed, or its level is at least theirs
+abbrev pub lists_failures : Options → Bool
+lists_failures o = is_final_display o.failure_output || nat_le (final_level_rank final.Fail) (final_level_rank o.final_status_level)
+
+-- a report for people shows the failed tests among these entries: when they end; or in the list, where each short reason is shown in one line
+abbrev pub ShowsFailures : Options → List EntryView → Type 0
+ShowsFailures o entries = IsTrue (shows_failures o) ⊎ (IsTrue (lists_failures o) × All (IsShortInLine o) entries)
+
+-- The report for people of a run that does not succeed names a reason in whole lines, if its levels and displays show or list failed tests.
 abbrev pub TextNamesReason : Type 0
 TextNamesReason = (o : Options) → (inputs : List InputView) → (text : List ℕ) → (end : RunEnd)
-    → (report : IsReport (text_line o) (text_last o) inputs text end) → ¬ (Succeeds end)
-    → SaysReason (text_block o) (codes "outcome no-tests-run") report.entries end text
+    → (report : IsReport (text_line o) (text_last o) inputs text end) → ¬ (Succeeds end) → ShowsFailures o report.entries
+    → SaysReason (text_block o) (codes "outcome no-tests-run") report.entries end text ⊎ HasCause (list_block o) report.entries text
 
 -- The report for GitHub of such a run names a reason.
 abbrev pub GithubNamesReason : Type 0

@@ -52,7 +52,7 @@ is_told (HasCrashed crash) = false
 -- the test failed, and a line says so
 abbrev pub fails_as_told : OutcomeView → Bool
 fails_as_told Passes = false
-fails_as_told IsSkipped = false
+fails_as_told (IsSkipped reason) = false
 fails_as_told (Fails failure) = is_told failure.kind
 
 -- the note is of a failed test whose line says that it failed
@@ -97,13 +97,13 @@ is_test rule (SuiteIs s) = false
 -- the test passed
 abbrev pub has_passed : OutcomeView → Bool
 has_passed Passes = true
-has_passed IsSkipped = false
+has_passed (IsSkipped reason) = false
 has_passed (Fails failure) = false
 
 -- the test was skipped
 abbrev pub was_skipped : OutcomeView → Bool
 was_skipped Passes = false
-was_skipped IsSkipped = true
+was_skipped (IsSkipped reason) = true
 was_skipped (Fails failure) = false
 
 -- the failure is of a test that ran out of time
@@ -125,7 +125,7 @@ is_crash (HasCrashed crash) = true
 -- the test failed, and this holds of the kind of its failure
 abbrev pub fails_by : (KindView → Bool) → OutcomeView → Bool
 fails_by rule Passes = false
-fails_by rule IsSkipped = false
+fails_by rule (IsSkipped reason) = false
 fails_by rule (Fails failure) = rule failure.kind
 
 -- how many tests passed

@@ -4,7 +4,7 @@ ghost use Rattle.test_report_laws.specs.Colours.{TextIsColoured};
 ghost use Rattle.test_report_laws.specs.Commands.{NamesHasNoCommands, OnlyCommands, TextHasNoCommands};
 ghost use Rattle.test_report_laws.specs.Forms.{GithubHasNoControls, HtmlHasNoControls, HtmlNamesCauses, HtmlReadsBack, HtmlSaysEnd, HtmlShowsItems, HtmlShowsPhrases, HtmlShowsValues, MarkdownHasNoControls, MarkdownKeepsMarks, MarkdownNamesCauses, MarkdownSaysEnd, MarkdownShowsPhrases, MarkdownShowsTests, MarkdownShowsValues, NamesAreLines, TextHasNoControls};
 ghost use Rattle.test_report_laws.specs.Json.{JsonHasNoCommands, JsonReadsBack};
-ghost use Rattle.test_report_laws.specs.Junit.{JunitHasCases, JunitHasNoControls, JunitNamesCauses, JunitReadsBack, JunitSaysNoTests};
+ghost use Rattle.test_report_laws.specs.Junit.{JunitHasCases, JunitHasNoControls, JunitNamesCauses, JunitReadsBack, JunitSaysNoTests, JunitSaysNotes};
 ghost use Rattle.test_report_laws.specs.Lines.{GithubNamesCauses, NamesNamesTests, ShortIsInLine, TextNamesCauses};
 
 /// Every line that the form for GitHub writes of entries of notes (`IsEntryOf`) is a command for an error or a
@@ -24,7 +24,7 @@ pub fn no_commands()
 /// Whatever the input has, no form but `json` writes control characters, except tabs and line feeds, or characters
 /// that change the direction of writing. For `text` this holds if `raw` and `color` are false: `raw`
 /// keeps these characters of the input, and colours use the control character ESC. If only `raw` is false, `text`
-/// writes no others than three fixed sequences for colours (`colours`). Without these the text is the one without
+/// writes no others than four fixed sequences for colours (`colours`). Without these the text is the one without
 /// colours. `names` writes each name on a line of its own, without tabs and line feeds in it. For `github` the
 /// entries must be those of notes (`IsEntryOf`), since the form writes the line number of a failure without escapes.
 pub fn no_controls()
@@ -44,12 +44,16 @@ pub fn no_controls()
 
 /// Every form but `names` names each reason why a run does not succeed.
 ///
-/// What `text` writes has, in the order of the entries, a line for each failed test, with its status, its time, its
-/// name and its attempts, and under it why it failed. It has a line for each disagreement, and for each suite whose
-/// tests were not all run. The last line is the outcome, which says if no test ran. The summary is the line after
-/// the last line of dashes, if each short reason is shown in one line, as those of notes are (`short`). `github`
-/// writes a command for each of these entries, and as the last line the one with the summary and the outcome.
-/// `names` writes the name of each failed test. These are whole lines.
+/// What `text` writes has, in the order of the entries, a line for each test that the levels show, with its status, its
+/// time and its name, and for a failed test its attempts and, if the options say so, under it why it failed. It has a
+/// line for each disagreement, with what explains a failure of cargo under it, and for each suite whose tests were not
+/// all run. The last line is the outcome, which says if no test ran. The summary is the line after the last line of
+/// dashes, if each short reason is shown in one line, as those of notes are (`short`), and if each line of the reasons
+/// that the list shows is shown in one line. The list at the end has, in the order of the entries, a line with the short
+/// reason for each failed test that the levels list, if each short reason is shown in one line, and under it why it
+/// failed, if the options say so. `github` writes a command for each failed test and each of these lines, and as the
+/// last line the one with the summary and the outcome. `names` writes the name of each failed test. These are whole
+/// lines.
 ///
 /// What `html` and `markdown` write has the name of each failed test, the line of each disagreement, the line of each
 /// suite whose tests were not all run, and the outcome.
@@ -102,6 +106,18 @@ pub fn junit_has_cases()
     documents_read_back();
 }
 
+/// The tree of `junit` says exactly the notes of a run. It has one test case for each test that passed, was skipped or
+/// failed, for each contradiction and for each suite whose tests were not all run, and one if no test ran and that is a
+/// failure. There are no others. The suites with a name have those of this name, in order. Each test case has the elements
+/// of its kind and no others: a failure or an error, that the test was skipped, its attempts that failed, and its output.
+/// The numbers of a suite and of the run are the numbers of their test cases.
+pub fn junit_says_notes()
+    ensures { JunitSaysNotes }
+{
+    documents_read_back();
+    test_report_forms::laws::junit_says_entries();
+}
+
 /// The summary of `markdown` has a heading with the outcome, and the numbers of the run with the word for each (`end`).
 /// It has each phrase of its template (`markdown_phrases`), with the values in their places, and every value of the
 /// report that its template has a place for (`markdown_holes`). It has a row and details for each failed test, as its
@@ -124,7 +140,7 @@ pub fn markdown_shows()
 /// What `junit` and `html` write is a header and a text that reads back as one tree: that of the template with the
 /// values as data. XML has a place for each character of this text: control characters, U+FFFE and U+FFFF are replaced. So whatever the lines of a run hold, they end no element and begin none. In the tree of `junit` the
 /// elements are one for each suite, in order, and in it one for each of its test cases, in order, with the numbers of
-/// test cases, names, times, reasons and output of these. No element has an attribute twice.
+/// test cases, names, classes, times, places, reasons and output of these. No element has an attribute twice.
 pub fn documents_read_back()
     ensures junit { JunitReadsBack }
     ensures html { HtmlReadsBack }

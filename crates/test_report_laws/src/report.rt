@@ -28,9 +28,10 @@ pub fn success_means()
 /// Says what every outcome except `Success` means. If the outcome in a report is not `Success`, an entry is of a
 /// failed test, of a disagreement, or of a suite whose tests were not all run; or no test ran. Then `text` and
 /// `github` have the whole line of such an entry, as in `forms::names_causes`, or their last line says that no test
-/// ran. `html` and `markdown` have the name of a failed test, or the line of a disagreement or of such a suite, or
-/// say that no test ran. `junit` has a test case that says one of these, unless no test ran and `no_tests_pass` is
-/// true.
+/// ran. For `text` this holds if its levels and displays show failed tests (`ShowsFailures`): when they end, or in the
+/// list, if each short reason is shown in one line, as those of notes are. The line of a failed test is then that of the
+/// list. `html` and `markdown` have the name of a failed test, or the line of a disagreement or of such a suite, or say
+/// that no test ran. `junit` has a test case that says one of these, unless no test ran and `no_tests_pass` is true.
 pub fn failure_has_reason()
     ensures reason { FailureHasReason }
     ensures text { TextNamesReason }
