@@ -5,6 +5,8 @@ use crate::size::Size;
 use crate::timing::{Step, Work};
 use bstr::ByteSlice;
 use program_io::memory_device::{MemorySink, MemorySource};
+use run_events_levels::levels::{FinalStatusLevel, StatusLevel};
+use run_events_settings::config::TestOutputDisplay;
 use serde_json::Value;
 use std::alloc::{AllocError, Global};
 use std::fmt::Write;
@@ -19,6 +21,10 @@ const OPTIONS: Options = Options {
     output: OutputDisplay::Auto,
     raw: false,
     color: false,
+    status_level: StatusLevel::Fail,
+    final_status_level: FinalStatusLevel::Slow,
+    failure_output: TestOutputDisplay::Immediate,
+    slowest: 0,
     no_tests_pass: false,
 };
 

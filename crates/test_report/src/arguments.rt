@@ -1,6 +1,8 @@
 //! The arguments of the program.
 
 use clap::{Arg, ArgAction, ArgMatches, Command, value_parser};
+use run_events_levels::levels::{FinalStatusLevel, StatusLevel};
+use run_events_settings::config::TestOutputDisplay;
 use std::alloc::{AllocError, Global};
 use test_report_forms::options::{Options, OutputDisplay};
 
@@ -9,6 +11,19 @@ const LIMIT: usize = 4_096;
 
 /// The values of `--output`.
 const DISPLAYS: &[&str] = &["auto", "short", "whole"];
+
+/// The values of `--status-level`. The second is the default.
+const STATUS_LEVELS: &[&str] = &[
+    "none", "fail", "retry", "slow", "leak", "pass", "skip", "all",
+];
+
+/// The values of `--final-status-level`. `retry` is another name of `flaky`.
+const FINAL_STATUS_LEVELS: &[&str] = &[
+    "none", "fail", "flaky", "retry", "slow", "skip", "leak", "pass", "all",
+];
+
+/// The values of `--failure-output`.
+const OUTPUT_DISPLAYS: &[&str] = &["immediate", "immediate-final", "final", "never"];
 
 /// The values of `--format`.
 const FORMS: &[&str] = &[
@@ -51,15 +66,6 @@ pub(crate) fn command<'a>(alloc: Global) -> Result<Command<'a>, AllocError> {
         .value_name("FILE")
         .num_args(0..)
         .help("The JSON lines of the run, in one file or several; standard input if absent or `-`");
-    let limit = Arg::new(alloc, "limit")
-        .long("limit")
-        .value_name("BYTES")
-        .value_parser(value_parser!(usize))
-        .help("Show at most BYTES bytes of the reason of each failed test [default: 4096]");
-    let raw = Arg::new(alloc, "raw")
-        .long("raw")
-        .action(ArgAction::SetTrue)
-        .help("Print control characters in reasons as the tests wrote them, in the form `text`");
     let command = Command::new(alloc, "test-report")
         .version("0.1.0")
         .about("Reports which tests of a run failed, and why, from the JSON output of the run")
@@ -79,7 +85,27 @@ pub(crate) fn command<'a>(alloc: Global) -> Result<Command<'a>, AllocError> {
         ))?
         .arg(choice(alloc, "no-tests", "ACTION", ACTIONS).help(
             "Whether the exit status is 1 (`fail`) or 0 (`pass`) if no test ran and nothing else is wrong",
-        ))?
+        ))?;
+    Ok(with_display(alloc, command)?.after_help(AFTER_HELP))
+}
+
+/// Adds the options that say how the report is shown.
+fn with_display<'a>(alloc: Global, command: Command<'a>) -> Result<Command<'a>, AllocError> {
+    let limit = Arg::new(alloc, "limit")
+        .long("limit")
+        .value_name("BYTES")
+        .value_parser(value_parser!(usize))
+        .help("Show at most BYTES bytes of the reason of each failed test [default: 4096]");
+    let slowest = Arg::new(alloc, "slowest")
+        .long("slowest")
+        .value_name("N")
+        .value_parser(value_parser!(usize))
+        .help("List the N slowest tests, too, at the end of the form `text` [default: 0]");
+    let raw = Arg::new(alloc, "raw")
+        .long("raw")
+        .action(ArgAction::SetTrue)
+        .help("Print control characters in reasons as the tests wrote them, in the form `text`");
+    command
         .arg(choice(alloc, "color", "WHEN", TIMES).help(
             "Colour words such as FAIL; `auto` does so if standard output is a terminal and NO_COLOR is absent or empty",
         ))?
@@ -89,12 +115,21 @@ pub(crate) fn command<'a>(alloc: Global) -> Result<Command<'a>, AllocError> {
         .arg(choice(alloc, "others", "WHEN", TIMES).help(
             "Write the lines that are no events to standard error; `auto` does so for standard input, and not for files",
         ))?
+        .arg(level(alloc, "status-level", STATUS_LEVELS, "fail").help(
+            "Write a line for each test of this level or a more important one when it ends, in the form `text`",
+        ))?
+        .arg(level(alloc, "final-status-level", FINAL_STATUS_LEVELS, "slow").help(
+            "List the tests of this level and of more important ones at the end of the form `text`",
+        ))?
+        .arg(choice(alloc, "failure-output", "WHEN", OUTPUT_DISPLAYS).help(
+            "When the form `text` shows why tests failed: when they end, in the list at the end, both, or never",
+        ))?
+        .arg(slowest)?
         .arg(limit)?
         .arg(choice(alloc, "output", "HOW", DISPLAYS).help(
             "How much of a failed test's output is shown: the part that explains the failure (`short`), all (`whole`), or all if that is within the limit",
         ))?
-        .arg(raw)?;
-    Ok(command.after_help(AFTER_HELP))
+        .arg(raw)
 }
 
 /// Returns an option that takes one of these values. The first is the default.
@@ -104,6 +139,15 @@ fn choice<'a>(alloc: Global, name: &'a str, value: &'a str, values: &'a [&'a str
         .long(name)
         .value_name(value)
         .value_parser(values)
+        .default_value(default)
+}
+
+/// Returns an option that takes a level, which has this default.
+fn level<'a>(alloc: Global, name: &'a str, levels: &'a [&'a str], default: &'a str) -> Arg<'a> {
+    Arg::new(alloc, name)
+        .long(name)
+        .value_name("LEVEL")
+        .value_parser(levels)
         .default_value(default)
 }
 
@@ -118,6 +162,44 @@ fn output_of(matches: &ArgMatches<'_>) -> OutputDisplay {
         Some("short") => OutputDisplay::Short,
         Some("whole") => OutputDisplay::Whole,
         _ => OutputDisplay::Auto,
+    }
+}
+
+/// Returns the level of the tests that have a line when they end.
+fn status_level_of(matches: &ArgMatches<'_>) -> StatusLevel {
+    match matches.get_str("status-level") {
+        Some("none") => StatusLevel::None,
+        Some("retry") => StatusLevel::Retry,
+        Some("slow") => StatusLevel::Slow,
+        Some("leak") => StatusLevel::Leak,
+        Some("pass") => StatusLevel::Pass,
+        Some("skip") => StatusLevel::Skip,
+        Some("all") => StatusLevel::All,
+        _ => StatusLevel::Fail,
+    }
+}
+
+/// Returns the level of the tests that are listed at the end.
+fn final_status_level_of(matches: &ArgMatches<'_>) -> FinalStatusLevel {
+    match matches.get_str("final-status-level") {
+        Some("none") => FinalStatusLevel::None,
+        Some("fail") => FinalStatusLevel::Fail,
+        Some("flaky") | Some("retry") => FinalStatusLevel::Flaky,
+        Some("skip") => FinalStatusLevel::Skip,
+        Some("leak") => FinalStatusLevel::Leak,
+        Some("pass") => FinalStatusLevel::Pass,
+        Some("all") => FinalStatusLevel::All,
+        _ => FinalStatusLevel::Slow,
+    }
+}
+
+/// Returns when it is shown why tests failed.
+fn failure_output_of(matches: &ArgMatches<'_>) -> TestOutputDisplay {
+    match matches.get_str("failure-output") {
+        Some("immediate-final") => TestOutputDisplay::ImmediateFinal,
+        Some("final") => TestOutputDisplay::Final,
+        Some("never") => TestOutputDisplay::Never,
+        _ => TestOutputDisplay::Immediate,
     }
 }
 
@@ -152,6 +234,10 @@ pub(crate) fn options_of(matches: &ArgMatches<'_>, colors: bool) -> Options {
             Some("never") => false,
             _ => colors,
         },
+        status_level: status_level_of(matches),
+        final_status_level: final_status_level_of(matches),
+        failure_output: failure_output_of(matches),
+        slowest: matches.get_one::<usize>("slowest").unwrap_or(0),
         no_tests_pass: matches.get_str("no-tests") == Some("pass"),
     }
 }

@@ -7,6 +7,8 @@ use crate::of_test_report_forms::text_of_note;
 use crate::of_test_report_laws::succeeds_in_order;
 use crate::of_test_report_run::end_of_lines;
 use program_io::memory_device::{MemorySink, MemorySource};
+use run_events_levels::levels::{FinalStatusLevel, StatusLevel};
+use run_events_settings::config::TestOutputDisplay;
 use std::{io, str};
 use test_report_forms::options::{Options, OutputDisplay};
 use test_report_run::note::{Disagreement, Note};
@@ -16,6 +18,10 @@ const OPTIONS: Options = Options {
     output: OutputDisplay::Auto,
     raw: false,
     color: false,
+    status_level: StatusLevel::Fail,
+    final_status_level: FinalStatusLevel::Slow,
+    failure_output: TestOutputDisplay::Immediate,
+    slowest: 0,
     no_tests_pass: false,
 };
 

@@ -25,6 +25,19 @@ const FORMS: [&str; 7] = [
     "text", "github", "names", "junit", "html", "markdown", "json",
 ];
 
+/// The values of `--status-level`.
+const STATUS_LEVELS: [&str; 8] = [
+    "none", "fail", "retry", "slow", "leak", "pass", "skip", "all",
+];
+
+/// The values of `--final-status-level`. `retry` is another name of `flaky`.
+const FINAL_STATUS_LEVELS: [&str; 9] = [
+    "none", "fail", "flaky", "retry", "slow", "skip", "leak", "pass", "all",
+];
+
+/// The values of `--failure-output`.
+const OUTPUT_DISPLAYS: [&str; 4] = ["immediate", "immediate-final", "final", "never"];
+
 /// The groups of options in `--help`.
 const FORMS_HEADING: &str = "Forms and files";
 const STATUS_HEADING: &str = "Result";
@@ -144,6 +157,26 @@ fn with_options(command: Command) -> Command {
         .arg(
             choice("others", "WHEN", "auto", ["auto", "always", "never"])
                 .help("Write the lines that are no events to standard error; `auto` does so for standard input, and not for files"),
+        )
+        .arg(
+            choice("status-level", "LEVEL", "fail", STATUS_LEVELS)
+                .help("Write a line for each test of this level or a more important one when it ends, in the form `text`"),
+        )
+        .arg(
+            choice("final-status-level", "LEVEL", "slow", FINAL_STATUS_LEVELS)
+                .help("List the tests of this level and of more important ones at the end of the form `text`"),
+        )
+        .arg(
+            choice("failure-output", "WHEN", "immediate", OUTPUT_DISPLAYS)
+                .help("When the form `text` shows why tests failed: when they end, in the list at the end, both, or never"),
+        )
+        .arg(
+            Arg::new("slowest")
+                .long("slowest")
+                .value_name("N")
+                .value_parser(value_parser!(usize))
+                .value_hint(ValueHint::Other)
+                .help("List the N slowest tests, too, at the end of the form `text` [default: 0]"),
         )
         .arg(
             Arg::new("limit")

@@ -24,6 +24,7 @@ use crate::test_report_forms::names::NamesForm;
 use crate::test_report_forms::options::{Options, OutputDisplay};
 use crate::test_report_forms::text::TextForm;
 use clap::{ArgMatches, Command};
+use deodarsieve::{FinalStatusLevel, StatusLevel, TestOutputDisplay};
 use std::cell::RefCell;
 use std::env;
 use std::ffi::OsString;
@@ -65,7 +66,49 @@ fn options_of(matches: &ArgMatches) -> Options {
             "never" => false,
             _ => io::stdout().is_terminal() && !is_set("NO_COLOR"),
         },
+        status_level: status_level_of(matches),
+        final_status_level: final_status_level_of(matches),
+        failure_output: failure_output_of(matches),
+        slowest: matches.get_one("slowest").copied().unwrap_or(0),
         no_tests_pass: value(matches, "no-tests") == "pass",
+    }
+}
+
+/// Returns the level of the tests that have a line when they end.
+fn status_level_of(matches: &ArgMatches) -> StatusLevel {
+    match value(matches, "status-level") {
+        "none" => StatusLevel::None,
+        "retry" => StatusLevel::Retry,
+        "slow" => StatusLevel::Slow,
+        "leak" => StatusLevel::Leak,
+        "pass" => StatusLevel::Pass,
+        "skip" => StatusLevel::Skip,
+        "all" => StatusLevel::All,
+        _ => StatusLevel::Fail,
+    }
+}
+
+/// Returns the level of the tests that are listed at the end.
+fn final_status_level_of(matches: &ArgMatches) -> FinalStatusLevel {
+    match value(matches, "final-status-level") {
+        "none" => FinalStatusLevel::None,
+        "fail" => FinalStatusLevel::Fail,
+        "flaky" | "retry" => FinalStatusLevel::Flaky,
+        "skip" => FinalStatusLevel::Skip,
+        "leak" => FinalStatusLevel::Leak,
+        "pass" => FinalStatusLevel::Pass,
+        "all" => FinalStatusLevel::All,
+        _ => FinalStatusLevel::Slow,
+    }
+}
+
+/// Returns when it is shown why tests failed.
+fn failure_output_of(matches: &ArgMatches) -> TestOutputDisplay {
+    match value(matches, "failure-output") {
+        "immediate-final" => TestOutputDisplay::ImmediateFinal,
+        "final" => TestOutputDisplay::Final,
+        "never" => TestOutputDisplay::Never,
+        _ => TestOutputDisplay::Immediate,
     }
 }
 

@@ -130,7 +130,8 @@ fn nothing_is_compiled_again_and_documentation_tests_are_run() {
     let output = run_in(&folder.0, Command::new(env!("CARGO")).arg("test"));
     assert_nothing_compiled(&output);
     assert_eq!(builds(&folder), 1);
-    let output = report(&folder, &["--", env!("CARGO"), "test"]);
+    let arguments = ["--final-status-level", "pass", "--", env!("CARGO"), "test"];
+    let output = report(&folder, &arguments);
     let text = String::from_utf8_lossy(&output.stdout);
     let summary = " 6 tests run: 4 passed (0 flaky), 2 failed (0 timed out, 1 crashed), ";
     assert!(text.contains(summary), "{text}");

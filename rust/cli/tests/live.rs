@@ -38,7 +38,7 @@ fn a_failure_is_written_while_the_input_is_open() {
         ("text", "FAIL suite 1 adds\n"),
         (
             "github",
-            "::error title=suite 1 adds::Error: no such currency\n",
+            "::error title=suite 1 adds::suite 1 adds%0AError: no such currency\n",
         ),
         ("names", "adds\n"),
     ];

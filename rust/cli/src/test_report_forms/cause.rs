@@ -3,7 +3,8 @@
 
 use crate::test_report_events::event::TestResult;
 use crate::test_report_forms::entry::Entry;
-use crate::test_report_forms::shown::{push_line, push_name, push_name_and_space};
+use crate::test_report_forms::junit_case::text_of;
+use crate::test_report_forms::shown::{push_line, push_name, push_name_and_space, push_text};
 use crate::test_report_run::note::{CommandEnd, Disagreement, NotRun, SaidNumbers};
 
 /// A disagreement, or a suite whose tests were not all run.
@@ -17,18 +18,54 @@ pub(crate) struct Cause<'a> {
 
     /// The line of the report.
     pub(crate) line: String,
+
+    /// What explains the cause, if anything does.
+    pub(crate) why: Option<&'a str>,
+}
+
+/// A problem of the run: a cause as it is shown, or that no test ran.
+#[derive(Clone)]
+pub(crate) struct Problem {
+    /// The line of the report.
+    pub(crate) line: String,
+
+    /// What explains the problem, if anything does.
+    pub(crate) why: Option<String>,
+}
+
+impl Problem {
+    /// Returns a cause as it is shown.
+    pub(crate) fn of(cause: Cause<'_>) -> Problem {
+        Problem {
+            why: shown_reason(cause.why),
+            line: cause.line,
+        }
+    }
+}
+
+/// Returns what explains a cause as it is shown, or `None` if nothing does.
+pub(crate) fn shown_reason(why: Option<&str>) -> Option<String> {
+    match why {
+        Some(why) => {
+            let mut shown = String::new();
+            push_text(&mut shown, why, false);
+            Some(shown)
+        }
+        None => None,
+    }
 }
 
 /// Returns the cause of an entry, or `None` if it has none.
-pub(crate) fn cause_of<'a>(entry: &Entry<'a>) -> Option<Cause<'a>> {
+pub(crate) fn cause_of<'a>(entry: &'a Entry<'_>) -> Option<Cause<'a>> {
     let mut line = String::new();
     match entry {
-        Entry::Disagreement(disagreement) => {
+        Entry::Disagreement { disagreement, why } => {
             push_disagreement(&mut line, disagreement);
             Some(Cause {
                 suite: suite_of(disagreement),
                 kind: "disagreement",
                 line,
+                why: text_of(why),
             })
         }
         Entry::NotRun(not_run) => {
@@ -37,6 +74,7 @@ pub(crate) fn cause_of<'a>(entry: &Entry<'a>) -> Option<Cause<'a>> {
                 suite: Some(not_run.suite.as_str()),
                 kind: "not run",
                 line,
+                why: None,
             })
         }
         Entry::Passed(_) | Entry::Skipped(_) | Entry::Failed { .. } | Entry::Suite(_) => None,

@@ -1,12 +1,14 @@
 // Made by tools/erase from crates/test_report_forms/src/entry.rt. Do not edit.
 //! Entries: what the forms take.
 
+use crate::test_report_forms::cargo_why::reason_of;
 use crate::test_report_forms::why::Why;
 use crate::test_report_run::note::{
     Disagreement, Failure, NotRun, Note, SuiteNote, TestNote, TestOutcome,
 };
 
-/// A note of a run. That of a failed test has why the test failed, too.
+/// A note of a run. That of a failed test has why the test failed, too, and that of a failure of cargo what explains
+/// it.
 #[derive(Clone)]
 pub enum Entry<'a> {
     /// A test passed.
@@ -28,7 +30,13 @@ pub enum Entry<'a> {
     },
 
     /// The lines of the run contradict each other.
-    Disagreement(&'a Disagreement),
+    Disagreement {
+        /// The disagreement.
+        disagreement: &'a Disagreement,
+
+        /// What explains it, if it is a failure of cargo and anything does.
+        why: Option<String>,
+    },
 
     /// Some tests of a suite were not run.
     NotRun(&'a NotRun),
@@ -43,14 +51,17 @@ impl<'a> Entry<'a> {
         match note {
             Note::Test(test) => match &test.outcome {
                 TestOutcome::Passed => Entry::Passed(test),
-                TestOutcome::Skipped => Entry::Skipped(test),
+                TestOutcome::Skipped { .. } => Entry::Skipped(test),
                 TestOutcome::Failed(failure) => Entry::Failed {
                     test,
                     failure,
                     why: Why::of(test, failure),
                 },
             },
-            Note::Disagreement(disagreement) => Entry::Disagreement(disagreement),
+            Note::Disagreement(disagreement) => Entry::Disagreement {
+                disagreement,
+                why: reason_of(disagreement),
+            },
             Note::NotRun(not_run) => Entry::NotRun(not_run),
             Note::Suite(suite) => Entry::Suite(suite),
         }

@@ -25,7 +25,7 @@ pub(crate) struct Found<'a> {
 #[derive(Clone, Copy)]
 pub struct Explanation<'a> {
     /// All of it. If several threads panicked, it begins with the first head of a panic.
-    whole: &'a [u8],
+    pub(crate) whole: &'a [u8],
 
     /// What comes before the slice.
     front: &'a [u8],

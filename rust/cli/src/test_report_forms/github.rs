@@ -1,12 +1,12 @@
 // Made by tools/erase from crates/test_report_forms/src/github.rt. Do not edit.
 //! The form for the log of a workflow on GitHub.
 
-use crate::test_report_forms::cause::cause_of;
+use crate::test_report_forms::cause::{Cause, cause_of};
 use crate::test_report_forms::entry::Entry;
 use crate::test_report_forms::form::Form;
 use crate::test_report_forms::options::Options;
 use crate::test_report_forms::place::Place;
-use crate::test_report_forms::shown::push_line;
+use crate::test_report_forms::shown::{push_line, push_text};
 use crate::test_report_forms::shown_why::{ShownWhy, push_why, shown_why};
 use crate::test_report_forms::summary::{outcome_text, push_summary};
 use crate::test_report_forms::title::push_title;
@@ -33,15 +33,25 @@ impl GithubForm {
         text.push_str("::error ");
         push_properties(text, &why.place);
         push_title_property(text, test);
-        push_message(text, &shown, self.options.limit);
+        push_message(text, test, &shown, self.options.limit);
     }
 }
 
 /// Appends the annotation of the cause of an entry. Appends nothing if it has none.
-fn push_cause(entry: &Entry<'_>, text: &mut String) {
+fn push_cause_of(entry: &Entry<'_>, text: &mut String) {
     if let Some(cause) = cause_of(entry) {
-        push_error(text, cause.line.as_str())
+        push_cause(text, cause)
     }
+}
+
+/// Appends the annotation of a cause: its line, and what explains the cause.
+fn push_cause(text: &mut String, cause: Cause<'_>) {
+    let mut message = cause.line;
+    if let Some(why) = cause.why {
+        message.push('\n');
+        push_text(&mut message, why, false);
+    }
+    push_error(text, message.as_str());
 }
 
 /// Appends an annotation without a place.
@@ -59,9 +69,11 @@ fn push_title_property(text: &mut String, test: &TestNote) {
     push_property(text, title.as_str());
 }
 
-/// Appends the message that says why a test failed.
-fn push_message(text: &mut String, why: &ShownWhy, limit: usize) {
+/// Appends the message with the name of a failed test, and why it failed.
+fn push_message(text: &mut String, test: &TestNote, why: &ShownWhy, limit: usize) {
     let mut shown = String::new();
+    push_title(&mut shown, test);
+    shown.push('\n');
     push_why(&mut shown, why, limit);
     text.push_str("::");
     push_data(text, shown.as_str());
@@ -76,9 +88,9 @@ impl Form for GithubForm {
             }
             Entry::Passed(_)
             | Entry::Skipped(_)
-            | Entry::Disagreement(_)
+            | Entry::Disagreement { .. }
             | Entry::NotRun(_)
-            | Entry::Suite(_) => push_cause(entry, text),
+            | Entry::Suite(_) => push_cause_of(entry, text),
         }
     }
 

@@ -48,7 +48,7 @@ impl JsonForm {
                 let json = failed_json(test, failure, why, self.options);
                 self.add(&test.suite, json);
             }
-            Entry::Disagreement(_) | Entry::NotRun(_) => self.on_cause(entry),
+            Entry::Disagreement { .. } | Entry::NotRun(_) => self.on_cause(entry),
             Entry::Suite(suite) => self.on_suite(suite),
         }
     }

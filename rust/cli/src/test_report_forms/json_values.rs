@@ -126,6 +126,7 @@ pub(crate) fn problem_json(cause: &Cause<'_>) -> String {
     object.text("kind", cause.kind);
     object.option("suite", cause.suite);
     object.text("line", cause.line.as_str());
+    object.option("why", cause.why);
     object.into_json()
 }
 

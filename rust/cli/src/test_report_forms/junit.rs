@@ -53,7 +53,7 @@ impl JunitForm {
                 let case = Case::failed(test, failure, why, self.options);
                 self.add(text_of(&test.suite), case);
             }
-            Entry::Disagreement(_) | Entry::NotRun(_) => self.on_cause(entry),
+            Entry::Disagreement { .. } | Entry::NotRun(_) => self.on_cause(entry),
             Entry::Suite(suite) => self.on_suite(suite),
         }
     }
@@ -67,8 +67,8 @@ impl JunitForm {
 
     /// Adds the test case of a cause.
     fn add_cause(&mut self, cause: Cause<'_>) {
-        let Cause { suite, kind, line } = cause;
-        let case = Case::problem(line, kind);
+        let suite = cause.suite;
+        let case = Case::of_cause(cause);
         match suite {
             Some(suite) => self.add(Some(suite), case),
             None => {
@@ -124,7 +124,7 @@ impl JunitForm {
 /// Adds a test case that says that no test ran.
 fn with_no_tests(mut own: Vec<Case>) -> Vec<Case> {
     let line = String::from(NO_TESTS);
-    own.push(Case::problem(line, "no tests"));
+    own.push(Case::problem(line, "no tests", String::new()));
     own
 }
 

@@ -1,17 +1,22 @@
 // Made by tools/erase from crates/test_report_forms/src/junit_case.rt. Do not edit.
 //! The test cases of JUnit's XML.
 
+use crate::test_report_forms::cause::{Cause, shown_reason};
 use crate::test_report_forms::failed_test::{FailedTest, shown_failure};
 use crate::test_report_forms::lines::without_returns;
 use crate::test_report_forms::model::suite_name;
 use crate::test_report_forms::options::Options;
-use crate::test_report_forms::shown::push_name;
+use crate::test_report_forms::place::Place;
+use crate::test_report_forms::shown::{push_line, push_name, push_text};
 use crate::test_report_forms::title::shown_name;
 use crate::test_report_forms::why::Why;
-use crate::test_report_run::note::{Failure, FailureKind, TestNote};
+use crate::test_report_run::note::{Failure, FailureKind, TestNote, TestOutcome};
 
 /// The name of the run, and of the suite of causes that name no suite.
 pub(crate) const OWN_NAME: &str = "test-report";
+
+/// The most attempts that failed which a test case has.
+const MOST_ATTEMPTS: usize = 20;
 
 /// A test case. In its texts control characters are already escapes.
 #[derive(Clone)]
@@ -19,14 +24,27 @@ pub(crate) struct Case {
     /// Its name.
     pub(crate) name: String,
 
-    /// The name of its suite.
-    pub(crate) suite: String,
+    /// Its class: the name of its suite, in which `.` is written as `_`.
+    pub(crate) class: String,
 
     /// The time that the test took, in microseconds.
     pub(crate) time: Option<u64>,
 
+    /// The place in the sources, if the test failed and its place is known.
+    pub(crate) place: Option<CasePlace>,
+
     /// Its kind.
     pub(crate) kind: CaseKind,
+}
+
+/// A place in the sources.
+#[derive(Clone)]
+pub(crate) struct CasePlace {
+    /// The file.
+    pub(crate) file: String,
+
+    /// The number of the line, in decimal digits.
+    pub(crate) line: String,
 }
 
 /// The kinds of test cases.
@@ -35,8 +53,8 @@ pub(crate) enum CaseKind {
     /// The test passed after this number of attempts that failed.
     Passed(usize),
 
-    /// The test was skipped.
-    Skipped,
+    /// The test was skipped, for a reason if its line has one.
+    Skipped(Option<String>),
 
     /// The test failed, or the test case is of a problem of the run.
     Failed(Reason),
@@ -63,23 +81,27 @@ pub(crate) struct Reason {
 
 impl Case {
     /// Returns the test case of a test.
-    fn of_test(test: &TestNote, kind: CaseKind) -> Case {
+    fn of_test(test: &TestNote, place: Option<CasePlace>, kind: CaseKind) -> Case {
+        let suite = suite_name(text_of(&test.suite));
         Case {
             name: name_text(shown_name(test)),
-            suite: suite_name(text_of(&test.suite)),
+            class: class_name(suite.as_str()),
             time: test.time,
+            place,
             kind,
         }
     }
 
     /// Returns the test case of a test that passed.
     pub(crate) fn passed(test: &TestNote) -> Case {
-        Case::of_test(test, CaseKind::Passed(test.attempts.saturating_sub(1)))
+        let failed = test.attempts.saturating_sub(1).min(MOST_ATTEMPTS);
+        Case::of_test(test, None, CaseKind::Passed(failed))
     }
 
     /// Returns the test case of a test that was skipped.
     pub(crate) fn skipped(test: &TestNote) -> Case {
-        Case::of_test(test, CaseKind::Skipped)
+        let reason = whole_text(skip_reason(&test.outcome));
+        Case::of_test(test, None, CaseKind::Skipped(reason))
     }
 
     /// Returns the test case of a test that failed, with its output.
@@ -89,30 +111,38 @@ impl Case {
         why: &Why<'_>,
         options: Options,
     ) -> Case {
+        let place = shown_place(why.place);
         let FailedTest { short, why, .. } = shown_failure(test, failure, why, options);
         let reason = Reason {
             is_error: is_error(&failure.kind),
             message: short,
             type_of: type_of(&failure.kind),
             why,
-            output: output_text(text_of(&failure.stdout)),
+            output: whole_text(text_of(&failure.stdout)),
         };
-        Case::of_test(test, CaseKind::Failed(reason))
+        Case::of_test(test, place, CaseKind::Failed(reason))
     }
 
-    /// Returns the test case of a problem of the run. Its line is its name.
-    pub(crate) fn problem(line: String, type_of: &'static str) -> Case {
+    /// Returns the test case of a cause.
+    pub(crate) fn of_cause(cause: Cause<'_>) -> Case {
+        let why = shown_reason(cause.why).unwrap_or_default();
+        Case::problem(cause.line, cause.kind, why)
+    }
+
+    /// Returns the test case of a problem of the run. Its line is its name, and `why` explains it.
+    pub(crate) fn problem(line: String, type_of: &'static str, why: String) -> Case {
         let reason = Reason {
             is_error: true,
             message: String::from(line.as_str()),
             type_of,
-            why: String::new(),
+            why,
             output: None,
         };
         Case {
             name: line,
-            suite: String::from(OWN_NAME),
+            class: String::from(OWN_NAME),
             time: None,
+            place: None,
             kind: CaseKind::Failed(reason),
         }
     }
@@ -121,7 +151,7 @@ impl Case {
     pub(crate) fn has_failure(&self) -> bool {
         match &self.kind {
             CaseKind::Failed(reason) => !reason.is_error,
-            CaseKind::Passed(_) | CaseKind::Skipped => false,
+            CaseKind::Passed(_) | CaseKind::Skipped(_) => false,
         }
     }
 
@@ -129,14 +159,14 @@ impl Case {
     pub(crate) fn has_error(&self) -> bool {
         match &self.kind {
             CaseKind::Failed(reason) => reason.is_error,
-            CaseKind::Passed(_) | CaseKind::Skipped => false,
+            CaseKind::Passed(_) | CaseKind::Skipped(_) => false,
         }
     }
 
     /// Returns true for a test case that was skipped.
     pub(crate) fn is_skipped(&self) -> bool {
         match &self.kind {
-            CaseKind::Skipped => true,
+            CaseKind::Skipped(_) => true,
             CaseKind::Passed(_) | CaseKind::Failed(_) => false,
         }
     }
@@ -149,9 +179,48 @@ fn name_text(name: &str) -> String {
     text
 }
 
-/// Returns the output of a test, in which each line ends with a line feed alone.
-fn output_text(stdout: Option<&str>) -> Option<String> {
-    stdout.map(without_returns)
+/// Returns the class of the test cases of a suite by the name of the suite: each `.` is written as `_`. Readers take what
+/// is before the last `.` for a package.
+fn class_name(name: &str) -> String {
+    name.replace(".", "_")
+}
+
+/// Returns a text of the input whole, as it is shown, or `None` if there is none.
+fn whole_text(text: Option<&str>) -> Option<String> {
+    text.map(shown_whole)
+}
+
+/// Returns a text as it is shown, without the carriage returns that are right before a line feed.
+fn shown_whole(text: &str) -> String {
+    let lines = without_returns(text);
+    let mut shown = String::new();
+    push_text(&mut shown, lines.as_str(), false);
+    shown
+}
+
+/// Returns why a test was skipped, if its line says so.
+fn skip_reason(outcome: &TestOutcome) -> Option<&str> {
+    match outcome {
+        TestOutcome::Skipped { reason } => text_of(reason),
+        TestOutcome::Passed | TestOutcome::Failed(_) => None,
+    }
+}
+
+/// Returns a place as it is shown, or `None` if it is not known.
+fn shown_place(place: Option<Place<'_>>) -> Option<CasePlace> {
+    place.map(CasePlace::of)
+}
+
+impl CasePlace {
+    /// Returns a place as it is shown.
+    fn of(place: Place<'_>) -> CasePlace {
+        let mut file = String::new();
+        push_line(&mut file, place.file);
+        CasePlace {
+            file,
+            line: String::from(place.line),
+        }
+    }
 }
 
 /// Returns true if a test that failed in this way has an error, and not a failure.

@@ -5,13 +5,15 @@
 /// quoted attribute. A line feed is before the first element in a test case, so a test that passed is one line.
 pub(crate) const JUNIT: &str = r#"<testsuites name="test-report" tests="{{tests}}" failures="{{failures}}" errors="{{errors}}"{{#time}} time="{{seconds}}"{{/time}}>
 {{#suite}}<testsuite name="{{name}}" tests="{{tests}}" failures="{{failures}}" errors="{{errors}}" skipped="{{skipped}}"{{#time}} time="{{seconds}}"{{/time}}>
-{{#case}}<testcase name="{{name}}" classname="{{suite}}"{{#time}} time="{{seconds}}"{{/time}}>{{#failure}}
+{{#case}}<testcase name="{{name}}" classname="{{class}}"{{#time}} time="{{seconds}}"{{/time}}{{#place}} file="{{file}}" line="{{line}}"{{/place}}>{{#failure}}
 <failure message="{{message}}" type="{{type}}">{{why}}</failure>
 {{/failure}}{{#error}}
 <error message="{{message}}" type="{{type}}">{{why}}</error>
 {{/error}}{{#skipped}}
 <skipped/>
-{{/skipped}}{{#flaky}}
+{{/skipped}}{{#reason}}
+<skipped message="{{message}}"/>
+{{/reason}}{{#flaky}}
 {{#attempt}}<flakyFailure message="attempt failed" type="flaky"/>
 {{/attempt}}{{/flaky}}{{#output}}<system-out>{{text}}</system-out>
 {{/output}}</testcase>

@@ -6,13 +6,15 @@
 //! | `tests`, `failures`, `errors`, `skipped` | the run, and each `suite`: numbers of test cases |
 //! | `time` (its `seconds`) | the run, each `suite` and each `case`, if it is known |
 //! | `name` | each `suite` and each `case` |
-//! | `suite` | each `case`: the name of its suite |
+//! | `class` | each `case`: the name of its suite, with `_` for each `.` |
+//! | `place` (its `file` and `line`) | each `case` that failed, if its place is known |
 //! | `flaky` (its `attempt`s) | each `case` that passed after attempts that failed |
-//! | `skipped` | each `case` that was skipped |
+//! | `reason` (its `message`) | each `case` that was skipped with a reason |
+//! | `skipped` | each other `case` that was skipped |
 //! | `failure` or `error` (`message`, `type`, `why`), `output` (its `text`) | each `case` that failed |
 
 use crate::template::{Value, push_item, push_section, push_text};
-use crate::test_report_forms::junit_case::{Case, CaseKind, Reason, text_of};
+use crate::test_report_forms::junit_case::{Case, CaseKind, CasePlace, Reason, text_of};
 use crate::test_report_forms::junit_suite::JunitCounts;
 use crate::test_report_forms::model::suite_name;
 use crate::test_report_forms::open_suites::Suite;
@@ -59,23 +61,43 @@ fn push_number(values: &mut Vec<Value>, name: &'static str, number: usize) {
 fn case_values(case: Case) -> Vec<Value> {
     let Case {
         name,
-        suite,
+        class,
         time,
+        place,
         kind,
     } = case;
     let mut values = one_text("name", name);
-    push_text(&mut values, "suite", suite);
+    push_text(&mut values, "class", class);
     push_time(&mut values, time);
+    push_place(&mut values, place);
     push_kind(&mut values, kind);
     values
+}
+
+/// Adds a place, if it is known.
+fn push_place(values: &mut Vec<Value>, place: Option<CasePlace>) {
+    let Some(CasePlace { file, line }) = place else {
+        return;
+    };
+    let mut item = one_text("file", file);
+    push_text(&mut item, "line", line);
+    push_item(values, "place", item);
 }
 
 /// Adds the kind of a test case.
 fn push_kind(values: &mut Vec<Value>, kind: CaseKind) {
     match kind {
         CaseKind::Passed(failed) => push_section(values, "flaky", attempts(failed)),
-        CaseKind::Skipped => push_item(values, "skipped", Vec::new()),
+        CaseKind::Skipped(reason) => push_skipped(values, reason),
         CaseKind::Failed(reason) => push_reason(values, reason),
+    }
+}
+
+/// Adds that a test was skipped.
+fn push_skipped(values: &mut Vec<Value>, reason: Option<String>) {
+    match reason {
+        Some(reason) => push_item(values, "reason", one_text("message", reason)),
+        None => push_item(values, "skipped", Vec::new()),
     }
 }
 

@@ -2,59 +2,71 @@
 //! The list at the end of a report.
 
 use crate::test_report_forms::entry::Entry;
+use crate::test_report_forms::levels::{finished_output, own_final_level, skipped_output};
 use crate::test_report_forms::options::Options;
-use crate::test_report_forms::shown::{front, push_bracket, push_text};
+use crate::test_report_forms::shown::{front, push_bracket, push_spaces, push_text};
+use crate::test_report_forms::shown_why::shown_why;
 use crate::test_report_forms::slowest::Slowest;
-use crate::test_report_forms::status::{failed_status, push_status};
+use crate::test_report_forms::status::{failed_status, passed_status, push_status};
 use crate::test_report_forms::title::push_title;
-use crate::test_report_run::note::TestNote;
+use crate::test_report_forms::why::Why;
+use crate::test_report_forms::why_lines::push_why_lines;
+use crate::test_report_run::counted::Finish;
+use crate::test_report_run::note::{Failure, TestNote};
+use deodarsieve::{FinalStatusLevel, OutputStoreFinal};
 
-/// The line of a flaky test, and how many tests had ended before it.
-#[derive(Clone)]
-struct FlakyLine {
-    ended: usize,
-    line: String,
-}
+/// The column in which the status of a test in the list ends.
+const STATUS_WIDTH: usize = 12;
 
-/// The list at the end of a report: the flaky tests, the failed ones and the slowest.
+/// The number of spaces before each line of why a test failed, in the list.
+const WHY_MARGIN: usize = 13;
+
+/// The list at the end of a report: the tests that are stored for it, in the order of their levels, and the slowest.
 #[derive(Clone)]
 pub(crate) struct ShortList {
-    flaky: Vec<FlakyLine>,
+    passed: String,
+    skipped: String,
+    flaky: String,
     failed: String,
     slowest: Slowest,
 }
 
 impl ShortList {
-    /// Returns an empty list.
-    pub(crate) fn new() -> ShortList {
+    /// Returns an empty list, which has at most `most` of the slowest tests.
+    pub(crate) fn new(most: usize) -> ShortList {
         ShortList {
-            flaky: Vec::new(),
+            passed: String::new(),
+            skipped: String::new(),
+            flaky: String::new(),
             failed: String::new(),
-            slowest: Slowest::new(),
+            slowest: Slowest::new(most),
         }
     }
 
     /// Adds the lines of an entry.
     pub(crate) fn on_entry(&mut self, entry: &Entry<'_>, options: Options) {
-        match entry {
-            Entry::Passed(test) => {
-                add_flaky(&mut self.flaky, test, options);
-                add_time(&mut self.slowest, test, options);
-            }
-            Entry::Failed { test, failure, why } => {
-                let status = failed_status(&failure.kind);
-                push_failed(&mut self.failed, test, status, why.short.as_str(), options);
-                add_time(&mut self.slowest, test, options);
-            }
-            Entry::Skipped(_) | Entry::Disagreement(_) | Entry::NotRun(_) | Entry::Suite(_) => {}
+        let mut item = String::new();
+        push_item(&mut item, entry, options);
+        self.add(final_level_of(entry), item.as_str());
+        add_slow(&mut self.slowest, entry, options);
+    }
+
+    /// Adds a line to the part of the list for a level.
+    fn add(&mut self, level: FinalStatusLevel, line: &str) {
+        match level {
+            FinalStatusLevel::Pass => self.passed.push_str(line),
+            FinalStatusLevel::Skip => self.skipped.push_str(line),
+            FinalStatusLevel::Flaky => self.flaky.push_str(line),
+            FinalStatusLevel::Fail => self.failed.push_str(line),
+            _ => {}
         }
     }
 
     /// Appends the list.
     pub(crate) fn push(&self, text: &mut String) {
-        for flaky in &self.flaky {
-            text.push_str(flaky.line.as_str());
-        }
+        text.push_str(self.passed.as_str());
+        text.push_str(self.skipped.as_str());
+        text.push_str(self.flaky.as_str());
         text.push_str(self.failed.as_str());
         for slow in self.slowest.tests() {
             text.push_str(slow.line.as_str());
@@ -62,42 +74,95 @@ impl ShortList {
     }
 }
 
-/// Returns the position of the first test that ended later.
-fn later(lines: &[FlakyLine], ended: usize) -> Option<usize> {
-    lines.iter().position(|other| other.ended > ended)
-}
-
-/// Returns the position of a test among those that ended before and after it.
-fn flaky_place(lines: &[FlakyLine], ended: usize) -> usize {
-    later(lines, ended).unwrap_or(lines.len())
-}
-
-/// Adds the line of a test that passed, if the test is flaky. The lines are in the order in which their tests
-/// ended.
-fn add_flaky(lines: &mut Vec<FlakyLine>, test: &TestNote, options: Options) {
-    if test.attempts <= 1 {
-        return;
+/// Returns the level at the end of the run of the test of an entry. It is `None` for an entry that is not of a test.
+fn final_level_of(entry: &Entry<'_>) -> FinalStatusLevel {
+    match entry {
+        Entry::Passed(test) => own_final_level(Finish::Passed, test.attempts),
+        Entry::Skipped(_) => FinalStatusLevel::Skip,
+        Entry::Failed { test, failure, .. } => {
+            own_final_level(Finish::of_failure(&failure.kind), test.attempts)
+        }
+        Entry::Disagreement { .. } | Entry::NotRun(_) | Entry::Suite(_) => FinalStatusLevel::None,
     }
-    let mut line = String::new();
-    let status = flaky_status(test.attempts);
-    push_list_line(&mut line, status.as_str(), test, options);
-    line.push('\n');
-    let ended = test.ended.unwrap_or(usize::MAX);
-    let at = flaky_place(lines.as_slice(), ended);
-    lines.insert(at, FlakyLine { ended, line });
 }
 
-/// Returns the word for a flaky test.
-fn flaky_status(attempts: usize) -> String {
-    format!("FLAKY {attempts}/{attempts}")
+/// Appends the lines of an entry in the list. Appends nothing if it has none.
+fn push_item(text: &mut String, entry: &Entry<'_>, options: Options) {
+    match entry {
+        Entry::Passed(test) => push_passed(text, test, options),
+        Entry::Skipped(test) => push_skipped(text, test, options),
+        Entry::Failed { test, failure, why } => {
+            push_failed(text, test, failure, why, options);
+        }
+        Entry::Disagreement { .. } | Entry::NotRun(_) | Entry::Suite(_) => {}
+    }
 }
 
-/// Appends the line of a failed test.
-fn push_failed(text: &mut String, test: &TestNote, status: &str, why: &str, options: Options) {
+/// Appends the line of a test that passed, if the test is in the list.
+fn push_passed(text: &mut String, test: &TestNote, options: Options) {
+    match finished_output(options, Finish::Passed, test.attempts).store_final {
+        OutputStoreFinal::Yes { .. } => {
+            let status = passed_status(test.attempts);
+            push_ended(text, test, status.as_str(), options);
+        }
+        OutputStoreFinal::No => {}
+    }
+}
+
+/// Appends the line of a skipped test, if the test is in the list.
+fn push_skipped(text: &mut String, test: &TestNote, options: Options) {
+    match skipped_output(options).store_final {
+        OutputStoreFinal::Yes { .. } => push_ended(text, test, "SKIP", options),
+        OutputStoreFinal::No => {}
+    }
+}
+
+/// Appends the line of a failed test, if the test is in the list, and why it failed, if that is shown there.
+fn push_failed(
+    text: &mut String,
+    test: &TestNote,
+    failure: &Failure,
+    why: &Why<'_>,
+    options: Options,
+) {
+    let status = failed_status(&failure.kind);
+    match finished_output(options, Finish::of_failure(&failure.kind), test.attempts).store_final {
+        OutputStoreFinal::Yes {
+            display_output: true,
+        } => {
+            push_reason(text, test, status, why.short.as_str(), options);
+            let shown = shown_why(options, test, failure, why);
+            push_why_lines(text, &shown, WHY_MARGIN, options);
+        }
+        OutputStoreFinal::Yes { .. } => {
+            push_reason(text, test, status, why.short.as_str(), options);
+        }
+        OutputStoreFinal::No => {}
+    }
+}
+
+/// Appends the line of a test that did not fail.
+fn push_ended(text: &mut String, test: &TestNote, status: &str, options: Options) {
+    push_list_line(text, status, test, options);
+    text.push('\n');
+}
+
+/// Appends the line of a failed test, with its short reason.
+fn push_reason(text: &mut String, test: &TestNote, status: &str, why: &str, options: Options) {
     push_list_line(text, status, test, options);
     text.push_str(": ");
     push_text(text, front(why, options.limit), options.raw);
     text.push('\n');
+}
+
+/// Adds the test of an entry, if it ran and is one of the slowest so far.
+fn add_slow(slowest: &mut Slowest, entry: &Entry<'_>, options: Options) {
+    match entry {
+        Entry::Passed(test) | Entry::Failed { test, .. } => {
+            add_time(slowest, test, options);
+        }
+        Entry::Skipped(_) | Entry::Disagreement { .. } | Entry::NotRun(_) | Entry::Suite(_) => {}
+    }
 }
 
 /// Adds a test that has a time, if it is one of the slowest so far.
@@ -109,7 +174,7 @@ fn add_time(slowest: &mut Slowest, test: &TestNote, options: Options) {
         return;
     }
     let mut line = String::new();
-    push_list_line(&mut line, "SLOW", test, options);
+    push_list_line(&mut line, "SLOWEST", test, options);
     line.push('\n');
     slowest.add(time, line);
 }
@@ -117,16 +182,9 @@ fn add_time(slowest: &mut Slowest, test: &TestNote, options: Options) {
 /// Appends a line of the list, without its line feed: a status that ends in column 12, the time and the name
 /// of a test.
 fn push_list_line(text: &mut String, status: &str, test: &TestNote, options: Options) {
-    push_spaces(text, status);
+    push_spaces(text, STATUS_WIDTH.saturating_sub(status.len()));
     push_status(text, status, options);
     text.push(' ');
     push_bracket(text, test.time);
     push_title(text, test);
-}
-
-/// Appends the spaces in front of a status that ends in column 12.
-fn push_spaces(text: &mut String, status: &str) {
-    for _column in status.len()..12 {
-        text.push(' ');
-    }
 }

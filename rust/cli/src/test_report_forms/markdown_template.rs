@@ -7,7 +7,11 @@ pub(crate) const MARKDOWN: &str = r#"## Test report: {{*outcome}}
 
 {{*finished}} tests run: {{*passed}} passed ({{*flaky}} flaky), {{*failed}} failed ({{*timed_out}} timed out, {{*crashed}} crashed), {{*skipped}} skipped, {{*not_run}} not run{{#time}}, in {{*seconds}}s{{/time}}
 
-{{#problems}}{{#problem}}- {{*line}}
+{{#problems}}{{#problem}}- {{*line}}{{#why}}
+
+<pre>
+{{text}}</pre>
+{{/why}}
 {{/problem}}
 {{/problems}}{{#failures}}| Result | Test | Time | Why |
 | --- | --- | ---: | --- |

@@ -17,6 +17,7 @@
 //! This function returns the text that `TextForm` writes for one note:
 //!
 //! ```
+//! use deodarsieve::{FinalStatusLevel, StatusLevel, TestOutputDisplay};
 //! use deodarsieve_cli::test_report_forms::entry::Entry;
 //! use deodarsieve_cli::test_report_forms::form::Form;
 //! use deodarsieve_cli::test_report_forms::options::{Options, OutputDisplay};
@@ -37,11 +38,16 @@
 //!     output: OutputDisplay::Auto,
 //!     raw: false,
 //!     color: false,
+//!     status_level: StatusLevel::Fail,
+//!     final_status_level: FinalStatusLevel::Slow,
+//!     failure_output: TestOutputDisplay::Immediate,
+//!     slowest: 0,
 //!     no_tests_pass: false,
 //! };
 //! assert_eq!(text_of_note(&note, options), "2 tests started outside of a suite\n");
 //! ```
 
+mod cargo_why;
 mod cause;
 mod commands;
 mod document;
@@ -60,6 +66,7 @@ mod junit_case;
 mod junit_suite;
 mod junit_template;
 mod junit_values;
+mod levels;
 mod lines;
 mod list;
 pub mod markdown;
@@ -81,4 +88,5 @@ pub mod text;
 mod title;
 pub mod values;
 pub mod why;
+mod why_lines;
 mod written;

@@ -1,7 +1,7 @@
 // Made by tools/erase from crates/test_report_forms/src/model.rt. Do not edit.
 //! The model of a finished report: what the forms that write at the end of a run show.
 
-use crate::test_report_forms::cause::cause_of;
+use crate::test_report_forms::cause::{Problem, cause_of};
 use crate::test_report_forms::entry::Entry;
 use crate::test_report_forms::failed_test::{FailedTest, shown_failure};
 use crate::test_report_forms::junit_case::text_of;
@@ -12,6 +12,9 @@ use crate::test_report_forms::slowest::Slowest;
 use crate::test_report_forms::title::push_title;
 use crate::test_report_run::note::{SuiteNote, TestNote};
 use deodarsieve::RunOutcome;
+
+/// The number of slowest tests that are listed.
+const SLOWEST: usize = 5;
 
 /// A suite in the table of suites.
 #[derive(Clone)]
@@ -36,8 +39,8 @@ pub struct ReportModel {
     /// The failed tests.
     pub(crate) failed: Vec<FailedTest>,
 
-    /// The lines of disagreements, and of suites whose tests were not all run.
-    pub(crate) problems: Vec<String>,
+    /// The disagreements, and the suites whose tests were not all run.
+    pub(crate) problems: Vec<Problem>,
 
     /// The suites that are over.
     pub(crate) suites: Vec<SuiteRow>,
@@ -54,7 +57,7 @@ impl ReportModel {
             failed: Vec::new(),
             problems: Vec::new(),
             suites: Vec::new(),
-            slowest: Slowest::new(),
+            slowest: Slowest::new(SLOWEST),
         }
     }
 
@@ -81,10 +84,10 @@ fn keep_failure(failed: &mut Vec<FailedTest>, entry: &Entry<'_>, options: Option
     }
 }
 
-/// Keeps the line of a disagreement, or of a suite whose tests were not all run.
-fn keep_problem(problems: &mut Vec<String>, entry: &Entry<'_>) {
+/// Keeps a disagreement, or a suite whose tests were not all run.
+fn keep_problem(problems: &mut Vec<Problem>, entry: &Entry<'_>) {
     if let Some(cause) = cause_of(entry) {
-        problems.push(cause.line);
+        problems.push(Problem::of(cause));
     }
 }
 
@@ -101,7 +104,7 @@ fn keep_suite(suites: &mut Vec<SuiteRow>, entry: &Entry<'_>) {
 fn keep_time(slowest: &mut Slowest, entry: &Entry<'_>) {
     match entry {
         Entry::Passed(test) | Entry::Failed { test, .. } => keep_test(slowest, test),
-        Entry::Skipped(_) | Entry::Disagreement(_) | Entry::NotRun(_) | Entry::Suite(_) => {}
+        Entry::Skipped(_) | Entry::Disagreement { .. } | Entry::NotRun(_) | Entry::Suite(_) => {}
     }
 }
 

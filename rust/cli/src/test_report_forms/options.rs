@@ -1,6 +1,8 @@
 // Made by tools/erase from crates/test_report_forms/src/options.rt. Do not edit.
 //! The options of a report.
 
+use deodarsieve::{FinalStatusLevel, StatusLevel, TestOutputDisplay};
+
 /// How much of a failed test's output is shown.
 #[derive(Clone, Copy, Debug, PartialEq, Eq)]
 pub enum OutputDisplay {
@@ -30,6 +32,20 @@ pub struct Options {
 
     /// True if the form for people colours the words for results.
     pub color: bool,
+
+    /// The form for people writes a line for each test of this level or a more important one when the test ends, and for
+    /// each test that failed if it shows why.
+    pub status_level: StatusLevel,
+
+    /// The list at the end of the form for people has the tests of this level and of each more important one, and each
+    /// test that failed if it shows why.
+    pub final_status_level: FinalStatusLevel,
+
+    /// When the form for people shows why tests failed.
+    pub failure_output: TestOutputDisplay,
+
+    /// The number of slowest tests in the list at the end of the form for people.
+    pub slowest: usize,
 
     /// True if a run in which no test ran is to pass. JUnit's XML then has no error for it.
     pub no_tests_pass: bool,

@@ -45,6 +45,7 @@ h1, h3, th, li { overflow-wrap: anywhere; }
 .words { color: var(--muted); font-size: 0.875rem; }
 .causes { margin: 0; padding: 0.75rem 1rem 0.75rem 2rem; border: 1px solid var(--line); border-left: 0.3rem solid var(--rest);
   border-radius: 0.3rem; background: var(--box); }
+.causes pre { padding: 0.25rem 0; border-top: 0; }
 details { margin: 0 0 0.75rem; border: 1px solid var(--line); border-left: 0.3rem solid var(--failed); border-radius: 0.3rem; }
 summary { padding: 0.5rem 0.75rem; cursor: pointer; }
 summary:focus-visible { outline: 2px solid var(--slow); outline-offset: 2px; }
@@ -81,7 +82,7 @@ td .bar { margin-top: 0.45rem; }
 {{#problems}}<section>
 <h2>Problems of the run</h2>
 <ul class="causes">
-{{#problem}}<li>{{line}}</li>
+{{#problem}}<li>{{line}}{{#why}}<pre><code>{{text}}</code></pre>{{/why}}</li>
 {{/problem}}</ul>
 </section>
 {{/problems}}{{#failures}}<section>

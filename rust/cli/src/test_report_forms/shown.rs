@@ -133,10 +133,17 @@ pub(crate) fn push_more(text: &mut String, more: usize) {
     text.push_str(&format!("\n({more} more bytes)"));
 }
 
-/// Appends a text, each of its lines after four spaces.
-pub(crate) fn push_indented(text: &mut String, shown: &str, raw: bool) {
+/// Appends this number of spaces.
+pub(crate) fn push_spaces(text: &mut String, count: usize) {
+    for _space in 0..count {
+        text.push(' ');
+    }
+}
+
+/// Appends a text, each of its lines after `margin` spaces.
+pub(crate) fn push_indented(text: &mut String, shown: &str, margin: usize, raw: bool) {
     for line in shown.split('\n') {
-        text.push_str("    ");
+        push_spaces(text, margin);
         push_text(text, line, raw);
         text.push('\n');
     }

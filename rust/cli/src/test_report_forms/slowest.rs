@@ -1,9 +1,6 @@
 // Made by tools/erase from crates/test_report_forms/src/slowest.rt. Do not edit.
 //! The slowest tests of a run.
 
-/// The number of slowest tests that are listed.
-const SLOWEST: usize = 5;
-
 /// The time of a test in microseconds, and the line that lists it.
 #[derive(Clone)]
 pub(crate) struct SlowTest {
@@ -15,12 +12,16 @@ pub(crate) struct SlowTest {
 #[derive(Clone)]
 pub(crate) struct Slowest {
     tests: Vec<SlowTest>,
+    most: usize,
 }
 
 impl Slowest {
-    /// Returns an empty list.
-    pub(crate) fn new() -> Slowest {
-        Slowest { tests: Vec::new() }
+    /// Returns an empty list, which keeps at most `most` tests.
+    pub(crate) fn new(most: usize) -> Slowest {
+        Slowest {
+            tests: Vec::new(),
+            most,
+        }
     }
 
     /// Returns the slowest tests in order.
@@ -45,13 +46,13 @@ impl Slowest {
 
     /// Returns true if a test that took this time is one of the slowest.
     pub(crate) fn takes(&self, time: u64) -> bool {
-        self.place(time) < SLOWEST
+        self.place(time) < self.most
     }
 
     /// Adds a test if it is one of the slowest so far.
     pub(crate) fn add(&mut self, time: u64, line: String) {
         let at = self.place(time);
         self.tests.insert(at, SlowTest { time, line });
-        self.tests.truncate(SLOWEST);
+        self.tests.truncate(self.most);
     }
 }

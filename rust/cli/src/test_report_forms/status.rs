@@ -13,10 +13,19 @@ pub(crate) fn failed_status(kind: &FailureKind) -> &'static str {
     }
 }
 
+/// Returns the word for a test that passed.
+pub(crate) fn passed_status(attempts: usize) -> String {
+    if attempts <= 1 {
+        return String::from("PASS");
+    }
+    format!("FLAKY {attempts}/{attempts}")
+}
+
 /// Returns the colour of a word, as the parameters of an escape sequence.
 fn color_of(status: &str) -> &'static str {
     match status {
         "FAIL" | "TIMEOUT" | "CRASH" => "1;31",
+        "PASS" => "1;32",
         _ => "1;33",
     }
 }

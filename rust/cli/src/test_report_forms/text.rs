@@ -1,19 +1,27 @@
 // Made by tools/erase from crates/test_report_forms/src/text.rt. Do not edit.
 //! The form for people who read a terminal.
 
-use crate::test_report_forms::cause::cause_of;
+use crate::test_report_forms::cause::{Cause, cause_of};
 use crate::test_report_forms::entry::Entry;
 use crate::test_report_forms::form::Form;
+use crate::test_report_forms::levels::{finished_output, has_line, skipped_output};
 use crate::test_report_forms::list::ShortList;
 use crate::test_report_forms::options::Options;
-use crate::test_report_forms::shown::{front, push_bracket, push_indented};
-use crate::test_report_forms::shown_why::{ShownWhy, shown_why};
-use crate::test_report_forms::status::{failed_status, push_status};
+use crate::test_report_forms::shown::{push_bracket, push_indented};
+use crate::test_report_forms::shown_why::shown_why;
+use crate::test_report_forms::status::{failed_status, passed_status, push_status};
 use crate::test_report_forms::summary::{outcome_text, push_summary};
 use crate::test_report_forms::title::push_title;
-use crate::test_report_run::note::{RunEnd, TestNote};
+use crate::test_report_forms::why::Why;
+use crate::test_report_forms::why_lines::push_why_lines;
+use crate::test_report_run::counted::Finish;
+use crate::test_report_run::note::{Failure, RunEnd, TestNote};
 
-/// The form for people: each failed test with why it failed, the disagreements, and at the end a summary.
+/// The number of spaces before each line of why a test failed.
+const WHY_MARGIN: usize = 4;
+
+/// The form for people: the tests that the levels show, failed ones with why they failed, the disagreements, and at the end
+/// a summary and a list of tests.
 #[derive(Clone)]
 pub struct TextForm {
     options: Options,
@@ -25,7 +33,7 @@ impl TextForm {
     pub fn new(options: Options) -> TextForm {
         TextForm {
             options,
-            list: ShortList::new(),
+            list: ShortList::new(options.slowest),
         }
     }
 
@@ -33,33 +41,77 @@ impl TextForm {
     fn push_entry(&self, entry: &Entry<'_>, text: &mut String) {
         match entry {
             Entry::Failed { test, failure, why } => {
-                let status = failed_status(&failure.kind);
-                let why = shown_why(self.options, test, failure, why);
-                push_failed(text, test, status, &why, self.options);
+                push_failed(text, test, failure, why, self.options);
             }
-            Entry::Passed(_)
-            | Entry::Skipped(_)
-            | Entry::Disagreement(_)
-            | Entry::NotRun(_)
-            | Entry::Suite(_) => push_cause(entry, text),
+            Entry::Passed(test) => push_passed(text, test, self.options),
+            Entry::Skipped(test) => push_skipped(text, test, self.options),
+            Entry::Disagreement { .. } | Entry::NotRun(_) | Entry::Suite(_) => {
+                push_cause_of(entry, text, self.options);
+            }
         }
     }
 }
 
-/// Appends the line of the cause of an entry. Appends nothing if it has none.
-fn push_cause(entry: &Entry<'_>, text: &mut String) {
+/// Appends the cause of an entry. Appends nothing if it has none.
+fn push_cause_of(entry: &Entry<'_>, text: &mut String, options: Options) {
     if let Some(cause) = cause_of(entry) {
-        {
-            text.push_str(cause.line.as_str());
-            text.push('\n');
-        }
+        push_cause(text, &cause, options)
     }
 }
 
-/// Appends a failed test, with why it failed.
-fn push_failed(text: &mut String, test: &TestNote, status: &str, why: &ShownWhy, options: Options) {
-    push_head(text, test, status, options);
-    push_why(text, why, options);
+/// Appends the line of a cause, and under it what explains the cause.
+fn push_cause(text: &mut String, cause: &Cause<'_>, options: Options) {
+    text.push_str(cause.line.as_str());
+    text.push('\n');
+    if let Some(why) = cause.why {
+        push_indented(text, why, WHY_MARGIN, options.raw)
+    }
+}
+
+/// Appends a failed test, with why it failed, as far as the levels show it.
+fn push_failed(
+    text: &mut String,
+    test: &TestNote,
+    failure: &Failure,
+    why: &Why<'_>,
+    options: Options,
+) {
+    let shows = finished_output(options, Finish::of_failure(&failure.kind), test.attempts);
+    if !has_line(shows) {
+        return;
+    }
+    push_head(text, test, failed_status(&failure.kind), options);
+    if !shows.show_immediate {
+        return;
+    }
+    let shown = shown_why(options, test, failure, why);
+    push_why_lines(text, &shown, WHY_MARGIN, options);
+}
+
+/// Appends the line of a test that passed, if the levels show it.
+fn push_passed(text: &mut String, test: &TestNote, options: Options) {
+    if !has_line(finished_output(options, Finish::Passed, test.attempts)) {
+        return;
+    }
+    let status = passed_status(test.attempts);
+    push_ended(text, test, status.as_str(), options);
+}
+
+/// Appends the line of a skipped test, if the levels show it.
+fn push_skipped(text: &mut String, test: &TestNote, options: Options) {
+    if !has_line(skipped_output(options)) {
+        return;
+    }
+    push_ended(text, test, "SKIP", options);
+}
+
+/// Appends the line of a test that did not fail.
+fn push_ended(text: &mut String, test: &TestNote, status: &str, options: Options) {
+    push_status(text, status, options);
+    text.push(' ');
+    push_bracket(text, test.time);
+    push_title(text, test);
+    text.push('\n');
 }
 
 /// Appends the line of a failed test.
@@ -78,31 +130,6 @@ fn push_attempts(text: &mut String, attempts: usize) {
         return;
     }
     text.push_str(&format!(" ({attempts} attempts)"));
-}
-
-/// Appends why a test failed, the number of bytes that are not shown, and the number of lines of the output that are
-/// not shown.
-fn push_why(text: &mut String, why: &ShownWhy, options: Options) {
-    let first = front(why.text.as_str(), options.limit);
-    push_indented(text, first, options.raw);
-    push_more(text, why.text.len() - first.len());
-    push_hidden(text, why.hidden);
-}
-
-/// Appends a line that says how many bytes are not shown. Appends nothing if all are shown.
-fn push_more(text: &mut String, more: usize) {
-    if more == 0 {
-        return;
-    }
-    text.push_str(&format!("    ({more} more bytes)\n"));
-}
-
-/// Appends a line that says how many lines of the output are not shown. Appends nothing if all are shown.
-fn push_hidden(text: &mut String, hidden: usize) {
-    if hidden == 0 {
-        return;
-    }
-    text.push_str(&format!("    ({hidden} more lines of output)\n"));
 }
 
 /// Appends the line of the summary.

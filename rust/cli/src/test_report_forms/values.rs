@@ -9,7 +9,7 @@
 //! | `finished`, `passed`, `flaky`, `failed`, `timed_out`, `crashed`, `skipped`, `not_run` | its tests, as numbers |
 //! | `time` | the run, if its time is known |
 //! | `bar` | the run, unless no test is known: a `part` with a `class` and a `number` for each number that is not 0 |
-//! | `problems` | a `problem` with a `line` |
+//! | `problems` | a `problem` with a `line` and, if anything explains it, `why` (its `text`) |
 //! | `failures` | a `failed` test with `status`, `suite` (its `name`), `name`, `note`, `short` and `why` |
 //! | `suites` | a `suite` with `name`, `words`, `bar` (as above) and `time` |
 //! | `slowest` | a `slow` test with `name`, `share` (of the longest time, in hundredths) and `seconds` |
@@ -17,6 +17,7 @@
 //! A `note` has `attempts` with a `count`, if there were several, and a `time`. A `time` has `seconds`.
 
 use crate::template::{Value, push_item, push_section, push_text};
+use crate::test_report_forms::cause::Problem;
 use crate::test_report_forms::failed_test::FailedTest;
 use crate::test_report_forms::model::{ReportModel, SuiteRow, no_tests_ran};
 use crate::test_report_forms::numbers::Numbers;
@@ -124,20 +125,31 @@ fn bar(numbers: Numbers) -> Vec<Value> {
 }
 
 /// Adds a problem.
-fn push_problem(problems: &mut Vec<Value>, line: String) {
-    push_item(problems, "problem", one_text("line", line));
+fn push_problem(problems: &mut Vec<Value>, problem: Problem) {
+    let Problem { line, why } = problem;
+    let mut values = one_text("line", line);
+    push_option(&mut values, "why", "text", why);
+    push_item(problems, "problem", values);
+}
+
+/// Returns the problem that no test ran.
+fn no_tests_problem() -> Problem {
+    Problem {
+        line: String::from("no test ran"),
+        why: None,
+    }
 }
 
 /// Returns the problems, with `no test ran` first if no test ran.
-fn problem_items(lines: Vec<String>, outcome: RunOutcome) -> Vec<Value> {
-    let mut problems = Vec::new();
+fn problem_items(problems: Vec<Problem>, outcome: RunOutcome) -> Vec<Value> {
+    let mut items = Vec::new();
     if no_tests_ran(outcome) {
-        push_problem(&mut problems, String::from("no test ran"));
+        push_problem(&mut items, no_tests_problem());
     }
-    for line in lines {
-        push_problem(&mut problems, line);
+    for problem in problems {
+        push_problem(&mut items, problem);
     }
-    problems
+    items
 }
 
 /// Returns the number of attempts of a test, if there were several, and its time, if it is known.

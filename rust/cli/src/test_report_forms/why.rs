@@ -231,7 +231,7 @@ fn reason_of(failure: &Failure, time: Option<u64>) -> Option<String> {
 }
 
 /// Returns a copy of a text, or `None` if there is no text.
-fn copied(text: &Option<String>) -> Option<String> {
+pub(crate) fn copied(text: &Option<String>) -> Option<String> {
     if let Some(text) = text {
         return Some(String::from(text.as_str()));
     }

@@ -1,5 +1,5 @@
 // Made by tools/erase from crates/test_report_run/src/counted.rt. Do not edit.
-//! Counts a test that finished.
+//! How a test finished, as the statistics and levels of the layer take it.
 
 use crate::test_report_run::note::FailureKind;
 use deodarsieve::{
@@ -11,8 +11,8 @@ use deodarsieve::{
 const HARNESS_FAILED: i32 = 101;
 
 /// How a test finished.
-#[derive(Clone, Copy, PartialEq, Eq)]
-pub(crate) enum Finish {
+#[derive(Clone, Copy, Debug, PartialEq, Eq)]
+pub enum Finish {
     /// It passed, or is flaky and counts as passed.
     Passed,
 
@@ -28,7 +28,7 @@ pub(crate) enum Finish {
 
 impl Finish {
     /// Returns how a test finished that failed in this way.
-    pub(crate) fn of_failure(kind: &FailureKind) -> Finish {
+    pub fn of_failure(kind: &FailureKind) -> Finish {
         match kind {
             FailureKind::TimedOut => Finish::TimedOut,
             FailureKind::Flaky => Finish::FlakyFailed,
@@ -56,21 +56,25 @@ fn described(finish: Finish) -> ExecutionResultDescription {
     }
 }
 
+/// Returns a test that finished in this way, after this number of attempts. It was not slow.
+pub fn finished_test(finish: Finish, attempts: usize) -> FinishedTest {
+    FinishedTest {
+        result: described(finish),
+        attempts,
+        is_slow: false,
+        flaky_result: match finish {
+            Finish::FlakyFailed => FlakyResult::Fail,
+            Finish::Passed | Finish::Failed | Finish::TimedOut => FlakyResult::Pass,
+        },
+    }
+}
+
 /// Adds a test that finished to the statistics. Fails only if a counter is full, and changes nothing then.
 pub(crate) fn count(
     stats: &mut RunStats,
     finish: Finish,
     attempts: usize,
 ) -> Result<(), CounterFull> {
-    let flaky_result = match finish {
-        Finish::FlakyFailed => FlakyResult::Fail,
-        Finish::Passed | Finish::Failed | Finish::TimedOut => FlakyResult::Pass,
-    };
-    let test = FinishedTest {
-        result: described(finish),
-        attempts,
-        is_slow: false,
-        flaky_result,
-    };
+    let test = finished_test(finish, attempts);
     stats.try_on_test_view(&test.view())
 }

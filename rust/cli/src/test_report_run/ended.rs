@@ -42,7 +42,8 @@ impl Suite {
     ) -> Result<(), RunError> {
         if end == TestResult::Ignored {
             self.skipped = one_more(self.skipped)?;
-            notes.push(self.note(test, TestOutcome::Skipped));
+            let reason = owned(details.message);
+            notes.push(self.note(test, TestOutcome::Skipped { reason }));
             return Ok(());
         }
         self.time = time_sum(self.time, details.time);

@@ -34,7 +34,7 @@
 //! # Ok::<(), RunError>(())
 //! ```
 
-mod counted;
+pub mod counted;
 mod cuts;
 mod ended;
 pub mod error;
@@ -42,6 +42,7 @@ mod headings;
 mod last_line;
 mod longest_end;
 pub mod note;
+mod open_suites;
 mod others;
 mod over;
 mod prints;

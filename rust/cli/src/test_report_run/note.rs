@@ -51,7 +51,10 @@ pub enum TestOutcome {
     Passed,
 
     /// The test was skipped.
-    Skipped,
+    Skipped {
+        /// The reason in the line that says so, if it has one.
+        reason: Option<String>,
+    },
 
     /// The test failed.
     Failed(Failure),

@@ -225,7 +225,8 @@ impl Suite {
     /// Adds that tests without end were skipped.
     fn skip_all(&self, tests: Vec<RunningTest>, notes: &mut Vec<Note>) -> Result<(), RunError> {
         for test in tests {
-            notes.push(self.note(over(test), TestOutcome::Skipped));
+            let outcome = TestOutcome::Skipped { reason: None };
+            notes.push(self.note(over(test), outcome));
         }
         Ok(())
     }

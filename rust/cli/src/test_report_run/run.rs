@@ -14,6 +14,7 @@ use crate::test_report_run::longest_end::LongestEnd;
 use crate::test_report_run::note::{
     CargoReport, CommandEnd, Disagreement, Note, RunEnd, TestOutcome,
 };
+use crate::test_report_run::open_suites::OpenSuites;
 use crate::test_report_run::others::Others;
 use crate::test_report_run::run::lines::push_damaged;
 use crate::test_report_run::running::Running;
@@ -26,11 +27,8 @@ pub struct TestRun {
     /// The tests of the file that start outside of a suite.
     outside: Suite,
 
-    /// The open suites in the order of their first lines. They are boxed because a suite that ends is removed
-    /// from among them, which moves all later ones.
-    suites: Vec<Box<Suite>>,
-
-    suites_started: usize,
+    /// The open suites.
+    suites: OpenSuites,
 
     /// The headings of the file, and the name that the last one gives the suites after it.
     headings: Headings,
@@ -75,8 +73,7 @@ impl TestRun {
     pub fn new() -> TestRun {
         TestRun {
             outside: Suite::outside(),
-            suites: Vec::new(),
-            suites_started: 0,
+            suites: OpenSuites::new(),
             headings: Headings::new(),
             heading: None,
             has_event: false,
@@ -138,7 +135,7 @@ impl TestRun {
 
     /// Ends the open suites early, and then the tests outside of a suite.
     fn end_suites(&mut self, notes: &mut Vec<Note>) -> Result<(), RunError> {
-        for suite in std::mem::take(&mut self.suites) {
+        for suite in self.suites.take_all() {
             self.end_early(*suite, notes)?;
         }
         let outside = std::mem::replace(&mut self.outside, Suite::outside());
@@ -219,7 +216,7 @@ impl TestRun {
             | Event::TestEnded { .. }
             | Event::Other => self.has_event = true,
             Event::CargoFailed { .. } => {
-                if self.suites.is_empty() {
+                if self.suites.list.is_empty() {
                     self.causes_at_cargo = self.causes;
                 }
             }

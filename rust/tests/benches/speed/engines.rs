@@ -4,6 +4,7 @@ use crate::Row;
 use crate::inputs::{self, LOG, Output, pass_over, share};
 use crate::timing::Work;
 use bstr::ByteSlice;
+use deodarsieve::{FinalStatusLevel, StatusLevel, TestOutputDisplay};
 use deodarsieve_cli::program_io::std_device::{StdSink, StdSource};
 use deodarsieve_cli::run_digest_engine::count::count;
 use deodarsieve_cli::run_digest_engine::extract::extract;
@@ -23,6 +24,10 @@ const OPTIONS: Options = Options {
     output: OutputDisplay::Auto,
     raw: false,
     color: false,
+    status_level: StatusLevel::Fail,
+    final_status_level: FinalStatusLevel::Slow,
+    failure_output: TestOutputDisplay::Immediate,
+    slowest: 0,
     no_tests_pass: false,
 };
 
@@ -211,16 +216,14 @@ fn reported_mixed(size: usize, files: fn() -> FileForms) -> Work {
             name(*number)
         )
     };
-    let slowest = |number| format!("        SLOW [   0.250s] suite 1 {}\n", name(number));
     let (lost, passed) = (failed.len(), count - failed.len());
     let expected = format!(
         "{}------------\n     Summary [{:>4}.{:03}s] {count} tests run: {passed} passed (0 flaky), \
-         {lost} failed (0 timed out, 0 crashed), 0 skipped, 0 not run\n{}{}outcome failed\n",
+         {lost} failed (0 timed out, 0 crashed), 0 skipped, 0 not run\n{}outcome failed\n",
         failed.iter().map(failure).collect::<String>(),
         passed / 4,
         passed % 4 * 250,
         failed.iter().map(listed).collect::<String>(),
-        (1..6).map(slowest).collect::<String>(),
     );
     reported_with(files, suite_lines("failed", count, test), expected)
 }

@@ -1,6 +1,7 @@
-//! Reports of runs of megabytes, of a test with a megabyte of output, of 2,000 suites, and of 20,000 tests
-//! that run at once.
+//! Reports of runs of megabytes, of a test with a megabyte of output, of 2,000 suites one after another, and of
+//! 20,000 suites and 20,000 tests that run at once.
 
+use deodarsieve::{FinalStatusLevel, StatusLevel, TestOutputDisplay};
 use deodarsieve_cli::program_io::memory_device::{MemorySink, MemorySource};
 use deodarsieve_cli::test_report_engine::others::Nowhere;
 use deodarsieve_cli::test_report_engine::report::Report;
@@ -18,6 +19,10 @@ fn reported(input: &str) -> String {
         output: OutputDisplay::Auto,
         raw: false,
         color: false,
+        status_level: StatusLevel::Fail,
+        final_status_level: FinalStatusLevel::Slow,
+        failure_output: TestOutputDisplay::Immediate,
+        slowest: 0,
         no_tests_pass: false,
     });
     let mut buffer = vec![0; 1_000_000];
@@ -160,8 +165,8 @@ fn two_thousand_suites_one_after_another() {
 }
 
 #[test]
-fn two_thousand_suites_side_by_side() {
-    let all = || 0..2_000;
+fn twenty_thousand_suites_side_by_side() {
+    let all = || 0..20_000;
     let name = |number| format!("c::b{number}$adds");
     let input: [String; 4] = [
         all().map(|number| suite_of(1, &key_of(number))).collect(),
@@ -171,7 +176,7 @@ fn two_thousand_suites_side_by_side() {
             .map(|number| suite_end("ok", &key_of(number)))
             .collect(),
     ];
-    let wanted = format!("{}outcome success\n", summary(2_000, 0));
+    let wanted = format!("{}outcome success\n", summary(20_000, 0));
     assert_eq!(reported(&input.concat()), wanted);
 }
 

@@ -1,10 +1,12 @@
 //! Whole reports of small runs. The expected texts were written by hand from the definition of the report.
 
+mod cargo;
 mod counting;
 mod hostile;
+mod levels;
 mod shown;
 
-use deodarsieve::RunOutcome;
+use deodarsieve::{FinalStatusLevel, RunOutcome, StatusLevel, TestOutputDisplay};
 use deodarsieve_cli::program_io::memory_device::{MemorySink, MemorySource};
 use deodarsieve_cli::test_report_engine::others::Nowhere;
 use deodarsieve_cli::test_report_engine::report::Report;
@@ -18,6 +20,10 @@ const OPTIONS: Options = Options {
     output: OutputDisplay::Auto,
     raw: false,
     color: false,
+    status_level: StatusLevel::Fail,
+    final_status_level: FinalStatusLevel::Slow,
+    failure_output: TestOutputDisplay::Immediate,
+    slowest: 0,
     no_tests_pass: false,
 };
 

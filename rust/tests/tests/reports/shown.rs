@@ -78,7 +78,7 @@ fn reasons() {
             summary: "[   2.500s] 2 tests run: 0 passed (0 flaky), 2 failed (1 timed out, 0 crashed), \
                 0 skipped, 0 not run",
             list: "     TIMEOUT [   2.500s] suite 1 a: timed out after 2.500s\n        \
-                FAIL suite 1 b: other\n        SLOW [   2.500s] suite 1 a\n",
+                FAIL suite 1 b: other\n",
             outcome: "failed",
         },
         Case {

@@ -1,6 +1,6 @@
 //! The report, over memory.
 
-use deodarsieve::RunOutcome;
+use deodarsieve::{FinalStatusLevel, RunOutcome, StatusLevel, TestOutputDisplay};
 use deodarsieve_cli::program_io::device::{Sink, Source};
 use deodarsieve_cli::program_io::memory_device::{MemorySink, MemorySource};
 use deodarsieve_cli::test_report_engine::fault::Fault;
@@ -18,6 +18,10 @@ pub const OPTIONS: Options = Options {
     output: OutputDisplay::Auto,
     raw: false,
     color: false,
+    status_level: StatusLevel::Fail,
+    final_status_level: FinalStatusLevel::Slow,
+    failure_output: TestOutputDisplay::Immediate,
+    slowest: 0,
     no_tests_pass: false,
 };
 

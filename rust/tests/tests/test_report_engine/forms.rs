@@ -17,7 +17,7 @@ use deodarsieve_cli::test_report_forms::names::NamesForm;
 use deodarsieve_cli::test_report_forms::text::TextForm;
 
 /// The report as commands of a workflow on GitHub.
-const GITHUB: &str = "::error title=suite 1 a::why\n\
+const GITHUB: &str = "::error title=suite 1 a::suite 1 a%0Awhy\n\
      ::error::suite 1: 1 of 2 tests were not run\n\
      ::notice::1 tests run: 0 passed (0 flaky), 1 failed (0 timed out, 0 crashed), 0 skipped, \
      1 not run, outcome failed\n";

@@ -49,7 +49,7 @@ impl TestRun {
             CargoFailure::Tests => self.causes > self.causes_at_cargo,
             CargoFailure::Run => self.causes > self.causes_at_file,
         };
-        self.suites.is_empty() && !explained
+        self.suites.list.is_empty() && !explained
     }
 
     /// Makes the last failure of cargo known, if it is not yet, with the cause that was read after it. In the output of

@@ -2,7 +2,7 @@
 //! The first and the last lines of suites.
 
 use crate::test_report_events::event::{SuiteEnd, SuiteKey};
-use crate::test_report_run::error::{RunError, one_more};
+use crate::test_report_run::error::RunError;
 use crate::test_report_run::note::{Disagreement, Note};
 use crate::test_report_run::run::TestRun;
 use crate::test_report_run::suite::Suite;
@@ -45,7 +45,7 @@ impl TestRun {
     /// Adds a first line to the open suite at a position.
     fn join(&mut self, test_count: Option<u128>, at: usize) -> Result<(), RunError> {
         let place = self.others.event_place();
-        let suite = &mut self.suites[at];
+        let suite = &mut self.suites.list[at];
         suite.join(test_count)?;
         suite.last_event = place;
         Ok(())
@@ -53,16 +53,13 @@ impl TestRun {
 
     /// Removes the open suite at a position, and returns it.
     fn take_out(&mut self, at: usize) -> Suite {
-        *self.suites.remove(at)
+        self.suites.remove(at)
     }
 
-    /// Opens a suite.
+    /// Opens a suite with a key that no open suite has, or without a key if all open suites have one.
     fn open(&mut self, key: Option<String>, test_count: Option<u128>) -> Result<(), RunError> {
-        self.suites_started = one_more(self.suites_started)?;
         let heading = self.heading.clone();
-        let suite = Suite::new(self.suites_started, key, heading, test_count, &self.others);
-        self.suites.push(Box::new(suite));
-        Ok(())
+        self.suites.open(key, heading, test_count, &self.others)
     }
 
     /// Takes a last line of a suite.
@@ -104,7 +101,7 @@ impl TestRun {
     /// Adds a last line to the open suite at a position. Returns true if the suite is over.
     fn add_last_line(&mut self, end: SuiteEnd<'_>, at: usize) -> Result<bool, RunError> {
         let place = self.others.event_place();
-        let suite = &mut self.suites[at];
+        let suite = &mut self.suites.list[at];
         let is_over = suite.on_last_line(end)?;
         suite.last_event = place;
         Ok(is_over)
@@ -128,18 +125,8 @@ impl TestRun {
 
     /// Returns the position of the first open suite with a key, or without a key.
     pub(crate) fn open_suite(&self, key: Option<&str>) -> Option<usize> {
-        place_of_key(&self.suites, key)
+        self.suites.place_of_key(key)
     }
-}
-
-/// Returns the position of the first of these suites with a key, or without a key.
-fn place_of_key(suites: &[Box<Suite>], key: Option<&str>) -> Option<usize> {
-    suites.iter().position(|suite| suite.has_key(key))
-}
-
-/// Returns the position of the first of these suites with a number.
-pub(crate) fn place_of_number(suites: &[Box<Suite>], number: Option<usize>) -> Option<usize> {
-    suites.iter().position(|suite| suite.name.number == number)
 }
 
 /// Returns the text of a key.

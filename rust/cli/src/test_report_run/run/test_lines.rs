@@ -5,7 +5,6 @@ use crate::test_report_events::event::{TestDetails, TestResult};
 use crate::test_report_run::error::{RunError, one_more};
 use crate::test_report_run::note::{Disagreement, Note};
 use crate::test_report_run::run::TestRun;
-use crate::test_report_run::run::suites::place_of_number;
 use crate::test_report_run::running::RunningTest;
 use crate::test_report_run::suite::OverTest;
 
@@ -21,7 +20,7 @@ impl TestRun {
         let place = self.others.event_place();
         match self.suite_of(name) {
             Some(at) => {
-                let suite = &mut self.suites[at];
+                let suite = &mut self.suites.list[at];
                 suite.on_start(name)?;
                 suite.last_event = place;
                 Ok(suite.name.number)
@@ -37,7 +36,7 @@ impl TestRun {
     /// Returns the position of the open suite that a starting test with this name belongs to, or `None` if no
     /// suite is open.
     fn suite_of(&self, name: &str) -> Option<usize> {
-        if self.suites.len() == 1 {
+        if self.suites.list.len() == 1 {
             return Some(0);
         }
         let named = match name.split_once('$') {
@@ -47,7 +46,8 @@ impl TestRun {
         if named.is_some() {
             return named;
         }
-        self.open_suite(None).or(self.suites.len().checked_sub(1))
+        self.open_suite(None)
+            .or(self.suites.list.len().checked_sub(1))
     }
 
     /// Takes the end of a test.
@@ -99,7 +99,7 @@ impl TestRun {
         let event = self.others.event_place();
         match place {
             Some(at) => {
-                let suite = &mut self.suites[at];
+                let suite = &mut self.suites.list[at];
                 suite.on_end(over, order, end, details, notes)?;
                 suite.last_event = event;
                 Ok(())
@@ -114,7 +114,7 @@ impl TestRun {
 
     /// Returns the position of the open suite with a number.
     fn suite_of_number(&self, number: Option<usize>) -> Option<usize> {
-        place_of_number(&self.suites, number)
+        self.suites.place_of_number(number)
     }
 
     /// Takes the end of a test that is not running. The test is counted unless it passed. The end is a
@@ -155,7 +155,7 @@ impl TestRun {
         let event = self.others.event_place();
         match self.suite_of(name) {
             Some(at) => {
-                let suite = &mut self.suites[at];
+                let suite = &mut self.suites.list[at];
                 suite.on_stray_end(test, end, details, notes)?;
                 suite.last_event = event;
                 Ok(())

@@ -1,0 +1,77 @@
+// Made by tools/erase from crates/test_report_forms/src/levels.rt. Do not edit.
+//! What the form for people shows of a test, by the levels of the layer.
+
+use crate::test_report_forms::options::Options;
+use crate::test_report_run::counted::{Finish, finished_test};
+use deodarsieve::{
+    ExecutionResultDescription, FinalStatusLevel, FinishedTest, OutputOnTestFinished, StatusLevel,
+    StatusLevels, TestOutputDisplay,
+};
+
+/// Returns the levels of a report.
+fn levels_of(options: Options) -> StatusLevels {
+    StatusLevels {
+        status_level: options.status_level,
+        final_status_level: options.final_status_level,
+    }
+}
+
+/// Returns when something is shown of a test besides its line: `failures` says when it is shown why a failed test failed.
+/// Nothing is shown of another test.
+fn display_of(failures: TestOutputDisplay, finish: Finish) -> TestOutputDisplay {
+    match finish {
+        Finish::Passed => TestOutputDisplay::Never,
+        Finish::FlakyFailed | Finish::Failed | Finish::TimedOut => failures,
+    }
+}
+
+/// Returns the number of attempts that decides the levels of a test. A flaky test took several.
+fn attempts_for(finish: Finish, attempts: usize) -> usize {
+    match finish {
+        Finish::FlakyFailed => attempts.max(2),
+        Finish::Passed | Finish::Failed | Finish::TimedOut => attempts,
+    }
+}
+
+/// Returns a test that finished in this way, as the levels take it.
+fn own_test(finish: Finish, attempts: usize) -> FinishedTest {
+    finished_test(finish, attempts_for(finish, attempts))
+}
+
+/// Returns the level of a finished test at the end of the run.
+pub(crate) fn own_final_level(finish: Finish, attempts: usize) -> FinalStatusLevel {
+    own_test(finish, attempts).view().final_status_level()
+}
+
+/// Returns what is shown of a finished test, and what is stored for the list at the end.
+pub(crate) fn finished_output(
+    options: Options,
+    finish: Finish,
+    attempts: usize,
+) -> OutputOnTestFinished {
+    let test = own_test(finish, attempts);
+    let view = test.view();
+    levels_of(options).compute_output_on_test_finished(
+        display_of(options.failure_output, finish),
+        None,
+        view.status_level(),
+        view.final_status_level(),
+        view.result,
+    )
+}
+
+/// Returns what is shown of a skipped test, and what is stored for the list at the end.
+pub(crate) fn skipped_output(options: Options) -> OutputOnTestFinished {
+    levels_of(options).compute_output_on_test_finished(
+        TestOutputDisplay::Never,
+        None,
+        StatusLevel::Skip,
+        FinalStatusLevel::Skip,
+        &ExecutionResultDescription::Pass,
+    )
+}
+
+/// Returns true if a test has a line when it ends: the line is written, or something is shown under it.
+pub(crate) fn has_line(shows: OutputOnTestFinished) -> bool {
+    shows.write_status_line || shows.show_immediate
+}

@@ -1,0 +1,87 @@
+//! What explains a failure of cargo.
+
+use crate::{OPTIONS, reported};
+use deodarsieve_cli::test_report_forms::form::Form;
+use deodarsieve_cli::test_report_forms::github::GithubForm;
+use deodarsieve_cli::test_report_forms::html::HtmlForm;
+use deodarsieve_cli::test_report_forms::json_form::JsonForm;
+use deodarsieve_cli::test_report_forms::junit::JunitForm;
+use deodarsieve_cli::test_report_forms::markdown::MarkdownForm;
+use deodarsieve_cli::test_report_forms::options::Options;
+use deodarsieve_cli::test_report_forms::text::TextForm;
+
+/// The output of a command that does not compile. A terminal does not show the escape.
+const BROKEN: &str = "   Compiling a v0.1.0\n\
+    error[E0308]: <T>\u{1b}[0m\n  --> src/lib.rs:1:2\n\
+    error: could not compile `a` (lib) due to 1 previous error\n";
+
+/// Checks that the report of `BROKEN` in a form has this part.
+fn has<F: Form>(form: F, part: &str) {
+    let (text, _) = reported(form, &[BROKEN]);
+    assert!(text.contains(part), "{text}");
+}
+
+#[test]
+fn each_form_has_what_the_compiler_said() {
+    has(
+        TextForm::new(OPTIONS),
+        "cargo: error: could not compile `a` (lib) due to 1 previous error\n    \
+         error[E0308]: <T>\n      --> src/lib.rs:1:2\n------------\n",
+    );
+    has(
+        GithubForm::new(OPTIONS),
+        "::error::cargo: error: could not compile `a` (lib) due to 1 previous error%0A\
+         error[E0308]: <T>%0A  --> src/lib.rs:1:2\n::notice::",
+    );
+    has(
+        JunitForm::new(OPTIONS),
+        " type=\"disagreement\">error[E0308]: &lt;T&gt;\n  --&gt; src/lib.rs:1:2</error>",
+    );
+    has(
+        HtmlForm::new(OPTIONS),
+        " due to 1 previous error<pre><code>error[E0308]: &lt;T&gt;\n  --&gt; src/lib.rs:1:2</code></pre></li>",
+    );
+    has(
+        MarkdownForm::new(OPTIONS),
+        " due to 1 previous error\n\n<pre>\nerror[E0308]: &lt;T&gt;\n  --&gt; src/lib.rs:1:2</pre>\n\n",
+    );
+    has(
+        JsonForm::new(OPTIONS),
+        "\"why\":\"error[E0308]: <T>\\n  --> src/lib.rs:1:2\"",
+    );
+}
+
+/// Checks the text up to the rule for a test program that failed after these lines, or before those after the failure.
+fn explains(before: &str, after: &str, why: &str) {
+    let lines = format!("{before}error: test failed, to rerun pass `--lib`\n{after}");
+    let options = Options {
+        limit: 1,
+        ..OPTIONS
+    };
+    let (text, _) = reported(TextForm::new(options), &[&lines]);
+    let wanted = format!("cargo: error: test failed, to rerun pass `--lib`\n{why}------------\n");
+    assert!(text.starts_with(&wanted), "{text}");
+}
+
+#[test]
+fn the_prints_before_a_failure_explain_it() {
+    let cause = "Caused by:\n  signal: 6\n";
+    explains("", "", "");
+    explains("", cause, "      signal: 6\n");
+    explains(
+        "checks 2 files\n1 differs\n",
+        cause,
+        "    checks 2 files\n    1 differs\n",
+    );
+    explains(
+        "thread 'a' (1) panicked at src/a.rs:1:2:\nno money\nthread 'main' (2) panicked at src/b.rs:3:4:\njoin\n",
+        cause,
+        "    thread 'a' (1) panicked at src/a.rs:1:2:\n    no money\n    \
+         thread 'main' (2) panicked at src/b.rs:3:4:\n    join\n",
+    );
+    explains(
+        "old\n     Running tests/a.rs (target/debug/deps/a-0123456789abcdef)\n",
+        cause,
+        "      signal: 6\n",
+    );
+}

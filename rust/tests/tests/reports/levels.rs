@@ -1,0 +1,145 @@
+//! Which tests the levels show, when the tests end and in the list at the end.
+
+use crate::{OPTIONS, reported};
+use deodarsieve::{FinalStatusLevel, StatusLevel, TestOutputDisplay};
+use deodarsieve_cli::test_report_forms::options::Options;
+use deodarsieve_cli::test_report_forms::text::TextForm;
+
+/// A test that passed, a flaky one, a skipped one and a failed one, each later one slower.
+const RUN: &str = r#"{"type":"suite","event":"started","test_count":4}
+{"type":"test","event":"started","name":"failed"}
+{"type":"test","event":"failed","name":"failed","message":"why","exec_time":0.004}
+{"type":"test","event":"started","name":"skipped"}
+{"type":"test","event":"ignored","name":"skipped"}
+{"type":"test","event":"started","name":"passed"}
+{"type":"test","event":"ok","name":"passed","exec_time":0.001}
+{"type":"test","event":"started","name":"flaky"}
+{"type":"test","event":"ok","name":"flaky#3","exec_time":0.002}
+{"type":"suite","event":"failed"}
+"#;
+
+const FAILED: &str = "FAIL [   0.004s] suite 1 failed\n    why\n";
+const SKIPPED: &str = "SKIP suite 1 skipped\n";
+const PASSED: &str = "PASS [   0.001s] suite 1 passed\n";
+const FLAKY: &str = "FLAKY 3/3 [   0.002s] suite 1 flaky\n";
+
+/// Returns the lines before the rule, and the list after the summary, of the report of the run.
+fn parts(options: Options) -> (String, String) {
+    let (text, succeeds) = reported(TextForm::new(options), &[RUN]);
+    assert!(!succeeds);
+    let (lines, end) = text
+        .split_once("------------\n")
+        .expect("the report has a rule");
+    let (_, list) = end.split_once('\n').expect("the report has a summary");
+    let list = list
+        .strip_suffix("outcome failed\n")
+        .expect("the report has an outcome");
+    (lines.to_owned(), list.to_owned())
+}
+
+#[test]
+fn status_levels_choose_lines() {
+    let passing = [FAILED, SKIPPED, PASSED, FLAKY].concat();
+    for (status_level, wanted) in [
+        (StatusLevel::None, FAILED.to_owned()),
+        (StatusLevel::Fail, FAILED.to_owned()),
+        (StatusLevel::Retry, [FAILED, FLAKY].concat()),
+        (StatusLevel::Leak, [FAILED, FLAKY].concat()),
+        (StatusLevel::Pass, [FAILED, PASSED, FLAKY].concat()),
+        (StatusLevel::Skip, passing.clone()),
+        (StatusLevel::All, passing),
+    ] {
+        let options = Options {
+            status_level,
+            ..OPTIONS
+        };
+        assert_eq!(parts(options).0, wanted, "{status_level:?}");
+    }
+}
+
+#[test]
+fn final_status_levels_choose_and_order_the_list() {
+    let failed = "        FAIL [   0.004s] suite 1 failed: why\n";
+    let flaky = "   FLAKY 3/3 [   0.002s] suite 1 flaky\n";
+    let skipped = "        SKIP suite 1 skipped\n";
+    let passed = "        PASS [   0.001s] suite 1 passed\n";
+    let all = [passed, skipped, flaky, failed].concat();
+    for (final_status_level, wanted) in [
+        (FinalStatusLevel::None, String::new()),
+        (FinalStatusLevel::Fail, failed.to_owned()),
+        (FinalStatusLevel::Flaky, [flaky, failed].concat()),
+        (FinalStatusLevel::Slow, [flaky, failed].concat()),
+        (FinalStatusLevel::Skip, [skipped, flaky, failed].concat()),
+        (FinalStatusLevel::Pass, all.clone()),
+        (FinalStatusLevel::All, all),
+    ] {
+        let options = Options {
+            final_status_level,
+            ..OPTIONS
+        };
+        assert_eq!(parts(options).1, wanted, "{final_status_level:?}");
+    }
+}
+
+#[test]
+fn slowest_tests_are_listed_last() {
+    let slowest = ["failed", "flaky", "passed"].map(|name| {
+        let time = match name {
+            "failed" => 4,
+            "flaky" => 2,
+            _ => 1,
+        };
+        format!("     SLOWEST [   0.00{time}s] suite 1 {name}\n")
+    });
+    for count in 0..5 {
+        let options = Options {
+            final_status_level: FinalStatusLevel::None,
+            slowest: count,
+            ..OPTIONS
+        };
+        assert_eq!(parts(options).1, slowest[..count.min(3)].concat());
+    }
+}
+
+#[test]
+fn reasons_are_shown_at_once_in_the_list_or_never() {
+    let line = "FAIL [   0.004s] suite 1 failed\n";
+    let why = "    why\n";
+    let listed = "        FAIL [   0.004s] suite 1 failed: why\n";
+    let listed_why = "             why\n";
+    for (failure_output, now, end) in [
+        (TestOutputDisplay::Immediate, [line, why], [listed, ""]),
+        (
+            TestOutputDisplay::ImmediateFinal,
+            [line, why],
+            [listed, listed_why],
+        ),
+        (TestOutputDisplay::Final, [line, ""], [listed, listed_why]),
+        (TestOutputDisplay::Never, [line, ""], [listed, ""]),
+    ] {
+        let options = Options {
+            failure_output,
+            final_status_level: FinalStatusLevel::Fail,
+            ..OPTIONS
+        };
+        let (lines, list) = parts(options);
+        assert_eq!(lines, now.concat(), "{failure_output:?}");
+        assert_eq!(list, end.concat(), "{failure_output:?}");
+    }
+}
+
+#[test]
+fn a_reason_in_the_list_lists_its_test() {
+    let options = Options {
+        status_level: StatusLevel::None,
+        final_status_level: FinalStatusLevel::None,
+        failure_output: TestOutputDisplay::Final,
+        ..OPTIONS
+    };
+    let (lines, list) = parts(options);
+    assert_eq!(lines, "");
+    assert_eq!(
+        list,
+        "        FAIL [   0.004s] suite 1 failed: why\n             why\n"
+    );
+}
