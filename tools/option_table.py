@@ -69,6 +69,16 @@ def passed(name):
     return start(name) + f'{{"type":"test","event":"ok","name":"{name}"}}\n'
 
 
+def flaky(name):
+    """Returns the lines of a test that passes after two attempts."""
+    return start(name) + f'{{"type":"test","event":"ok","name":"{name}#2"}}\n'
+
+
+def ignored(name):
+    """Returns the lines of a test that is skipped."""
+    return start(name) + f'{{"type":"test","event":"ignored","name":"{name}"}}\n'
+
+
 def failed(name, output):
     """Returns the lines of a test that fails with this output, which is a text of JSON."""
     return start(name) + f'{{"type":"test","event":"failed","name":"{name}","stdout":"{output}"}}\n'
@@ -259,6 +269,60 @@ def outputs():
     yield Row("a whole output has no limit", ["--output", "whole"], LONG, 1, Parts([f"    {LONG_TEXT}\n"], ["more bytes"]))
     yield Row("but one in annotations", ["--output", "whole", "--format", "github"], LONG, 1, Parts(["%0A(75911 more bytes)\n"]))
     yield Row("an unknown output", ["--output", "long"], "", 2, "", Parts(["error: "]))
+
+
+def levels():
+    """Yields the rows of the levels, and of what the list at the end has."""
+    text = started(2) + passed("adds") + failed("pays", "Error: no money") + ended("failed", 1, 1)
+    line, why, listed = "FAIL suite 1 pays\n", "    Error: no money\n", "        FAIL suite 1 pays: Error: no money\n"
+    rule, passes, list_passes = "------------\n", "PASS suite 1 adds\n", "        PASS suite 1 adds\n"
+    for level in ("none", "fail", "retry", "slow", "leak"):
+        wanted = Parts([line + why + rule, listed], ["PASS"])
+        yield Row(f"--status-level {level}", ["--status-level", level], text, 1, wanted)
+    for level in ("pass", "skip", "all"):
+        yield Row(f"--status-level {level}", [f"--status-level={level}"], text, 1, Parts([passes + line + why + rule, listed]))
+    yield Row("--final-status-level none", ["--final-status-level", "none"], text, 1, Parts([line + why + rule], [listed]))
+    for level in ("fail", "flaky", "retry", "slow", "skip", "leak"):
+        yield Row(f"--final-status-level {level}", ["--final-status-level", level], text, 1, Parts([rule, listed], ["PASS"]))
+    for level in ("pass", "all"):
+        wanted = Parts([rule, list_passes + listed])
+        yield Row(f"--final-status-level {level}", ["--final-status-level", level], text, 1, wanted)
+    text = started(3) + flaky("lends") + ignored("waits") + failed("pays", "Error") + ended("failed", 1, 1)
+    twice, skip, last = "   FLAKY 2/2 suite 1 lends\n", "        SKIP suite 1 waits\n", "        FAIL suite 1 pays: Error\n"
+    for level in ("none", "fail"):
+        hidden = ["--status-level", level, "--final-status-level", "none"]
+        yield Row(f"--status-level {level}, a flaky test", hidden, text, 1, Parts([], ["FLAKY", "SKIP"]))
+    for level in ("retry", "slow", "leak", "pass", "skip", "all"):
+        wanted = Parts(["FLAKY 2/2 suite 1 lends\n" + rule], ["SKIP"] if level in ("retry", "slow", "leak", "pass") else [])
+        yield Row(f"--status-level {level}, a flaky test", ["--status-level", level], text, 1, wanted)
+    for level in ("skip", "all"):
+        yield Row(f"--status-level {level}, a skipped test", ["--status-level", level], text, 1, Parts(["SKIP suite 1 waits\nFAIL"]))
+    for level in ("none", "fail"):
+        yield Row(f"--final-status-level {level}, a flaky test", ["--final-status-level", level], text, 1,
+                  Parts([], ["FLAKY", "SKIP"]))
+    for level in ("flaky", "retry", "slow"):
+        yield Row(f"--final-status-level {level}, a flaky test", ["--final-status-level", level], text, 1,
+                  Parts([twice + last], ["SKIP"]))
+    for level in ("skip", "leak", "pass", "all"):
+        yield Row(f"--final-status-level {level}, a skipped test", ["--final-status-level", level], text, 1,
+                  Parts([skip + twice + last]))
+    text = started(2) + passed("adds") + failed("pays", "Error: no money") + ended("failed", 1, 1)
+    margin = " " * 13 + "Error: no money\n"
+    for when, wanted in [
+        ("immediate", Parts([line + why + rule, listed + "outcome"])),
+        ("immediate-final", Parts([line + why + rule, listed + margin])),
+        ("final", Parts([line + rule, listed + margin])),
+        ("never", Parts([line + rule, listed + "outcome"])),
+    ]:
+        yield Row(f"--failure-output {when}", ["--failure-output", when], text, 1, wanted)
+    hidden = ["--status-level", "none", "--final-status-level", "none", "--failure-output", "never"]
+    yield Row("no failed test is shown", hidden, text, 1, Parts([rule, "outcome failed\n"], ["FAIL"]))
+    timed = text.replace('"stdout"', '"exec_time":0.25,"stdout"')
+    slow = "     SLOWEST [   0.250s] suite 1 pays\noutcome"
+    yield Row("--slowest 2", ["--slowest", "2"], timed, 1, Parts([slow]))
+    yield Row("--slowest 0", ["--slowest", "0"], timed, 1, Parts([rule], ["SLOWEST"]))
+    for option in ("--status-level", "--final-status-level", "--failure-output", "--slowest"):
+        yield Row(f"an unknown value of {option}", [option, "late"], "", 2, "", Parts(["error: "]))
 
 
 def colours():
@@ -552,6 +616,6 @@ def added_arguments():
 
 def rows():
     """Returns all rows."""
-    kinds = (forms, several_files, limits, outputs, colours, progress, others, streams, files, links, devices, conflicts,
+    kinds = (forms, several_files, limits, outputs, levels, colours, progress, others, streams, files, links, devices, conflicts,
              commands, surroundings, added_arguments)
     return [row for kind in kinds for row in kind()]

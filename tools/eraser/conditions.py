@@ -67,7 +67,7 @@ FAILURES_FIT = "the failures do not fit `usize`: `failed_counts_fit` tests it"
 NOT_LOADED = "output was not loaded"
 NO_SUCCESS = "the attempt of a `Success` did not succeed: `is_consistent` tests it"
 UNCOUNTABLE = "no run reads 2^128 bytes"
-FAILED_DEVICE = "a device that has failed fails again, and that is the fault"
+FAILED_DEVICE = "the programs never ask a device again that has failed: docs/TESTING.md says what another caller gets"
 
 CONDITIONS = {
     "output_slice/src/byte_source.rt": {

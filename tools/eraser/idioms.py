@@ -7,6 +7,7 @@ from .scanner import CLOSING, Source
 # Calls that have a shorter form, as tokens.
 SHORTER = (
     ("unwrap_or ( Vec :: new ( ) )", "unwrap_or_default()"),
+    ("unwrap_or ( String :: new ( ) )", "unwrap_or_default()"),
     ("map_or ( false ,", "is_some_and("),
     (". as_ref ( ) . map ( | bytes | bytes . as_slice ( ) )", ".as_deref()"),
     (". as_ref ( ) . map ( String :: as_str )", ".as_deref()"),

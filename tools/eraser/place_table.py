@@ -84,7 +84,7 @@ pub struct ExecutionStatusesIter<'a, S: OutputSpec> {
     ),
     # A value leaves a box by `*`.
     ("test_report_run/src/run.rt", "Box::into_inner(suite)", "*suite"),
-    ("test_report_run/src/run/suites.rt", "Box::into_inner(self.suites.remove(at))", "*self.suites.remove(at)"),
+    ("test_report_run/src/open_suites/changes.rt", "Box::into_inner(self.list.remove(at))", "*self.list.remove(at)"),
     # The crate's own moments are made otherwise.
     (
         "fixtures/src/lib.rt",

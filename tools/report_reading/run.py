@@ -168,11 +168,11 @@ class Run:
         """Returns the flaky tests that passed, suite by suite."""
         return [test for suite in self.suites + self.parts for test in suite.tests if test.is_flaky()]
 
-    def slowest(self):
-        """Returns the five finished tests with the longest times, the longest first."""
+    def slowest(self, number):
+        """Returns this number of finished tests with the longest times, the longest first."""
         tests = [test for suite in self.suites + self.parts for test in suite.in_state(*FINISHED)]
         timed = [test for test in tests if test.time is not None]
-        return sorted(timed, key=lambda test: -test.time)[:5]
+        return sorted(timed, key=lambda test: -test.time)[:number]
 
     def totals(self):
         """Returns the numbers of the `Summary` line, and its time in microseconds."""

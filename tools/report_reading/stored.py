@@ -10,7 +10,8 @@ from report_reading.texts import flaky_line, heading, shown_text, shown_time, su
 RULE = "------------"
 WHY = "    "
 LISTED = re.compile(r" *(?:FAIL|TIMEOUT|CRASH) (.*)")
-SLOW = re.compile(r" *SLOW (\[ *[0-9.]+s\] ).*")
+SLOWEST = re.compile(r" *SLOWEST (\[ *[0-9.]+s\] ).*")
+LEVELS = ["--status-level", "--final-status-level", "--failure-output"]
 COLOR = re.compile("\x1b\\[[0-9;]*m")
 
 
@@ -59,31 +60,38 @@ def differing(expected, found, what):
     return [line for line in lines if not line.startswith("@@")]
 
 
-def list_differences(run, lines):
-    """Returns the differences in the list after the `Summary` line, without reasons and names of slow tests."""
+def flaky_differences(run, lines):
+    """Returns the differences in the flaky tests of the list after the `Summary` line."""
     flaky = sorted(map(flaky_line, run.flaky_tests()))
     found = sorted(line.lstrip(" ") for line in lines if line.lstrip(" ").startswith("FLAKY "))
+    return differing(flaky, found, "flaky tests")
+
+
+def list_differences(run, lines, words):
+    """Returns the differences in the list after the `Summary` line: in the failed tests, and in the times of the slowest."""
     listed = [line[1] for line in map(LISTED.fullmatch, lines) if line]
     failed = [f"{shown_time(test.time)}{names(test)}" for test in run.failed_tests()]
     begins = [whole[: len(begin)] for whole, begin in zip(listed, failed)] + listed[len(failed) :]
-    slow = [line[1] for line in map(SLOW.fullmatch, lines) if line]
+    slow = [line[1] for line in map(SLOWEST.fullmatch, lines) if line]
+    slowest = run.slowest(int(option(words, "--slowest", "0")))
     return [
-        *differing(flaky, found, "flaky tests"),
         *differing(failed, begins, "list of failed tests"),
-        *differing([shown_time(test.time) for test in run.slowest()], slow, "times of slow tests"),
+        *differing([shown_time(test.time) for test in slowest], slow, "times of slow tests"),
     ]
 
 
-def text_differences(run, report):
-    """Returns the differences between a report as text and its run."""
+def text_differences(run, report, words):
+    """Returns the differences between a report as text and its run. With an option of the levels, other tests may be shown."""
     lines = report.split("\n")[:-1]
     if RULE not in lines:
         return ["the report has no summary"]
     rule = len(lines) - 1 - lines[::-1].index(RULE)
+    by_default = not any(option(words, name, "") for name in LEVELS)
+    before = differing(without_why(expected_notes(run)), without_why(lines[:rule]), "lines before the summary")
     return [
-        *differing(without_why(expected_notes(run)), without_why(lines[:rule]), "lines before the summary"),
+        *(before + flaky_differences(run, lines[rule + 2 : -1]) if by_default else []),
         *differing([summary(run.totals())], lines[rule + 1 : rule + 2], "summary"),
-        *list_differences(run, lines[rule + 2 : -1]),
+        *list_differences(run, lines[rule + 2 : -1], words),
         *differing([f"outcome {run.outcome()}"], lines[-1:], "outcome"),
     ]
 
@@ -96,7 +104,7 @@ def differences(path):
     found = differing([str(status)], [stored(path, "status").strip() or "0"], "status")
     form, report = option(words, "--format", "text"), stored(path, "stdout")
     if form == "text":
-        found += text_differences(run, plain(report, words))
+        found += text_differences(run, plain(report, words), words)
     return found
 
 

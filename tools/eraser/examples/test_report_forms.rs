@@ -1,3 +1,4 @@
+use deodarsieve::{FinalStatusLevel, StatusLevel, TestOutputDisplay};
 use deodarsieve_cli::test_report_forms::entry::Entry;
 use deodarsieve_cli::test_report_forms::form::Form;
 use deodarsieve_cli::test_report_forms::options::{Options, OutputDisplay};
@@ -18,6 +19,10 @@ let options = Options {
     output: OutputDisplay::Auto,
     raw: false,
     color: false,
+    status_level: StatusLevel::Fail,
+    final_status_level: FinalStatusLevel::Slow,
+    failure_output: TestOutputDisplay::Immediate,
+    slowest: 0,
     no_tests_pass: false,
 };
 assert_eq!(text_of_note(&note, options), "2 tests started outside of a suite\n");
