@@ -19,6 +19,7 @@ pub mod FileEnds
 pub mod FileEvents
 pub mod HtmlLaws
 pub mod InOrder
+pub mod Joins
 pub mod JsonHidden
 pub mod JsonReads
 pub mod JunitLaws

@@ -10,6 +10,7 @@ use Rattle.std.specs.Str.{bytes_eq}
 use Rattle.test_report_laws.proofs.CleanLines as clean
 use Rattle.test_report_laws.proofs.CleanLines.{CleanLine, clean-line, clean-replicate, word}
 use Rattle.test_report_laws.proofs.CleanWords.{clean-attempts, clean-bracket, clean-disagreement, clean-failed_word, clean-not_run, clean-outcome, clean-passed_word, clean-summary, clean-title}
+use Rattle.test_report_laws.proofs.Joins.{end-parts, four-parts, item-parts, list-parts, rule-parts, three-parts, words-end}
 use Rattle.test_report_laws.proofs.KeyedLines.{Alike, each-alike, falling-alike, fold-alike, text-alike}
 use Rattle.test_report_laws.proofs.Lines.{AddsNoRule, HasNoRule, IsWritten, also, blocks-lines, has-blocks, in-line, line-end, lines-both, lines-each, no-rule-both, no-rule-line, no-rules, none-after, later-blocks}
 use Rattle.run_events_levels.specs.LevelRanks.{final_level_rank}
@@ -37,31 +38,6 @@ use Rattle.test_report_run.specs.declared.counted.Finish.TheVariants.{Passed}
 use Rattle.test_report_run.specs.declared.note.RunEnd.{RunEnd}
 use Rattle.test_report_forms.specs.ShownWhy.{ShownWhyView, shown_why}
 
--- the parts of lines
-words-end : (s a b t n e : List ℕ) → s ++ (a ++ (b ++ (t ++ (n ++ e)))) ≡ (s ++ (a ++ (b ++ (t ++ n)))) ++ e
-words-end s a b t n e = simp append_assoc
-
-item-parts : (p s a b t r : List ℕ) → (p ++ (s ++ (a ++ (b ++ t)))) ++ r ≡ (p ++ s) ++ (a ++ ((b ++ t) ++ r))
-item-parts p s a b t r = simp append_assoc
-
-three-parts : (l c s e : List ℕ) → l ++ (c ++ (s ++ e)) ≡ (l ++ (c ++ s)) ++ e
-three-parts l c s e = simp append_assoc
-
-four-parts : (l c n s e : List ℕ) → l ++ (c ++ (n ++ (s ++ e))) ≡ (l ++ (c ++ (n ++ s))) ++ e
-four-parts l c n s e = simp append_assoc
-
-indented-parts : (l s e : List ℕ) → l ++ (s ++ e) ≡ (l ++ s) ++ e
-indented-parts l s e = simp append_assoc
-
-end-parts : (x s l a w e : List ℕ) → x ++ (s ++ (l ++ (a ++ (w ++ e)))) ≡ (x ++ (s ++ l)) ++ ((a ++ w) ++ e)
-end-parts x s l a w e = simp append_assoc
-
-list-parts : (x s p k f l t o : List ℕ) → x ++ (s ++ ((p ++ (k ++ (f ++ (l ++ t)))) ++ o)) ≡ (x ++ (s ++ (p ++ (k ++ f)))) ++ (l ++ (t ++ o))
-list-parts x s p k f l t o = simp append_assoc
-
-rule-parts : (x a e p s l o : List ℕ) → x ++ ((a ++ (e ++ (p ++ (s ++ e)))) ++ (l ++ o)) ≡ x ++ (a ++ (e ++ ((p ++ s) ++ (e ++ (l ++ o)))))
-rule-parts x a e p s l o = simp append_assoc
-
 -- words for results
 in-if : (b : Bool) {xs ys : List ℕ} → IsInLine xs → IsInLine ys → IsInLine (if b then xs else ys)
 in-if true p q = p
@@ -87,7 +63,7 @@ in-status false w h = in-line h
 -- the lines of why a test failed
 module _ (o : Options) where
   lines-indented : (margin : ℕ) (line : List ℕ) → IsLines (indented_line margin o.raw line)
-  lines-indented margin line = inr (replicate margin 32 ++ shown_text o.raw line, indented-parts (replicate margin 32) (shown_text o.raw line) (codes "\n"))
+  lines-indented margin line = inr (replicate margin 32 ++ shown_text o.raw line, sym (append_assoc (replicate margin 32) (shown_text o.raw line) (codes "\n")))
 
   lines-more : (margin more : ℕ) → IsLines (more_line margin more)
   unfolding more_line
@@ -233,7 +209,7 @@ module _ (o : Options) where
   indented-no-rule : (line : List ℕ) → IsInLine (shown_text o.raw line) → AddsNoRule (indented_line 13 o.raw line)
   indented-no-rule line h =
       let shown = shown_text o.raw line in
-      subst AddsNoRule (sym (indented-parts (replicate 13 32) shown (codes "\n")))
+      subst AddsNoRule (append_assoc (replicate 13 32) shown (codes "\n"))
       (margin-no-rule (replicate 13 32 ++ shown) shown (in-margin shown h) refl)
 
   each-no-rule : (lines : List (List ℕ)) → All (λ line. IsInLine (shown_text o.raw line)) lines → AddsNoRule (flat_map (indented_line 13 o.raw) lines)
