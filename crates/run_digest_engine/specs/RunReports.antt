@@ -16,7 +16,7 @@ run_view run = record { start = run.start; units = map unit_view run.units.now }
 abbrev pub ReportsRuns : List Run → List ℕ → Type 0
 ReportsRuns runs text = (outcome : RunOutcome) × IsHighest (map run_outcome runs) outcome × (text ≡ reports_of runs outcome)
 
--- the text is the one that `count` writes for any lines that describe these runs, and the answer of `count` is whether their highest outcome is `Success`
+-- the text is the one that `count` writes for any lines that describe these runs, and `count` returns true if and only if their highest outcome is `Success`
 abbrev pub AgreesWithCount : List Run → List ℕ → Type 0
 AgreesWithCount runs text =
     (lines : List (List ℕ)) (written : List ℕ) (success : Bool) → IsReading lines runs → IsDigest lines written success

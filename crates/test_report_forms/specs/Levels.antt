@@ -23,7 +23,7 @@ use Rattle.test_report_run.specs.declared.counted.Finish.TheVariants as finish
 abbrev pub levels_of : Options → StatusLevels
 levels_of o = record { status_level = o.status_level; final_status_level = o.final_status_level }
 
--- when something is shown of a test that finished so, besides its line: why a failed test failed, and nothing of another test
+-- when something is shown of a test besides its line: why a failed test failed, and nothing of another test
 abbrev pub display_of : TestOutputDisplay → Finish → TestOutputDisplay
 display_of failures finish.Passed = display.Never
 display_of failures finish.FlakyFailed = failures
@@ -35,7 +35,7 @@ abbrev pub attempts_for : Finish → ℕ → ℕ
 attempts_for finish.FlakyFailed attempts = max attempts 2
 attempts_for how attempts = attempts
 
--- what decides the levels of a test that finished so after this number of attempts
+-- what decides the levels of a test that finished in this way after this number of attempts
 abbrev pub own_view : Finish → ℕ → TestView
 own_view how attempts = view_of_finish how (attempts_for how attempts)
 

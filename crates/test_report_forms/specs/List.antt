@@ -32,7 +32,7 @@ slow_line_view s = record { key = s.time; line = string_bytes s.line }
 abbrev pub falling_place : ℕ → List KeyedLine → ℕ
 falling_place key lines = position_or_len (λ other. nat_lt other.key key) lines
 
--- the lines with one more in its place, by falling keys: at most the first so many
+-- the lines with one more in its place, by falling keys. The first `most` of them stay
 unfoldable pub put_falling : ℕ → List KeyedLine → KeyedLine → List KeyedLine
 put_falling most lines line = take most (insert lines (falling_place line.key lines) line)
 

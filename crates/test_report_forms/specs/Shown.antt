@@ -83,7 +83,7 @@ limited text limit = shown_text false (front text limit) ++ more_note (more_byte
 abbrev pub indented_line : ℕ → Bool → List ℕ → List ℕ
 indented_line margin raw line = replicate margin 32 ++ (shown_text raw line ++ codes "\n")
 
--- a text, each of its lines after so many spaces
+-- a text, each of its lines after `margin` spaces
 abbrev pub indented : ℕ → Bool → List ℕ → List ℕ
 indented margin raw text = flat_map (indented_line margin raw) (slice_split (λ b. b == 10) text)
 

@@ -13,7 +13,7 @@ more_line margin more = if more == 0 then [] else replicate margin 32 ++ (codes 
 unfoldable pub hidden_line : ℕ → ℕ → List ℕ
 hidden_line margin hidden = if hidden == 0 then [] else replicate margin 32 ++ (codes "(" ++ (decimal hidden ++ codes " more lines of output)\n"))
 
--- the lines of why a test failed, each after so many spaces
+-- the lines of why a test failed, each after `margin` spaces
 unfoldable pub why_lines : ℕ → Options → ShownWhyView → List ℕ
 why_lines margin o why =
     indented margin o.raw (front why.text o.limit) ++ (more_line margin (more_bytes why.text o.limit) ++ hidden_line margin why.hidden)

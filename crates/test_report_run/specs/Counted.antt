@@ -17,7 +17,7 @@ finish_for HasTimedOut = TimedOut
 finish_for IsFlaky = FlakyFailed
 finish_for kind = Failed
 
--- the result of a test that finished so: a failure with the exit code of the harness
+-- the result of a test that finished in this way: a failure with the exit code of the harness
 abbrev pub result_of : Finish → ExecutionResultDescription
 result_of Passed = described.Pass
 result_of FlakyFailed = described.Pass
@@ -31,6 +31,6 @@ flaky_result_of FlakyFailed = flaky.Fail
 flaky_result_of Failed = flaky.Pass
 flaky_result_of TimedOut = flaky.Pass
 
--- what decides the counters of a test that finished so
+-- what decides the counters of a test that finished in this way
 abbrev pub view_of_finish : Finish → ℕ → TestView
 view_of_finish how attempts = record { result = result_of how; attempts = attempts; is_slow = false; flaky_result = flaky_result_of how }
