@@ -1,15 +1,15 @@
 -- The notes of a suite that ends, one after another.
 use Rattle.std.proofs.Common.{◌≡◌, ◌++◌, ◌+◌, ℕ, List, [], Option, false, length, drop, map, take, if◌then◌else◌, append_assoc}
-use Rattle.test_report_run.specs.Note.{HasCrashed, HasNoEnd, NoteView}
+use Rattle.test_report_run.specs.Note.{HasNoEnd, NoteView}
 use Rattle.test_report_run.specs.Others.{OthersView}
-use Rattle.test_report_run.specs.Over.{crash_of, early_disagreements, early_notes, explained_of, failed_notes, flaky_notes, last_disagreement, last_notes, number_notes, skipped_note, with_all_flaky, with_failed}
+use Rattle.test_report_run.specs.Over.{crash_of, crashed_notes, early_disagreements, early_notes, explained_of, failed_notes, flaky_notes, last_disagreement, last_notes, number_notes, skipped_note, with_all_flaky, with_failed}
 use Rattle.std.specs.Option.{option_or}
 use Rattle.test_report_run.specs.Suite.{SuiteState}
 use Rattle.test_report_run.specs.declared.last_line.Explanation.{Explanation}
 
 pub early-notes : (others : OthersView) (s s1 s2 : SuiteState) (names : List (List ℕ)) (n crashed : ℕ) (old n1 n2 n3 n4 : List NoteView)
     → n ≡ length names → crashed ≡ n
-    → s1 ≡ record s { stats = with_failed s.stats names; crashed = s.crashed + n } → n1 ≡ old ++ failed_notes s (HasCrashed (crash_of others s n)) names
+    → s1 ≡ record s { stats = with_failed s.stats names; crashed = s.crashed + n } → n1 ≡ old ++ crashed_notes s (crash_of others s n) names
     → s2 ≡ record s1 { stats = with_all_flaky false s1.stats s1.flaky; flaky = [] } → n2 ≡ n1 ++ flaky_notes s1 false
     → n3 ≡ n2 ++ early_disagreements s2 crashed → n4 ≡ n3 ++ number_notes s2 record { skipped = s2.skipped; left = 0; time = s2.time }
     → n4 ≡ old ++ early_notes others s names

@@ -1,5 +1,5 @@
 -- The end of a file.
-use Rattle.std.proofs.Common.{Box, Global, ◌≡◌, ◌∙◌, ◌++◌, ◌+◌, [], ◌∷◌, Bool, List, ℕ, ap, append-nil, append_assoc, arith, cond, map, refl, sym}
+use Rattle.std.proofs.Common.{Box, Global, ◌≡◌, ◌∙◌, ◌++◌, ◌+◌, [], ◌∷◌, Bool, List, ℕ, ap, append-nil, append_assoc, arith, cond, map, refl, sym, false}
 use Rattle.std.specs.List.{count_by, fold}
 use Rattle.std.proofs.lemmas.List.Sums.{fold-append, sum_by-append}
 use Rattle.test_report_run.specs.Note.{NoteView}
@@ -81,11 +81,11 @@ four-lists : (n0 n1 n2 n3 n4 a b c d : List NoteView) → n0 ≡ [] → n1 ≡ n
 four-lists n0 n1 n2 n3 n4 a b c d none first second third fourth = rw (fourth, third, second, first, none) (append_assoc (a ++ b) c d)
 
 -- what the end of a file makes known before the end of its command
-pub known-first : (r r1 r2 r3 : RunState) (n0 n1 n2 n3 n4 : List NoteView) → n0 ≡ [] → r1 ≡ (settled r).run → n1 ≡ n0 ++ (settled r).notes
+pub known-first : (r r1 r2 r3 : RunState) (n0 n1 n2 n3 n4 : List NoteView) → n0 ≡ [] → r1 ≡ (settled r false).run → n1 ≡ n0 ++ (settled r false).notes
     → r2 ≡ (held_told r1).run → n2 ≡ n1 ++ (held_told r1).notes → r3 ≡ (all_ended_early r2).run → n3 ≡ n2 ++ (all_ended_early r2).notes
     → n4 ≡ n3 ++ no_event_notes r3 → step r3 n4 ≡ file_end r
 known-first r r1 r2 r3 n0 n1 n2 n3 n4 none last last-told held held-told over over-told silent =
-    let first : List NoteView = (settled r).notes in
+    let first : List NoteView = (settled r false).notes in
     ap (λ (notes : List NoteView). step r3 notes) (four-lists n0 n1 n2 n3 n4 _ _ _ _ none last-told held-told over-told silent)
     ∙ ap (λ (x : RunState). step x ((first ++ (held_told r1).notes) ++ ((all_ended_early r2).notes ++ no_event_notes x))) over
     ∙ ap (λ (x : RunState). let t = all_ended_early x in step t.run ((first ++ (held_told r1).notes) ++ (t.notes ++ no_event_notes t.run))) held

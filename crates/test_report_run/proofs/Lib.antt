@@ -1,10 +1,12 @@
 pub mod Attempts
 pub mod Boundaries
+pub mod Crashes
 pub mod Ends
 pub mod FileEnds
 pub mod Finishes
 pub mod FirstTests
 pub mod Firsts
+pub mod FlakySteps
 pub mod HeadingViews
 pub mod KeySteps
 pub mod LastPrints

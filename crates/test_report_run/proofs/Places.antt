@@ -27,6 +27,7 @@ map-insert f (y ∷ ys) (suc i) x = ap (λ zs. f y ∷ zs) (map-insert f ys i x)
 pub place-or_len : {X : Type 0} (p : X → Bool) (xs : List X) → unwrap_or (position p xs) (length xs) ≡ position_or_len p xs
 place-or_len p xs = grind (arith, prefix_len-le-length (λ x. not (p x)) xs)
 
+-- a position is that of the view
 pub position-map : {X Y : Type 0} (p : Y → Bool) (f : X → Y) (xs : List X) → position p (map f xs) ≡ position (λ x. p (f x)) xs
 position-map p f xs = rw (position_or_len-map p f xs, length-map xs f)
 

@@ -1,5 +1,7 @@
 pub mod Counted
 pub mod Ended
+pub mod Events
+pub mod Flaky
 pub mod Headings
 pub mod Keys
 pub mod LastLine

@@ -1,5 +1,5 @@
 -- What becomes known of a run.
-use Rattle.std.specs.Prelude.{ℕ, List, Bool, map, Option, option_map, String, string_bytes}
+use Rattle.std.specs.Prelude.{◌==◌, ℕ, List, Bool, false, true, map, None, Option, Some, option_map, String, string_bytes}
 use Rattle.std.specs.declared.alloc.Global.{Global}
 use Rattle.run_events_stats.specs.declared.stats.RunStats.{RunStats}
 use Rattle.test_report_events.specs.Event.{BySignal, CommandView, NotStarted, WithStatus}
@@ -22,13 +22,14 @@ use Rattle.test_report_run.specs.declared.note.TestOutcome.{TestOutcome}
 use Rattle.test_report_run.specs.declared.note.TestOutcome.TheVariants as outcome
 
 -- how a test crashed: how many tests ran, whether its suite has a key, and what may say why: the line in which cargo names the cause, the text of
--- the prints, and the last three of these that are not blank
+-- the prints, and the last three of these that are not blank; and whether another test of the suite crashed before it
 pub record CrashView : Type 0 where
   pub running : ℕ
   pub has_key : Bool
   pub cause : Option (List ℕ)
   pub prints : List ℕ
   pub last : List (List ℕ)
+  pub above : Bool
 
 -- the kind of a failure
 pub data KindView : Type 0 where
@@ -60,11 +61,13 @@ pub record TestNoteView : Type 0 where
   pub ended : Option ℕ
   pub outcome : OutcomeView
 
--- a failure of cargo: its line, and what may say why: the prints before it, and the line in which cargo names the cause
+-- a failure of cargo: its line; what may say why: the prints before it, and the line in which cargo names the cause; and whether it is the first one
+-- which says that tests failed in a file without events
 pub record CargoView : Type 0 where
   pub line : List ℕ
   pub prints : List ℕ
   pub cause : Option (List ℕ)
+  pub lacks_events : Bool
 
 -- a contradiction between lines
 pub data DisagreementView : Type 0 where
@@ -107,6 +110,7 @@ crash_view c = record {
   cause = text_view c.cause;
   prints = string_bytes c.prints.value;
   last = map string_bytes c.last.items;
+  above = c.above;
 }
 
 -- what the kind of a failure says
@@ -145,7 +149,7 @@ test_view t = record {
 
 -- what a failure of cargo says
 abbrev pub cargo_view : CargoReport → CargoView
-cargo_view r = record { line = string_bytes r.line; prints = string_bytes r.prints; cause = text_view r.cause }
+cargo_view r = record { line = string_bytes r.line; prints = string_bytes r.prints; cause = text_view r.cause; lacks_events = r.lacks_events }
 
 -- how a command ended
 abbrev pub command_view : CommandEnd → CommandView
@@ -182,3 +186,17 @@ note_view (note.Test test) = TestIs (test_view test)
 note_view (note.Disagreement d) = Disagrees (disagreement_view d)
 note_view (note.NotRun n) = IsNotRun (string_bytes n.suite) n.not_run n.initial_run_count
 note_view (note.Suite suite) = SuiteIs (suite_view suite)
+
+-- the command ended with status 0
+abbrev pub ended_well : Option CommandView → Bool
+ended_well None = false
+ended_well (Some (NotStarted error)) = false
+ended_well (Some (BySignal number)) = false
+ended_well (Some (WithStatus code)) = code == 0
+
+-- the command could not be started
+abbrev pub was_not_started : Option CommandView → Bool
+was_not_started None = false
+was_not_started (Some (NotStarted error)) = true
+was_not_started (Some (BySignal number)) = false
+was_not_started (Some (WithStatus code)) = false

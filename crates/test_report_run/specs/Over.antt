@@ -30,7 +30,7 @@ failed_note s kind name = test_note s (over_of name) (Fails (bare_failure kind))
 abbrev pub failed_notes : SuiteState → KindView → List (List ℕ) → List NoteView
 failed_notes s kind names = map (failed_note s kind) names
 
--- how a test crashed while this number of tests of the suite ran, after these lines that are no events
+-- how the first test crashed while this number of tests of the suite ran, after these lines that are no events
 abbrev pub crash_of : OthersView → SuiteState → ℕ → CrashView
 crash_of others s running = record {
   running = running;
@@ -38,7 +38,17 @@ crash_of others s running = record {
   cause = cause_behind others s.last_event;
   prints = prints_from others s.start;
   last = last_prints_from others s.start;
+  above = false;
 }
+
+-- how the tests after it crashed
+abbrev pub crash_again : CrashView → CrashView
+crash_again c = record c { above = true }
+
+-- tests of these names crash: the first one so, and the others after it
+abbrev pub crashed_notes : SuiteState → CrashView → List (List ℕ) → List NoteView
+crashed_notes s c [] = []
+crashed_notes s c (name ∷ names) = failed_note s (HasCrashed c) name ∷ failed_notes s (HasCrashed (crash_again c)) names
 
 -- the statistics with one more test that failed
 abbrev pub one_failed : RunStats → List ℕ → RunStats
@@ -103,7 +113,7 @@ early_state s names = record s {
 -- what becomes known when a suite ends early while tests of these names run, after these lines that are no events
 abbrev pub early_notes : OthersView → SuiteState → List (List ℕ) → List NoteView
 early_notes others s names =
-    failed_notes s (HasCrashed (crash_of others s (length names))) names
+    crashed_notes s (crash_of others s (length names)) names
     ++ (flaky_notes s false
     ++ (early_disagreements s (length names)
     ++ number_notes (early_state s names) record { skipped = s.skipped; left = 0; time = s.time }))

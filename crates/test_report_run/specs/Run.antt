@@ -1,16 +1,17 @@
 -- A run, line by line.
-use Rattle.std.specs.Prelude.{◌+◌, ◌-◌, ◌++◌, ◌==◌, ◌∷◌, ◌||◌, ◌&&◌, [], ℕ, List, Bool, true, false, filter, is_some, length, map, nat_lt, not, if◌then◌else◌, slice_index_or, slice_set, Option, Some, None, option_and_then, option_map}
-use Rattle.std.specs.List.{count_by, fold, position, remove}
+use Rattle.std.specs.Prelude.{◌+◌, ◌-◌, ◌++◌, ◌==◌, ◌∷◌, ◌||◌, ◌&&◌, [], ℕ, List, Bool, true, false, codes, filter, is_some, length, map, nat_eq, nat_lt, not, if◌then◌else◌, slice_index_or, slice_set, Option, Some, None, option_and_then, option_map}
+use Rattle.std.specs.List.{count_by, fold, position, remove, starts_with}
 use Rattle.std.specs.Option.{option_map_or, option_or}
 use Rattle.test_report_events.specs.Event.{BySignal, CommandView, EventView, NotStarted, SuiteEndView, TestEndView, SuiteStarts, SuiteEnds, TestStarts, TestEnds, OtherLine, HeadingLine, CargoFails, Prints, DamagedLine, CommandStarts, CommandOver, WithStatus}
 use Rattle.test_report_events.specs.declared.event.CargoFailure.{CargoFailure}
 use Rattle.test_report_events.specs.declared.event.CargoFailure.TheVariants.{Build, Tests, Run}
 use Rattle.test_report_events.specs.declared.event.TestResult.TheVariants.{Ok, Failed, Ignored}
 use Rattle.test_report_run.specs.Ended.{after_end, after_stray, end_notes, stray_notes}
+use Rattle.test_report_run.specs.Events.{is_event}
 use Rattle.test_report_run.specs.Headings.{NamedPaths, headings_of, shown_by, with_heading}
 use Rattle.test_report_run.specs.LongestEnd.{joined, with_kept}
 use Rattle.test_report_run.specs.OpenSuites.{suites_of}
-use Rattle.test_report_run.specs.Note.{CargoSays, CargoView, CommandFails, Disagrees, DisagreementView, EndsEarly, Fails, HasNoEvent, IsDamaged, IsNotRun, IsSkipped, NoteView, OutcomeView, Passes, SaysOther, StartsOutside, StrayEnds, StraySuiteEnds, SuiteIs, TestIs, cargo_view, command_view, text_view}
+use Rattle.test_report_run.specs.Note.{CargoSays, CargoView, CommandFails, DisagreementView, Disagrees, EndsEarly, Fails, HasNoEvent, IsDamaged, IsNotRun, IsSkipped, NoteView, OutcomeView, Passes, SaysOther, StartsOutside, StrayEnds, StraySuiteEnds, SuiteIs, TestIs, cargo_view, command_view, ended_well, text_view, was_not_started}
 use Rattle.test_report_run.specs.Over.{early_notes, last_notes}
 use Rattle.test_report_run.specs.Others.{OthersView, after_failure, after_heading, after_print, event_place, last_cause, no_others, others_view}
 use Rattle.test_report_run.specs.Prints.{cut, lines_of}
@@ -28,10 +29,12 @@ pub record RunState : Type 0 where
   pub suites : List SuiteState
   -- how many suites started
   pub suites_started : ℕ
-  -- the names and paths in the headings of the file, the name that the last one shows, and whether a line of the file was an event of a harness
+  -- the names and paths in the headings of the file, the name that the last one shows, whether a line of the file was an event of a harness, and
+  -- whether one of its failures of cargo lacks events
   pub headings : NamedPaths
   pub heading : Option (List ℕ)
   pub has_event : Bool
+  pub lacked_events : Bool
   -- the lines of the file that are no events
   pub others : OthersView
   -- the plain text of the prints after the last heading, event or failure of cargo: the longest end of them that fits
@@ -64,6 +67,7 @@ run_state r = record {
   headings = headings_of r.headings;
   heading = text_view r.heading;
   has_event = r.has_event;
+  lacked_events = r.lacked_events;
   others = others_view r.others;
   recent = lines_of r.recent;
   reported = option_map cargo_view r.reported;
@@ -89,6 +93,7 @@ run_start = record {
   headings = [];
   heading = None;
   has_event = false;
+  lacked_events = false;
   others = no_others;
   recent = [];
   reported = None;
@@ -269,9 +274,17 @@ is_explained r Run = nat_lt r.causes_at_file r.causes
 abbrev pub disagrees : RunState → CargoFailure → Bool
 disagrees r f = length r.suites == 0 && not (is_explained r f)
 
+-- a failure of cargo says that tests failed, and no line of the file was an event of a harness. Only the first one counts
+abbrev pub lacks_events : RunState → List ℕ → Bool
+lacks_events r line = not r.has_event && (not r.lacked_events && starts_with nat_eq line (codes "error: test failed"))
+
 -- the run with a failure of cargo that disagrees. It counts from now on
 abbrev pub with_report : RunState → List ℕ → RunState
-with_report r line = record r { reported = Some (record { line = line; prints = joined r.recent; cause = None }); causes = r.causes + 1 }
+with_report r line = record r {
+  reported = Some (record { line = line; prints = joined r.recent; cause = None; lacks_events = lacks_events r line });
+  lacked_events = r.lacked_events || lacks_events r line;
+  causes = r.causes + 1;
+}
 
 -- a failure of cargo
 abbrev pub cargo_fails : RunState → CargoFailure → List ℕ → RunState
@@ -281,16 +294,16 @@ cargo_fails r f line = record (if disagrees r f then with_report r line else r) 
 abbrev pub printed : RunState → List ℕ → List ℕ → RunState
 printed r line plain = record r { others = after_print r.others line plain; recent = with_kept r.recent plain }
 
--- all that may say why cargo failed was read: the failure becomes known, or waits for the end of the command
-abbrev pub report_told : RunState → CargoView → Step
-report_told r report =
-    let whole = record report { cause = last_cause r.others } in
+-- All that may say why cargo failed was read: the failure becomes known, or waits for the end of the command. The file has events if one follows
+abbrev pub report_told : RunState → Bool → CargoView → Step
+report_told r heard report =
+    let whole = record report { cause = last_cause r.others; lacks_events = report.lacks_events && not heard } in
     if r.of_command then step (record r { reported = None; held = r.held ++ whole ∷ [] }) []
     else step (record r { reported = None }) (Disagrees (CargoSays whole) ∷ [])
 
 -- the same, if there is such a failure
-abbrev pub settled : RunState → Step
-settled r = option_map_or (report_told r) r.reported (step r [])
+abbrev pub settled : RunState → Bool → Step
+settled r heard = option_map_or (report_told r heard) r.reported (step r [])
 
 -- a heading, an event or a failure comes after all that may say why cargo failed before it
 abbrev pub is_after_report : EventView → Bool
@@ -308,7 +321,7 @@ is_after_report (CommandOver end) = false
 
 -- the run before a line, and what becomes known before what the line itself makes known
 abbrev pub settled_at : RunState → EventView → Step
-settled_at r e = if is_after_report e then settled r else step r []
+settled_at r e = if is_after_report e then settled r (is_event e) else step r []
 
 -- the run after a line, before its notes are counted, and its own notes
 abbrev pub told : RunState → EventView → Step
@@ -417,20 +430,6 @@ notes_of r (e ∷ events) = notes_at r e ++ notes_of (after r e) events
 abbrev pub run_after : RunState → List EventView → RunState
 run_after r events = fold after r events
 
--- the command ended with status 0
-abbrev pub ended_well : Option CommandView → Bool
-ended_well None = false
-ended_well (Some (NotStarted error)) = false
-ended_well (Some (BySignal number)) = false
-ended_well (Some (WithStatus code)) = code == 0
-
--- the command could not be started
-abbrev pub was_not_started : Option CommandView → Bool
-was_not_started None = false
-was_not_started (Some (NotStarted error)) = true
-was_not_started (Some (BySignal number)) = false
-was_not_started (Some (WithStatus code)) = false
-
 -- The failures of cargo that wait for the end of the command become known, unless it ended with status 0: then they were prints.
 abbrev pub held_told : RunState → Step
 held_told r =
@@ -451,7 +450,7 @@ all_ended_early r =
 
 -- the failures of cargo that are not known yet become known, or were prints
 abbrev pub reports_told : RunState → Step
-reports_told r = let last = settled r in let held = held_told last.run in step held.run (last.notes ++ held.notes)
+reports_told r = let last = settled r false in let held = held_told last.run in step held.run (last.notes ++ held.notes)
 
 -- the end of a file, without the note on how its command ended
 abbrev pub file_end : RunState → Step
@@ -480,6 +479,7 @@ begun r = record r {
   headings = [];
   heading = None;
   has_event = false;
+  lacked_events = false;
   others = no_others;
   recent = [];
   of_command = false;

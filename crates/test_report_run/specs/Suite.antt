@@ -1,5 +1,6 @@
 -- A suite of a run.
 use Rattle.std.specs.Prelude.{◌+◌, ◌-◌, [], ℕ, List, Bool, false, is_none, length, map, Option, Some, None, string_bytes}
+use Rattle.std.specs.BTreeMap.{values}
 use Rattle.std.specs.Option.{option_map_or, option_or}
 use Rattle.std.specs.Str.{bytes_eq}
 use Rattle.run_events_stats.specs.Counters.{counters_of, nothing_known, with_test}
@@ -11,6 +12,7 @@ use Rattle.test_report_run.specs.Note.{NoteView, OutcomeView, TestIs, text_view}
 use Rattle.test_report_run.specs.Others.{OthersView, event_place, no_others, print_place}
 use Rattle.test_report_run.specs.Said.{no_lines, sum_of, with_said}
 use Rattle.test_report_run.specs.declared.counted.Finish.{Finish}
+use Rattle.test_report_run.specs.declared.flaky.FlakyTests.{FlakyTests}
 use Rattle.test_report_run.specs.declared.last_line.Tally.{Tally}
 use Rattle.test_report_run.specs.declared.others.EventPlace.{EventPlace}
 use Rattle.test_report_run.specs.declared.others.PrintPlace.{PrintPlace}
@@ -60,6 +62,10 @@ over_view t = record { name = string_bytes t.name; attempts = t.attempts; time =
 abbrev pub flaky_view : FlakyTest → FlakyView
 flaky_view f = record { test = over_view f.test; order = f.order; stdout = text_view f.stdout; message = text_view f.message }
 
+-- what is known of the flaky tests of a suite, in the order in which they started
+abbrev pub flaky_of : FlakyTests → List FlakyView
+flaky_of flaky = map flaky_view (values flaky.tests)
+
 -- what a suite keeps
 abbrev pub state_of : Suite → SuiteState
 state_of s = record {
@@ -74,7 +80,7 @@ state_of s = record {
   stats = s.stats;
   crashed = s.crashed;
   skipped = s.skipped;
-  flaky = map flaky_view s.flaky.items;
+  flaky = flaky_of s.flaky;
   time = s.time;
   start = s.start;
   last_event = s.last_event;

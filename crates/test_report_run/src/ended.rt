@@ -1,12 +1,11 @@
 //! The ends of the tests of a suite.
 
-ghost use Rattle.std.specs.Prelude.{◌≡◌, ◌++◌, [], IfOk, OnOk, map, option_map, vec_len, ◌≤◌};
+ghost use Rattle.std.specs.Prelude.{◌≡◌, ◌++◌, [], IfOk, OnOk, map, option_map};
 ghost use Rattle.test_report_events.specs.Event.{test_end_view};
 ghost use Rattle.test_report_events.specs.declared.event.TestResult.TheVariants as ended;
 ghost use Rattle.test_report_run.specs.Ended as spec;
 ghost use Rattle.test_report_run.specs.Note.{failure_view, note_view, text_view};
-ghost use Rattle.test_report_run.specs.Suite.{flaky_view, over_view, state_of};
-ghost use Rattle.std.specs.List.{position, position_or_len};
+ghost use Rattle.test_report_run.specs.Suite.{over_view, state_of};
 
 use crate::counted::{Finish, count};
 use crate::error::{RunError, one_more};
@@ -130,21 +129,6 @@ impl Suite {
         Ok(())
     }
 
-    /// Returns the position of the first flaky test that started after `order` tests.
-    fn later_flaky(&self, order: usize) -> Option<usize>
-        ensures { result ≡ position (λ f. spec.starts_later order (flaky_view f)) self.now.flaky.items }
-    {
-        self.flaky.iter().position(|other| other.order > order)
-    }
-
-    /// Returns the position among the flaky tests of one that started after `order` tests.
-    fn flaky_place(&self, order: usize) -> usize
-        ensures place { result ≡ position_or_len (spec.starts_later order) (map flaky_view self.now.flaky.items) }
-        ensures fits { result ≤ vec_len self.now.flaky }
-    {
-        self.later_flaky(order).unwrap_or(self.flaky.len())
-    }
-
     /// Keeps a test that passed after several attempts until the suite is over. Such tests are kept in the
     /// order in which they started.
     fn on_flaky(
@@ -159,14 +143,13 @@ impl Suite {
         ensures number { self.new.name.number ≡ self.old.name.number }
         ensures key { text_view self.new.name.key ≡ text_view self.old.name.key }
     {
-        let at = self.flaky_place(order);
         let flaky = FlakyTest {
             test,
             order,
             stdout: owned(alloc, details.stdout)?,
             message: owned(alloc, details.message)?,
         };
-        self.flaky.insert(at, flaky)?;
+        self.flaky.insert(flaky)?;
         Ok(())
     }
 }

@@ -9,6 +9,7 @@ ghost use Rattle.test_report_run.specs.Suite.{flaky_view, over_view, state_of};
 
 use crate::counted::{Finish, count};
 use crate::error::{RunError, one_more};
+use crate::flaky::FlakyTests;
 use crate::last_line::{Explanation, disagrees, explained};
 use crate::note::{
     Crash, Disagreement, Failure, FailureKind, NotRun, Note, SuiteNote, TestOutcome, failed_count,
@@ -62,6 +63,7 @@ fn copy_of(alloc: Global, crash: &Crash) -> Result<Crash, AllocError>
         cause,
         prints: crash.prints.clone()?,
         last,
+        above: crash.above,
     })
 }
 
@@ -95,7 +97,7 @@ impl Suite {
         &mut self,
         alloc: Global,
         others: &Others,
-        left: Vec<RunningTest>,
+        mut left: Vec<RunningTest>,
         notes: &mut Vec<Note>,
     ) -> Result<(), RunError>
         ensures counts { OnOk result (state_of self.new ≡ record (state_of self.old) {
@@ -103,14 +105,17 @@ impl Suite {
           crashed = self.old.crashed + length left.items;
         }) }
         ensures tells { OnOk result (map note_view notes.new.items ≡ map note_view notes.old.items
-            ++ spec.failed_notes (state_of self.old)
-            (HasCrashed (spec.crash_of (others_view others.now) (state_of self.old) (length left.items))) (names_of left.items)) }
+            ++ spec.crashed_notes (state_of self.old)
+            (spec.crash_of (others_view others.now) (state_of self.old) (length left.items)) (names_of left.items)) }
     {
         if left.is_empty() {
             return Ok(());
         }
-        let crash = self.crash(alloc, others, left.len())?;
-        self.crash_all(alloc, &crash, left, notes)
+        let mut crash = self.crash(alloc, others, left.len())?;
+        let behind = left.split_off(1)?;
+        self.crash_all(alloc, &crash, left, notes)?;
+        crash.above = true;
+        self.crash_all(alloc, &crash, behind, notes)
     }
 
     /// Counts all these tests as crashed in this way.
@@ -137,7 +142,7 @@ impl Suite {
         Ok(())
     }
 
-    /// Returns how a test of the suite crashed. `running` is the number of its running tests.
+    /// Returns how the first test of the suite crashed. `running` is the number of its running tests.
     fn crash(&self, alloc: Global, others: &Others, running: usize) -> Result<Crash, AllocError>
         ensures { IfOk result (λ crash. crash_view crash
             ≡ spec.crash_of (others_view others.now) (state_of self.now) running) }
@@ -148,6 +153,7 @@ impl Suite {
             cause: others.cause_behind(alloc, self.last_event)?,
             prints: Rc::new(alloc, others.prints_from(alloc, self.start)?)?,
             last: others.last_prints_from(alloc, self.start)?,
+            above: false,
         })
     }
 
@@ -211,7 +217,8 @@ impl Suite {
         ensures tells { OnOk result (map note_view notes.new.items ≡ map note_view notes.old.items
             ++ spec.flaky_notes (state_of self.old) have_failed) }
     {
-        for flaky in std::mem::replace(&mut self.flaky, Vec::new(alloc)) {
+        let flaky_tests = std::mem::replace(&mut self.flaky, FlakyTests::new(alloc));
+        for flaky in flaky_tests.tests.into_values() {
             if have_failed {
                 self.fail_flaky(alloc, flaky, notes)?;
             } else {

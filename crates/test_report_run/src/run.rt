@@ -3,6 +3,7 @@
 ghost use Rattle.std.specs.Prelude.{◌≡◌, ◌++◌, ◌∷◌, [], IfOk, OnOk, if◌then◌else◌, map, option_map, option_to_list};
 ghost use Rattle.test_report_events.specs.Content.{events_of};
 ghost use Rattle.test_report_events.specs.Event.{event_view};
+ghost use Rattle.test_report_run.specs.Events.{is_event};
 ghost use Rattle.test_report_run.specs.Note.{disagreement_view, note_view};
 ghost use Rattle.test_report_run.specs.Run as spec;
 ghost use Rattle.test_report_run.specs.Run.{run_state};
@@ -41,6 +42,9 @@ pub struct TestRun {
 
     /// True if a line of the file was an event of a harness.
     has_event: bool,
+
+    /// True if a failure of cargo in the file lacks events.
+    lacked_events: bool,
 
     /// The lines of the file that are no events of a harness.
     others: Others,
@@ -84,6 +88,7 @@ impl TestRun {
             headings: Headings::new(alloc),
             heading: None,
             has_event: false,
+            lacked_events: false,
             others: Others::new(alloc),
             recent: LongestEnd::new(alloc),
             reported: None,
@@ -144,7 +149,7 @@ impl TestRun {
         ensures takes { OnOk result (run_state self.new ≡ spec.after_file (run_state self.old)) }
     {
         let mut notes = Vec::new(alloc);
-        self.settle(&mut notes)?;
+        self.settle(false, &mut notes)?;
         self.tell_held(alloc, &mut notes)?;
         self.end_suites(alloc, &mut notes)?;
         self.push_no_event(&mut notes)?;
@@ -174,6 +179,7 @@ impl TestRun {
         self.headings = Headings::new(alloc);
         self.heading = None;
         self.has_event = false;
+        self.lacked_events = false;
         self.others = Others::new(alloc);
         self.recent = LongestEnd::new(alloc);
         self.of_command = false;
@@ -215,7 +221,7 @@ impl TestRun {
             ++ (spec.settled_at (run_state self.old) (event_view event.entry)).notes) }
     {
         if is_after_report(event) {
-            self.settle(notes)?;
+            self.settle(is_event(event), notes)?;
         }
         Ok(())
     }
@@ -338,6 +344,23 @@ fn is_new(disagreement: &Disagreement) -> bool
     ensures { result ≡ spec.is_new_disagreement (disagreement_view disagreement.now) }
 {
     !matches!(disagreement, Disagreement::Cargo(_) | Disagreement::NoEvent)
+}
+
+/// Returns true if a line is an event of a harness.
+fn is_event(event: Event<'_>) -> bool
+    ensures { result ≡ is_event (event_view event.entry) }
+{
+    match event {
+        Event::SuiteStarted { .. }
+        | Event::SuiteEnded(_)
+        | Event::TestStarted { .. }
+        | Event::TestEnded { .. }
+        | Event::Other => true,
+        Event::CargoFailed { .. }
+        | Event::Heading { .. }
+        | Event::Print { .. }
+        | Event::Damaged { .. } => false,
+    }
 }
 
 /// Returns true if an event, a heading or a failure comes after all that may say why cargo failed before it.

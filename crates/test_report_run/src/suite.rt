@@ -7,6 +7,7 @@ ghost use Rattle.test_report_run.specs.Others.{no_others, others_view};
 ghost use Rattle.test_report_run.specs.Suite.{has_key, joined_by, named, outside_start, over_view, state_of, suite_name, suite_start, tally_of, test_note, with_line, with_start};
 
 use crate::error::{RunError, one_more};
+use crate::flaky::FlakyTests;
 use crate::last_line::Tally;
 use crate::note::{Note, TestNote, TestOutcome, failed_count};
 use crate::others::{EventPlace, Others, PrintPlace};
@@ -71,8 +72,8 @@ pub(crate) struct Suite {
     /// The number of tests that were ignored.
     pub(crate) skipped: usize,
 
-    /// The tests that passed after several attempts, in the order in which they started.
-    pub(crate) flaky: Vec<FlakyTest>,
+    /// The tests that passed after several attempts.
+    pub(crate) flaky: FlakyTests,
 
     /// The sum of the times of tests, in microseconds.
     pub(crate) time: Option<u64>,
@@ -144,7 +145,7 @@ impl Suite {
             stats: RunStats::default(),
             crashed: 0,
             skipped: 0,
-            flaky: Vec::new(alloc),
+            flaky: FlakyTests::new(alloc),
             time: None,
             start,
             last_event,

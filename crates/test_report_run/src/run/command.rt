@@ -2,7 +2,7 @@
 
 ghost use Rattle.std.specs.Prelude.{◌≡◌, ◌++◌, ◌||◌, IfOk, OnOk, map, option_map};
 ghost use Rattle.test_report_events.specs.Event.{CommandOver, CommandStarts};
-ghost use Rattle.test_report_run.specs.Note.{CargoSays, Disagrees, cargo_view, command_view, note_view};
+ghost use Rattle.test_report_run.specs.Note.{CargoSays, Disagrees, cargo_view, command_view, ended_well, note_view, was_not_started};
 ghost use Rattle.test_report_run.specs.Run as spec;
 ghost use Rattle.test_report_run.specs.Run.{run_state};
 
@@ -52,7 +52,7 @@ impl TestRun {
 
     /// Returns true if the command ended with status 0.
     fn command_ended_well(&self) -> bool
-        ensures { result ≡ spec.ended_well (option_map command_view self.now.command) }
+        ensures { result ≡ ended_well (option_map command_view self.now.command) }
     {
         matches!(self.command, Some(CommandEnd::Status { code: 0 }))
     }
@@ -60,8 +60,8 @@ impl TestRun {
     /// Returns true if the end of the command says more than that no line is an event: it ended with status 0, or could
     /// not be started.
     pub(crate) fn command_says_more(&self) -> bool
-        ensures { result ≡ (spec.ended_well (option_map command_view self.now.command)
-            || spec.was_not_started (option_map command_view self.now.command)) }
+        ensures { result ≡ (ended_well (option_map command_view self.now.command)
+            || was_not_started (option_map command_view self.now.command)) }
     {
         matches!(
             self.command,

@@ -1,6 +1,7 @@
 //! Headings, failures of cargo, prints, and damaged lines.
 
-ghost use Rattle.std.specs.Prelude.{◌≡◌, ◌++◌, ◌∷◌, [], OnOk, map, option_map};
+ghost use Rattle.std.specs.List.{starts_with};
+ghost use Rattle.std.specs.Prelude.{◌≡◌, ◌++◌, ◌∷◌, [], OnOk, map, nat_eq, option_map};
 ghost use Rattle.test_report_run.specs.Note.{Disagrees, IsDamaged, note_view};
 ghost use Rattle.test_report_run.specs.Prints.{cut};
 ghost use Rattle.test_report_run.specs.Run as spec;
@@ -12,6 +13,9 @@ use crate::note::{CargoReport, Disagreement, Note};
 use crate::run::TestRun;
 use std::alloc::{AllocError, Global};
 use test_report_events::event::CargoFailure;
+
+/// The front of the line in which cargo says that tests failed.
+const TESTS_FAILED: &[u8] = b"error: test failed";
 
 impl TestRun {
     /// Takes a heading of cargo.
@@ -55,14 +59,25 @@ impl TestRun {
         let disagrees = self.disagrees(failure);
         self.others.on_failure(alloc)?;
         if disagrees {
+            let lacks_events = self.lacks_events(plain);
             self.causes = one_more(self.causes)?;
             self.reported = Some(CargoReport {
                 line: String::from_str(alloc, plain)?,
                 prints: self.recent.text(alloc, 0)?,
                 cause: None,
+                lacks_events,
             });
+            self.lacked_events = self.lacked_events || lacks_events;
         }
         Ok(())
+    }
+
+    /// Returns true if a failure of cargo is the first one in the file that says that tests failed, and no line of
+    /// the file was an event of a harness.
+    fn lacks_events(&self, plain: &str) -> bool
+        ensures { result ≡ spec.lacks_events (run_state self.now) plain.now }
+    {
+        !self.has_event && (!self.lacked_events && begins(plain.as_bytes(), TESTS_FAILED))
     }
 
     /// Returns true if no suite is open, and no failed test or earlier disagreement explains this failure of cargo
@@ -79,16 +94,17 @@ impl TestRun {
     }
 
     /// Makes the last failure of cargo known, if it is not yet, with the cause that was read after it. In the output of
-    /// a command it waits for the end of the command.
-    pub(crate) fn settle(&mut self, notes: &mut Vec<Note>) -> Result<(), AllocError>
-        ensures takes { OnOk result (run_state self.new ≡ (spec.settled (run_state self.old)).run) }
+    /// a command it waits for the end of the command. `heard` is true if an event of a harness follows.
+    pub(crate) fn settle(&mut self, heard: bool, notes: &mut Vec<Note>) -> Result<(), AllocError>
+        ensures takes { OnOk result (run_state self.new ≡ (spec.settled (run_state self.old) heard).run) }
         ensures tells { OnOk result (map note_view notes.new.items ≡ map note_view notes.old.items
-            ++ (spec.settled (run_state self.old)).notes) }
+            ++ (spec.settled (run_state self.old) heard).notes) }
     {
         let Some(mut report) = self.reported.take() else {
             return Ok(());
         };
         report.cause = self.others.last_cause()?;
+        report.lacks_events = report.lacks_events && !heard;
         if self.of_command {
             self.held.push(report)?;
         } else {
@@ -96,6 +112,13 @@ impl TestRun {
         }
         Ok(())
     }
+}
+
+/// Returns true if a line begins with this text.
+fn begins(line: &[u8], front: &[u8]) -> bool
+    ensures { result ≡ starts_with nat_eq line.now front.now }
+{
+    line.starts_with(front)
 }
 
 /// Adds the disagreement of a damaged line that says a failure.
