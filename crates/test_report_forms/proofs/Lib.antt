@@ -4,6 +4,7 @@ pub mod Cuts
 pub mod Dots
 pub mod Ends
 pub mod Filtered
+pub mod Fitting
 pub mod Heads
 pub mod Joins
 pub mod JsonStates

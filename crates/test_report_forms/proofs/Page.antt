@@ -7,7 +7,7 @@ use Rattle.std.specs.Str.{chars}
 use Rattle.template.specs.Parse.{parse}
 use Rattle.template.specs.Template.{NoParts, Parts}
 use Rattle.test_report_forms.specs.declared.junit_template.TheConstants.{JUNIT}
-use Rattle.test_report_forms.specs.declared.markdown_template.TheConstants.{MARKDOWN}
+use Rattle.test_report_forms.specs.declared.markdown_template.TheConstants.{FAILED, MARKDOWN}
 use Rattle.test_report_forms.specs.declared.page_template.TheConstants.{PAGE}
 
 -- there are parts, and they pass a test
@@ -26,6 +26,10 @@ page-has-parts = refl
 pub markdown-has-parts : IsSome (parse MARKDOWN.now)
 unfolding parse chars encode_utf8
 markdown-has-parts = refl
+
+pub failed-has-parts : IsSome (parse FAILED.now)
+unfolding parse chars encode_utf8
+failed-has-parts = refl
 
 pub junit-has-parts : IsSome (parse JUNIT.now)
 unfolding parse chars encode_utf8

@@ -12,7 +12,8 @@ use Rattle.template.specs.declared.hole.Hole.TheVariants as hole
 use Rattle.test_report_forms.specs.Entry.{EntryView}
 use Rattle.test_report_forms.specs.Holes.{HoleView, PhraseView, has_hole, holes, phrase_text, phrases, problem_holes, run_holes, shows_phrase}
 use Rattle.test_report_forms.specs.Model.{FailedView, ProblemView, RowView}
-use Rattle.test_report_forms.specs.Values.{failed_values, problem_values, suite_values, values_of_run}
+use Rattle.test_report_forms.specs.Skipped.{SkippedView}
+use Rattle.test_report_forms.specs.Values.{failed_values, problem_values, skip_values, suite_values, values_of_run}
 use Rattle.test_report_forms.specs.declared.page_template.TheConstants.{PAGE}
 use Rattle.test_report_run.specs.declared.note.RunEnd.{RunEnd}
 use Rattle.test_report_forms.specs.declared.options.Options.{Options}
@@ -59,7 +60,8 @@ page_holes =
     ++ (failed_holes (codes "failures" ∷ codes "failed" ∷ [])
     ++ (suite_holes (codes "suites" ∷ codes "suite" ∷ [])
     ++ (holes hole.Text (codes "slowest" ∷ codes "slow" ∷ []) (codes "name" ∷ codes "share" ∷ codes "seconds" ∷ [])
-    ++ holes hole.Attribute (codes "slowest" ∷ codes "slow" ∷ []) (codes "share" ∷ [])))))))
+    ++ (holes hole.Attribute (codes "slowest" ∷ codes "slow" ∷ []) (codes "share" ∷ [])
+    ++ holes hole.Text (codes "skips" ∷ codes "skip" ∷ []) (codes "name" ∷ codes "reason" ∷ []))))))))
 
 -- the heading, with the outcome
 abbrev pub heading_phrase : List ℕ
@@ -105,6 +107,10 @@ slow_phrase =
     codes "<tr><th scope=\"row\">{{name}}</th><td><div class=\"bar\"><span style=\"flex-basis: {{share}}%\">{{share}} %</span></div></td>"
     ++ codes "<td class=\"time\">{{seconds}}s</td></tr>"
 
+-- the row of a skipped test that has a reason
+abbrev pub skip_phrase : List ℕ
+skip_phrase = codes "<tr><th scope=\"row\">{{name}}</th><td class=\"reason\">{{reason}}</td></tr>"
+
 -- the columns of the table of suites
 abbrev pub suite_columns : List ℕ
 suite_columns = codes "<th scope=\"col\">Suite</th><th scope=\"col\">Tests</th><th scope=\"col\" class=\"time\">Time</th>"
@@ -112,6 +118,10 @@ suite_columns = codes "<th scope=\"col\">Suite</th><th scope=\"col\">Tests</th><
 -- the columns of the table of slow tests
 abbrev pub slow_columns : List ℕ
 slow_columns = codes "<th scope=\"col\">Test</th><th scope=\"col\">Share of the slowest</th><th scope=\"col\" class=\"time\">Time</th>"
+
+-- the columns of the table of skipped tests
+abbrev pub skip_columns : List ℕ
+skip_columns = codes "<th scope=\"col\">Test</th><th scope=\"col\">Reason</th>"
 
 -- the phrases of the page
 abbrev pub page_phrases : List PhraseView
@@ -125,7 +135,9 @@ page_phrases =
     (codes "{{#attempts}} ({{count}} attempts){{/attempts}}{{#time}} {{seconds}}s{{/time}}" ∷ [])
     ++ (phrases (codes "suites" ∷ codes "suite" ∷ []) (suite_phrase ∷ [])
     ++ (phrases (codes "slowest" ∷ []) (slow_columns ∷ [])
-    ++ phrases (codes "slowest" ∷ codes "slow" ∷ []) (slow_phrase ∷ []))))))))
+    ++ (phrases (codes "slowest" ∷ codes "slow" ∷ []) (slow_phrase ∷ [])
+    ++ (phrases (codes "skips" ∷ []) (skip_columns ∷ [])
+    ++ phrases (codes "skips" ∷ codes "skip" ∷ []) (skip_phrase ∷ []))))))))))
 
 -- the heading of the page with this word for the outcome
 abbrev pub page_heading : List ℕ → List ℕ
@@ -156,6 +168,10 @@ title_text t = phrase_text title_phrase (failed_values t)
 -- the row of a suite
 abbrev pub suite_text : RowView → List ℕ
 suite_text r = phrase_text suite_phrase (suite_values r)
+
+-- the row of a skipped test that has a reason
+abbrev pub skip_text : SkippedView → List ℕ
+skip_text t = phrase_text skip_phrase (skip_values t)
 
 -- The template of the page is one element without control characters. It ends by `/>` only elements that have no content in HTML, and none of these by
 -- an end tag. It has all holes and phrases. There is one section for each failed test, with the holes of a failed test, and one for each problem, with

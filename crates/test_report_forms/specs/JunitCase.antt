@@ -1,16 +1,16 @@
 -- The test cases of JUnit's XML.
 use Rattle.std.specs.Prelude.{◌-◌, ◌==◌, [], ℕ, Bool, true, false, not, if◌then◌else◌, List, codes, map, min, Option, None, option_map, string_bytes, unwrap_or}
 use Rattle.test_report_forms.specs.Model.{CauseView, FailedView, shown_failure_of, shown_reason, suite_name}
-use Rattle.test_report_forms.specs.Shown.{shown_line, shown_name, shown_text}
+use Rattle.test_report_forms.specs.Shown.{shown_line, shown_name, whole_text}
+use Rattle.test_report_forms.specs.Skipped.{skip_reason}
 use Rattle.test_report_forms.specs.Title.{title_name}
-use Rattle.test_report_forms.specs.Lines.{without_returns}
 use Rattle.test_report_forms.specs.Why.{PlaceView, WhyView}
 use Rattle.test_report_forms.specs.declared.junit_case.Case.{Case}
 use Rattle.test_report_forms.specs.declared.junit_case.CasePlace.{CasePlace}
 use Rattle.test_report_forms.specs.declared.junit_case.CaseKind.{CaseKind}
 use Rattle.test_report_forms.specs.declared.junit_case.CaseKind.TheVariants as kind
 use Rattle.test_report_forms.specs.declared.junit_case.Reason.{Reason}
-use Rattle.test_report_run.specs.Note.{FailureView, Fails, HasCrashed, HasFailed, HasNoEnd, HasTimedOut, IsFlaky, IsSkipped, KindView, OutcomeView, Passes, TestNoteView, text_view}
+use Rattle.test_report_run.specs.Note.{FailureView, HasCrashed, HasFailed, HasNoEnd, HasTimedOut, IsFlaky, KindView, TestNoteView, text_view}
 use Rattle.test_report_forms.specs.declared.options.Options.{Options}
 
 -- why a test case failed: an error or a failure, with its short reason, its type and its long reason, and the output of the test
@@ -78,10 +78,6 @@ class_byte b = if b == 46 then 95 else b
 abbrev pub class_name : List ℕ → List ℕ
 class_name name = map class_byte name
 
--- a text of the input whole, as it is shown
-abbrev pub whole_text : List ℕ → List ℕ
-whole_text text = shown_text false (without_returns text)
-
 -- a place as it is shown
 abbrev pub shown_place : PlaceView → CasePlaceView
 shown_place p = record { file = shown_line p.file; line = p.line }
@@ -99,12 +95,6 @@ test_case t place kind = record {
 -- the test case of a test that passed: at most 20 attempts that failed are in it
 abbrev pub passed_case : TestNoteView → CaseView
 passed_case t = test_case t None (PassedCase (min (t.attempts - 1) 20))
-
--- why a test was skipped, if its line says so
-abbrev pub skip_reason : OutcomeView → Option (List ℕ)
-skip_reason Passes = None
-skip_reason (IsSkipped reason) = reason
-skip_reason (Fails failure) = None
 
 -- the test case of a test that was skipped
 abbrev pub skipped_case : TestNoteView → CaseView

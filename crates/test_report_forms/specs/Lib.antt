@@ -27,6 +27,7 @@ pub mod Place
 pub mod Short
 pub mod Shown
 pub mod ShownWhy
+pub mod Skipped
 pub mod Suites
 pub mod Text
 pub mod Title

@@ -9,7 +9,7 @@ use Rattle.run_events_levels.specs.declared.levels.FinalStatusLevel.TheVariants 
 use Rattle.test_report_forms.specs.Entry.{EntryView, TestFailed, TestPassed, TestSkipped}
 use Rattle.test_report_forms.specs.Levels.{finished_output, listed_text, own_final_level, skipped_output}
 use Rattle.test_report_forms.specs.Shown.{bracket, front, shown_text}
-use Rattle.test_report_forms.specs.ShownWhy.{shown_why}
+use Rattle.test_report_forms.specs.ShownWhy.{text_why}
 use Rattle.test_report_forms.specs.Title.{title}
 use Rattle.test_report_forms.specs.WhyLines.{why_lines}
 use Rattle.test_report_forms.specs.Words.{failed_word, status_text}
@@ -62,7 +62,7 @@ item o (TestPassed t) = listed_text (finished_output o Passed t.attempts).store_
 item o (TestSkipped t) = listed_text (skipped_output o).store_final (ended_line o t (codes "SKIP")) []
 item o (TestFailed t f w) =
     listed_text (finished_output o (finish_for f.kind) t.attempts).store_final (failed_line o t (failed_word f.kind) w.short)
-    (why_lines 13 o (shown_why o t f w))
+    (why_lines 13 o (text_why o t f w))
 item o _ = []
 
 -- the level at the end of the run of the test of an entry

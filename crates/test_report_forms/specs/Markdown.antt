@@ -1,18 +1,19 @@
 -- The form for the summary of a workflow on GitHub.
-use Rattle.std.specs.Prelude.{◌≡◌, ◌++◌, ◌∷◌, [], ℕ, true, List, codes, slice_get, unwrap_or}
+use Rattle.std.specs.Prelude.{◌≡◌, ◌==◌, ◌+◌, ◌-◌, ◌++◌, ◌∷◌, [], ℕ, true, List, codes, if◌then◌else◌, length, slice_get, unwrap_or}
+use Rattle.std.specs.Fmt.{decimal}
 use Rattle.std.specs.List.{list_all}
 use Rattle.template.specs.Clean.{is_clean}
 use Rattle.template.specs.Hole.{hole_text}
 use Rattle.template.specs.Marks.{is_markdown}
 use Rattle.template.specs.Parse.{template_parts}
 use Rattle.template.specs.Sections.{sections}
-use Rattle.template.specs.Template.{NoParts, Parts, parts_text, values_of}
+use Rattle.template.specs.Template.{ItemValue, NoParts, Parts, ValueView, Values, parts_text, section, values_of}
 use Rattle.template.specs.declared.hole.Hole.TheVariants as hole
 use Rattle.test_report_forms.specs.Entry.{EntryView}
 use Rattle.test_report_forms.specs.Holes.{HoleView, PhraseView, has_hole, holes, phrases, problem_holes, run_holes, shows_phrase}
-use Rattle.test_report_forms.specs.Model.{FailedView}
-use Rattle.test_report_forms.specs.Values.{failed_values, values_of_run}
-use Rattle.test_report_forms.specs.declared.markdown_template.TheConstants.{MARKDOWN}
+use Rattle.test_report_forms.specs.Model.{FailedView, ReportView, report_of}
+use Rattle.test_report_forms.specs.Values.{failed_items, failed_values, one_text, problem_items, run_values}
+use Rattle.test_report_forms.specs.declared.markdown_template.TheConstants.{FAILED, MARKDOWN}
 use Rattle.test_report_run.specs.declared.note.RunEnd.{RunEnd}
 use Rattle.test_report_forms.specs.declared.options.Options.{Options}
 
@@ -20,9 +21,48 @@ use Rattle.test_report_forms.specs.declared.options.Options.{Options}
 unfoldable pub markdown_parts : Parts
 markdown_parts = template_parts MARKDOWN.now
 
+-- the template of what the summary has of one failed test
+unfoldable pub one_failed_parts : Parts
+one_failed_parts = template_parts FAILED.now
+
+-- how many bytes parts render of a failed test
+abbrev pub failed_size : Parts → FailedView → ℕ
+failed_size ps t = length (parts_text ps (values_of (failed_values t)))
+
+-- a failed test, if there is room for more bytes
+abbrev pub if_room : ℕ → FailedView → List FailedView
+if_room room t = if room == 0 then [] else t ∷ []
+
+-- the failed tests before which there is room for more bytes
+abbrev pub fitting : Parts → ℕ → List FailedView → List FailedView
+fitting ps room [] = []
+fitting ps room (t ∷ ts) = if_room room t ++ fitting ps (room - failed_size ps t) ts
+
+-- the failed tests that the summary shows: those before which there are fewer than 900,000 bytes of failed tests
+unfoldable pub shown_tests : List FailedView → List FailedView
+shown_tests ts = fitting one_failed_parts 900000 ts
+
+-- the number of the others
+abbrev pub more_tests : List FailedView → ℕ
+more_tests ts = length ts - length (shown_tests ts)
+
+-- the number of other failed tests, unless it is 0
+abbrev pub more_item : ℕ → List ValueView
+more_item n = if n == 0 then [] else ItemValue (codes "more") (values_of (one_text (codes "count") (decimal n))) ∷ []
+
+-- the values of a finished report for its summary
+abbrev pub summary_values : ReportView → List ValueView
+summary_values r =
+    ((run_values r.end ++ section (codes "problems") (problem_items r.problems)) ++ section (codes "failures") (failed_items (shown_tests r.failed)))
+    ++ more_item (more_tests r.failed)
+
+-- the values of a run with these entries for its summary
+abbrev pub summary_of_run : Options → List EntryView → RunEnd → Values
+summary_of_run o entries end = values_of (summary_values (report_of o entries end))
+
 -- what is written at the end of a run with these entries
 unfoldable pub markdown_of : Options → List EntryView → RunEnd → List ℕ
-markdown_of o entries end = parts_text markdown_parts (values_of_run o entries end)
+markdown_of o entries end = parts_text markdown_parts (summary_of_run o entries end)
 
 -- the parts for each failed test: those of its row in the table, and those of its details after the table
 abbrev pub failed_sections : List Parts
@@ -62,7 +102,8 @@ details_holes path =
 abbrev pub markdown_holes : List HoleView
 markdown_holes =
     run_holes hole.Plain ++ (problem_holes hole.Plain (codes "problems" ∷ codes "problem" ∷ [])
-    ++ (row_holes (codes "failures" ∷ codes "failed" ∷ []) ++ details_holes (codes "failures" ∷ codes "failed" ∷ [])))
+    ++ (row_holes (codes "failures" ∷ codes "failed" ∷ []) ++ (details_holes (codes "failures" ∷ codes "failed" ∷ [])
+    ++ holes hole.Plain (codes "more" ∷ []) (codes "count" ∷ []))))
 
 -- the heading, with the outcome
 abbrev pub heading_phrase : List ℕ
@@ -84,18 +125,36 @@ summary_phrase = numbers_phrase ++ time_phrase
 
 -- a problem: its line, and what explains it
 abbrev pub problem_phrase : List ℕ
-problem_phrase = codes "- {{*line}}{{#why}}\n\n<pre>\n{{text}}</pre>\n{{/why}}\n"
+problem_phrase =
+    codes "- {{#line_code}}<code>{{/line_code}}{{*line}}{{#line_code}}</code>{{/line_code}}"
+    ++ codes "{{#why}}\n\n<pre>\n{{text}}</pre>\n{{/why}}\n"
+
+-- the name of a suite or a test, as code if it has an `@`
+abbrev pub name_phrase : List ℕ
+name_phrase = codes "{{#name_code}}<code>{{/name_code}}{{*name}}{{#name_code}}</code>{{/name_code}}"
+
+-- the suite and the name of a failed test
+abbrev pub title_phrase : List ℕ
+title_phrase = codes "{{#suite}}" ++ (name_phrase ++ (codes " {{/suite}}" ++ name_phrase))
+
+-- a short reason, as code if it has an `@`
+abbrev pub short_phrase : List ℕ
+short_phrase = codes "{{#short_code}}<code>{{/short_code}}{{*short}}{{#short_code}}</code>{{/short_code}}"
 
 -- the row of a failed test: its status, its suite and name, its time and its short reason
 abbrev pub row_phrase : List ℕ
 row_phrase =
-    codes "| {{*status}} | {{#suite}}{{*name}} {{/suite}}{{*name}} | {{#note}}{{#time}}{{*seconds}}s{{/time}}{{/note}} | {{*short}} |\n"
+    codes "| {{*status}} | " ++ (title_phrase ++ (codes " | {{#note}}{{#time}}{{*seconds}}s{{/time}}{{/note}} | " ++ (short_phrase ++ codes " |\n")))
 
 -- the details of a failed test: its status, its suite and name, its attempts and its reason
 abbrev pub details_phrase : List ℕ
 details_phrase =
-    codes "<details><summary>{{*status}} {{#suite}}{{*name}} {{/suite}}{{*name}}{{#note}}{{#attempts}} ({{*count}} attempts){{/attempts}}{{/note}}</summary>"
-    ++ codes "\n\n<pre>\n{{why}}</pre>\n\n</details>\n"
+    codes "<details><summary>{{*status}} " ++ (title_phrase
+    ++ (codes "{{#note}}{{#attempts}} ({{*count}} attempts){{/attempts}}{{/note}}</summary>" ++ codes "\n\n<pre>\n{{why}}</pre>\n\n</details>\n"))
+
+-- the number of other failed tests
+abbrev pub more_phrase : List ℕ
+more_phrase = codes "({{*count}} more failed tests: a summary on GitHub holds 1 MiB)\n"
 
 -- the phrases of the summary
 abbrev pub markdown_phrases : List PhraseView
@@ -103,14 +162,18 @@ markdown_phrases =
     phrases [] (heading_phrase ∷ summary_phrase ∷ [])
     ++ (phrases (codes "problems" ∷ codes "problem" ∷ []) (problem_phrase ∷ [])
     ++ (phrases (codes "failures" ∷ []) (codes "| Result | Test | Time | Why |\n| --- | --- | ---: | --- |\n" ∷ [])
-    ++ phrases (codes "failures" ∷ codes "failed" ∷ []) (row_phrase ∷ details_phrase ∷ [])))
+    ++ (phrases (codes "failures" ∷ codes "failed" ∷ []) (row_phrase ∷ details_phrase ∷ []) ++ phrases (codes "more" ∷ []) (more_phrase ∷ []))))
+
+-- the line with the number of other failed tests
+abbrev pub more_text : ℕ → List ℕ
+more_text n = codes "(" ++ (decimal n ++ codes " more failed tests: a summary on GitHub holds 1 MiB)\n")
 
 -- the heading of the summary with this word for the outcome
 abbrev pub markdown_heading : List ℕ → List ℕ
 markdown_heading word = codes "## Test report: " ++ (hole_text hole.Plain word ++ codes "\n\n")
 
 -- In the template of the summary no value is a mark of Markdown. It has no control characters, and it has all holes and phrases: the holes of a failed
--- test are in the section of its row and in that of its details.
+-- test are in the section of its row and in that of its details. Together these are the template of one failed test.
 pub record MarkdownIsSound : Type 0 where
   pub markdown : is_markdown markdown_parts ≡ true
   pub clean : is_clean markdown_parts ≡ true
@@ -119,3 +182,4 @@ pub record MarkdownIsSound : Type 0 where
   pub failed : failed_sections ≡ row_parts ∷ details_parts ∷ []
   pub row : list_all (has_hole row_parts) (row_holes []) ≡ true
   pub details : list_all (has_hole details_parts) (details_holes []) ≡ true
+  pub one_failed : (t : FailedView) → failed_size one_failed_parts t ≡ length (row_text t) + length (details_text t)

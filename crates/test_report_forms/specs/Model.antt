@@ -7,6 +7,7 @@ use Rattle.test_report_forms.specs.Entry.{EntryView, LinesDisagree, SuiteNotRun,
 use Rattle.test_report_forms.specs.List.{KeyedLine, put_falling, slow_line_view}
 use Rattle.test_report_forms.specs.Shown.{front, shown_name, shown_text}
 use Rattle.test_report_forms.specs.ShownWhy.{limited_why, shown_why}
+use Rattle.test_report_forms.specs.Skipped.{SkippedView, skipped_tests, skipped_view}
 use Rattle.test_report_forms.specs.Title.{title, title_name}
 use Rattle.test_report_forms.specs.Why.{WhyView}
 use Rattle.test_report_forms.specs.Words.{disagreement_line, failed_word, not_run_line}
@@ -60,6 +61,7 @@ pub record CauseView : Type 0 where
   pub kind : List ℕ
   pub line : List ℕ
   pub why : Option (List ℕ)
+  pub lacks_events : Bool
 
 -- a cause that is kept
 abbrev pub cause_view : Cause → CauseView
@@ -68,6 +70,7 @@ cause_view c = record {
   kind = c.kind.now;
   line = string_bytes c.line;
   why = option_map (λ w. w.now) c.why;
+  lacks_events = c.lacks_events;
 }
 
 -- the suite that a disagreement names
@@ -82,13 +85,37 @@ suite_of (IsDamaged text) = None
 suite_of HasNoEvent = None
 suite_of (CommandFails end) = None
 
+-- no line of a file was an event of a harness, or not before cargo said that tests failed
+abbrev pub lacks_events : DisagreementView → Bool
+lacks_events (EndsEarly suite) = false
+lacks_events (SaysOther suite said passed failed) = false
+lacks_events (StrayEnds name how) = false
+lacks_events (StraySuiteEnds key failed) = false
+lacks_events (StartsOutside n) = false
+lacks_events (CargoSays report) = report.lacks_events
+lacks_events (IsDamaged text) = false
+lacks_events HasNoEvent = true
+lacks_events (CommandFails end) = false
+
 -- the cause of an entry, if it has one
 abbrev pub cause_of_entry : EntryView → Option CauseView
 cause_of_entry (TestPassed t) = None
 cause_of_entry (TestSkipped t) = None
 cause_of_entry (TestFailed t f w) = None
-cause_of_entry (LinesDisagree d why) = Some (record { suite = suite_of d; kind = codes "disagreement"; line = disagreement_line d; why = why })
-cause_of_entry (SuiteNotRun suite n of) = Some (record { suite = Some suite; kind = codes "not run"; line = not_run_line suite n of; why = None })
+cause_of_entry (LinesDisagree d why) = Some record {
+  suite = suite_of d;
+  kind = codes "disagreement";
+  line = disagreement_line d;
+  why = why;
+  lacks_events = lacks_events d;
+}
+cause_of_entry (SuiteNotRun suite n of) = Some record {
+  suite = Some suite;
+  kind = codes "not run";
+  line = not_run_line suite n of;
+  why = None;
+  lacks_events = false;
+}
 cause_of_entry (SuiteOver s) = None
 
 -- the failed test of an entry, if it has one
@@ -176,9 +203,9 @@ timed_entry (LinesDisagree d why) = None
 timed_entry (SuiteNotRun suite n of) = None
 timed_entry (SuiteOver s) = None
 
--- the five slowest tests of a list of entries
+-- the ten slowest tests of a list of entries
 abbrev pub slowest_tests : List EntryView → List KeyedLine
-slowest_tests entries = fold (put_falling 5) [] (filter_map timed_entry entries)
+slowest_tests entries = fold (put_falling 10) [] (filter_map timed_entry entries)
 
 -- the outcome says that no test ran
 abbrev pub no_tests_ran : RunOutcome → Bool
@@ -227,6 +254,7 @@ pub record ReportView : Type 0 where
   pub failed : List FailedView
   pub suites : List RowView
   pub slowest : List KeyedLine
+  pub skipped : List SkippedView
 
 -- the report of a run with these entries
 abbrev pub report_of : Options → List EntryView → RunEnd → ReportView
@@ -236,6 +264,7 @@ report_of o entries end = record {
   failed = failures_of o entries;
   suites = suite_rows entries;
   slowest = slowest_tests entries;
+  skipped = skipped_tests entries;
 }
 
 -- the report of what is kept
@@ -246,6 +275,7 @@ report_view m end = record {
   failed = map failed_view m.failed.items;
   suites = map row_view m.suites.items;
   slowest = map slow_line_view m.slowest.tests.items;
+  skipped = map skipped_view m.skipped.items;
 }
 
 -- what is kept is of these entries
@@ -254,4 +284,5 @@ pub record IsModelOf (m : ReportModel) (entries : List EntryView) : Type 0 where
   pub problems : map problem_view m.problems.items ≡ problems_of entries
   pub suites : map row_view m.suites.items ≡ suite_rows entries
   pub slowest : map slow_line_view m.slowest.tests.items ≡ slowest_tests entries
-  pub most : m.slowest.most ≡ 5
+  pub most : m.slowest.most ≡ 10
+  pub skipped : map skipped_view m.skipped.items ≡ skipped_tests entries

@@ -7,6 +7,7 @@ use Rattle.std.specs.Option.{option_map_or}
 use Rattle.std.specs.Str.{chars, trim_start}
 use Rattle.template.specs.Shown.{escape, is_escaped, is_within}
 use Rattle.test_report_forms.specs.Commands.{begins_command}
+use Rattle.test_report_forms.specs.Lines.{without_returns}
 use Rattle.test_report_run.specs.LongestEnd.{floor_of}
 
 -- at most the first bytes of a text, cut at a character
@@ -50,6 +51,10 @@ shown_line text = shown_from true true (chars text)
 -- a text of several lines as it is shown, or as it is if `raw` is true
 abbrev pub shown_text : Bool → List ℕ → List ℕ
 shown_text raw text = if raw then text else shown_from false true (chars text)
+
+-- a text of the input whole, as it is shown
+abbrev pub whole_text : List ℕ → List ℕ
+whole_text text = shown_text false (without_returns text)
 
 -- the mark of a name of which a part is not shown
 abbrev pub dots : Bool → List ℕ

@@ -1,5 +1,5 @@
 -- Why a test failed, as the options say that it is shown.
-use Rattle.std.specs.Prelude.{◌-◌, ◌==◌, nat_le, true, false, ℕ, Bool, List, [], ◌++◌, codes, if◌then◌else◌, length, Option, Some, None, option_map, string_bytes}
+use Rattle.std.specs.Prelude.{◌-◌, ◌==◌, ◌&&◌, nat_le, true, false, ℕ, Bool, List, [], ◌++◌, codes, if◌then◌else◌, length, Option, Some, None, option_map, string_bytes}
 use Rattle.std.specs.Fmt.{decimal}
 use Rattle.std.specs.Option.{is_some, option_map_or}
 use Rattle.std.specs.Str.{trim_end}
@@ -13,7 +13,7 @@ use Rattle.test_report_forms.specs.declared.options.Options.{Options}
 use Rattle.test_report_forms.specs.declared.options.OutputDisplay.{OutputDisplay}
 use Rattle.test_report_forms.specs.declared.options.OutputDisplay.TheVariants as display
 use Rattle.test_report_forms.specs.declared.shown_why.ShownWhy.{ShownWhy}
-use Rattle.test_report_run.specs.Note.{FailureView, TestNoteView}
+use Rattle.test_report_run.specs.Note.{FailureView, HasCrashed, HasFailed, HasNoEnd, HasTimedOut, IsFlaky, KindView, TestNoteView}
 
 -- why a test failed, before the limit, and how many lines of its output are neither shown nor blank
 pub record ShownWhyView : Type 0 where
@@ -65,6 +65,22 @@ shown_why o t f w = record {
   text = joined (parts_of f.kind f t.time (excerpt_text (output_excerpt o f w.explanation)));
   hidden = hidden_lines f (excerpt_lines (output_excerpt o f w.explanation));
 }
+
+-- another test of the suite crashed right before the test
+abbrev pub is_below_crash : KindView → Bool
+is_below_crash (HasCrashed crash) = crash.above
+is_below_crash HasFailed = false
+is_below_crash HasTimedOut = false
+is_below_crash HasNoEnd = false
+is_below_crash IsFlaky = false
+
+-- why a test crashed whose explanation is shown of the test before it
+abbrev pub why_below : TestNoteView → FailureView → ShownWhyView
+why_below t f = record { text = joined (parts_of f.kind f t.time (Some (codes "as above"))); hidden = 0 }
+
+-- why a test failed, as the form for people shows it: an explanation that is shown of the test before it is not shown again
+abbrev pub text_why : Options → TestNoteView → FailureView → WhyView → ShownWhyView
+text_why o t f w = if is_below_crash f.kind && is_some w.explanation then why_below t f else shown_why o t f w
 
 -- the line of the number of lines that are not shown, if there are any
 abbrev pub hidden_note : ℕ → List ℕ

@@ -1,5 +1,5 @@
 -- The form for people who read a terminal.
-use Rattle.std.specs.Prelude.{ℕ, List, ◌++◌, [], codes, if◌then◌else◌, nat_lt}
+use Rattle.std.specs.Prelude.{ℕ, List, Bool, ◌++◌, [], codes, if◌then◌else◌, nat_lt}
 use Rattle.run_events_levels.specs.declared.levels.OutputOnTestFinished.{OutputOnTestFinished}
 use Rattle.std.specs.Fmt.{decimal}
 use Rattle.std.specs.Option.{option_map_or}
@@ -8,7 +8,7 @@ use Rattle.test_report_forms.specs.Levels.{finished_output, has_line, skipped_ou
 use Rattle.test_report_forms.specs.List.{passed_word, short_list}
 use Rattle.test_report_forms.specs.Model.{CauseView, cause_of_entry}
 use Rattle.test_report_forms.specs.Shown.{bracket, indented}
-use Rattle.test_report_forms.specs.ShownWhy.{shown_why}
+use Rattle.test_report_forms.specs.ShownWhy.{text_why}
 use Rattle.test_report_forms.specs.Title.{title}
 use Rattle.test_report_forms.specs.Words.{failed_word, outcome_word, status_text, summary_line}
 use Rattle.test_report_forms.specs.declared.options.Options.{Options}
@@ -39,7 +39,7 @@ ended_text shows head below = if has_line shows then head ++ (if shows.show_imme
 -- a failed test, with why it failed
 unfoldable pub failed_text : Options → TestNoteView → FailureView → WhyView → List ℕ
 failed_text o t f w =
-    ended_text (finished_output o (finish_for f.kind) t.attempts) (failed_head o t (failed_word f.kind)) (why_lines 4 o (shown_why o t f w))
+    ended_text (finished_output o (finish_for f.kind) t.attempts) (failed_head o t (failed_word f.kind)) (why_lines 4 o (text_why o t f w))
 
 -- a test that passed
 unfoldable pub passed_text : Options → TestNoteView → List ℕ
@@ -49,9 +49,17 @@ passed_text o t = ended_text (finished_output o Passed t.attempts) (ended_head o
 unfoldable pub skipped_text : Options → TestNoteView → List ℕ
 skipped_text o t = ended_text (skipped_output o) (ended_head o t (codes "SKIP")) []
 
--- the line of a cause, and under it what explains the cause
+-- how cargo writes lines of a harness
+unfoldable pub cargo_advice : List ℕ
+cargo_advice = codes "    cargo test writes such lines with: RUSTC_BOOTSTRAP=1 cargo test -- -Z unstable-options --format json\n"
+
+-- how to get lines of a harness, if there were none
+unfoldable pub advice : Bool → List ℕ
+advice lacks_events = if lacks_events then cargo_advice ++ codes "    test-report -- cargo test does this by itself\n" else []
+
+-- the line of a cause, and under it what explains the cause, and how to get lines of a harness if there were none
 abbrev pub cause_text : Options → CauseView → List ℕ
-cause_text o c = c.line ++ (codes "\n" ++ option_map_or (indented 4 o.raw) c.why [])
+cause_text o c = c.line ++ (codes "\n" ++ (option_map_or (indented 4 o.raw) c.why [] ++ advice c.lacks_events))
 
 -- what is written of an entry: a test by its level, or a cause
 abbrev pub text_line : Options → EntryView → List ℕ

@@ -1,11 +1,13 @@
 -- The values of a finished report, which its templates show.
 use Rattle.std.specs.Prelude.{ℕ, ◌==◌, ◌*◌, ◌/◌, ◌-◌, ◌++◌, ◌∷◌, [], List, Option, codes, if◌then◌else◌, length, map, max, nat_lt, option_map, option_to_list}
 use Rattle.std.specs.Fmt.{decimal}
-use Rattle.template.specs.Template.{ItemValue, TextValue, ValueView, Values, section, values_of}
+use Rattle.std.specs.List.{list_any}
+use Rattle.template.specs.Template.{ItemValue, NoValues, TextValue, ValueView, Values, section, values_of}
 use Rattle.test_report_forms.specs.Entry.{EntryView}
 use Rattle.test_report_forms.specs.List.{KeyedLine}
 use Rattle.test_report_forms.specs.Model.{FailedView, ProblemView, ReportView, RowView, numbers_of_run, report_of}
 use Rattle.test_report_forms.specs.Shown.{seconds}
+use Rattle.test_report_forms.specs.Skipped.{SkippedView}
 use Rattle.test_report_forms.specs.Words.{outcome_word}
 use Rattle.test_report_run.specs.declared.note.RunEnd.{RunEnd}
 use Rattle.test_report_forms.specs.declared.numbers.Numbers.{Numbers}
@@ -58,9 +60,13 @@ words_text n =
     or_no_tests (with_words (with_words (with_words (with_words [] n.passed (codes "passed")) n.failed (codes "failed")) n.skipped (codes "skipped"))
     n.not_run (codes "not run"))
 
+-- an item without values, if a text has an `@`. A summary has the text as code then
+abbrev pub code_item : List ℕ → List ℕ → List ValueView
+code_item list text = if list_any (λ b. b == 64) text then ItemValue list NoValues ∷ [] else []
+
 -- the values of a problem
 abbrev pub problem_values : ProblemView → List ValueView
-problem_values p = one_text (codes "line") p.line ++ option_item (codes "why") (codes "text") p.why
+problem_values p = (one_text (codes "line") p.line ++ option_item (codes "why") (codes "text") p.why) ++ code_item (codes "line_code") p.line
 
 -- a problem
 abbrev pub problem_item : ProblemView → List ValueView
@@ -75,11 +81,20 @@ abbrev pub note : ℕ → Option ℕ → List ValueView
 note attempts time =
     (if nat_lt 1 attempts then items (codes "attempts") (one_text (codes "count")) (decimal attempts ∷ []) else []) ++ time_item time
 
+-- the values of the suite of a failed test
+abbrev pub own_suite_values : List ℕ → List ValueView
+own_suite_values name = one_text (codes "name") name ++ code_item (codes "name_code") name
+
+-- the suite of a failed test, if it has one
+abbrev pub own_suite : Option (List ℕ) → List ValueView
+own_suite suite = items (codes "suite") own_suite_values (option_to_list suite)
+
 -- the values of a failed test
 abbrev pub failed_values : FailedView → List ValueView
 failed_values t =
-    ((((one_text (codes "status") t.status ++ option_item (codes "suite") (codes "name") t.suite) ++ one_text (codes "name") t.name)
-    ++ section (codes "note") (note t.attempts t.time)) ++ one_text (codes "short") t.short) ++ one_text (codes "why") t.why
+    ((((((one_text (codes "status") t.status ++ own_suite t.suite) ++ one_text (codes "name") t.name)
+    ++ section (codes "note") (note t.attempts t.time)) ++ one_text (codes "short") t.short) ++ one_text (codes "why") t.why)
+    ++ code_item (codes "name_code") t.name) ++ code_item (codes "short_code") t.short
 
 -- the failed tests
 abbrev pub failed_items : List FailedView → List ValueView
@@ -112,6 +127,14 @@ longest_time (t ∷ ts) = t.key
 abbrev pub slow_items : List KeyedLine → List ValueView
 slow_items tests = items (codes "slow") (slow_values (longest_time tests)) tests
 
+-- the values of a skipped test that has a reason
+abbrev pub skip_values : SkippedView → List ValueView
+skip_values t = one_text (codes "name") t.name ++ one_text (codes "reason") t.reason
+
+-- the skipped tests that have a reason
+abbrev pub skip_items : List SkippedView → List ValueView
+skip_items tests = items (codes "skip") skip_values tests
+
 -- a number
 abbrev pub number : List ℕ → ℕ → ValueView
 number name n = TextValue name (decimal n)
@@ -127,9 +150,9 @@ run_values e =
 -- the values of a finished report
 unfoldable pub report_values : ReportView → List ValueView
 report_values r =
-    ((((run_values r.end ++ section (codes "bar") (bar (numbers_of_run r.end))) ++ section (codes "problems") (problem_items r.problems))
+    (((((run_values r.end ++ section (codes "bar") (bar (numbers_of_run r.end))) ++ section (codes "problems") (problem_items r.problems))
     ++ section (codes "failures") (failed_items r.failed)) ++ section (codes "suites") (suite_items r.suites))
-    ++ section (codes "slowest") (slow_items r.slowest)
+    ++ section (codes "slowest") (slow_items r.slowest)) ++ section (codes "skips") (skip_items r.skipped)
 
 -- the values of a run with these entries
 abbrev pub values_of_run : Options → List EntryView → RunEnd → Values

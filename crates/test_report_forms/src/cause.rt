@@ -3,7 +3,7 @@
 ghost use Rattle.std.specs.Prelude.{◌≡◌, ◌++◌, IfOk, OnOk, option_map, string_bytes};
 ghost use Rattle.test_report_forms.specs.Entry.{entry_view};
 ghost use Rattle.test_report_forms.specs.Model as spec;
-ghost use Rattle.test_report_forms.specs.Model.{cause_of_entry, cause_view, problem_of, problem_view, suite_of};
+ghost use Rattle.test_report_forms.specs.Model.{cause_of_entry, cause_view, lacks_events, problem_of, problem_view, suite_of};
 ghost use Rattle.test_report_forms.specs.Words.{command_words, disagreement_line, its_tests, not_run_line, result_word, said_numbers, said_text, key_and_verdict, verdict_word};
 ghost use Rattle.test_report_run.specs.Note.{command_view, disagreement_view, text_view};
 
@@ -29,6 +29,9 @@ pub(crate) struct Cause<'a> {
 
     /// What explains the cause, if anything does.
     pub(crate) why: Option<&'a str>,
+
+    /// True if no line of a file is an event of a harness, or none before cargo said that tests failed.
+    pub(crate) lacks_events: bool,
 }
 
 /// A problem of the run: a cause as it is shown, or that no test ran.
@@ -83,6 +86,7 @@ pub(crate) fn cause_of<'a>(
                 kind: "disagreement",
                 line,
                 why: text_of(why),
+                lacks_events: lacks_events(disagreement),
             }))
         }
         Entry::NotRun(not_run) => {
@@ -92,6 +96,7 @@ pub(crate) fn cause_of<'a>(
                 kind: "not run",
                 line,
                 why: None,
+                lacks_events: false,
             }))
         }
         Entry::Passed(_) | Entry::Skipped(_) | Entry::Failed { .. } | Entry::Suite(_) => Ok(None),
@@ -112,6 +117,23 @@ fn suite_of(disagreement: &Disagreement) -> Option<&str>
         | Disagreement::Damaged { .. }
         | Disagreement::NoEvent
         | Disagreement::Command(_) => None,
+    }
+}
+
+/// Returns true if no line of a file is an event of a harness, or none before cargo said that tests failed.
+fn lacks_events(disagreement: &Disagreement) -> bool
+    ensures { result ≡ lacks_events (disagreement_view disagreement.now) }
+{
+    match disagreement {
+        Disagreement::Cargo(report) => report.lacks_events,
+        Disagreement::NoEvent => true,
+        Disagreement::EndedEarly { .. }
+        | Disagreement::LastLine { .. }
+        | Disagreement::StrayEnd { .. }
+        | Disagreement::StraySuiteEnd { .. }
+        | Disagreement::OutsideSuite { .. }
+        | Disagreement::Damaged { .. }
+        | Disagreement::Command(_) => false,
     }
 }
 

@@ -4,21 +4,21 @@ ghost use Rattle.std.specs.Prelude.{◌≡◌, IfOk, option_map, string_bytes};
 ghost use Rattle.test_report_forms.specs.JunitCase as spec;
 ghost use Rattle.test_report_forms.specs.JunitCase.{case_kind_view, case_place_view, case_view};
 ghost use Rattle.test_report_forms.specs.Model.{cause_view};
-ghost use Rattle.test_report_forms.specs.Shown.{shown_name};
+ghost use Rattle.test_report_forms.specs.Shown.{shown_name, whole_text};
 ghost use Rattle.test_report_forms.specs.Why.{place_view, why_view};
-ghost use Rattle.test_report_run.specs.Note.{failure_view, kind_view, outcome_view, test_view, text_view};
+ghost use Rattle.test_report_run.specs.Note.{failure_view, kind_view, test_view, text_view};
 
 use crate::cause::{Cause, shown_reason};
 use crate::failed_test::{FailedTest, shown_failure};
-use crate::lines::without_returns;
 use crate::model::suite_name;
 use crate::options::Options;
 use crate::place::Place;
-use crate::shown::{push_line, push_name, push_text};
+use crate::shown::{push_line, push_name, shown_whole};
+use crate::skipped_test::skip_reason;
 use crate::title::shown_name;
 use crate::why::Why;
 use std::alloc::{AllocError, Global};
-use test_report_run::note::{Failure, FailureKind, TestNote, TestOutcome};
+use test_report_run::note::{Failure, FailureKind, TestNote};
 
 /// The name of the run, and of the suite of causes that name no suite.
 pub(crate) const OWN_NAME: &str = "test-report";
@@ -230,31 +230,11 @@ fn class_name(alloc: Global, name: &str) -> Result<String, AllocError>
 
 /// Returns a text of the input whole, as it is shown, or `None` if there is none.
 fn whole_text(alloc: Global, text: Option<&str>) -> Result<Option<String>, AllocError>
-    ensures { IfOk result (λ shown. text_view shown ≡ option_map (λ t. spec.whole_text t.now) text.entry) }
+    ensures { IfOk result (λ shown. text_view shown ≡ option_map (λ t. whole_text t.now) text.entry) }
 {
     match text {
         Some(text) => Ok(Some(shown_whole(alloc, text)?)),
         None => Ok(None),
-    }
-}
-
-/// Returns a text as it is shown, without the carriage returns that are right before a line feed.
-fn shown_whole(alloc: Global, text: &str) -> Result<String, AllocError>
-    ensures { IfOk result (λ shown. string_bytes shown ≡ spec.whole_text text.now) }
-{
-    let lines = without_returns(alloc, text)?;
-    let mut shown = String::new(alloc);
-    push_text(&mut shown, lines.as_str(), false)?;
-    Ok(shown)
-}
-
-/// Returns why a test was skipped, if its line says so.
-fn skip_reason(outcome: &TestOutcome) -> Option<&str>
-    ensures { option_map (λ r. r.now) result ≡ spec.skip_reason (outcome_view outcome.now) }
-{
-    match outcome {
-        TestOutcome::Skipped { reason } => text_of(reason),
-        TestOutcome::Passed | TestOutcome::Failed(_) => None,
     }
 }
 

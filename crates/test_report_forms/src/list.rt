@@ -14,9 +14,9 @@ use crate::entry::Entry;
 use crate::levels::{finished_output, own_final_level, skipped_output};
 use crate::options::Options;
 use crate::shown::{front, push_bracket, push_spaces, push_text};
-use crate::shown_why::shown_why;
 use crate::slowest::Slowest;
 use crate::status::{failed_status, passed_status, push_status};
+use crate::text_why::text_why;
 use crate::title::push_title;
 use crate::why::Why;
 use crate::why_lines::push_why_lines;
@@ -208,7 +208,7 @@ fn push_failed(
             display_output: true,
         } => {
             push_reason(text, test, status, why.short.as_str(), options)?;
-            let shown = shown_why(alloc, options, test, failure, why)?;
+            let shown = text_why(alloc, options, test, failure, why)?;
             push_why_lines(text, &shown, WHY_MARGIN, options)
         }
         OutputStoreFinal::Yes { .. } => {

@@ -6,9 +6,9 @@ use crate::document::push_document;
 use crate::entry::Entry;
 use crate::form::Form;
 use crate::markdown_template::MARKDOWN;
+use crate::markdown_values::summary_values;
 use crate::model::ReportModel;
 use crate::options::Options;
-use crate::values::report_values;
 use std::alloc::{AllocError, Global};
 use test_report_run::note::RunEnd;
 
@@ -51,7 +51,7 @@ impl Form for MarkdownForm {
     }
 
     fn on_end(&mut self, alloc: Global, end: &RunEnd, text: &mut String) -> Result<(), AllocError> {
-        let values = report_values(alloc, self.model.take_out(alloc), end)?;
+        let values = summary_values(alloc, self.model.take_out(alloc), end)?;
         push_document(alloc, text, MARKDOWN, values.as_slice())
     }
 }

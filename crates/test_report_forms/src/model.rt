@@ -6,6 +6,7 @@ ghost use Rattle.test_report_forms.specs.Entry.{EntryView, entry_view};
 ghost use Rattle.test_report_forms.specs.List.{put_falling, slow_line_view};
 ghost use Rattle.test_report_forms.specs.Model as spec;
 ghost use Rattle.test_report_forms.specs.Model.{IsModelOf, failed_view, problem_view, row_view};
+ghost use Rattle.test_report_forms.specs.Skipped.{skipped_of_entry, skipped_view};
 ghost use Rattle.test_report_run.specs.Note.{suite_view, test_view, text_view};
 
 use crate::cause::{Problem, cause_of};
@@ -15,6 +16,7 @@ use crate::junit_case::text_of;
 use crate::numbers::Numbers;
 use crate::options::Options;
 use crate::shown::push_name;
+use crate::skipped_test::SkippedTest;
 use crate::slowest::Slowest;
 use crate::title::push_title;
 use run_events_stats::outcome::RunOutcome;
@@ -22,7 +24,7 @@ use std::alloc::{AllocError, Global};
 use test_report_run::note::{SuiteNote, TestNote};
 
 /// The number of slowest tests that are listed.
-const SLOWEST: usize = 5;
+const SLOWEST: usize = 10;
 
 /// A suite in the table of suites.
 #[derive(Drop)]
@@ -55,6 +57,9 @@ pub struct ReportModel {
 
     /// The slowest tests.
     pub(crate) slowest: Slowest,
+
+    /// The skipped tests that have a reason.
+    pub(crate) skipped: Vec<SkippedTest>,
 }
 
 impl ReportModel {
@@ -69,6 +74,7 @@ impl ReportModel {
             problems: Vec::new(alloc),
             suites: Vec::new(alloc),
             slowest: Slowest::new(alloc, SLOWEST),
+            skipped: Vec::new(alloc),
         }
     }
 
@@ -81,6 +87,7 @@ impl ReportModel {
         keep_failure(alloc, &mut self.failed, entry, self.options)?;
         keep_problem(alloc, &mut self.problems, entry)?;
         keep_suite(alloc, &mut self.suites, entry)?;
+        keep_skipped(alloc, &mut self.skipped, entry)?;
         keep_time(alloc, &mut self.slowest, entry)
     }
 
@@ -137,6 +144,23 @@ fn keep_suite(
     if let Entry::Suite(suite) = entry {
         if let Some(row) = SuiteRow::of(alloc, suite)? {
             suites.push(row)?;
+        }
+    }
+    Ok(())
+}
+
+/// Keeps the skipped test of an entry, if it has a reason.
+fn keep_skipped(
+    alloc: Global,
+    skipped: &mut Vec<SkippedTest>,
+    entry: &Entry<'_>,
+) -> Result<(), AllocError>
+    ensures { OnOk result (map skipped_view skipped.new.items ≡ map skipped_view skipped.old.items
+        ++ option_to_list (skipped_of_entry (entry_view entry.now))) }
+{
+    if let Entry::Skipped(test) = entry {
+        if let Some(shown) = SkippedTest::of(alloc, test)? {
+            skipped.push(shown)?;
         }
     }
     Ok(())

@@ -9,6 +9,7 @@ ghost use Rattle.test_report_forms.specs.Shown as spec;
 ghost use Rattle.test_report_run.specs.Note.{text_view};
 
 use crate::commands::begins_command;
+use crate::lines::without_returns;
 use std::alloc::{AllocError, Global};
 use std::fmt::Write;
 use template::shown::{is_escaped, push_escape};
@@ -128,6 +129,16 @@ pub(crate) fn push_text(text: &mut String, shown: &str, raw: bool) -> Result<(),
     } else {
         push_shown(text, shown, false)
     }
+}
+
+/// Returns a text of the input whole, as it is shown, without the carriage returns that are right before a line feed.
+pub(crate) fn shown_whole(alloc: Global, text: &str) -> Result<String, AllocError>
+    ensures { IfOk result (λ shown. string_bytes shown ≡ spec.whole_text text.now) }
+{
+    let lines = without_returns(alloc, text)?;
+    let mut shown = String::new(alloc);
+    push_text(&mut shown, lines.as_str(), false)?;
+    Ok(shown)
 }
 
 /// Appends a text with its escapes. If `one_line` is true, tabs and line feeds are escapes, too.

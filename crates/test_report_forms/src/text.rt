@@ -15,9 +15,9 @@ use crate::levels::{finished_output, has_line, skipped_output};
 use crate::list::ShortList;
 use crate::options::Options;
 use crate::shown::{push_bracket, push_indented};
-use crate::shown_why::shown_why;
 use crate::status::{failed_status, passed_status, push_status};
 use crate::summary::{outcome_text, push_summary};
+use crate::text_why::text_why;
 use crate::title::push_title;
 use crate::why::Why;
 use crate::why_lines::push_why_lines;
@@ -88,17 +88,40 @@ fn push_cause_of(
     }
 }
 
-/// Appends the line of a cause, and under it what explains the cause.
+/// Appends the line of a cause, under it what explains the cause, and how to get lines of a harness if there were
+/// none.
 fn push_cause(text: &mut String, cause: &Cause<'_>, options: Options) -> Result<(), AllocError>
     ensures { OnOk result (string_bytes text.new
         ≡ string_bytes text.old ++ spec.cause_text options (cause_view cause.now)) }
 {
     text.push_str(cause.line.as_str())?;
     text.push('\n')?;
-    match cause.why {
-        Some(why) => push_indented(text, why, WHY_MARGIN, options.raw),
-        None => Ok(()),
+    if let Some(why) = cause.why {
+        push_indented(text, why, WHY_MARGIN, options.raw)?;
     }
+    push_advice(text, cause.lacks_events)
+}
+
+/// Appends how to get lines of a harness. Appends nothing if there were some.
+#[tactic(auto, unfolding(crate::specs::Text::advice))]
+fn push_advice(text: &mut String, lacks_events: bool) -> Result<(), AllocError>
+    ensures { OnOk result (string_bytes text.new ≡ string_bytes text.old ++ spec.advice lacks_events) }
+{
+    if !lacks_events {
+        return Ok(());
+    }
+    push_cargo_advice(text)?;
+    text.push_str("    test-report -- cargo test does this by itself\n")
+}
+
+/// Appends how cargo writes lines of a harness.
+#[tactic(auto, unfolding(crate::specs::Text::cargo_advice))]
+fn push_cargo_advice(text: &mut String) -> Result<(), AllocError>
+    ensures { OnOk result (string_bytes text.new ≡ string_bytes text.old ++ spec.cargo_advice) }
+{
+    text.push_str(
+        "    cargo test writes such lines with: RUSTC_BOOTSTRAP=1 cargo test -- -Z unstable-options --format json\n",
+    )
 }
 
 /// Appends a failed test, with why it failed, as far as the levels show it.
@@ -122,7 +145,7 @@ fn push_failed(
     if !shows.show_immediate {
         return Ok(());
     }
-    let shown = shown_why(alloc, options, test, failure, why)?;
+    let shown = text_why(alloc, options, test, failure, why)?;
     push_why_lines(text, &shown, WHY_MARGIN, options)
 }
 

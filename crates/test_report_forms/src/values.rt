@@ -12,13 +12,18 @@
 //! | `failures` | a `failed` test with `status`, `suite` (its `name`), `name`, `note`, `short` and `why` |
 //! | `suites` | a `suite` with `name`, `words`, `bar` (as above) and `time` |
 //! | `slowest` | a `slow` test with `name`, `share` (of the longest time, in hundredths) and `seconds` |
+//! | `skips` | a `skip` with `name` and `reason`: a skipped test that has a reason |
 //!
-//! A `note` has `attempts` with a `count`, if there were several, and a `time`. A `time` has `seconds`.
+//! A `note` has `attempts` with a `count`, if there were several, and a `time`. A `time` has `seconds`. If a `line`, a
+//! `short`, or the `name` of a failed test or of its suite has an `@`, there is an item without values beside it:
+//! `line_code`, `short_code` or `name_code`.
 
-ghost use Rattle.std.specs.Prelude.{◌≡◌, ◌++◌, ◌∷◌, [], IfOk, OnOk, map, string_bytes};
-ghost use Rattle.template.specs.Template.{value_view};
+ghost use Rattle.std.specs.Prelude.{◌≡◌, ◌==◌, ◌++◌, ◌∷◌, [], IfOk, OnOk, if◌then◌else◌, map, string_bytes};
+ghost use Rattle.std.specs.List.{list_any};
+ghost use Rattle.template.specs.Template.{ItemValue, NoValues, value_view};
 ghost use Rattle.test_report_forms.specs.List.{slow_line_view};
 ghost use Rattle.test_report_forms.specs.Model.{all_problems, failed_view, no_tests_problem, problem_view, report_view, row_view};
+ghost use Rattle.test_report_forms.specs.Skipped.{skipped_view};
 ghost use Rattle.test_report_forms.specs.Values as spec;
 ghost use Rattle.test_report_run.specs.Note.{text_view};
 
@@ -27,6 +32,7 @@ use crate::failed_test::FailedTest;
 use crate::model::{ReportModel, SuiteRow, no_tests_ran};
 use crate::numbers::Numbers;
 use crate::shown::seconds_text;
+use crate::skipped_test::SkippedTest;
 use crate::slowest::SlowTest;
 use crate::summary::outcome_text;
 use run_events_stats::outcome::RunOutcome;
@@ -49,6 +55,7 @@ pub fn report_values(
         problems,
         suites,
         slowest,
+        skipped,
     } = model;
     let mut values = run_values(alloc, end)?;
     push_section(&mut values, "bar", bar(alloc, Numbers::of_run(end))?)?;
@@ -64,6 +71,7 @@ pub fn report_values(
         "slowest",
         slow_items(alloc, slowest.into_tests())?,
     )?;
+    push_section(&mut values, "skips", skip_items(alloc, skipped)?)?;
     Ok(values)
 }
 
@@ -104,6 +112,29 @@ pub(crate) fn push_option(
     }
 }
 
+/// Returns true if a text has an `@`.
+fn has_at(text: &[u8]) -> bool
+    ensures { result ≡ list_any (λ b. b == 64) text.now }
+{
+    text.contains(&b'@')
+}
+
+/// Adds an item without values, if a text has an `@`.
+fn push_code(
+    alloc: Global,
+    values: &mut Vec<Value>,
+    list: &'static str,
+    is_code: bool,
+) -> Result<(), AllocError>
+    ensures { OnOk result (map value_view values.new.items
+        ≡ map value_view values.old.items ++ (if is_code then ItemValue list.now NoValues ∷ [] else [])) }
+{
+    if is_code {
+        push_item(values, list, Vec::new(alloc))?;
+    }
+    Ok(())
+}
+
 /// Adds a time in seconds, if it is known.
 pub(crate) fn push_time(
     alloc: Global,
@@ -122,7 +153,7 @@ pub(crate) fn push_time(
 
 /// Returns the values of the run that are not lists, and its time.
 #[tactic(auto, unfolding(crate::specs::Values::run_values))]
-fn run_values(alloc: Global, end: &RunEnd) -> Result<Vec<Value>, AllocError>
+pub(crate) fn run_values(alloc: Global, end: &RunEnd) -> Result<Vec<Value>, AllocError>
     ensures { IfOk result (λ v. map value_view v.items ≡ spec.run_values end.now) }
 {
     let stats = &end.stats;
@@ -198,8 +229,10 @@ fn push_problem(
         ≡ map value_view problems.old.items ++ spec.problem_item (problem_view problem)) }
 {
     let Problem { line, why } = problem;
+    let line_has_at = has_at(line.as_bytes());
     let mut values = one_text(alloc, "line", line)?;
     push_option(alloc, &mut values, "why", "text", why)?;
+    push_code(alloc, &mut values, "line_code", line_has_at)?;
     push_item(problems, "problem", values)
 }
 
@@ -214,7 +247,7 @@ fn no_tests_problem(alloc: Global) -> Result<Problem, AllocError>
 }
 
 /// Returns the problems, with `no test ran` first if no test ran.
-fn problem_items(
+pub(crate) fn problem_items(
     alloc: Global,
     problems: Vec<Problem>,
     outcome: RunOutcome,
@@ -245,8 +278,33 @@ fn note(alloc: Global, attempts: usize, time: Option<u64>) -> Result<Vec<Value>,
     Ok(values)
 }
 
+/// Returns the values of the suite of a failed test.
+fn own_suite_values(alloc: Global, name: String) -> Result<Vec<Value>, AllocError>
+    ensures { IfOk result (λ v. map value_view v.items ≡ spec.own_suite_values (string_bytes name)) }
+{
+    let name_has_at = has_at(name.as_bytes());
+    let mut values = one_text(alloc, "name", name)?;
+    push_code(alloc, &mut values, "name_code", name_has_at)?;
+    Ok(values)
+}
+
+/// Adds the suite of a failed test, if it has one.
+fn push_suite(
+    alloc: Global,
+    values: &mut Vec<Value>,
+    suite: Option<String>,
+) -> Result<(), AllocError>
+    ensures { OnOk result (map value_view values.new.items
+        ≡ map value_view values.old.items ++ spec.own_suite (text_view suite)) }
+{
+    match suite {
+        Some(name) => push_item(values, "suite", own_suite_values(alloc, name)?),
+        None => Ok(()),
+    }
+}
+
 /// Returns the values of a failed test.
-fn failed_values(alloc: Global, test: FailedTest) -> Result<Vec<Value>, AllocError>
+pub(crate) fn failed_values(alloc: Global, test: FailedTest) -> Result<Vec<Value>, AllocError>
     ensures { IfOk result (λ v. map value_view v.items ≡ spec.failed_values (failed_view test)) }
 {
     let FailedTest {
@@ -258,12 +316,16 @@ fn failed_values(alloc: Global, test: FailedTest) -> Result<Vec<Value>, AllocErr
         short,
         why,
     } = test;
+    let name_has_at = has_at(name.as_bytes());
+    let short_has_at = has_at(short.as_bytes());
     let mut values = one_word(alloc, "status", status)?;
-    push_option(alloc, &mut values, "suite", "name", suite)?;
+    push_suite(alloc, &mut values, suite)?;
     push_text(&mut values, "name", name)?;
     push_section(&mut values, "note", note(alloc, attempts, time)?)?;
     push_text(&mut values, "short", short)?;
     push_text(&mut values, "why", why)?;
+    push_code(alloc, &mut values, "name_code", name_has_at)?;
+    push_code(alloc, &mut values, "short_code", short_has_at)?;
     Ok(values)
 }
 
@@ -335,6 +397,27 @@ fn slow_items(alloc: Global, tests: Vec<SlowTest>) -> Result<Vec<Value>, AllocEr
     let mut items = Vec::new(alloc);
     for test in tests {
         push_item(&mut items, "slow", slow_values(alloc, test, longest)?)?;
+    }
+    Ok(items)
+}
+
+/// Returns the values of a skipped test that has a reason.
+fn skip_values(alloc: Global, test: SkippedTest) -> Result<Vec<Value>, AllocError>
+    ensures { IfOk result (λ v. map value_view v.items ≡ spec.skip_values (skipped_view test)) }
+{
+    let SkippedTest { name, reason } = test;
+    let mut values = one_text(alloc, "name", name)?;
+    push_text(&mut values, "reason", reason)?;
+    Ok(values)
+}
+
+/// Returns the skipped tests that have a reason.
+fn skip_items(alloc: Global, tests: Vec<SkippedTest>) -> Result<Vec<Value>, AllocError>
+    ensures { IfOk result (λ v. map value_view v.items ≡ spec.skip_items (map skipped_view tests.items)) }
+{
+    let mut items = Vec::new(alloc);
+    for test in tests {
+        push_item(&mut items, "skip", skip_values(alloc, test)?)?;
     }
     Ok(items)
 }

@@ -1,5 +1,5 @@
 -- The template of the summary is sound: this is computed.
-use Rattle.std.proofs.Common.{◌≡◌, ◌&&◌, ◌∷◌, [], refl, Bool, true, false, List, Option, Some, None, codes, slice_get, unwrap_or}
+use Rattle.std.proofs.Common.{◌≡◌, ◌∙◌, ◌+◌, ◌&&◌, ◌∷◌, ◌++◌, [], refl, ap, sym, append_assoc, length-append, Bool, true, false, List, Option, Some, None, codes, length, slice_get, unwrap_or}
 use Rattle.std.proofs.lemmas.Bool.{and_parts, false≢true}
 use Rattle.std.specs.Char.{encode_utf8}
 use Rattle.std.specs.List.{list_all}
@@ -8,9 +8,11 @@ use Rattle.template.specs.Clean.{is_clean}
 use Rattle.template.specs.Marks.{is_markdown}
 use Rattle.template.specs.Parse.{parse}
 use Rattle.template.specs.Sections.{sections}
-use Rattle.template.specs.Template.{NoParts, Parts}
+use Rattle.template.specs.Template.{NoParts, OnePart, Parts, Values, part_text, parts_text, values_of}
 use Rattle.test_report_forms.specs.Holes.{has_hole, shows_phrase}
-use Rattle.test_report_forms.specs.Markdown.{details_holes, details_parts, markdown_holes, markdown_parts, markdown_phrases, row_holes, row_parts}
+use Rattle.test_report_forms.specs.Markdown.{details_holes, details_parts, details_text, failed_size, markdown_holes, markdown_parts, markdown_phrases, one_failed_parts, row_holes, row_parts, row_text}
+use Rattle.test_report_forms.specs.Model.{FailedView}
+use Rattle.test_report_forms.specs.Values.{failed_values}
 use Rattle.test_report_forms.specs.declared.markdown_template.TheConstants.{MARKDOWN}
 use Rattle.test_report_forms.proofs.laws.markdown_is_sound.Goals as goal
 
@@ -59,6 +61,27 @@ sound : Sound markdown_parts
 unfolding markdown_parts
 sound = sound-parts (parse MARKDOWN.now) computed
 
+-- parts and more parts
+abbrev join : Parts → Parts → Parts
+join NoParts qs = qs
+join (OnePart p ps) qs = OnePart p (join ps qs)
+
+joined-text : (ps qs : Parts) (vs : Values) → parts_text (join ps qs) vs ≡ parts_text ps vs ++ parts_text qs vs
+unfolding parts_text
+joined-text NoParts qs vs = refl
+joined-text (OnePart p ps) qs vs =
+    ap (λ l. part_text p vs ++ l) (joined-text ps qs vs) ∙ sym (append_assoc (part_text p vs) (parts_text ps vs) (parts_text qs vs))
+
+-- the template of one failed test has the parts of its row and of its details
+both-parts : one_failed_parts ≡ join row_parts details_parts
+unfolding parse chars encode_utf8 one_failed_parts row_parts details_parts markdown_parts
+both-parts = refl
+
+one-failed : (t : FailedView) → failed_size one_failed_parts t ≡ length (row_text t) + length (details_text t)
+one-failed t =
+    let vs = values_of (failed_values t) in
+    ap (λ ps. length (parts_text ps vs)) both-parts ∙ (ap length (joined-text row_parts details_parts vs) ∙ length-append (row_text t) (details_text t))
+
 pub returns : goal.returns
 unfolding row_parts details_parts
 returns c =
@@ -71,4 +94,5 @@ returns c =
       failed = failed.found;
       row = failed.row_has;
       details = failed.details_have;
+      one_failed = one-failed;
     }

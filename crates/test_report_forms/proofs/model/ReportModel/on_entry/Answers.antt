@@ -1,4 +1,4 @@
--- Each of the four steps keeps what the entry adds to its list.
+-- Each of the five steps keeps what the entry adds to its list.
 use Rattle.std.proofs.Common.{[], ℕ, List, ◌∙◌, ap, map, sym, option_to_list}
 use Rattle.std.proofs.lemmas.List.Sums.{fold-append}
 use Rattle.std.proofs.lemmas.Result.{on_ok_weaker}
@@ -8,6 +8,7 @@ use Rattle.test_report_forms.specs.Entry.{entry_view}
 use Rattle.test_report_forms.proofs.Both.{on_ok_both}
 use Rattle.test_report_forms.specs.List.{KeyedLine, put_falling, slow_line_view}
 use Rattle.test_report_forms.specs.Model.{failure_of_entry, problem_of_entry, row_of_entry, timed_entry}
+use Rattle.test_report_forms.specs.Skipped.{skipped_of_entry}
 use Rattle.test_report_forms.proofs.model.ReportModel.on_entry.Goals as goal
 
 pub returns-clause-knows : goal.returns-clause-knows
@@ -20,9 +21,10 @@ returns-clause-knows c =
       suites = kept-more row_of_entry entries (entry_view c.args.entry.now) _ _ known.suites c.in_ok-keep_suite.ensures;
       slowest = kept.0
           ∙ (ap (λ most. add most (map slow_line_view c.args.self.now.slowest.tests.items)) known.most
-          ∙ (ap (add 5) known.slowest
-          ∙ (sym (fold-append (put_falling 5) [] (filter_map timed_entry entries) _)
-          ∙ ap (fold (put_falling 5) []) (sym (filter_map-more timed_entry entries (entry_view c.args.entry.now))))));
+          ∙ (ap (add 10) known.slowest
+          ∙ (sym (fold-append (put_falling 10) [] (filter_map timed_entry entries) _)
+          ∙ ap (fold (put_falling 10) []) (sym (filter_map-more timed_entry entries (entry_view c.args.entry.now))))));
       most = kept.1 ∙ known.most;
+      skipped = kept-more skipped_of_entry entries (entry_view c.args.entry.now) _ _ known.skipped c.in_ok-keep_skipped.ensures;
     })
     (on_ok_both _ _ c.keep_time.result c.keep_time.ensures.keeps c.keep_time.ensures.most)
