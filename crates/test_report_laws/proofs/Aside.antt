@@ -7,7 +7,7 @@ use Rattle.std.proofs.lemmas.Bool.{cond_both}
 use Rattle.test_report_events.specs.Event.{EventView, SuiteEndView, TestEndView, SuiteStarts, SuiteEnds, TestStarts, TestEnds, OtherLine, HeadingLine, CargoFails, Prints, DamagedLine, CommandStarts, CommandOver}
 use Rattle.test_report_events.specs.declared.event.TestResult.{TestResult}
 use Rattle.test_report_events.specs.declared.event.TestResult.TheVariants.{Ok, Failed, Ignored}
-use Rattle.test_report_laws.specs.Run.{is_event}
+use Rattle.test_report_run.specs.Events.{is_event}
 use Rattle.test_report_run.specs.Over.{last_notes}
 use Rattle.test_report_run.specs.Run.{RunState, Step, all_ended_early, ended_at, ended_early, names_in, open_suite, opened, running_ends, started_again, step, stray_ends, stray_suite_notes, suite_at, suite_place, told, with_suite_at, without_tests}
 use Rattle.test_report_run.specs.Running.{is_same, place_of_end, running_at}

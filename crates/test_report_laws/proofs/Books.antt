@@ -281,7 +281,8 @@ module _ {loose : ℕ} {w v : NoteView → ℕ} {h : Kept → ℕ} {Fine : Kept 
   keeps-line r OtherLine f = keeps-same r [] f refl refl
   keeps-line r (HeadingLine name path) f = (record { low = omega arith; high = λ _. omega arith }, f, refl)
   keeps-line r (CargoFails k line plain) f =
-      keeps-reports (record r { others = after_failure r.others }) (step (cargo_fails r k plain) []) f (only-cargo r k plain)
+      keeps-reports (record r { others = after_failure r.others; lacked_events = (cargo_fails r k plain).lacked_events }) (step (cargo_fails r k plain) []) f
+      (only-cargo r k plain)
   keeps-line r (Prints line plain) f = (record { low = omega arith; high = λ _. omega arith }, f, refl)
   keeps-line r (DamagedLine text) f = keeps-if r true (IsDamaged (cut text)) f
   keeps-line r CommandStarts f = (record { low = omega arith; high = λ _. omega arith }, f, refl)

@@ -17,6 +17,7 @@ use Rattle.test_report_laws.proofs.OverRuns.{up-to-line}
 use Rattle.test_report_laws.proofs.RunCauses.{causes-of, weight}
 use Rattle.test_report_laws.specs.Run.{CargoFailureShows}
 use Rattle.test_report_laws.specs.Whole.{IsLineOf, all_notes, notes_of, run_after, run_after_files, run_at_end}
+use Rattle.test_report_run.specs.Events.{is_event}
 use Rattle.test_report_run.specs.Note.{CargoSays, CargoView, Disagrees, NoteView}
 use Rattle.test_report_run.specs.Others.{after_failure}
 use Rattle.test_report_run.specs.Suite.{SuiteState}
@@ -51,17 +52,18 @@ of-rest r (e ∷ rest) h = of-line r e (of-rest (after r e) rest h)
 abbrev NoneHeld : RunState → Type 0
 NoneHeld r = r.of_command ≡ false → r.held ≡ []
 
-held-settled : (r : RunState) → NoneHeld r → NoneHeld (settled r).run
-held-settled r i = by-report r.reported
+held-settled : (r : RunState) (heard : Bool) → NoneHeld r → NoneHeld (settled r heard).run
+held-settled r heard i = by-report r.reported
   where
-    by-report : (o : Option CargoView) → NoneHeld (option_map_or (report_told r) o (step r [])).run
+    by-report : (o : Option CargoView) → NoneHeld (option_map_or (report_told r heard) o (step r [])).run
     by-report None = i
-    by-report (Some report) = cond_both r.of_command (step (record r { reported = None; held = r.held ++ whole r report ∷ [] }) [])
-        (step (record r { reported = None }) (Disagrees (CargoSays (whole r report)) ∷ [])) (λ (t : Step). NoneHeld t.run)
+    by-report (Some report) = cond_both r.of_command (step (record r { reported = None; held = r.held ++ whole r heard report ∷ [] }) [])
+        (step (record r { reported = None }) (Disagrees (CargoSays (whole r heard report)) ∷ [])) (λ (t : Step). NoneHeld t.run)
         (λ some none. absurd (cc)) (λ _. i)
 
 held-ready : (r : RunState) (e : EventView) → NoneHeld r → NoneHeld (ready r e)
-held-ready r e i = cond_both (is_after_report e) (settled r) (step r []) (λ (t : Step). NoneHeld t.run) (λ _. held-settled r i) (λ _. i)
+held-ready r e i = cond_both (is_after_report e) (settled r (is_event e)) (step r []) (λ (t : Step). NoneHeld t.run)
+    (λ _. held-settled r (is_event e) i) (λ _. i)
 
 held-told : (r : RunState) (e : EventView) → (told r e).run.held ≡ r.held
 held-told r (HeadingLine name path) = refl
@@ -82,7 +84,7 @@ held-line r e i none =
     held-after r e ∙ (held-told (ready r e) e ∙ held-ready r e i (of-told (ready r e) e (sym (of-after r e) ∙ none)))
 
 held-end : (r : RunState) → (after_file r).held ≡ []
-held-end r = ap (λ (x : RunState). x.held) (aside-early (reported_run r)) ∙ held-known (settled r).run
+held-end r = ap (λ (x : RunState). x.held) (aside-early (reported_run r)) ∙ held-known (settled r false).run
 
 none-held : (files : List (List EventView)) (events : List EventView) → NoneHeld (run_after (run_after_files run_start files) events)
 none-held = up-to-line (λ n notes r. NoneHeld r) (λ n notes r. NoneHeld r) (λ e. 0) (λ n notes r i. i) (λ n notes r e i. held-line r e i)
@@ -92,24 +94,25 @@ none-held = up-to-line (λ n notes r. NoneHeld r) (λ n notes r. NoneHeld r) (λ
 abbrev last_waits : RunState → ℕ
 last_waits r = if_some r.reported
 
-settled-shows : (r : RunState) → r.of_command ≡ false → last_waits r ≤ sum_by weight (settled r).notes
-settled-shows r none = by-report r.reported
+settled-shows : (r : RunState) (heard : Bool) → r.of_command ≡ false → last_waits r ≤ sum_by weight (settled r heard).notes
+settled-shows r heard none = by-report r.reported
   where
     by-report : (o : Option CargoView)
-        → if_some o ≤ sum_by weight (option_map_or (report_told r) o (step r [])).notes
+        → if_some o ≤ sum_by weight (option_map_or (report_told r heard) o (step r [])).notes
     by-report None = omega arith
-    by-report (Some report) = cond_both r.of_command (step (record r { reported = None; held = r.held ++ whole r report ∷ [] }) [])
-        (step (record r { reported = None }) (Disagrees (CargoSays (whole r report)) ∷ [])) (λ (t : Step). 1 ≤ sum_by weight t.notes)
+    by-report (Some report) = cond_both r.of_command (step (record r { reported = None; held = r.held ++ whole r heard report ∷ [] }) [])
+        (step (record r { reported = None }) (Disagrees (CargoSays (whole r heard report)) ∷ [])) (λ (t : Step). 1 ≤ sum_by weight t.notes)
         (λ some. absurd (cc)) (λ _. omega arith)
 
 ready-shows : (r : RunState) (e : EventView) → r.of_command ≡ false → last_waits r ≤ sum_by weight (settled_at r e).notes + last_waits (ready r e)
-ready-shows r e none = cond_both (is_after_report e) (settled r) (step r []) (λ (t : Step). last_waits r ≤ sum_by weight t.notes + last_waits t.run)
-    (λ _. omega (arith, settled-shows r none)) (λ _. omega arith)
+ready-shows r e none = cond_both (is_after_report e) (settled r (is_event e)) (step r [])
+    (λ (t : Step). last_waits r ≤ sum_by weight t.notes + last_waits t.run)
+    (λ _. omega (arith, settled-shows r (is_event e) none)) (λ _. omega arith)
 
 told-waits : (r : RunState) (e : EventView) → last_waits (ready r e) ≤ last_waits (told (ready r e) e).run
 told-waits r (HeadingLine name path) = omega arith
 told-waits r (CargoFails f line plain) =
-    omega (arith, ap if_some (none-reported r))
+    omega (arith, ap if_some (none-reported r false))
 told-waits r (Prints line plain) = omega arith
 told-waits r (DamagedLine text) = omega arith
 told-waits r CommandStarts = omega arith
@@ -132,8 +135,8 @@ line-shows r e none = omega (
 rest-shows : (r : RunState) (rest : List EventView) → (run_after r rest).of_command ≡ false
     → last_waits r ≤ sum_by weight (notes_of r rest) + sum_by weight (file_notes (run_after r rest))
 rest-shows r [] none =
-    let first = settled r in
-    omega (arith, settled-shows r none, sum_by-append weight first.notes (held_told first.run).notes, end-parts weight r)
+    let first = settled r false in
+    omega (arith, settled-shows r false none, sum_by-append weight first.notes (held_told first.run).notes, end-parts weight r)
 rest-shows r (e ∷ rest) none = omega (
   arith,
   line-shows r e (of-rest r (e ∷ rest) none),
@@ -186,7 +189,7 @@ module _ (files : List (List EventView)) (r : RunState) (f : CargoFailure) (line
         rest-shows (after r e) at.rest never,
         rest-weighs weight files r e at,
         bound-ready known r e bound,
-        ap if_some (none-reported r),
+        ap if_some (none-reported r false),
         nothing-held,
         line-weighs weight files r e at,
         sum_by-append weight known (settled_at r e).notes,

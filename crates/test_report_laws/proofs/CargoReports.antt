@@ -1,17 +1,18 @@
 -- Failures of cargo that become known: nothing else of a run changes.
-use Rattle.std.proofs.Common.{◌≡◌, ◌≤◌, ◌∙◌, ◌+◌, ℕ, List, [], ◌∷◌, ◌++◌, Option, Some, None, ap, append_assoc, arith, length, map, refl, subst, sym}
+use Rattle.std.proofs.Common.{◌≡◌, ◌≤◌, ◌∙◌, ◌+◌, ℕ, List, Bool, false, [], ◌∷◌, ◌++◌, Option, Some, None, ap, append_assoc, arith, length, map, refl, subst, sym}
 use Rattle.std.specs.List.{sum_by}
 use Rattle.std.specs.Option.{option_map_or}
-use Rattle.std.specs.Prelude.{◌-◌}
+use Rattle.std.specs.Prelude.{◌&&◌, ◌-◌, not}
 use Rattle.std.proofs.lemmas.Bool.{cond_both}
 use Rattle.std.proofs.lemmas.List.{length-append, map-append}
 use Rattle.std.proofs.lemmas.List.Sums.{sum_by-append}
 use Rattle.test_report_events.specs.Event.{EventView}
 use Rattle.test_report_events.specs.declared.event.CargoFailure.{CargoFailure}
 use Rattle.test_report_laws.proofs.Sums.{sum-map, sum-none, sum-ones}
-use Rattle.test_report_run.specs.Note.{CargoSays, CargoView, Disagrees, NoteView}
+use Rattle.test_report_run.specs.Events.{is_event}
+use Rattle.test_report_run.specs.Note.{CargoSays, CargoView, Disagrees, NoteView, ended_well}
 use Rattle.test_report_run.specs.Others.{after_failure, last_cause}
-use Rattle.test_report_run.specs.Run.{RunState, Step, cargo_fails, disagrees, ended_well, held_told, is_after_report, notes_at, report_told, reports_told, settled, settled_at, step, told, with_report}
+use Rattle.test_report_run.specs.Run.{RunState, Step, cargo_fails, disagrees, held_told, is_after_report, notes_at, report_told, reports_told, settled, settled_at, step, told, with_report}
 
 -- the run with other failures of cargo that are not known yet, and another number of causes
 abbrev pub with_reports : RunState → Option CargoView → List CargoView → ℕ → RunState
@@ -49,31 +50,31 @@ only-same : (r : RunState) → OnlyReports r (step r [])
 only-same r = record { reported = r.reported; held = r.held; causes = r.causes; run_is = refl; reports = []; notes_are = refl }
 
 -- the last failure of cargo becomes known, or waits for the end of the command
-abbrev pub whole : RunState → CargoView → CargoView
-whole r report = record report { cause = last_cause r.others }
+abbrev pub whole : RunState → Bool → CargoView → CargoView
+whole r heard report = record report { cause = last_cause r.others; lacks_events = report.lacks_events && not heard }
 
-only-report : (r : RunState) (report : CargoView) → OnlyReports r (report_told r report)
-only-report r report = cond_both r.of_command (step (record r { reported = None; held = r.held ++ whole r report ∷ [] }) [])
-    (step (record r { reported = None }) (Disagrees (CargoSays (whole r report)) ∷ [])) (OnlyReports r)
+only-report : (r : RunState) (heard : Bool) (report : CargoView) → OnlyReports r (report_told r heard report)
+only-report r heard report = cond_both r.of_command (step (record r { reported = None; held = r.held ++ whole r heard report ∷ [] }) [])
+    (step (record r { reported = None }) (Disagrees (CargoSays (whole r heard report)) ∷ [])) (OnlyReports r)
     (λ _. record {
       reported = None;
-      held = r.held ++ whole r report ∷ [];
+      held = r.held ++ whole r heard report ∷ [];
       causes = r.causes;
       run_is = refl;
       reports = [];
       notes_are = refl;
     })
-    (λ _. record { reported = None; held = r.held; causes = r.causes; run_is = refl; reports = whole r report ∷ []; notes_are = refl })
+    (λ _. record { reported = None; held = r.held; causes = r.causes; run_is = refl; reports = whole r heard report ∷ []; notes_are = refl })
 
-only-settled : (r : RunState) → OnlyReports r (settled r)
-only-settled r = by-report r.reported
+only-settled : (r : RunState) (heard : Bool) → OnlyReports r (settled r heard)
+only-settled r heard = by-report r.reported
   where
-    by-report : (o : Option CargoView) → OnlyReports r (option_map_or (report_told r) o (step r []))
+    by-report : (o : Option CargoView) → OnlyReports r (option_map_or (report_told r heard) o (step r []))
     by-report None = only-same r
-    by-report (Some report) = only-report r report
+    by-report (Some report) = only-report r heard report
 
 pub only-settled_at : (r : RunState) (e : EventView) → OnlyReports r (settled_at r e)
-only-settled_at r e = cond_both (is_after_report e) (settled r) (step r []) (OnlyReports r) (λ _. only-settled r) (λ _. only-same r)
+only-settled_at r e = cond_both (is_after_report e) (settled r (is_event e)) (step r []) (OnlyReports r) (λ _. only-settled r (is_event e)) (λ _. only-same r)
 
 -- those that wait become known, or were prints
 only-held : (r : RunState) → OnlyReports r (held_told r)
@@ -96,13 +97,14 @@ only-both r s t first second = record {
 }
 
 pub only-told : (r : RunState) → OnlyReports r (reports_told r)
-only-told r = only-both r (settled r) (held_told (settled r).run) (only-settled r) (only-held (settled r).run)
+only-told r = only-both r (settled r false) (held_told (settled r false).run) (only-settled r false) (only-held (settled r false).run)
 
 -- a failure of cargo
 pub only-cargo : (r : RunState) (f : CargoFailure) (line : List ℕ)
-    → OnlyReports (record r { others = after_failure r.others }) (step (cargo_fails r f line) [])
+    → OnlyReports (record r { others = after_failure r.others; lacked_events = (cargo_fails r f line).lacked_events }) (step (cargo_fails r f line) [])
 only-cargo r f line = cond_both (disagrees r f) (with_report r line) r
-    (λ (x : RunState). OnlyReports (record r { others = after_failure r.others }) (step (record x { others = after_failure r.others }) []))
+    (λ (x : RunState). OnlyReports (record r { others = after_failure r.others; lacked_events = x.lacked_events })
+    (step (record x { others = after_failure r.others }) []))
     (λ _. record {
       reported = (with_report r line).reported;
       held = r.held;
@@ -135,25 +137,26 @@ abbrev pub Counted : RunState → Step → ℕ → Type 0
 Counted r t more = (known : ℕ) → r.causes ≤ known + waiting r → t.run.causes ≤ known + more + waiting t.run
 
 module _ (w : NoteView → ℕ) (one : (report : CargoView) → w (Disagrees (CargoSays report)) ≡ 1) where
-  counted-report : (r : RunState) (report : CargoView) → r.reported ≡ Some report → Counted r (report_told r report) (sum_by w (report_told r report).notes)
-  counted-report r report is =
+  counted-report : (r : RunState) (heard : Bool) (report : CargoView) → r.reported ≡ Some report
+      → Counted r (report_told r heard report) (sum_by w (report_told r heard report).notes)
+  counted-report r heard report is =
       let waits = ap if_some is in
-      let longer = length-append r.held (whole r report ∷ []) in
-      cond_both r.of_command (step (record r { reported = None; held = r.held ++ whole r report ∷ [] }) [])
-      (step (record r { reported = None }) (Disagrees (CargoSays (whole r report)) ∷ [])) (λ (t : Step). Counted r t (sum_by w t.notes))
-      (λ _ known low. omega (arith, low, waits, longer)) (λ _ known low. omega (arith, low, waits, one (whole r report)))
+      let longer = length-append r.held (whole r heard report ∷ []) in
+      cond_both r.of_command (step (record r { reported = None; held = r.held ++ whole r heard report ∷ [] }) [])
+      (step (record r { reported = None }) (Disagrees (CargoSays (whole r heard report)) ∷ [])) (λ (t : Step). Counted r t (sum_by w t.notes))
+      (λ _ known low. omega (arith, low, waits, longer)) (λ _ known low. omega (arith, low, waits, one (whole r heard report)))
 
-  counted-settled : (r : RunState) → Counted r (settled r) (sum_by w (settled r).notes)
-  counted-settled r = by-report r.reported refl
+  counted-settled : (r : RunState) (heard : Bool) → Counted r (settled r heard) (sum_by w (settled r heard).notes)
+  counted-settled r heard = by-report r.reported refl
     where
       by-report : (o : Option CargoView) → r.reported ≡ o
-          → let t = option_map_or (report_told r) o (step r []) in Counted r t (sum_by w t.notes)
+          → let t = option_map_or (report_told r heard) o (step r []) in Counted r t (sum_by w t.notes)
       by-report None is = λ known low. omega (arith, low)
-      by-report (Some report) is = counted-report r report is
+      by-report (Some report) is = counted-report r heard report is
 
   pub counted-settled_at : (r : RunState) (e : EventView) → Counted r (settled_at r e) (sum_by w (settled_at r e).notes)
-  counted-settled_at r e = cond_both (is_after_report e) (settled r) (step r []) (λ (t : Step). Counted r t (sum_by w t.notes))
-      (λ _. counted-settled r) (λ _ known low. omega (arith, low))
+  counted-settled_at r e = cond_both (is_after_report e) (settled r (is_event e)) (step r []) (λ (t : Step). Counted r t (sum_by w t.notes))
+      (λ _. counted-settled r (is_event e)) (λ _ known low. omega (arith, low))
 
   counted-held : (r : RunState) → Counted r (held_told r) (sum_by w (held_told r).notes)
   counted-held r =
@@ -165,19 +168,19 @@ module _ (w : NoteView → ℕ) (one : (report : CargoView) → w (Disagrees (Ca
 
   pub counted-told : (r : RunState) → Counted r (reports_told r) (sum_by w (reports_told r).notes)
   counted-told r known low =
-      let first = settled r in
+      let first = settled r false in
       let last = held_told first.run in
-      let second = counted-held first.run (known + sum_by w first.notes) (counted-settled r known low) in
+      let second = counted-held first.run (known + sum_by w first.notes) (counted-settled r false known low) in
       omega (arith, second, sum_by-append w first.notes last.notes)
 
 -- when a failure of cargo comes, the one before it does not wait any more
-pub none-reported : (r : RunState) → (settled r).run.reported ≡ None
-none-reported r = by-report r.reported refl
+pub none-reported : (r : RunState) (heard : Bool) → (settled r heard).run.reported ≡ None
+none-reported r heard = by-report r.reported refl
   where
-    by-report : (o : Option CargoView) → r.reported ≡ o → (option_map_or (report_told r) o (step r [])).run.reported ≡ None
+    by-report : (o : Option CargoView) → r.reported ≡ o → (option_map_or (report_told r heard) o (step r [])).run.reported ≡ None
     by-report None is = is
-    by-report (Some report) is = cond_both r.of_command (step (record r { reported = None; held = r.held ++ whole r report ∷ [] }) [])
-        (step (record r { reported = None }) (Disagrees (CargoSays (whole r report)) ∷ [])) (λ (t : Step). t.run.reported ≡ None) (λ _. refl) (λ _. refl)
+    by-report (Some report) is = cond_both r.of_command (step (record r { reported = None; held = r.held ++ whole r heard report ∷ [] }) [])
+        (step (record r { reported = None }) (Disagrees (CargoSays (whole r heard report)) ∷ [])) (λ (t : Step). t.run.reported ≡ None) (λ _. refl) (λ _. refl)
 
 pub counted-cargo : (r : RunState) (f : CargoFailure) (line : List ℕ) → r.reported ≡ None → Counted r (step (cargo_fails r f line) []) 0
 counted-cargo r f line none =

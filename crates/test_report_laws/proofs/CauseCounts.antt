@@ -1,5 +1,5 @@
 -- No more causes are counted in a run than failed tests and disagreements are known, and failures of cargo wait.
-use Rattle.std.proofs.Common.{◌≡◌, ◌∙◌, ◌≤◌, ◌+◌, ◌++◌, ℕ, List, [], cond, ap, arith, length, refl}
+use Rattle.std.proofs.Common.{◌≡◌, ◌∙◌, ◌≤◌, ◌+◌, ◌++◌, ℕ, List, [], cond, false, ap, arith, length, refl}
 use Rattle.std.specs.List.{count_by, sum_by}
 use Rattle.std.specs.Prelude.{◌-◌}
 use Rattle.std.proofs.lemmas.Bool.{cond_both}
@@ -12,8 +12,8 @@ use Rattle.test_report_laws.proofs.OverRuns.{up-to-line}
 use Rattle.test_report_laws.proofs.RunCauses.{weight}
 use Rattle.test_report_laws.proofs.Sums.{one-most}
 use Rattle.test_report_laws.specs.Whole.{all_notes, notes_of, run_after, run_after_files}
-use Rattle.test_report_run.specs.Note.{CargoView, Disagrees, NoteView, TestIs}
-use Rattle.test_report_run.specs.Run.{RunState, Step, after, after_file, command_notes, ended_well, file_notes, held_told, is_cause, is_new_cause, is_new_disagreement, no_event_notes, notes_at, reports_told, run_start, settled, settled_at, step, told}
+use Rattle.test_report_run.specs.Note.{CargoView, Disagrees, NoteView, TestIs, ended_well}
+use Rattle.test_report_run.specs.Run.{RunState, Step, after, after_file, command_notes, file_notes, held_told, is_cause, is_new_cause, is_new_disagreement, no_event_notes, notes_at, reports_told, run_start, settled, settled_at, step, told}
 
 -- a note that counts when it becomes known
 abbrev new : NoteView → ℕ
@@ -33,7 +33,7 @@ Bound notes r = r.causes ≤ count_by is_cause notes + waiting r
 
 -- what a line makes known by itself
 counted-own : (r : RunState) (e : EventView) → Counted (ready r e) (told (ready r e) e) 0
-counted-own r (CargoFails f line plain) = counted-cargo (settled r).run f plain (none-reported r)
+counted-own r (CargoFails f line plain) = counted-cargo (settled r false).run f plain (none-reported r false)
 counted-own r (HeadingLine name path) = λ known low. omega (arith, low)
 counted-own r (Prints line plain) = λ known low. omega (arith, low)
 counted-own r (DamagedLine text) = λ known low. omega (arith, low)
@@ -90,10 +90,10 @@ held-reported r = cond_both (ended_well r.command) (step (record r { held = []; 
 
 pub none-waits : (r : RunState) → waiting (reported_run r) ≡ 0
 none-waits r =
-    let first = (settled r).run in
+    let first = (settled r false).run in
     omega (
       arith,
-      ap if_some (held-reported first ∙ none-reported r),
+      ap if_some (held-reported first ∙ none-reported r false),
       ap (λ (held : List CargoView). length held) (held-known first),
     )
 

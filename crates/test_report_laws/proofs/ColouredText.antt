@@ -15,7 +15,7 @@ use Rattle.test_report_forms.specs.Entry.{EntryView, LinesDisagree, SuiteNotRun,
 use Rattle.test_report_forms.specs.Levels.{finished_output, has_line, listed_text, skipped_output}
 use Rattle.test_report_forms.specs.List.{KeyedLine, ended_line, failed_line, final_level_of, item, item_at, list_line, part_at, passed_word, put_falling, short_list, slow_line, slow_lines, slow_of, text_of_lines, timed}
 use Rattle.test_report_forms.specs.Shown.{front, indented, indented_line, more_bytes}
-use Rattle.test_report_forms.specs.Text.{ended_head, ended_text, failed_head, failed_text, outcome_line, passed_text, skipped_text, summary_lines, text_last, text_line}
+use Rattle.test_report_forms.specs.Text.{advice, cargo_advice, ended_head, ended_text, failed_head, failed_text, outcome_line, passed_text, skipped_text, summary_lines, text_last, text_line}
 use Rattle.test_report_forms.specs.WhyLines.{hidden_line, more_line, why_lines}
 use Rattle.test_report_forms.specs.Words.{color_of, failed_word, status_text}
 use Rattle.test_report_forms.specs.declared.options.Options.{Options}
@@ -30,7 +30,7 @@ use Rattle.test_report_run.specs.Counted.{finish_for}
 use Rattle.test_report_run.specs.Note.{TestNoteView}
 use Rattle.test_report_run.specs.declared.counted.Finish.TheVariants.{Passed}
 use Rattle.test_report_run.specs.declared.note.RunEnd.{RunEnd}
-use Rattle.test_report_forms.specs.ShownWhy.{ShownWhyView, shown_why}
+use Rattle.test_report_forms.specs.ShownWhy.{ShownWhyView, text_why}
 
 -- parts of texts
 are-both : (ps qs : List Part) → AreParts ps → AreParts qs → AreParts (ps ++ qs)
@@ -193,7 +193,7 @@ module _ (o : Options) (raw : o.raw ≡ false) where
   unfolding finished_output skipped_output
   coloured-listed (TestFailed t f w) =
       listed-coloured (finished_output o (finish_for f.kind) t.attempts).store_final
-      (coloured-reason t (failed_word f.kind) w.short (clean-failed_word f.kind)) (coloured-why 13 (shown_why o t f w))
+      (coloured-reason t (failed_word f.kind) w.short (clean-failed_word f.kind)) (coloured-why 13 (text_why o t f w))
   coloured-listed (TestPassed t) =
       listed-coloured (finished_output o Passed t.attempts).store_final
       (coloured-ended t (passed_word t.attempts) (clean-passed_word t.attempts)) none
@@ -226,6 +226,13 @@ module _ (o : Options) (raw : o.raw ≡ false) where
   clean-reason None = nothing
   clean-reason (Some why) = clean-flat_map (indented_line 4 o.raw) (clean-indented 4) _
 
+  clean-advice : (lacks : Bool) → Clean (advice lacks)
+  unfolding advice cargo_advice
+  clean-advice true =
+      word (codes "    cargo test writes such lines with: RUSTC_BOOTSTRAP=1 cargo test -- -Z unstable-options --format json\n"
+      ++ codes "    test-report -- cargo test does this by itself\n") refl
+  clean-advice false = nothing
+
   coloured-head : (t : TestNoteView) (w : List ℕ) → CleanLine w → Coloured (failed_head o t w) (failed_head plain t w)
   unfolding failed_head
   coloured-head t w h =
@@ -243,15 +250,16 @@ module _ (o : Options) (raw : o.raw ≡ false) where
   coloured-text shows h more = then-coloured (has_line shows) (also h (then-coloured shows.show_immediate more))
 
   coloured-entry : (e : EntryView) → Coloured (text_line o e) (text_line plain e)
-  unfolding failed_text passed_text skipped_text finished_output skipped_output
+  unfolding failed_text passed_text skipped_text finished_output skipped_output advice cargo_advice
   coloured-entry (TestFailed t f w) =
       coloured-text (finished_output o (finish_for f.kind) t.attempts) (coloured-head t (failed_word f.kind) (clean-failed_word f.kind))
-      (coloured-why 4 (shown_why o t f w))
+      (coloured-why 4 (text_why o t f w))
   coloured-entry (TestPassed t) =
       coloured-text (finished_output o Passed t.attempts) (coloured-end t (passed_word t.attempts) (clean-passed_word t.attempts)) none
   coloured-entry (TestSkipped t) =
       coloured-text (skipped_output o) (coloured-end t (codes "SKIP") (own.word (codes "SKIP") refl)) none
-  coloured-entry (LinesDisagree d why) = same (clean.also (own.clean (clean-disagreement d)) (clean.also (word (codes "\n") refl) (clean-reason why)))
+  coloured-entry (LinesDisagree d why) =
+      same (clean.also (own.clean (clean-disagreement d)) (clean.also (word (codes "\n") refl) (clean.also (clean-reason why) (clean-advice _))))
   coloured-entry (SuiteNotRun suite n of) = same (clean.also (own.clean (clean-not_run suite n of)) (word (codes "\n") refl))
   coloured-entry (SuiteOver s) = none
 

@@ -14,12 +14,12 @@ use Rattle.test_report_events.specs.declared.event.TestResult.TheVariants.{Ok, F
 use Rattle.test_report_laws.proofs.Books.{Kept, Rules, Within, holds-whole, kept}
 use Rattle.test_report_laws.proofs.EndSums as ends
 use Rattle.test_report_laws.proofs.EndSums.{by-early, by-last, early_rest, last_by, suite_note}
-use Rattle.test_report_laws.proofs.Sums.{sum-none}
+use Rattle.test_report_laws.proofs.Sums.{sum-map, sum-none}
 use Rattle.test_report_run.specs.Counted.{finish_for, view_of_finish}
 use Rattle.test_report_run.specs.Ended.{after_end, after_flaky, end_notes, starts_later, timed}
-use Rattle.test_report_run.specs.Note.{Fails, HasCrashed, HasFailed, HasNoEnd, HasTimedOut, IsFlaky, IsSkipped, KindView, NoteView, OutcomeView, Passes, SuiteIs, SuiteNoteView, TestIs}
+use Rattle.test_report_run.specs.Note.{CrashView, Fails, HasCrashed, HasFailed, HasNoEnd, HasTimedOut, IsFlaky, IsSkipped, KindView, NoteView, OutcomeView, Passes, SuiteIs, SuiteNoteView, TestIs}
 use Rattle.test_report_run.specs.Others.{OthersView}
-use Rattle.test_report_run.specs.Over.{bare_failure, crash_of, early_notes, early_state, flaky_outcome, last_state, lost, one_failed, one_flaky, rest_of, skipped_note, with_all_flaky, with_failed}
+use Rattle.test_report_run.specs.Over.{bare_failure, crash_again, crash_of, crashed_notes, early_notes, early_state, failed_note, failed_notes, flaky_outcome, last_state, lost, one_failed, one_flaky, rest_of, skipped_note, with_all_flaky, with_failed}
 use Rattle.test_report_run.specs.Run.{with_note}
 use Rattle.test_report_run.specs.Totals.{no_suites, with_suite}
 use Rattle.test_report_laws.specs.Whole.{all_notes}
@@ -56,7 +56,7 @@ of_suite weight note = 0
 pub early-suite : (weight : SuiteNoteView → ℕ) (others : OthersView) (s : SuiteState) (names : List (List ℕ))
     → sum_by (of_suite weight) (early_notes others s names) ≡ of_suite weight (suite_note (early_state s names) (early_rest s))
 early-suite weight others s names =
-    omega (arith, by-early (of_suite weight) (λ d. refl) (λ suite n of. refl) false others s names (λ name. refl) (λ f. refl))
+    omega (arith, by-early (of_suite weight) (λ d. refl) (λ suite n of. refl) false others s names (λ c name. refl) (λ f. refl))
 
 pub last-suite : (weight : SuiteNoteView → ℕ) (s : SuiteState) (e : Explanation) (names : List (List ℕ))
     → sum_by (of_suite weight) (last_by s e names) ≡ of_suite weight (suite_note (last_state s e names) (rest_of s e names))
@@ -141,6 +141,20 @@ module _ (counter : RunStats → ℕ) (rule : OutcomeView → ℕ → ℕ) (empt
         sum_by-cons (λ (n : List ℕ). rule (Fails (bare_failure kind)) 1) name names,
       )
 
+  counts-crashed : (s : SuiteState) (c : CrashView) (stats : RunStats) (names : List (List ℕ))
+      → counter (with_failed stats names) ≡ counter stats + sum_by w (crashed_notes s c names)
+  counts-crashed s c stats [] = omega arith
+  counts-crashed s c stats (name ∷ names) =
+      let again = HasCrashed (crash_again c) in
+      omega (
+        arith,
+        counts-failed (HasCrashed c) refl (λ n. refl) stats (name ∷ []),
+        counts-failed again refl (λ n. refl) (one_failed stats name) names,
+        sum_by-cons (λ (n : List ℕ). rule (Fails (bare_failure (HasCrashed c))) 1) name [],
+        sum_by-cons w (failed_note s (HasCrashed c) name) (failed_notes s again names),
+        sum-map w (failed_note s again) names,
+      )
+
   counts-flaky-one : (failed : Bool) (stats : RunStats) (f : FlakyView) → IsLate f
       → counter (one_flaky failed stats f) ≡ counter stats + rule (flaky_outcome failed f) f.test.attempts
   counts-flaky-one true stats f late = counts stats (flaky_outcome true f) f.test.attempts late
@@ -172,15 +186,13 @@ module _ (counter : RunStats → ℕ) (rule : OutcomeView → ℕ → ℕ) (empt
 
   at-early : (others : OthersView) (s : SuiteState) (names : List (List ℕ)) → All IsLate s.flaky
       → sum_by w (early_notes others s names) + counter s.stats ≡ sum_by v (early_notes others s names)
-  at-early others s names late =
-      let kind = HasCrashed (crash_of others s (length names)) in
-      omega (
-        arith,
-        ends.of-early w (λ d. refl) (λ suite n of. refl) others s names,
-        early-suite (λ n. counter n.stats) others s names,
-        counts-failed kind refl (λ n. refl) s.stats names,
-        counts-flaky false (with_failed s.stats names) s.flaky late,
-      )
+  at-early others s names late = omega (
+    arith,
+    ends.of-early w (λ d. refl) (λ suite n of. refl) others s names,
+    early-suite (λ n. counter n.stats) others s names,
+    counts-crashed s (crash_of others s (length names)) s.stats names,
+    counts-flaky false (with_failed s.stats names) s.flaky late,
+  )
 
   at-last : (s : SuiteState) (e : Explanation) (names : List (List ℕ)) → All IsLate s.flaky
       → sum_by w (last_by s e names) + counter s.stats ≡ sum_by v (last_by s e names)

@@ -1,12 +1,12 @@
 -- Sums over what becomes known at the end of a suite.
-use Rattle.std.proofs.Common.{◌≡◌, ℕ, List, ◌++◌, ◌+◌, Bool, false, cond, arith, map, length, take}
+use Rattle.std.proofs.Common.{◌≡◌, ◌∙◌, ◌∷◌, [], ℕ, List, ◌++◌, ◌+◌, Bool, false, true, cond, arith, map, length, refl, take}
 use Rattle.std.specs.List.{sum_by}
 use Rattle.std.specs.Prelude.{◌-◌}
-use Rattle.std.proofs.lemmas.List.Sums.{sum_by-append}
+use Rattle.std.proofs.lemmas.List.Sums.{sum_by-append, sum_by-cons}
 use Rattle.test_report_laws.proofs.Sums.{sum-all, sum-map}
-use Rattle.test_report_run.specs.Note.{Disagrees, DisagreementView, HasCrashed, HasNoEnd, IsNotRun, NoteView, SuiteIs}
+use Rattle.test_report_run.specs.Note.{CrashView, Disagrees, DisagreementView, HasCrashed, HasNoEnd, IsNotRun, NoteView, SuiteIs}
 use Rattle.test_report_run.specs.Others.{OthersView}
-use Rattle.test_report_run.specs.Over.{crash_of, early_disagreements, early_notes, early_state, failed_note, failed_notes, flaky_note, flaky_notes, initial_of, last_disagreement, last_state, lost, number_notes, rest_of, skipped_note}
+use Rattle.test_report_run.specs.Over.{crash_again, crash_of, crashed_notes, early_disagreements, early_notes, early_state, failed_note, failed_notes, flaky_note, flaky_notes, initial_of, last_disagreement, last_state, lost, number_notes, rest_of, skipped_note}
 use Rattle.test_report_run.specs.Suite.{FlakyView, SuiteState, suite_name}
 use Rattle.test_report_laws.proofs.Types.{Explanation, Rest}
 
@@ -33,14 +33,33 @@ last_by s e names =
     ++ (last_disagreement (last_state s e names)
     ++ number_notes (last_state s e names) (rest_of s e names))))
 
+-- the notes of crashed tests, where each weighs 1, or each of them nothing
+pub sum-crashed : (w : NoteView → ℕ) (crashes : Bool) (s : SuiteState)
+    → ((c : CrashView) (name : List ℕ) → w (failed_note s (HasCrashed c) name) ≡ cond crashes 1 0) → (c : CrashView) (names : List (List ℕ))
+    → sum_by w (crashed_notes s c names) ≡ cond crashes (length names) 0
+sum-crashed w true s each c [] = refl
+sum-crashed w false s each c [] = refl
+sum-crashed w crashes s each c (name ∷ names) =
+    let again = HasCrashed (crash_again c) in
+    let rest = sum-all (λ n. w (failed_note s again n)) crashes (each (crash_again c)) names in
+    sum-cons crashes (each c name) (sum-map w (failed_note s again) names ∙ rest)
+  where
+    sum-cons : (one : Bool) → w (failed_note s (HasCrashed c) name) ≡ cond one 1 0
+        → sum_by w (failed_notes s (HasCrashed (crash_again c)) names) ≡ cond one (length names) 0
+        → sum_by w (crashed_notes s c (name ∷ names)) ≡ cond one (length (name ∷ names)) 0
+    sum-cons true first rest =
+        omega (arith, first, rest, sum_by-cons w (failed_note s (HasCrashed c) name) (failed_notes s (HasCrashed (crash_again c)) names))
+    sum-cons false first rest =
+        omega (arith, first, rest, sum_by-cons w (failed_note s (HasCrashed c) name) (failed_notes s (HasCrashed (crash_again c)) names))
+
 -- a weight of notes, in which those of tests that were not run weigh nothing
 module _ (w : NoteView → ℕ) (not_run : (suite : List ℕ) (n of : ℕ) → w (IsNotRun suite n of) ≡ 0) where
-  of-numbers : (s : SuiteState) (rest : Rest) → sum_by w (number_notes s rest) ≡ w (suite_note s rest)
+  pub of-numbers : (s : SuiteState) (rest : Rest) → sum_by w (number_notes s rest) ≡ w (suite_note s rest)
   of-numbers s rest = grind (arith, not_run)
 
   -- what becomes known of a suite that ends early: its running tests, its flaky tests and its numbers
   pub of-early-all : (others : OthersView) (s : SuiteState) (names : List (List ℕ)) → sum_by w (early_notes others s names)
-      ≡ sum_by (λ name. w (failed_note s (HasCrashed (crash_of others s (length names))) name)) names
+      ≡ sum_by w (crashed_notes s (crash_of others s (length names)) names)
       + (sum_by (λ f. w (flaky_note s false f)) s.flaky
       + (sum_by w (early_disagreements s (length names)) + w (suite_note (early_state s names) (early_rest s))))
   of-early-all others s names =
@@ -58,14 +77,14 @@ module _ (w : NoteView → ℕ) (not_run : (suite : List ℕ) (n of : ℕ) → w
 -- a weight of notes, in which those that name no test and no suite weigh nothing
 module _ (w : NoteView → ℕ) (disagree : (d : DisagreementView) → w (Disagrees d) ≡ 0)
     (not_run : (suite : List ℕ) (n of : ℕ) → w (IsNotRun suite n of) ≡ 0) where
-  of-early_disagreements : (s : SuiteState) (crashed : ℕ) → sum_by w (early_disagreements s crashed) ≡ 0
+  pub of-early_disagreements : (s : SuiteState) (crashed : ℕ) → sum_by w (early_disagreements s crashed) ≡ 0
   of-early_disagreements s crashed = grind (arith, disagree)
 
   of-last_disagreement : (s : SuiteState) → sum_by w (last_disagreement s) ≡ 0
   of-last_disagreement s = grind (arith, disagree)
 
   pub of-early : (others : OthersView) (s : SuiteState) (names : List (List ℕ)) → sum_by w (early_notes others s names)
-      ≡ sum_by (λ name. w (failed_note s (HasCrashed (crash_of others s (length names))) name)) names
+      ≡ sum_by w (crashed_notes s (crash_of others s (length names)) names)
       + (sum_by (λ f. w (flaky_note s false f)) s.flaky + w (suite_note (early_state s names) (early_rest s)))
   of-early others s names = omega (arith, of-early-all w not_run others s names, of-early_disagreements s (length names))
 
@@ -77,13 +96,13 @@ module _ (w : NoteView → ℕ) (disagree : (d : DisagreementView) → w (Disagr
 
   -- the same where each test of a kind weighs 1, or each of them nothing
   pub by-early : (crashes : Bool) (others : OthersView) (s : SuiteState) (names : List (List ℕ))
-      → ((name : List ℕ) → w (failed_note s (HasCrashed (crash_of others s (length names))) name) ≡ cond crashes 1 0)
+      → ((c : CrashView) (name : List ℕ) → w (failed_note s (HasCrashed c) name) ≡ cond crashes 1 0)
       → ((f : FlakyView) → w (flaky_note s false f) ≡ 0)
       → sum_by w (early_notes others s names) ≡ cond crashes (length names) 0 + w (suite_note (early_state s names) (early_rest s))
   by-early crashes others s names crash flaky = omega (
     arith,
     of-early others s names,
-    sum-all (λ name. w (failed_note s (HasCrashed (crash_of others s (length names))) name)) crashes crash names,
+    sum-crashed w crashes s crash (crash_of others s (length names)) names,
     sum-all (λ f. w (flaky_note s false f)) false flaky s.flaky,
   )
 

@@ -7,8 +7,8 @@ use Rattle.std.proofs.lemmas.List.Sums.{sum_by-append}
 use Rattle.test_report_events.specs.Event.{CommandView}
 use Rattle.test_report_laws.proofs.CargoReports.{only-told, reports-none}
 use Rattle.test_report_laws.proofs.Sums.{sum-if-none}
-use Rattle.test_report_run.specs.Note.{CommandFails, Disagrees, DisagreementView, HasNoEvent, NoteView}
-use Rattle.test_report_run.specs.Run.{RunState, Step, all_ended_early, command_fails, command_notes, ended_well, file_end, file_notes, learned, no_event_notes, reports_told, was_not_started}
+use Rattle.test_report_run.specs.Note.{CommandFails, DisagreementView, Disagrees, HasNoEvent, NoteView, ended_well, was_not_started}
+use Rattle.test_report_run.specs.Run.{RunState, Step, all_ended_early, command_fails, command_notes, file_end, file_notes, learned, no_event_notes, reports_told}
 
 -- the run when its failures of cargo are known, what its suites make known then, and the run when all of this is counted
 abbrev pub reported_run : RunState → RunState
@@ -33,12 +33,12 @@ module _ (w : NoteView → ℕ) where
 
   -- if disagreements weigh nothing, only suites do
   module _ (disagree : (d : DisagreementView) → w (Disagrees d) ≡ 0) where
-    no-event-none : (r : RunState) → sum_by w (no_event_notes r) ≡ 0
+    pub no-event-none : (r : RunState) → sum_by w (no_event_notes r) ≡ 0
     no-event-none r = sum-if-none w
         (not r.has_event && (not (nat_lt r.causes_at_file r.causes) && not (ended_well r.command || was_not_started r.command)))
         (Disagrees HasNoEvent) (disagree HasNoEvent)
 
-    command-none : (r : RunState) → sum_by w (command_notes r) ≡ 0
+    pub command-none : (r : RunState) → sum_by w (command_notes r) ≡ 0
     command-none r = by-end r.command
       where
         by-end : (o : Option CommandView)

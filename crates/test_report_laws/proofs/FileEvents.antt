@@ -14,10 +14,11 @@ use Rattle.test_report_laws.proofs.FileEnds.{counted_run, end-parts, reported_ru
 use Rattle.test_report_laws.proofs.LineParts.{file-weighs}
 use Rattle.test_report_laws.proofs.Outcomes.{outcome-means}
 use Rattle.test_report_laws.proofs.RunCauses.{causes-of, weight}
-use Rattle.test_report_laws.specs.Run.{CommandEndShows, IsClean, NoEventShows, events_in, is_event}
+use Rattle.test_report_laws.specs.Run.{CommandEndShows, IsClean, NoEventShows, events_in}
+use Rattle.test_report_run.specs.Events.{is_event}
 use Rattle.test_report_laws.specs.Whole.{IsFileEndOf, all_notes, notes_of, run_after, run_after_file, run_after_files}
-use Rattle.test_report_run.specs.Note.{CommandFails, Disagrees, HasNoEvent}
-use Rattle.test_report_run.specs.Run.{RunState, after, command_fails, ended_well, file_notes, is_cause, reports_told, run_start, told, was_not_started}
+use Rattle.test_report_run.specs.Note.{CommandFails, Disagrees, HasNoEvent, ended_well, was_not_started}
+use Rattle.test_report_run.specs.Run.{RunState, after, command_fails, file_notes, is_cause, reports_told, run_start, told}
 
 -- lines that are no events of a harness
 none-told : (r : RunState) (e : EventView) → is_event e ≡ false → (told r e).run.has_event ≡ r.has_event

@@ -15,11 +15,11 @@ use Rattle.template.specs.Template.{Parts, Values, part_text, parts_text, text_o
 use Rattle.template.specs.declared.hole.Hole.TheVariants as hole
 use Rattle.test_report_laws.proofs.Parts.{in-left, in-right}
 use Rattle.test_report_laws.proofs.Phrases.{numbers-written, numbers_before, phrase-of, shown-phrases, values-of}
-use Rattle.test_report_laws.proofs.ReportValues.{failed-at, problems-at, suites-at}
+use Rattle.test_report_laws.proofs.ReportValues.{failed-at, problems-at, skips-at, suites-at}
 use Rattle.test_report_laws.proofs.ShownValues.{names-causes, shown-holes, unmapped}
-use Rattle.test_report_forms.specs.Html.{PageIsSound, failed_parts, heading_phrase, html_of, page_heading, page_holes, page_parts, page_phrases, page_text, problem_parts, suite_phrase, summary_phrase, time_phrase, title_phrase}
+use Rattle.test_report_forms.specs.Html.{PageIsSound, failed_parts, heading_phrase, html_of, page_heading, page_holes, page_parts, page_phrases, page_text, problem_parts, skip_phrase, suite_phrase, summary_phrase, time_phrase, title_phrase}
 use Rattle.test_report_forms.specs.Model.{ReportView, report_of}
-use Rattle.test_report_forms.specs.Values.{failed_values, problem_values, report_values, run_values, suite_values, values_of_run}
+use Rattle.test_report_forms.specs.Values.{failed_values, problem_values, report_values, run_values, skip_values, suite_values, values_of_run}
 use Rattle.test_report_forms.specs.Words.{outcome_word, run_numbers}
 use Rattle.test_report_laws.specs.Forms.{HasPhrase, HasValues, HtmlHasNoControls, HtmlNamesCauses, HtmlReadsBack, HtmlSaysEnd, HtmlShowsItems, HtmlShowsPhrases, HtmlShowsValues}
 
@@ -110,6 +110,7 @@ html-shows-items sound in_sections in_phrases o entries end =
     let at_failed = codes "failures" ∷ codes "failed" ∷ [] in
     let at_problem = codes "problems" ∷ codes "problem" ∷ [] in
     let at_suite = codes "suites" ∷ codes "suite" ∷ [] in
+    let at_skip = codes "skips" ∷ codes "skip" ∷ [] in
     record {
       failed = unmapped (part failed_parts) (λ t. values_of (failed_values t)) _
           (subst (All (part failed_parts)) (failed-at report) (all-in-page vs (parts_text failed_parts) _
@@ -121,6 +122,8 @@ html-shows-items sound in_sections in_phrases o entries end =
           (in_sections page_parts vs at_problem problem_parts (subst (λ l. Contains l problem_parts) (sym sound.problem) (0, omega arith, refl)))));
       suites = unmapped (part (template_parts suite_phrase)) (λ s. values_of (suite_values s)) _
           (subst (All (part (template_parts suite_phrase))) (suites-at report) (phrase-of vs page page_phrases at_suite suite_phrase refl all));
+      skipped = unmapped (part (template_parts skip_phrase)) (λ t. values_of (skip_values t)) _
+          (subst (All (part (template_parts skip_phrase))) (skips-at report) (phrase-of vs page page_phrases at_skip skip_phrase refl all));
     }
 
 -- the tree

@@ -1,5 +1,5 @@
 -- The same texts, joined from the left and from the right.
-use Rattle.std.proofs.Common.{◌≡◌, ◌++◌, ℕ, List, append_assoc}
+use Rattle.std.proofs.Common.{◌≡◌, ◌++◌, ℕ, List, append_assoc, codes}
 
 pub words-end : (s a b t n e : List ℕ) → s ++ (a ++ (b ++ (t ++ (n ++ e)))) ≡ (s ++ (a ++ (b ++ (t ++ n)))) ++ e
 words-end s a b t n e = simp append_assoc
@@ -21,3 +21,9 @@ list-parts x s p k f l t o = simp append_assoc
 
 pub rule-parts : (x a e p s l o : List ℕ) → x ++ ((a ++ (e ++ (p ++ (s ++ e)))) ++ (l ++ o)) ≡ x ++ (a ++ (e ++ ((p ++ s) ++ (e ++ (l ++ o)))))
 rule-parts x a e p s l o = simp append_assoc
+
+pub note-parts : (m n w : List ℕ) → (m ++ (codes "(" ++ (n ++ w))) ++ codes "\n" ≡ m ++ (codes "(" ++ (n ++ (w ++ codes "\n")))
+note-parts m n w = simp append_assoc
+
+pub title-end : (s b t : List ℕ) → (s ++ (codes " " ++ (b ++ t))) ++ codes "\n" ≡ s ++ (codes " " ++ (b ++ (t ++ codes "\n")))
+title-end s b t = simp append_assoc

@@ -12,6 +12,7 @@ pub mod ColouredText
 pub mod CommandInputs
 pub mod Commands
 pub mod Counters
+pub mod CrashedTests
 pub mod Damage
 pub mod EndSums
 pub mod FailedLines

@@ -1,64 +1,126 @@
 -- The summary has no control characters, shows what is known, and keeps the marks of its template: by the laws of templates.
-use Rattle.std.proofs.Common.{◌≡◌, ◌∙◌, refl, sym, subst, arith, ℕ, List, [], ◌∷◌, codes}
+use Rattle.std.proofs.Common.{◌≡◌, ◌∙◌, ◌==◌, ◌++◌, refl, sym, ap, subst, arith, ℕ, true, false, if◌then◌else◌, List, [], ◌∷◌, codes, map}
 use Rattle.std.proofs.lemmas.List.Elements.{All-head}
 use Rattle.std.specs.Char.{encode_utf8}
-use Rattle.std.specs.List.{All}
+use Rattle.std.specs.Fmt.{decimal}
+use Rattle.std.specs.List.{All, flat_map}
 use Rattle.std.specs.Prelude.{Contains}
-use Rattle.std.specs.Str.{chars}
+use Rattle.std.specs.Str.{bytes_eq, chars}
+use Rattle.template.proofs.Escapes.{written_decimal}
+use Rattle.template.proofs.Items.{items_alone, items_first, items_last, other_section, section_items}
 use Rattle.template.proofs.Parts.{in-part}
 use Rattle.template.specs.Laws.{NoValueIsMark, RendersNoControls, ShowsPhrases, ShowsSections, ShowsValues}
 use Rattle.template.specs.Parse.{parse, template_parts}
-use Rattle.template.specs.Shows.{HasPart}
-use Rattle.template.specs.Template.{Parts, Values, part_text, parts_text, values_of}
+use Rattle.template.specs.Hole.{hole_text}
+use Rattle.template.specs.Shows.{HasPart, items_at}
+use Rattle.template.specs.Template.{ItemValue, Parts, ValueView, Values, items_of, part_text, parts_text, section, text_of, values_of}
 use Rattle.template.specs.declared.hole.Hole.TheVariants as hole
 use Rattle.test_report_laws.proofs.Phrases.{numbers-written, numbers_before, phrase-of, shown-phrases, values-of}
-use Rattle.test_report_laws.proofs.ReportValues.{failed-at}
-use Rattle.test_report_laws.proofs.ShownValues.{names-causes, shown-holes, unmapped}
-use Rattle.test_report_forms.specs.Markdown.{MarkdownIsSound, details_parts, failed_sections, heading_phrase, markdown_heading, markdown_holes, markdown_of, markdown_parts, markdown_phrases, row_parts, summary_phrase, time_phrase}
+use Rattle.test_report_laws.proofs.ReportValues.{no-run}
+use Rattle.test_report_laws.proofs.ShownValues.{lines-of, names-of, shown-holes, unmapped}
+use Rattle.test_report_forms.specs.Markdown.{MarkdownIsSound, details_parts, failed_sections, heading_phrase, markdown_heading, markdown_holes, markdown_of, markdown_parts, markdown_phrases, more_item, more_phrase, more_tests, more_text, row_parts, shown_tests, summary_of_run, summary_phrase, summary_values, time_phrase}
 use Rattle.test_report_forms.specs.Model.{ReportView, failures_of, report_of}
-use Rattle.test_report_forms.specs.Values.{failed_values, report_values, run_values, values_of_run}
+use Rattle.test_report_forms.specs.Values.{failed_items, failed_values, one_text, problem_items, problem_values, run_values}
 use Rattle.test_report_forms.specs.Words.{outcome_word, run_numbers}
-use Rattle.test_report_laws.specs.Forms.{MarkdownHasNoControls, MarkdownKeepsMarks, MarkdownNamesCauses, MarkdownSaysEnd, MarkdownShowsPhrases, MarkdownShowsTests, MarkdownShowsValues}
+use Rattle.test_report_laws.specs.Forms.{MarkdownHasNoControls, MarkdownKeepsMarks, MarkdownNamesCauses, MarkdownSaysEnd, MarkdownSaysMore, MarkdownShowsPhrases, MarkdownShowsTests, MarkdownShowsValues}
 
 pub markdown-has-no-controls : MarkdownIsSound → RendersNoControls → MarkdownHasNoControls
 unfolding markdown_of
-markdown-has-no-controls sound renders o entries end = renders markdown_parts (values_of_run o entries end) sound.clean
+markdown-has-no-controls sound renders o entries end = renders markdown_parts (summary_of_run o entries end) sound.clean
 
 pub markdown-keeps-marks : MarkdownIsSound → NoValueIsMark → MarkdownKeepsMarks
 unfolding markdown_of
-markdown-keeps-marks sound no_mark o entries end = no_mark markdown_parts (values_of_run o entries end) sound.markdown
+markdown-keeps-marks sound no_mark o entries end = no_mark markdown_parts (summary_of_run o entries end) sound.markdown
+
+-- the lists of values of a summary
+other-more : (key : List ℕ) (n : ℕ) → bytes_eq (codes "more") key ≡ false → items_of key (values_of (more_item n)) ≡ []
+other-more key n other =
+    elim (n == 0)
+    as (λ b. items_of key (values_of (if b then [] else ItemValue (codes "more") (values_of (one_text (codes "count") (decimal n))) ∷ [])) ≡ [])
+    [ true ↦ refl | false ↦ rw other refl ]
+
+module _ (r : ReportView) where
+  abbrev problem_lists : List ValueView
+  problem_lists = section (codes "problems") (problem_items r.problems)
+
+  abbrev failure_values : List ValueView
+  failure_values = section (codes "failures") (failed_items (shown_tests r.failed))
+
+  abbrev more_values : List ValueView
+  more_values = more_item (more_tests r.failed)
+
+  abbrev first_two : List ValueView
+  first_two = run_values r.end ++ problem_lists
+
+  abbrev first_three : List ValueView
+  first_three = first_two ++ failure_values
+
+  problems-at : items_at (codes "problems" ∷ codes "problem" ∷ []) (values_of (summary_values r)) ≡ map (λ p. values_of (problem_values p)) r.problems
+  problems-at =
+      let key = codes "problems" in
+      ap (flat_map (items_at (codes "problem" ∷ [])))
+      (items_first key first_three more_values (other-more key (more_tests r.failed) refl)
+      ∙ (items_first key first_two failure_values (other_section key (codes "failures") _ refl)
+      ∙ items_last key (run_values r.end) problem_lists (no-run key r.end refl)))
+      ∙ section_items key (codes "problem") (λ p. values_of (problem_values p)) r.problems
+
+  failed-at : items_at (codes "failures" ∷ codes "failed" ∷ []) (values_of (summary_values r))
+      ≡ map (λ t. values_of (failed_values t)) (shown_tests r.failed)
+  failed-at =
+      let key = codes "failures" in
+      let before = items_last key (run_values r.end) problem_lists (no-run key r.end refl) ∙ other_section key (codes "problems") _ refl in
+      ap (flat_map (items_at (codes "failed" ∷ [])))
+      (items_first key first_three more_values (other-more key (more_tests r.failed) refl) ∙ items_last key first_two failure_values before)
+      ∙ section_items key (codes "failed") (λ t. values_of (failed_values t)) (shown_tests r.failed)
+
+  more-at : (more_tests r.failed == 0) ≡ false → items_at (codes "more" ∷ []) (values_of (summary_values r))
+      ≡ values_of (one_text (codes "count") (decimal (more_tests r.failed))) ∷ []
+  more-at some =
+      let key = codes "more" in
+      let two = items_last key (run_values r.end) problem_lists (no-run key r.end refl) ∙ other_section key (codes "problems") _ refl in
+      let before = items_last key first_two failure_values two ∙ other_section key (codes "failures") _ refl in
+      items_alone key (values_of (summary_values r)) ∙ (items_last key first_three more_values before
+      ∙ ap (λ b. items_of key (values_of (if b then [] else ItemValue key (values_of (one_text (codes "count") (decimal (more_tests r.failed)))) ∷ []))) some)
 
 -- values
 pub markdown-shows-values : MarkdownIsSound → ShowsValues → MarkdownShowsValues
 unfolding markdown_of
-markdown-shows-values sound shows o entries end = shown-holes shows markdown_parts (values_of_run o entries end) markdown_holes sound.holes
+markdown-shows-values sound shows o entries end = shown-holes shows markdown_parts (summary_of_run o entries end) markdown_holes sound.holes
 
 pub markdown-names-causes : MarkdownShowsValues → MarkdownNamesCauses
+unfolding run_values
 markdown-names-causes shows o entries end =
     let text = markdown_of o entries end in
-    let vs = values_of_run o entries end in
+    let vs = summary_of_run o entries end in
+    let report = report_of o entries end in
     let all = shows o entries end in
-    names-causes text hole.Plain o entries end
-    (values-of vs text markdown_holes hole.Plain (codes "failures" ∷ codes "failed" ∷ []) (codes "name") refl all)
-    (values-of vs text markdown_holes hole.Plain (codes "problems" ∷ codes "problem" ∷ []) (codes "line") refl all)
-    (values-of vs text markdown_holes hole.Plain [] (codes "outcome") refl all)
+    let written = λ (name : List ℕ) (i : Values). HasPart text (hole_text hole.Plain (text_of name i)) in
+    record {
+      tests = names-of text hole.Plain o entries end (shown_tests report.failed)
+          (subst (All (written (codes "name"))) (failed-at report)
+          (values-of vs text markdown_holes hole.Plain (codes "failures" ∷ codes "failed" ∷ []) (codes "name") refl all));
+      lines = lines-of text hole.Plain o entries end
+          (subst (All (written (codes "line"))) (problems-at report)
+          (values-of vs text markdown_holes hole.Plain (codes "problems" ∷ codes "problem" ∷ []) (codes "line") refl all));
+      outcome = All-head (written (codes "outcome")) vs [] (values-of vs text markdown_holes hole.Plain [] (codes "outcome") refl all);
+    }
 
 -- phrases
 pub markdown-shows-phrases : MarkdownIsSound → ShowsPhrases → MarkdownShowsPhrases
 unfolding markdown_of
 markdown-shows-phrases sound shows o entries end =
-    shown-phrases shows markdown_parts (values_of_run o entries end) markdown_phrases sound.phrases
+    shown-phrases shows markdown_parts (summary_of_run o entries end) markdown_phrases sound.phrases
 
 module _ (r : ReportView) where
   abbrev vs : Values
-  vs = values_of (report_values r)
+  vs = values_of (summary_values r)
 
   heading : parts_text (template_parts heading_phrase) vs ≡ markdown_heading (outcome_word r.end.outcome)
-  unfolding parse chars encode_utf8 part_text parts_text report_values run_values
+  unfolding parse chars encode_utf8 part_text parts_text run_values
   heading = refl
 
   numbers : parts_text (template_parts summary_phrase) vs ≡ numbers_before hole.Plain r.end (parts_text (template_parts time_phrase) vs)
-  unfolding parse chars encode_utf8 part_text parts_text report_values run_values
+  unfolding parse chars encode_utf8 part_text parts_text run_values
   numbers = refl
 
   has-numbers : HasPart (parts_text (template_parts summary_phrase) vs) (run_numbers r.end)
@@ -72,7 +134,7 @@ pub markdown-says-end : MarkdownIsSound → ShowsPhrases → MarkdownSaysEnd
 markdown-says-end sound shows o entries end =
     let text = markdown_of o entries end in
     let report = report_of o entries end in
-    let vs = values_of_run o entries end in
+    let vs = summary_of_run o entries end in
     let all = markdown-shows-phrases sound shows o entries end in
     let first = λ (words : List ℕ). All-head (λ i. HasPart text (parts_text (template_parts words) i)) vs [] in
     record {
@@ -80,13 +142,28 @@ markdown-says-end sound shows o entries end =
       numbers = in-part (first summary_phrase (phrase-of vs text markdown_phrases [] summary_phrase refl all)) (has-numbers report);
     }
 
--- the row and the details of each failed test
+-- the number of other failed tests
+more-is : (n : ℕ) → parts_text (template_parts more_phrase) (values_of (one_text (codes "count") (decimal n))) ≡ more_text n
+unfolding parse chars encode_utf8 part_text parts_text
+more-is n = ap (λ l. codes "(" ++ (l ++ codes " more failed tests: a summary on GitHub holds 1 MiB)\n")) (written_decimal hole.Plain n)
+
+pub markdown-says-more : MarkdownIsSound → ShowsPhrases → MarkdownSaysMore
+markdown-says-more sound shows o entries end some =
+    let text = markdown_of o entries end in
+    let report = report_of o entries end in
+    let vs = summary_of_run o entries end in
+    let all = markdown-shows-phrases sound shows o entries end in
+    let part = λ (i : Values). HasPart text (parts_text (template_parts more_phrase) i) in
+    subst (HasPart text) (more-is (more_tests report.failed))
+    (All-head part _ [] (subst (All part) (more-at report some) (phrase-of vs text markdown_phrases (codes "more" ∷ []) more_phrase refl all)))
+
+-- the row and the details of each failed test that is shown
 pub markdown-shows-tests : MarkdownIsSound → ShowsSections → MarkdownShowsTests
 unfolding markdown_of
 markdown-shows-tests sound shows o entries end =
-    let vs = values_of_run o entries end in
+    let vs = summary_of_run o entries end in
     let tests = λ (b : Parts) (is : Contains failed_sections b).
-    unmapped (λ i. HasPart (parts_text markdown_parts vs) (parts_text b i)) (λ t. values_of (failed_values t)) (failures_of o entries)
+    unmapped (λ i. HasPart (parts_text markdown_parts vs) (parts_text b i)) (λ t. values_of (failed_values t)) (shown_tests (failures_of o entries))
     (subst (All (λ i. HasPart (parts_text markdown_parts vs) (parts_text b i))) (failed-at (report_of o entries end))
     (shows markdown_parts vs (codes "failures" ∷ codes "failed" ∷ []) b is)) in
     record {

@@ -10,16 +10,16 @@ use Rattle.test_report_events.specs.declared.event.TestResult.{TestResult}
 use Rattle.test_report_events.specs.declared.event.TestResult.TheVariants.{Ok, Failed, Ignored}
 use Rattle.test_report_laws.proofs.Books.{IsIn, position-in}
 use Rattle.test_report_laws.proofs.CargoReports.{only-cargo, only-settled_at, only-told, ready, reports-none}
-use Rattle.test_report_laws.proofs.EndSums.{early_rest, last_by}
+use Rattle.test_report_laws.proofs.EndSums.{early_rest, last_by, sum-crashed}
 use Rattle.test_report_laws.proofs.FileEnds.{reported_run, suites-alone}
 use Rattle.test_report_laws.proofs.OverRuns.{over-run}
 use Rattle.test_report_laws.proofs.Sums.{sum-if-none, sum-map, sum-none}
 use Rattle.test_report_laws.proofs.Weights.{has-number, numbered-end, numbered-line, numbered-ready, numbered-reported, unnumbered, weigh, weight_of}
 use Rattle.test_report_run.specs.Ended.{after_end, end_notes}
 use Rattle.test_report_laws.specs.Run.{not_run_of}
-use Rattle.test_report_run.specs.Note.{Disagrees, DisagreementView, HasCrashed, HasNoEnd, IsNotRun, NoteView, StrayEnds, StraySuiteEnds, SuiteIs, SuiteNoteView, TestIs, TestNoteView}
+use Rattle.test_report_run.specs.Note.{Disagrees, DisagreementView, HasNoEnd, IsNotRun, NoteView, StrayEnds, StraySuiteEnds, SuiteIs, SuiteNoteView, TestIs, TestNoteView}
 use Rattle.test_report_run.specs.Others.{OthersView}
-use Rattle.test_report_run.specs.Over.{crash_of, early_disagreements, early_notes, early_state, explained_of, failed_note, failed_notes, flaky_note, flaky_notes, initial_of, last_disagreement, last_notes, last_state, lost, number_notes, rest_of, skipped_note}
+use Rattle.test_report_run.specs.Over.{crash_of, crashed_notes, early_disagreements, early_notes, early_state, explained_of, failed_note, failed_notes, flaky_note, flaky_notes, initial_of, last_disagreement, last_notes, last_state, lost, number_notes, rest_of, skipped_note}
 use Rattle.test_report_run.specs.Run.{RunState, Step, after, counts_tests, ended_at, ended_early, file_notes, names_in, notes_at, open_suite, opened, place_of_number, running_ends, running_over, settled_at, started_again, step, stray_ends, stray_over, stray_suite_notes, stray_test, suite_at, suite_place, told, with_suite_at, without_tests}
 use Rattle.test_report_run.specs.Running.{place_of_end, running_at}
 use Rattle.test_report_laws.specs.Status.{NotRunIsNamed, named_not_run}
@@ -33,7 +33,7 @@ module _ (w : NoteView → ℕ) (test : (t : TestNoteView) → w (TestIs t) ≡ 
   of-early : (others : OthersView) (s : SuiteState) (names : List (List ℕ))
       → sum_by w (early_notes others s names) ≡ sum_by w (number_notes (early_state s names) (early_rest s))
   of-early others s names =
-      let crashed = failed_notes s (HasCrashed (crash_of others s (length names))) names in
+      let crashed = crashed_notes s (crash_of others s (length names)) names in
       let flaky = flaky_notes s false in
       let disagreements = early_disagreements s (length names) in
       let numbers = number_notes (early_state s names) (early_rest s) in
@@ -44,8 +44,7 @@ module _ (w : NoteView → ℕ) (test : (t : TestNoteView) → w (TestIs t) ≡ 
         sum_by-append w crashed (flaky ++ (disagreements ++ numbers)),
         sum_by-append w flaky (disagreements ++ numbers),
         sum_by-append w disagreements numbers,
-        sum-map w (failed_note s (HasCrashed (crash_of others s (length names)))) names,
-        sum-none (λ name. w (failed_note s (HasCrashed (crash_of others s (length names))) name)) (λ name. test _) names,
+        sum-crashed w false s (λ c name. test _) (crash_of others s (length names)) names,
         sum-map w (flaky_note s false) s.flaky,
         sum-none (λ f. w (flaky_note s false f)) (λ f. test _) s.flaky,
       )

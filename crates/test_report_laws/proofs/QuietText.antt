@@ -22,12 +22,13 @@ use Rattle.test_report_forms.specs.Levels.{finished_output, has_line, listed_tex
 use Rattle.test_report_forms.specs.List.{KeyedLine, ended_line, failed_line, final_level_of, flaky_word, item, item_at, list_line, part_at, passed_word, put_falling, short_list, slow_line, slow_lines, slow_of, text_of_lines, timed}
 use Rattle.test_report_forms.specs.Names.{names_line}
 use Rattle.test_report_forms.specs.Shown.{bracket, front, indented, indented_line, more_bytes, name_and_space, shown_line, shown_name, shown_text, three_digits}
-use Rattle.test_report_forms.specs.ShownWhy.{ShownWhyView, shown_why}
-use Rattle.test_report_forms.specs.Text.{attempts_note, ended_head, ended_text, failed_head, failed_text, outcome_line, passed_text, skipped_text, summary_lines, text_last, text_line}
+use Rattle.test_report_forms.specs.ShownWhy.{ShownWhyView, text_why}
+use Rattle.test_report_forms.specs.Text.{advice, attempts_note, cargo_advice, ended_head, ended_text, failed_head, failed_text, outcome_line, passed_text, skipped_text, summary_lines, text_last, text_line}
 use Rattle.test_report_forms.specs.Title.{title, title_name}
 use Rattle.test_report_forms.specs.WhyLines.{hidden_line, more_line, why_lines}
 use Rattle.test_report_forms.specs.Words.{color_of, command_words, disagreement_line, failed_numbers, failed_word, its_tests, key_and_verdict, not_run_line, other_numbers, outcome_word, passed_numbers, result_word, run_numbers, said_numbers, said_text, status_text, summary_line, verdict_word}
 use Rattle.test_report_forms.specs.declared.options.Options.{Options}
+use Rattle.test_report_laws.proofs.Joins.{note-parts, title-end}
 use Rattle.test_report_laws.proofs.KeyedLines.{Alike, each-alike, falling-alike, fold-alike, text-alike}
 use Rattle.test_report_laws.proofs.Quiet.{Inner, Quiet, also, dark-decimal, inner-decimal, inner-if, inner-more, is_dark, is_inner, no-commands, quiet-byte, quiet-colon, quiet-dark, quiet-dark-all, quiet-feed, quiet-inner, quiet-nothing, quiet-space, word}
 use Rattle.test_report_laws.proofs.QuietShown.{After, quiet-line, quiet-name, quiet-text}
@@ -298,12 +299,6 @@ opens-both {xs} {ys} h f = record { is = λ {rest} a. subst (Quiet true) (sym (a
 head-parts : (s b t a : List ℕ) → (s ++ (codes " " ++ (b ++ (t ++ a)))) ++ codes "\n" ≡ s ++ (codes " " ++ (b ++ (t ++ (a ++ codes "\n"))))
 head-parts s b t a = simp append_assoc
 
-note-parts : (m n w : List ℕ) → (m ++ (codes "(" ++ (n ++ w))) ++ codes "\n" ≡ m ++ (codes "(" ++ (n ++ (w ++ codes "\n")))
-note-parts m n w = simp append_assoc
-
-title-end : (s b t : List ℕ) → (s ++ (codes " " ++ (b ++ t))) ++ codes "\n" ≡ s ++ (codes " " ++ (b ++ (t ++ codes "\n")))
-title-end s b t = simp append_assoc
-
 -- the end
 summary-lines : (end : RunEnd) → Lines (summary_lines end)
 unfolding summary_lines
@@ -414,7 +409,7 @@ module _ (o : Options) (raw : o.raw ≡ false) where
 
   item-lines : (e : EntryView) → Lines (item o e)
   item-lines (TestFailed t f w) =
-      listed-lines _ (failed-line t (failed_word f.kind) w.short (failed-status f.kind)) (why-lines 13 (shown_why o t f w))
+      listed-lines _ (failed-line t (failed_word f.kind) w.short (failed-status f.kind)) (why-lines 13 (text_why o t f w))
   item-lines (TestPassed t) = listed-lines _ (ended-line t (passed_word t.attempts) (passed-status t.attempts)) no-lines
   item-lines (TestSkipped t) = listed-lines _ (ended-line t (codes "SKIP") skipped-status) no-lines
   item-lines (LinesDisagree d why) = no-lines
@@ -456,18 +451,27 @@ module _ (o : Options) (raw : o.raw ≡ false) where
   ended-text : (shows : OutputOnTestFinished) (head below : List ℕ) → Lines head → Lines below → Lines (ended_text shows head below)
   ended-text shows head below h more = lines-then (has_line shows) (both h (lines-then shows.show_immediate more))
 
+  advice-lines : (lacks : Bool) → Lines (advice lacks)
+  unfolding advice cargo_advice
+  advice-lines true =
+      let first = codes "argo test writes such lines with: RUSTC_BOOTSTRAP=1 cargo test -- -Z unstable-options --format json" in
+      let second = codes "est-report -- cargo test does this by itself" in
+      both (one-line {text = replicate 4 32 ++ (99 ∷ first)} (spaces-open 4 (word-opens 99 refl (inner (word first refl)))))
+      (one-line {text = replicate 4 32 ++ (116 ∷ second)} (spaces-open 4 (word-opens 116 refl (inner (word second refl)))))
+  advice-lines false = no-lines
+
   text-entry : (e : EntryView) → Lines (text_line o e)
-  unfolding failed_text passed_text skipped_text
+  unfolding failed_text passed_text skipped_text advice cargo_advice
   text-entry (TestFailed t f w) =
-      ended-text (finished_output o (finish_for f.kind) t.attempts) (failed_head o t (failed_word f.kind)) (why_lines 4 o (shown_why o t f w))
-      (head-line t (failed_word f.kind) (failed-status f.kind)) (why-lines 4 (shown_why o t f w))
+      ended-text (finished_output o (finish_for f.kind) t.attempts) (failed_head o t (failed_word f.kind)) (why_lines 4 o (text_why o t f w))
+      (head-line t (failed_word f.kind) (failed-status f.kind)) (why-lines 4 (text_why o t f w))
   text-entry (TestPassed t) =
       ended-text (finished_output o Passed t.attempts) (ended_head o t (passed_word t.attempts)) []
       (ended-head t (passed_word t.attempts) (passed-status t.attempts)) no-lines
   text-entry (TestSkipped t) =
       ended-text (skipped_output o) (ended_head o t (codes "SKIP")) [] (ended-head t (codes "SKIP") skipped-status) no-lines
   text-entry (LinesDisagree d why) =
-      subst Lines (append_assoc (disagreement_line d) (codes "\n") _) (both (one-line (disagreement-opens d)) (reason-lines why))
+      subst Lines (append_assoc (disagreement_line d) (codes "\n") _) (both (one-line (disagreement-opens d)) (both (reason-lines why) (advice-lines _)))
   text-entry (SuiteNotRun suite n of) = one-line (not-run-opens suite n of)
   text-entry (SuiteOver s) = no-lines
 

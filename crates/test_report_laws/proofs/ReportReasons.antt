@@ -1,11 +1,11 @@
 -- Why the run of a report does not succeed.
 use Rattle.std.proofs.Common.{◌≡◌, ◌∙◌, ◌++◌, ◌<◌, ℕ, zero, suc, List, [], ◌∷◌, Option, Some, None, IfSome, ap, arith, codes, if◌then◌else◌, inl, inr, length, option_map, refl, true, subst, sym}
-use Rattle.std.specs.List.{All, AllZip, filter_map, flat_map, slice_index_or}
+use Rattle.std.specs.List.{All, AllZip, cons_option, filter_map, flat_map, slice_index_or}
 use Rattle.std.specs.Prelude.{◌||◌, ◌⊎◌, Bool, Contains, IsTrue, max, nat_le, nat_lt, unwrap_or}
 use Rattle.std.proofs.lemmas.Bool.Decides.{nat_tests}
 use Rattle.std.proofs.lemmas.Bool.{false_from_ne_true}
-use Rattle.std.proofs.lemmas.List.Elements.{All-cons, All-nil, Contains-append_right}
-use Rattle.test_report_forms.specs.Model.{cause_line, no_tests_ran}
+use Rattle.std.proofs.lemmas.List.Elements.{All-cons, All-head, All-nil, Contains-append_right}
+use Rattle.test_report_forms.specs.Model.{FailedView, cause_line, failure_of_entry, failures_of, no_tests_ran, shown_failure_of}
 use Rattle.run_events_levels.specs.LevelRanks.{level_rank, final_level_rank}
 use Rattle.run_events_levels.specs.declared.levels.FinalStatusLevel.TheVariants as final
 use Rattle.run_events_levels.specs.declared.levels.OutputOnTestFinished.{OutputOnTestFinished}
@@ -22,25 +22,26 @@ use Rattle.template.specs.Tree.{TreeView}
 use Rattle.test_report_laws.proofs.CommandInputs.{all-ended}
 use Rattle.test_report_laws.proofs.Lines.{all-blocks}
 use Rattle.test_report_laws.proofs.ShownValues.{unfiltered}
-use Rattle.test_report_laws.specs.Forms.{HtmlNamesCauses, MarkdownNamesCauses, NamesCauses, failed_name}
+use Rattle.test_report_laws.specs.Forms.{HtmlNamesCauses, MarkdownNamesCauses, NamesCauses, SummaryNames, failed_name}
 use Rattle.test_report_laws.specs.Junit.{HasJunitCase, HasJunitCases, IsXml, JunitCause, JunitNamesCauses, junit_cause, no_test_cause}
 use Rattle.template.specs.Hole.{hole_text}
 use Rattle.template.specs.Shows.{HasPart}
 use Rattle.template.specs.declared.hole.Hole.TheVariants as hole
 use Rattle.test_report_forms.specs.List.{list_line}
-use Rattle.test_report_forms.specs.Markdown.{markdown_of}
+use Rattle.test_report_forms.specs.Markdown.{markdown_of, shown_tests}
 use Rattle.test_report_forms.specs.Shown.{shown_name, front, shown_text}
 use Rattle.test_report_forms.specs.Text.{text_last, text_line, attempts_note}
 use Rattle.test_report_forms.specs.Title.{title_name}
 use Rattle.test_report_forms.specs.Words.{disagreement_line, not_run_line, outcome_word, failed_word}
-use Rattle.test_report_forms.specs.ShownWhy.{shown_why}
+use Rattle.test_report_forms.specs.ShownWhy.{text_why}
+use Rattle.test_report_forms.specs.Why.{WhyView}
 use Rattle.test_report_forms.specs.WhyLines.{why_lines}
 use Rattle.test_report_forms.specs.declared.html.HtmlForm.{HtmlForm}
 use Rattle.test_report_forms.specs.declared.junit.JunitForm.{JunitForm}
 use Rattle.test_report_forms.specs.declared.markdown.MarkdownForm.{MarkdownForm}
 use Rattle.test_report_forms.specs.declared.options.Options.{Options}
 use Rattle.test_report_run.specs.Counted.{finish_for}
-use Rattle.test_report_run.specs.Note.{Disagrees, Fails, HasCrashed, HasFailed, HasNoEnd, HasTimedOut, IsFlaky, IsNotRun, IsSkipped, KindView, NoteView, OutcomeView, Passes, SuiteIs, TestIs, TestNoteView, text_view}
+use Rattle.test_report_run.specs.Note.{Disagrees, FailureView, Fails, HasCrashed, HasFailed, HasNoEnd, HasTimedOut, IsFlaky, IsNotRun, IsSkipped, KindView, NoteView, OutcomeView, Passes, SuiteIs, TestIs, TestNoteView, text_view}
 use Rattle.test_report_run.specs.Run.{end_of, has_failed}
 use Rattle.test_report_laws.specs.Lines.{Block, EndsWith, GithubNamesCauses, GithubSays, HasBlock, HasBlocks, SaysReason, TextNamesCauses, TextSays, ended_block, github_block, is_reason, notice, text_block, ended_words, HasCause, IsShortInLine, list_block, listed_block}
 use Rattle.test_report_laws.specs.Status as status
@@ -146,6 +147,89 @@ module _ (name line : List ℕ → List ℕ) (entries : List EntryView) (end : R
   names-reason (inl found) = names-entry found.0 found.1 found.2
   names-reason (inr none) = inr (inr record { is = none; said = subst (λ o. HasPart text (line (outcome_word o))) none causes.outcome })
 
+-- the first failed test among entries, if there is one
+record FirstFailed (o : Options) (entries : List EntryView) : Type 0 where
+  pub test : TestNoteView
+  pub failure : FailureView
+  pub why : WhyView
+  pub others : List FailedView
+  pub is_one : Contains entries (TestFailed test failure why)
+  pub is_first : failures_of o entries ≡ shown_failure_of test failure why o ∷ others
+
+later : (o : Options) (e : EntryView) (entries : List EntryView) → failure_of_entry o e ≡ None → FirstFailed o entries → FirstFailed o (e ∷ entries)
+later o e entries none first = record {
+  test = first.test;
+  failure = first.failure;
+  why = first.why;
+  others = first.others;
+  is_one = (suc first.is_one.0, omega (arith, first.is_one.1), first.is_one.2);
+  is_first = ap (λ f. cons_option f (failures_of o entries)) none ∙ first.is_first;
+}
+
+other-first : (o : Options) (e : EntryView) (entries : List EntryView) → failure_of_entry o e ≡ None
+    → (failures_of o entries ≡ []) ⊎ FirstFailed o entries → (failures_of o (e ∷ entries) ≡ []) ⊎ FirstFailed o (e ∷ entries)
+other-first o e entries none (inl nothing) = inl (ap (λ f. cons_option f (failures_of o entries)) none ∙ nothing)
+other-first o e entries none (inr first) = inr (later o e entries none first)
+
+first-failed : (o : Options) (entries : List EntryView) → (failures_of o entries ≡ []) ⊎ FirstFailed o entries
+first-failed o [] = inl refl
+first-failed o (TestFailed t f w ∷ entries) =
+    inr record { test = t; failure = f; why = w; others = failures_of o entries; is_one = (0, omega arith, refl); is_first = refl }
+first-failed o (TestPassed t ∷ entries) = other-first o (TestPassed t) entries refl (first-failed o entries)
+first-failed o (TestSkipped t ∷ entries) = other-first o (TestSkipped t) entries refl (first-failed o entries)
+first-failed o (LinesDisagree d why ∷ entries) = other-first o (LinesDisagree d why) entries refl (first-failed o entries)
+first-failed o (SuiteNotRun suite n of ∷ entries) = other-first o (SuiteNotRun suite n of) entries refl (first-failed o entries)
+first-failed o (SuiteOver s ∷ entries) = other-first o (SuiteOver s) entries refl (first-failed o entries)
+
+-- a summary shows the first failed test
+shows-first : (P : FailedView → Type 0) (t : FailedView) (ts : List FailedView) → All P (shown_tests (t ∷ ts)) → P t
+unfolding shown_tests
+shows-first P t ts all = All-head P t _ all
+
+-- a summary names a reason
+module _ (o : Options) (entries : List EntryView) (end : RunEnd) (text : List ℕ)
+    (causes : SummaryNames (shown_tests (failures_of o entries)) entries end text) where
+  abbrev in_markdown : List ℕ → List ℕ
+  in_markdown = hole_text hole.Plain
+
+  names-test : (t : TestNoteView) (f : FailureView) (w : WhyView) → Contains entries (TestFailed t f w)
+      → (failures_of o entries ≡ []) ⊎ FirstFailed o entries → NamesReason in_markdown in_markdown entries end text
+  names-test t f w is_one (inl nothing) =
+      let none = unfiltered (λ x. ⊥) (failure_of_entry o) entries (subst (All (λ x. ⊥)) (sym nothing) (All-nil (λ x. ⊥))) in
+      absurd (at-entry entries (λ e. IfSome (failure_of_entry o e) (λ x. ⊥)) (TestFailed t f w) is_one none)
+  names-test t f w is_one (inr first) = inl record {
+    entry = TestFailed first.test first.failure first.why;
+    own = shown_name (title_name first.test);
+    is_one = first.is_one;
+    has_name = refl;
+    is_named = shows-first (λ t. HasPart text (in_markdown t.name)) _ first.others
+        (subst (λ ts. All (λ t. HasPart text (in_markdown t.name)) (shown_tests ts)) first.is_first causes.tests);
+  }
+
+  summary-entry : (e : EntryView) → Contains entries e → IsTrue (is_reason e) → NamesReason in_markdown in_markdown entries end text
+  summary-entry (TestPassed t) is_one reason = absurd (cc)
+  summary-entry (TestSkipped t) is_one reason = absurd (cc)
+  summary-entry (TestFailed t f w) is_one reason = names-test t f w is_one (first-failed o entries)
+  summary-entry (LinesDisagree d why) is_one reason = inr (inl record {
+    entry = LinesDisagree d why;
+    own = disagreement_line d;
+    is_one = is_one;
+    has_line = refl;
+    is_there = at-entry entries (λ e. IfSome (cause_line e) (λ l. HasPart text (in_markdown l))) (LinesDisagree d why) is_one causes.lines;
+  })
+  summary-entry (SuiteNotRun suite n of) is_one reason = inr (inl record {
+    entry = SuiteNotRun suite n of;
+    own = not_run_line suite n of;
+    is_one = is_one;
+    has_line = refl;
+    is_there = at-entry entries (λ e. IfSome (cause_line e) (λ l. HasPart text (in_markdown l))) (SuiteNotRun suite n of) is_one causes.lines;
+  })
+  summary-entry (SuiteOver s) is_one reason = absurd (cc)
+
+  summary-reason : ((e : EntryView) × Contains entries e × IsTrue (is_reason e)) ⊎ RanNoTests end → NamesReason in_markdown in_markdown entries end text
+  summary-reason (inl found) = summary-entry found.0 found.1 found.2
+  summary-reason (inr none) = inr (inr record { is = none; said = subst (λ o. HasPart text (in_markdown (outcome_word o))) none causes.outcome })
+
 -- a text that has the block of each of these entries has that of a reason among them
 cause-at : (block : EntryView → Option Block) (entries : List EntryView) (text : List ℕ) → HasBlocks text (filter_map block entries) → (e : EntryView)
     → Contains entries e → IsTrue (is_reason e) → (b : Block) × (block e ≡ Some b) → HasCause block entries text
@@ -191,7 +275,7 @@ text-own o shows (TestPassed t) reason = absurd (cc)
 text-own o shows (TestSkipped t) reason = absurd (cc)
 text-own o shows (TestFailed t f w) reason =
     shown-own (finished_output o (finish_for f.kind) t.attempts) (ended_words o (failed_word f.kind) t (attempts_note t.attempts))
-    (why_lines 4 o (shown_why o t f w)) (failed-shown o f.kind t.attempts shows)
+    (why_lines 4 o (text_why o t f w)) (failed-shown o f.kind t.attempts shows)
 text-own o shows (LinesDisagree d why) reason = (_, refl)
 text-own o shows (SuiteNotRun suite n of) reason = (_, refl)
 text-own o shows (SuiteOver s) reason = absurd (cc)
@@ -222,7 +306,7 @@ module _ (o : Options) (entries : List EntryView) (end : RunEnd) (text : List �
   list-entry (TestSkipped t) is_one reason = absurd (cc)
   list-entry (TestFailed t f w) is_one reason =
       let line = list_line o (failed_word f.kind) t ++ (codes ": " ++ shown_text o.raw (front w.short o.limit)) in
-      let own = ap (λ s. listed_block s line (why_lines 13 o (shown_why o t f w))) (failed-stored o f.kind t.attempts lists) in
+      let own = ap (λ s. listed_block s line (why_lines 13 o (text_why o t f w))) (failed-stored o f.kind t.attempts lists) in
       inr (cause-at (list_block o) entries text (says.listed short) (TestFailed t f w) is_one reason (_, own))
   list-entry (LinesDisagree d why) is_one reason = inl (inl (cause-at (text_block o) entries text says.causes (LinesDisagree d why) is_one reason (_, refl)))
   list-entry (SuiteNotRun suite n of) is_one reason =
@@ -350,10 +434,11 @@ module _ (has_reason : FailureHasReason) where
       (reason-of nothing (junit_of o) inputs text end report fails)
 
   pub markdown-names : MarkdownNamesCauses → MarkdownNamesReason
-  markdown-names causes o inputs text end report =
+  markdown-names causes o inputs text end report fails =
       let is = report.is ∙ ap (λ x. x ++ markdown_of o report.entries end) (none-first report.entries) in
-      report-names (hole_text hole.Plain) (hole_text hole.Plain) (λ e. []) (markdown_of o) inputs text end report
-      (subst (NamesCauses (hole_text hole.Plain) (hole_text hole.Plain) report.entries end) (sym is) (causes o report.entries end))
+      summary-reason o report.entries end text
+      (subst (SummaryNames (shown_tests (failures_of o report.entries)) report.entries end) (sym is) (causes o report.entries end))
+      (reason-of nothing (markdown_of o) inputs text end report fails)
 
   pub files-name : JunitNamesCauses → HtmlNamesCauses → MarkdownNamesCauses → FilesNameReason
   files-name junit html markdown files inputs texts are fails =
@@ -369,5 +454,5 @@ module _ (has_reason : FailureHasReason) where
             (λ f. names-reason between-tags between-tags are.entries end _ (html f.model.options are.entries end) found),
         if-there (NamesReason in-markdown in-markdown are.entries end) (λ (f : MarkdownForm). markdown_last f are.entries end)
             files.markdown (text_view texts.markdown) are.say.markdown
-            (λ f. names-reason in-markdown in-markdown are.entries end _ (markdown f.model.options are.entries end) found),
+            (λ f. summary-reason f.model.options are.entries end _ (markdown f.model.options are.entries end) found),
       )

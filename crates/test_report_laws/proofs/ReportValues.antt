@@ -6,7 +6,7 @@ use Rattle.template.proofs.Items.{items_first, items_last, other_section, sectio
 use Rattle.template.specs.Shows.{items_at}
 use Rattle.template.specs.Template.{ValueView, Values, items_of, section, text_of, values_of}
 use Rattle.test_report_forms.specs.Model.{FailedView, ReportView, numbers_of_run}
-use Rattle.test_report_forms.specs.Values.{bar, failed_items, failed_values, problem_items, problem_values, report_values, run_values, slow_items, suite_items, suite_values, time_item}
+use Rattle.test_report_forms.specs.Values.{bar, failed_items, failed_values, problem_items, problem_values, report_values, run_values, skip_items, skip_values, slow_items, suite_items, suite_values, time_item}
 use Rattle.test_report_run.specs.declared.note.RunEnd.{RunEnd}
 
 -- the values of the run are not in these lists
@@ -14,7 +14,7 @@ no-time : (key : List ℕ) (time : Option ℕ) → bytes_eq (codes "time") key �
 no-time key None other = refl
 no-time key (Some micros) other = rw other refl
 
-no-run : (key : List ℕ) (e : RunEnd) → bytes_eq (codes "time") key ≡ false → items_of key (values_of (run_values e)) ≡ []
+pub no-run : (key : List ℕ) (e : RunEnd) → bytes_eq (codes "time") key ≡ false → items_of key (values_of (run_values e)) ≡ []
 unfolding run_values
 no-run key e other = no-time key e.time other
 
@@ -35,6 +35,9 @@ module _ (r : ReportView) where
   abbrev slow_lists : List ValueView
   slow_lists = section (codes "slowest") (slow_items r.slowest)
 
+  abbrev skip_lists : List ValueView
+  skip_lists = section (codes "skips") (skip_items r.skipped)
+
   -- the values before each list
   abbrev first_two : List ValueView
   first_two = run_values r.end ++ bar_values
@@ -47,6 +50,9 @@ module _ (r : ReportView) where
 
   abbrev first_five : List ValueView
   first_five = first_four ++ suite_lists
+
+  abbrev first_six : List ValueView
+  first_six = first_five ++ slow_lists
 
   module _ (key : List ℕ) where
     abbrev of : List ValueView → List Values
@@ -65,10 +71,11 @@ module _ (r : ReportView) where
   problems-at =
       let key = codes "problems" in
       ap (flat_map (items_at (codes "problem" ∷ [])))
-      (items_first key first_five slow_lists (other_section key (codes "slowest") _ refl)
+      (items_first key first_six skip_lists (other_section key (codes "skips") _ refl)
+      ∙ (items_first key first_five slow_lists (other_section key (codes "slowest") _ refl)
       ∙ (items_first key first_four suite_lists (other_section key (codes "suites") _ refl)
       ∙ (items_first key first_three failure_values (other_section key (codes "failures") _ refl)
-      ∙ items_last key first_two problem_lists (none-of-two key refl refl))))
+      ∙ items_last key first_two problem_lists (none-of-two key refl refl)))))
       ∙ section_items key (codes "problem") (λ p. values_of (problem_values p)) r.problems
 
   -- the items of failed tests
@@ -78,8 +85,9 @@ module _ (r : ReportView) where
       let key = codes "failures" in
       let before = none-of-both key first_two problem_lists (none-of-two key refl refl) (other_section key (codes "problems") _ refl) in
       ap (flat_map (items_at (codes "failed" ∷ [])))
-      (items_first key first_five slow_lists (other_section key (codes "slowest") _ refl)
-      ∙ (items_first key first_four suite_lists (other_section key (codes "suites") _ refl) ∙ items_last key first_three failure_values before))
+      (items_first key first_six skip_lists (other_section key (codes "skips") _ refl)
+      ∙ (items_first key first_five slow_lists (other_section key (codes "slowest") _ refl)
+      ∙ (items_first key first_four suite_lists (other_section key (codes "suites") _ refl) ∙ items_last key first_three failure_values before)))
       ∙ section_items key (codes "failed") (λ t. values_of (failed_values t)) r.failed
 
   -- the items of suites
@@ -90,8 +98,21 @@ module _ (r : ReportView) where
       let three = none-of-both key first_two problem_lists (none-of-two key refl refl) (other_section key (codes "problems") _ refl) in
       let before = none-of-both key first_three failure_values three (other_section key (codes "failures") _ refl) in
       ap (flat_map (items_at (codes "suite" ∷ [])))
-      (items_first key first_five slow_lists (other_section key (codes "slowest") _ refl) ∙ items_last key first_four suite_lists before)
+      (items_first key first_six skip_lists (other_section key (codes "skips") _ refl)
+      ∙ (items_first key first_five slow_lists (other_section key (codes "slowest") _ refl) ∙ items_last key first_four suite_lists before))
       ∙ section_items key (codes "suite") (λ s. values_of (suite_values s)) r.suites
+
+  -- the items of skipped tests that have a reason
+  pub skips-at : items_at (codes "skips" ∷ codes "skip" ∷ []) (values_of (report_values r)) ≡ map (λ t. values_of (skip_values t)) r.skipped
+  unfolding report_values
+  skips-at =
+      let key = codes "skips" in
+      let three = none-of-both key first_two problem_lists (none-of-two key refl refl) (other_section key (codes "problems") _ refl) in
+      let four = none-of-both key first_three failure_values three (other_section key (codes "failures") _ refl) in
+      let five = none-of-both key first_four suite_lists four (other_section key (codes "suites") _ refl) in
+      let before = none-of-both key first_five slow_lists five (other_section key (codes "slowest") _ refl) in
+      ap (flat_map (items_at (codes "skip" ∷ []))) (items_last key first_six skip_lists before)
+      ∙ section_items key (codes "skip") (λ t. values_of (skip_values t)) r.skipped
 
 -- the name of a failed test
 pub name-of : (t : FailedView) → text_of (codes "name") (values_of (failed_values t)) ≡ t.name

@@ -13,7 +13,7 @@ use Rattle.test_report_laws.proofs.Sums.{sum-none}
 use Rattle.test_report_laws.proofs.Tallies.{count-of, crashed_weight, finished-counts, finished-of, finished_weight, passed-counts, passed_weight}
 use Rattle.test_report_run.specs.LastLine.{is_contradicted}
 use Rattle.test_report_laws.specs.Run.{Agrees, EarlyEndShows, LastLineAgrees, StrayEndShows, crashed_in, disagreements_in, failed_in, fails_by, has_passed, is_crash, passed_in}
-use Rattle.test_report_run.specs.Note.{Disagrees, HasCrashed, HasNoEnd, NoteView, StraySuiteEnds}
+use Rattle.test_report_run.specs.Note.{Disagrees, HasNoEnd, NoteView, StraySuiteEnds}
 use Rattle.test_report_run.specs.Others.{OthersView}
 use Rattle.test_report_run.specs.Over.{crash_of, early_disagreements, early_notes, explained_of, failed_note, flaky_note, last_disagreement, last_state, lost, skipped_note}
 use Rattle.test_report_run.specs.Run.{RunState, counts_tests, ended_at, is_disagreement, open_suite, step, stray_suite_notes}
@@ -99,7 +99,7 @@ of-early : (others : OthersView) (s : SuiteState) (names : List (List ℕ))
 of-early others s names = omega (
   arith,
   ends.of-early-all weight (λ suite n of. refl) others s names,
-  sum-none (λ n. weight (failed_note s (HasCrashed (crash_of others s (length names))) n)) (λ n. refl) names,
+  ends.sum-crashed weight false s (λ c n. refl) (crash_of others s (length names)) names,
   sum-none (λ f. weight (flaky_note s false f)) (λ f. refl) s.flaky,
 )
 
@@ -107,7 +107,7 @@ crashes : (others : OthersView) (s : SuiteState) (names : List (List ℕ)) → c
 crashes others s names = omega (
   arith,
   count-of (λ t. fails_by is_crash t.outcome) crashed_weight (λ t. refl) (early_notes others s names),
-  ends.by-early (of_test crashed_weight) (λ d. refl) (λ suite n of. refl) true others s names (λ name. refl) (λ f. refl),
+  ends.by-early (of_test crashed_weight) (λ d. refl) (λ suite n of. refl) true others s names (λ c name. refl) (λ f. refl),
 )
 
 -- no test runs: the end of a suite with a number disagrees, and tests outside of a suite do

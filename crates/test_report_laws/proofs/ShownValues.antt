@@ -13,7 +13,7 @@ use Rattle.template.specs.declared.hole.Hole.{Hole}
 use Rattle.test_report_laws.proofs.ReportValues.{failed-at, name-of, problems-at}
 use Rattle.test_report_forms.specs.Entry.{EntryView, LinesDisagree, SuiteNotRun, SuiteOver, TestFailed, TestPassed, TestSkipped}
 use Rattle.test_report_forms.specs.Holes.{HoleView, has_hole}
-use Rattle.test_report_forms.specs.Model.{CauseView, ProblemView, all_problems, cause_line, cause_of_entry, failure_of_entry, failures_of, no_tests_problem, no_tests_ran, problem_of, problem_of_entry, problems_of, report_of}
+use Rattle.test_report_forms.specs.Model.{CauseView, FailedView, ProblemView, all_problems, cause_line, cause_of_entry, failure_of_entry, failures_of, no_tests_problem, no_tests_ran, problem_of, problem_of_entry, problems_of, report_of}
 use Rattle.test_report_forms.specs.Values.{failed_values, problem_values, report_values, run_values, values_of_run}
 use Rattle.test_report_forms.specs.Words.{outcome_word}
 use Rattle.test_report_laws.specs.Forms.{HasValues, NamesCauses, failed_name}
@@ -55,11 +55,15 @@ module _ (text : List ℕ) (kind : Hole) (o : Options) (entries : List EntryView
   abbrev pub AreWritten : List (List ℕ) → List ℕ → Type 0
   AreWritten path name = All (λ i. Written (text_of name i)) (items_at path (values_of_run o entries end))
 
+  pub names-of : (ts : List FailedView) → All (λ i. Written (text_of (codes "name") i)) (map (λ t. values_of (failed_values t)) ts)
+      → All (λ t. Written t.name) ts
+  names-of ts items =
+      let tests = unmapped (λ i. Written (text_of (codes "name") i)) (λ t. values_of (failed_values t)) ts items in
+      All-weaker (λ t. Written (text_of (codes "name") (values_of (failed_values t)))) (λ t. Written t.name) (λ t. subst Written (name-of t)) ts tests
+
   failed-names : AreWritten (codes "failures" ∷ codes "failed" ∷ []) (codes "name") → All (λ t. Written t.name) (failures_of o entries)
   failed-names items =
-      let tests = unmapped (λ i. Written (text_of (codes "name") i)) (λ t. values_of (failed_values t)) _
-      (subst (All (λ i. Written (text_of (codes "name") i))) (failed-at (report_of o entries end)) items) in
-      All-weaker (λ t. Written (text_of (codes "name") (values_of (failed_values t)))) (λ t. Written t.name) (λ t. subst Written (name-of t)) _ tests
+      names-of (failures_of o entries) (subst (All (λ i. Written (text_of (codes "name") i))) (failed-at (report_of o entries end)) items)
 
   own-name : (e : EntryView) → IfSome (failure_of_entry o e) (λ t. Written t.name) → IfSome (failed_name e) Written
   own-name (TestFailed t f w) h = h
@@ -69,15 +73,16 @@ module _ (text : List ℕ) (kind : Hole) (o : Options) (entries : List EntryView
   own-name (TestSkipped t) h = tt
   own-name (SuiteOver s) h = tt
 
-  own-problems : AreWritten (codes "problems" ∷ codes "problem" ∷ []) (codes "line")
-      → All (λ p. Written p.line) (all_problems end.outcome (problems_of entries))
-  own-problems items =
-      unmapped (λ i. Written (text_of (codes "line") i)) (λ p. values_of (problem_values p)) _
-      (subst (All (λ i. Written (text_of (codes "line") i))) (problems-at (report_of o entries end)) items)
-
   own-line : (cause : Option CauseView) → IfSome (option_map problem_of cause) (λ p. Written p.line) → IfSome (option_map (λ c. c.line) cause) Written
   own-line None h = h
   own-line (Some cause) h = h
+
+  pub lines-of : All (λ i. Written (text_of (codes "line") i)) (map (λ p. values_of (problem_values p)) (all_problems end.outcome (problems_of entries)))
+      → All (λ e. IfSome (cause_line e) Written) entries
+  lines-of items =
+      let problems = unmapped (λ i. Written (text_of (codes "line") i)) (λ p. values_of (problem_values p)) _ items in
+      All-weaker (λ e. IfSome (problem_of_entry e) (λ p. Written p.line)) (λ e. IfSome (cause_line e) Written) (λ e. own-line (cause_of_entry e)) entries
+      (unfiltered (λ p. Written p.line) problem_of_entry entries (other-problems (λ p. Written p.line) end.outcome _ problems))
 
   own-outcome : AreWritten [] (codes "outcome") → Written (outcome_word end.outcome)
   unfolding report_values run_values
@@ -89,8 +94,6 @@ module _ (text : List ℕ) (kind : Hole) (o : Options) (entries : List EntryView
     tests =
         All-weaker (λ e. IfSome (failure_of_entry o e) (λ t. Written t.name)) (λ e. IfSome (failed_name e) Written) own-name entries
         (unfiltered (λ t. Written t.name) (failure_of_entry o) entries (failed-names names));
-    lines =
-        All-weaker (λ e. IfSome (problem_of_entry e) (λ p. Written p.line)) (λ e. IfSome (cause_line e) Written) (λ e. own-line (cause_of_entry e)) entries
-        (unfiltered (λ p. Written p.line) problem_of_entry entries (other-problems (λ p. Written p.line) end.outcome _ (own-problems lines)));
+    lines = lines-of (subst (All (λ i. Written (text_of (codes "line") i))) (problems-at (report_of o entries end)) lines);
     outcome = own-outcome word;
   }

@@ -122,7 +122,7 @@ crashed-sums = holds-whole {h = λ k. k.crashed} {Fine = λ k. Unit {0}} record 
   of_end = λ s t order e f. (end-crash s t order e e.result, tt);
   of_early = λ others s names f. exactly (omega (
     arith,
-    ends.by-early (of_test crashed_weight) (λ d. refl) (λ suite n of. refl) true others s names (λ name. refl) (λ x. refl),
+    ends.by-early (of_test crashed_weight) (λ d. refl) (λ suite n of. refl) true others s names (λ c name. refl) (λ x. refl),
     early-suite (λ n. n.crashed) others s names,
   ));
   of_last = λ s e names f. exactly (omega (
@@ -160,7 +160,7 @@ skipped-sums = holds-whole {h = λ k. k.skipped} {Fine = λ k. Unit {0}} record 
   fine_empty = tt;
   of_end = λ s t order e f. (end-skip s t order e e.result, tt);
   of_early = λ others s names f.
-      let early = ends.by-early (of_test skipped_weight) (λ d. refl) (λ suite n of. refl) false others s names (λ name. refl) (λ x. refl) in
+      let early = ends.by-early (of_test skipped_weight) (λ d. refl) (λ suite n of. refl) false others s names (λ c name. refl) (λ x. refl) in
       exactly (omega (arith, early, early-suite (λ n. n.skipped) others s names));
   of_last = λ s e names f. record {
     low = omega (arith, skipped-last s e names, last-suite (λ n. n.skipped) s e names, length-take e.skipped names);

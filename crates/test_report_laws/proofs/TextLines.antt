@@ -25,7 +25,8 @@ use Rattle.test_report_forms.specs.Levels.{finished_output, has_line, listed_tex
 use Rattle.test_report_forms.specs.List.{KeyedLine, ended_line, failed_line, final_level_of, item, item_at, list_line, part_at, passed_word, put_falling, short_list, slow_line, slow_lines, slow_of, text_of_lines, timed, line_at}
 use Rattle.test_report_forms.specs.Names.{names_line}
 use Rattle.test_report_forms.specs.Shown.{bracket, front, indented, indented_line, more_bytes, shown_text}
-use Rattle.test_report_forms.specs.Text.{attempts_note, ended_head, ended_text, failed_head, failed_text, outcome_line, passed_text, skipped_text, summary_lines, text_last, text_line}
+use Rattle.test_report_forms.specs.Model.{lacks_events}
+use Rattle.test_report_forms.specs.Text.{advice, attempts_note, cargo_advice, ended_head, ended_text, failed_head, failed_text, outcome_line, passed_text, skipped_text, summary_lines, text_last, text_line}
 use Rattle.test_report_forms.specs.Title.{title}
 use Rattle.test_report_forms.specs.Words.{color_of, failed_word, outcome_word, status_text, summary_line}
 use Rattle.test_report_forms.specs.declared.options.Options.{Options}
@@ -36,7 +37,7 @@ use Rattle.test_report_run.specs.Counted.{finish_for}
 use Rattle.test_report_run.specs.Note.{FailureView, HasCrashed, HasFailed, HasNoEnd, HasTimedOut, IsFlaky, KindView, TestNoteView}
 use Rattle.test_report_run.specs.declared.counted.Finish.TheVariants.{Passed}
 use Rattle.test_report_run.specs.declared.note.RunEnd.{RunEnd}
-use Rattle.test_report_forms.specs.ShownWhy.{ShownWhyView, shown_why}
+use Rattle.test_report_forms.specs.ShownWhy.{ShownWhyView, text_why}
 
 -- words for results
 in-if : (b : Bool) {xs ys : List ℕ} → IsInLine xs → IsInLine ys → IsInLine (if b then xs else ys)
@@ -113,8 +114,8 @@ module _ (o : Options) where
       let note = attempts_note t.attempts in
       let status = status_text o.color (failed_word f.kind) in
       ended-written (finished_output o (finish_for f.kind) t.attempts) (ended_words o (failed_word f.kind) t note) (failed_head o t (failed_word f.kind))
-      (why_lines 4 o (shown_why o t f w)) (words-end status (codes " ") (bracket t.time) (title t) note (codes "\n"))
-      (in-words (failed_word f.kind) t note (clean-failed_word f.kind) (clean-attempts t.attempts)) (lines-why 4 (shown_why o t f w))
+      (why_lines 4 o (text_why o t f w)) (words-end status (codes " ") (bracket t.time) (title t) note (codes "\n"))
+      (in-words (failed_word f.kind) t note (clean-failed_word f.kind) (clean-attempts t.attempts)) (lines-why 4 (text_why o t f w))
 
   other-written : (shows : OutputOnTestFinished) (t : TestNoteView) (w : List ℕ) → CleanLine w
       → IsWritten (ended_text shows (ended_head o t w) []) (ended_block shows (ended_words o w t []) [])
@@ -127,10 +128,20 @@ module _ (o : Options) where
   lines-reason None = inl refl
   lines-reason (Some why) = lines-each (indented_line 4 o.raw) (lines-indented 4) _
 
+  lines-advice : (lacks : Bool) → IsLines (advice lacks)
+  unfolding advice cargo_advice
+  lines-advice true = inr (
+    codes "    cargo test writes such lines with: RUSTC_BOOTSTRAP=1 cargo test -- -Z unstable-options --format json\n"
+        ++ codes "    test-report -- cargo test does this by itself",
+    refl,
+  )
+  lines-advice false = inl refl
+
   entry-written : (e : EntryView) → IsWritten (text_line o e) (text_block o e)
-  unfolding passed_text skipped_text
+  unfolding passed_text skipped_text advice cargo_advice
   entry-written (TestFailed t f w) = failed-written t f w
-  entry-written (LinesDisagree d why) = (refl, in-line (clean-disagreement d), lines-reason why)
+  entry-written (LinesDisagree d why) =
+      (refl, in-line (clean-disagreement d), lines-both _ (advice (lacks_events d)) (lines-reason why) (lines-advice (lacks_events d)))
   entry-written (SuiteNotRun suite n of) = (refl, in-line (clean-not_run suite n of), inl refl)
   entry-written (TestPassed t) = other-written (finished_output o Passed t.attempts) t (passed_word t.attempts) (clean-passed_word t.attempts)
   entry-written (TestSkipped t) = other-written (skipped_output o) t (codes "SKIP") (word (codes "SKIP") refl)
@@ -298,7 +309,7 @@ module _ (o : Options) where
       subst AddsNoRule (sym parts) (item-line w t rest clean (also (in-line (word (codes ": ") refl)) h)).no_rule
 
   item-lines : (e : EntryView) → IsLines (item o e)
-  item-lines (TestFailed t f w) = lines-listed _ _ _ (failed-lines t (failed_word f.kind) w.short) (lines-why 13 (shown_why o t f w))
+  item-lines (TestFailed t f w) = lines-listed _ _ _ (failed-lines t (failed_word f.kind) w.short) (lines-why 13 (text_why o t f w))
   item-lines (TestPassed t) = lines-listed _ _ _ (ended-item t (passed_word t.attempts) (clean-passed_word t.attempts)).lines (inl refl)
   item-lines (TestSkipped t) = lines-listed _ _ _ (ended-item t (codes "SKIP") (word (codes "SKIP") refl)).lines (inl refl)
   item-lines (LinesDisagree d why) = inl refl
@@ -309,11 +320,11 @@ module _ (o : Options) where
   item-no-rule (TestFailed t f w) h =
       let stored = failed-stored f.kind t.attempts in
       let line = failed_line o t (failed_word f.kind) w.short in
-      let why = why_lines 13 o (shown_why o t f w) in
+      let why = why_lines 13 o (text_why o t f w) in
       subst (λ s. AddsNoRule (listed_text s line why)) (sym stored.1)
       (rule-listed stored.0 (is_final_display o.failure_output) line why
       (failed-no-rule t (failed_word f.kind) w.short (clean-failed_word f.kind) h.short)
-      (λ shown. why-no-rule (shown_why o t f w) (h.why shown)))
+      (λ shown. why-no-rule (text_why o t f w) (h.why shown)))
   item-no-rule (TestPassed t) h = rule-own _ _ (ended-item t (passed_word t.attempts) (clean-passed_word t.attempts)).no_rule
   item-no-rule (TestSkipped t) h = rule-own _ _ (ended-item t (codes "SKIP") (word (codes "SKIP") refl)).no_rule
   item-no-rule (LinesDisagree d why) h = no-rules
@@ -335,10 +346,10 @@ module _ (o : Options) where
       let shown = shown_text o.raw (front w.short o.limit) in
       let kept = (finished_output o (finish_for f.kind) t.attempts).store_final in
       let line = list_line o status t ++ (codes ": " ++ shown) in
-      let why = why_lines 13 o (shown_why o t f w) in
+      let why = why_lines 13 o (text_why o t f w) in
       let one = also (in-list_line status t (clean-failed_word f.kind)) (also (in-line (word (codes ": ") refl)) h) in
       subst (λ l. IsWritten (listed_text kept l why) (listed_block kept line why))
-      (sym (three-parts (list_line o status t) (codes ": ") shown (codes "\n"))) (listed-written kept line why one (lines-why 13 (shown_why o t f w)))
+      (sym (three-parts (list_line o status t) (codes ": ") shown (codes "\n"))) (listed-written kept line why one (lines-why 13 (text_why o t f w)))
 
   failed-level : (kind : KindView) (attempts : ℕ) → own_final_level (finish_for kind) attempts ≡ final.Fail
   failed-level HasFailed attempts = refl

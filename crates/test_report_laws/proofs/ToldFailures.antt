@@ -34,7 +34,7 @@ weight note = cond (is_told_failure note) 1 0
 -- the end of a suite tells of none
 none-early : (others : OthersView) (s : SuiteState) (names : List (List ℕ)) → told (early_notes others s names) ≡ 0
 none-early others s names =
-    omega (arith, by-early weight (λ d. refl) (λ suite n of. refl) false others s names (λ name. refl) (λ f. refl))
+    omega (arith, by-early weight (λ d. refl) (λ suite n of. refl) false others s names (λ c name. refl) (λ f. refl))
 
 none-last : (s : SuiteState) (e : Explanation) (names : List (List ℕ)) → told (last_by s e names) ≡ 0
 none-last s e names = omega (

@@ -1,5 +1,5 @@
 -- Laws of what the forms write.
-use Rattle.std.specs.Prelude.{◌≡◌, ◌||◌, ◌++◌, ◌⊎◌, ℕ, Bool, false, List, [], Some, None, Option, codes}
+use Rattle.std.specs.Prelude.{◌≡◌, ◌==◌, ◌||◌, ◌++◌, ◌⊎◌, ℕ, Bool, false, List, [], Some, None, Option, codes}
 use Rattle.std.specs.Char.{is_control}
 use Rattle.std.specs.List.{All, flat_map}
 use Rattle.std.specs.Option.{IfSome}
@@ -16,9 +16,9 @@ use Rattle.template.specs.declared.hole.Hole.TheVariants as hole
 use Rattle.test_report_forms.specs.Entry.{EntryView, IsEntryOf, LinesDisagree, SuiteNotRun, SuiteOver, TestFailed, TestPassed, TestSkipped}
 use Rattle.test_report_forms.specs.Github.{github_last, github_line}
 use Rattle.test_report_forms.specs.Holes.{HoleView, PhraseView}
-use Rattle.test_report_forms.specs.Html.{failed_text, html_of, page_heading, page_holes, page_parts, page_phrases, problem_text, suite_text, title_text}
-use Rattle.test_report_forms.specs.Markdown.{details_text, markdown_heading, markdown_holes, markdown_of, markdown_parts, markdown_phrases, row_text}
-use Rattle.test_report_forms.specs.Model.{ReportView, cause_line, report_of}
+use Rattle.test_report_forms.specs.Html.{failed_text, html_of, page_heading, page_holes, page_parts, page_phrases, problem_text, skip_text, suite_text, title_text}
+use Rattle.test_report_forms.specs.Markdown.{details_text, markdown_heading, markdown_holes, markdown_of, markdown_parts, markdown_phrases, more_tests, more_text, row_text, shown_tests, summary_of_run}
+use Rattle.test_report_forms.specs.Model.{FailedView, ReportView, cause_line, failures_of, report_of}
 use Rattle.test_report_forms.specs.Names.{names_line}
 use Rattle.test_report_forms.specs.Shown.{shown_name}
 use Rattle.template.specs.Shown.{is_escaped, turns_writing}
@@ -113,49 +113,63 @@ abbrev pub HtmlSaysEnd : Type 0
 HtmlSaysEnd = (o : Options) (entries : List EntryView) (end : RunEnd) → SaysEnd page_heading end (html_of o entries end)
 
 -- a page has what its section of failed tests renders of each failed test, with the status, the suite and the name one after another, what its list
--- of problems renders of each problem, and a row for each suite
+-- of problems renders of each problem, and a row for each suite and for each skipped test that has a reason
 pub record HasItems (report : ReportView) (page : List ℕ) : Type 0 where
   pub failed : All (λ t. HasPart page (failed_text t)) report.failed
   pub titles : All (λ t. HasPart page (title_text t)) report.failed
   pub problems : All (λ p. HasPart page (problem_text p)) report.problems
   pub suites : All (λ r. HasPart page (suite_text r)) report.suites
+  pub skipped : All (λ t. HasPart page (skip_text t)) report.skipped
 
--- What the form for a browser writes has the values of each failed test together, each problem in the list of problems, and each suite in a row.
+-- What the form for a browser writes has the values of each failed test together, each problem in the list of problems, and each suite and each
+-- skipped test that has a reason in a row.
 abbrev pub HtmlShowsItems : Type 0
 HtmlShowsItems = (o : Options) (entries : List EntryView) (end : RunEnd) → HasItems (report_of o entries end) (html_of o entries end)
 
--- What the form for a summary writes names each such cause.
+-- a summary has the name of each of these failed tests, the line of each disagreement and of each suite whose tests were not all run, and the outcome
+pub record SummaryNames (shown : List FailedView) (entries : List EntryView) (end : RunEnd) (text : List ℕ) : Type 0 where
+  pub tests : All (λ t. HasPart text (hole_text hole.Plain t.name)) shown
+  pub lines : All (λ e. IfSome (cause_line e) (λ l. HasPart text (hole_text hole.Plain l))) entries
+  pub outcome : HasPart text (hole_text hole.Plain (outcome_word end.outcome))
+
+-- What the form for a summary writes names each such cause, of the failed tests those that it shows.
 abbrev pub MarkdownNamesCauses : Type 0
 MarkdownNamesCauses = (o : Options) (entries : List EntryView) (end : RunEnd)
-    → NamesCauses (hole_text hole.Plain) (hole_text hole.Plain) entries end (markdown_of o entries end)
+    → SummaryNames (shown_tests (failures_of o entries)) entries end (markdown_of o entries end)
+
+-- What the form for a summary writes has the number of the other failed tests, if there are any.
+abbrev pub MarkdownSaysMore : Type 0
+MarkdownSaysMore = (o : Options) (entries : List EntryView) (end : RunEnd) → (more_tests (failures_of o entries) == 0) ≡ false
+    → HasPart (markdown_of o entries end) (more_text (more_tests (failures_of o entries)))
 
 -- What the form for a summary writes has every value that its template has a hole for, written as the hole says.
 abbrev pub MarkdownShowsValues : Type 0
 MarkdownShowsValues = (o : Options) (entries : List EntryView) (end : RunEnd)
-    → All (HasValues (values_of_run o entries end) (markdown_of o entries end)) markdown_holes
+    → All (HasValues (summary_of_run o entries end) (markdown_of o entries end)) markdown_holes
 
 -- What the form for a summary writes has every phrase of its template, with the values in their places.
 abbrev pub MarkdownShowsPhrases : Type 0
 MarkdownShowsPhrases = (o : Options) (entries : List EntryView) (end : RunEnd)
-    → All (HasPhrase (values_of_run o entries end) (markdown_of o entries end)) markdown_phrases
+    → All (HasPhrase (summary_of_run o entries end) (markdown_of o entries end)) markdown_phrases
 
 -- What the form for a summary writes has the heading and the numbers of the run.
 abbrev pub MarkdownSaysEnd : Type 0
 MarkdownSaysEnd = (o : Options) (entries : List EntryView) (end : RunEnd) → SaysEnd markdown_heading end (markdown_of o entries end)
 
--- a summary has what its two sections of failed tests render of each failed test: a row of the table, and details
-pub record HasRows (report : ReportView) (summary : List ℕ) : Type 0 where
-  pub rows : All (λ t. HasPart summary (row_text t)) report.failed
-  pub details : All (λ t. HasPart summary (details_text t)) report.failed
+-- a summary has what its two sections of failed tests render of each of these tests: a row of the table, and details
+pub record HasRows (shown : List FailedView) (summary : List ℕ) : Type 0 where
+  pub rows : All (λ t. HasPart summary (row_text t)) shown
+  pub details : All (λ t. HasPart summary (details_text t)) shown
 
--- What the form for a summary writes has a row and details for each failed test.
+-- What the form for a summary writes has a row and details for each failed test before which there are fewer than 900,000 bytes of rows and details.
 abbrev pub MarkdownShowsTests : Type 0
-MarkdownShowsTests = (o : Options) (entries : List EntryView) (end : RunEnd) → HasRows (report_of o entries end) (markdown_of o entries end)
+MarkdownShowsTests = (o : Options) (entries : List EntryView) (end : RunEnd)
+    → HasRows (shown_tests (failures_of o entries)) (markdown_of o entries end)
 
 -- What the form for a summary writes has the marks of its template and no others: lines, cells and each `<pre>` end where the template ends them.
 abbrev pub MarkdownKeepsMarks : Type 0
 MarkdownKeepsMarks = (o : Options) (entries : List EntryView) (end : RunEnd)
-    → marks (markdown_of o entries end) ≡ own_marks markdown_parts (values_of_run o entries end)
+    → marks (markdown_of o entries end) ≡ own_marks markdown_parts (summary_of_run o entries end)
 
 -- What the form for a browser writes is a header of HTML, a body and a line feed. The body reads back as one tree: that of the template of the page,
 -- with the values of the entries as data.

@@ -12,7 +12,8 @@ use Rattle.test_report_forms.specs.Levels.{finished_output, has_line, skipped_ou
 use Rattle.test_report_forms.specs.List.{list_line, passed_word}
 use Rattle.test_report_forms.specs.Names.{names_line}
 use Rattle.test_report_forms.specs.Shown.{bracket, front, indented, shown_line, shown_text}
-use Rattle.test_report_forms.specs.Text.{attempts_note, text_last, text_line}
+use Rattle.test_report_forms.specs.Model.{lacks_events}
+use Rattle.test_report_forms.specs.Text.{advice, attempts_note, text_last, text_line}
 use Rattle.test_report_forms.specs.Title.{title}
 use Rattle.test_report_forms.specs.Words.{disagreement_line, failed_word, not_run_line, outcome_word, status_text, summary_line}
 use Rattle.test_report_forms.specs.declared.entry.Entry.{Entry}
@@ -22,7 +23,7 @@ use Rattle.test_report_run.specs.Counted.{finish_for}
 use Rattle.test_report_run.specs.Note.{NoteView, TestNoteView}
 use Rattle.test_report_run.specs.declared.counted.Finish.TheVariants.{Passed}
 use Rattle.test_report_run.specs.declared.note.RunEnd.{RunEnd}
-use Rattle.test_report_forms.specs.ShownWhy.{shown_why}
+use Rattle.test_report_forms.specs.ShownWhy.{shown_why, text_why}
 use Rattle.test_report_forms.specs.WhyLines.{why_lines}
 
 -- the text is within a line: it has no line feed
@@ -85,10 +86,11 @@ ended_words o word t note = status_text o.color word ++ (codes " " ++ (bracket t
 abbrev pub text_block : Options → EntryView → Option Block
 text_block o (TestFailed t f w) =
     ended_block (finished_output o (finish_for f.kind) t.attempts) (ended_words o (failed_word f.kind) t (attempts_note t.attempts))
-    (why_lines 4 o (shown_why o t f w))
+    (why_lines 4 o (text_why o t f w))
 text_block o (TestPassed t) = ended_block (finished_output o Passed t.attempts) (ended_words o (passed_word t.attempts) t []) []
 text_block o (TestSkipped t) = ended_block (skipped_output o) (ended_words o (codes "SKIP") t []) []
-text_block o (LinesDisagree d why) = Some (record { line = disagreement_line d; below = option_map_or (indented 4 o.raw) why [] })
+text_block o (LinesDisagree d why) =
+    Some (record { line = disagreement_line d; below = option_map_or (indented 4 o.raw) why [] ++ advice (lacks_events d) })
 text_block o (SuiteNotRun suite n of) = Some (record { line = not_run_line suite n of; below = [] })
 text_block o _ = None
 
@@ -102,7 +104,7 @@ listed_block (store.Yes output) line below = Some (record { line = line; below =
 abbrev pub list_block : Options → EntryView → Option Block
 list_block o (TestFailed t f w) =
     listed_block (finished_output o (finish_for f.kind) t.attempts).store_final
-    (list_line o (failed_word f.kind) t ++ (codes ": " ++ shown_text o.raw (front w.short o.limit))) (why_lines 13 o (shown_why o t f w))
+    (list_line o (failed_word f.kind) t ++ (codes ": " ++ shown_text o.raw (front w.short o.limit))) (why_lines 13 o (text_why o t f w))
 list_block o _ = None
 
 -- the form for GitHub: the command of a failed test with the place, the name and why it failed, or the command of a cause with what explains it
@@ -131,7 +133,7 @@ IsShortInLine o _ = ⊤
 -- each line of why a failed test failed is shown in one line
 abbrev pub IsWhyInLines : Options → EntryView → Type 0
 IsWhyInLines o (TestFailed t f w) =
-    All (λ line. IsInLine (shown_text o.raw line)) (slice_split (λ b. b == 10) (front (shown_why o t f w).text o.limit))
+    All (λ line. IsInLine (shown_text o.raw line)) (slice_split (λ b. b == 10) (front (text_why o t f w).text o.limit))
 IsWhyInLines o _ = ⊤
 
 -- the short reason of each entry is shown in one line, and each line of why a test failed, too, if it is shown in the list

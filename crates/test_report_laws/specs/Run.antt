@@ -1,5 +1,5 @@
 -- Laws of a run.
-use Rattle.std.specs.Prelude.{◌++◌, ◌≡◌, ◌≢◌, All, IfSome, None, Some, ◌≤◌, ◌<◌, ◌⊎◌, ◌↔◌, ◌+◌, ◌&&◌, [], ℕ, Bool, true, false, Contains, IsTrue, List, if◌then◌else◌, length, nat_lt}
+use Rattle.std.specs.Prelude.{◌++◌, ◌≡◌, ◌≢◌, All, IfSome, None, Some, ◌≤◌, ◌<◌, ◌⊎◌, ◌↔◌, ◌+◌, ◌&&◌, [], ◌∷◌, ⊤, ℕ, Bool, true, false, Contains, IsTrue, List, if◌then◌else◌, length, nat_lt, Option, option_map}
 use Rattle.std.specs.List.{count_by, sum_by}
 use Rattle.run_events_stats.specs.declared.outcome.run_outcome.RunOutcome.{RunOutcome}
 use Rattle.run_events_stats.specs.declared.outcome.run_outcome.RunOutcome.TheVariants as outcome
@@ -7,10 +7,11 @@ use Rattle.test_report_events.specs.Event.{EventView, SuiteEndView, TestEndView,
 use Rattle.test_report_events.specs.declared.event.CargoFailure.{CargoFailure}
 use Rattle.test_report_events.specs.declared.event.TestResult.{TestResult}
 use Rattle.test_report_events.specs.declared.event.TestResult.TheVariants.{Ok, Failed, Ignored}
+use Rattle.test_report_run.specs.Events.{is_event}
 use Rattle.test_report_run.specs.Ended.{failure_of}
-use Rattle.test_report_run.specs.Note.{Disagrees, Fails, HasCrashed, HasFailed, HasNoEnd, HasTimedOut, IsFlaky, IsNotRun, IsSkipped, KindView, NoteView, OutcomeView, Passes, SuiteIs, SuiteNoteView, TestIs, TestNoteView}
+use Rattle.test_report_run.specs.Note.{CrashView, Disagrees, Fails, HasCrashed, HasFailed, HasNoEnd, HasTimedOut, IsFlaky, IsNotRun, IsSkipped, KindView, NoteView, OutcomeView, Passes, SuiteIs, SuiteNoteView, TestIs, TestNoteView}
 use Rattle.test_report_run.specs.Others.{OthersView}
-use Rattle.test_report_run.specs.Over.{early_notes, last_notes}
+use Rattle.test_report_run.specs.Over.{crash_again, early_notes, last_notes}
 use Rattle.test_report_run.specs.Run.{RunState, counts_tests, file_notes, has_failed, is_disagreement, notes_at, open_suite, run_start, told}
 use Rattle.test_report_run.specs.Running.{ends_in_number, without_number}
 use Rattle.test_report_run.specs.Said.{numbers_of}
@@ -222,6 +223,50 @@ LastLineAgrees = (s : SuiteState) → (names : List (List ℕ)) → s.number ≢
     → (disagreements_in (last_notes s names) ≡ 0)
     ↔ Agrees (numbers_of s.said) (s.stats.passed + passed_in (last_notes s names)) (failed_of s.stats + failed_in (last_notes s names))
 
+-- a crashed test: its suite, and how it crashed
+pub record Crashed : Type 0 where
+  pub suite : Option (List ℕ)
+  pub crash : CrashView
+
+-- a crash, if a failure of this kind is one
+abbrev pub crash_of_kind : KindView → Option CrashView
+crash_of_kind HasFailed = None
+crash_of_kind HasTimedOut = None
+crash_of_kind HasNoEnd = None
+crash_of_kind IsFlaky = None
+crash_of_kind (HasCrashed crash) = Some crash
+
+-- a crash, if a test that counts so crashed
+abbrev pub crash_of_outcome : OutcomeView → Option CrashView
+crash_of_outcome Passes = None
+crash_of_outcome (IsSkipped reason) = None
+crash_of_outcome (Fails failure) = crash_of_kind failure.kind
+
+-- the crashed test of a note, if it is of one
+abbrev pub crashed_test : NoteView → Option Crashed
+crashed_test (TestIs t) = option_map (λ c. record { suite = t.suite; crash = c }) (crash_of_outcome t.outcome)
+crashed_test (Disagrees d) = None
+crashed_test (IsNotRun suite n of) = None
+crashed_test (SuiteIs s) = None
+
+-- two tests of one suite crashed, and what is known of the crashes is the same, but for which was the first
+abbrev pub CrashedTogether : Crashed → Crashed → Type 0
+CrashedTogether a b = (a.suite ≡ b.suite) × (crash_again a.crash ≡ crash_again b.crash)
+
+-- the crashed test is the first one of its suite, or the note before its own is of one that crashed together with it
+abbrev pub IsFirstOrBelow : Option Crashed → Crashed → Type 0
+IsFirstOrBelow before c = c.crash.above ≡ true → (other : Crashed) × (before ≡ Some other) × CrashedTogether other c
+
+-- this is true of each crashed test of notes that come after a note
+abbrev pub AreBelow : Option Crashed → List NoteView → Type 0
+AreBelow before [] = ⊤
+AreBelow before (n ∷ notes) = IfSome (crashed_test n) (IsFirstOrBelow before) × AreBelow (crashed_test n) notes
+
+-- In every run the note of each crashed test that is not the first of its suite comes right after that of a test of the suite that crashed in the same
+-- way.
+abbrev pub CrashesFollow : Type 0
+CrashesFollow = (files : List (List EventView)) → AreBelow None (all_notes files)
+
 -- A suite that ends early makes a crashed test or a disagreement known, and so does a file with tests outside of a suite.
 abbrev pub EarlyEndShows : Type 0
 EarlyEndShows = (others : OthersView) → (s : SuiteState) → (names : List (List ℕ)) → (s.number ≡ None → 0 < s.started)
@@ -316,20 +361,6 @@ damaged_lines_of files = sum_by damaged_lines_in files
 abbrev pub DamagedLineShows : Type 0
 DamagedLineShows = (files : List (List EventView)) → 0 < damaged_lines_of files
     → ((whole_end files).outcome ≢ outcome.Success) × ((whole_end files).outcome ≢ outcome.NoTestsRun)
-
--- the line is an event of a harness
-abbrev pub is_event : EventView → Bool
-is_event (SuiteStarts key count) = true
-is_event (SuiteEnds e) = true
-is_event (TestStarts name) = true
-is_event (TestEnds e) = true
-is_event OtherLine = true
-is_event (HeadingLine name path) = false
-is_event (CargoFails f line plain) = false
-is_event (Prints line plain) = false
-is_event (DamagedLine text) = false
-is_event CommandStarts = false
-is_event (CommandOver end) = false
 
 -- how many lines of a file are events of a harness
 abbrev pub events_in : List EventView → ℕ

@@ -2,7 +2,7 @@
 
 ghost use Rattle.test_report_laws.specs.Colours.{TextIsColoured};
 ghost use Rattle.test_report_laws.specs.Commands.{NamesHasNoCommands, OnlyCommands, TextHasNoCommands};
-ghost use Rattle.test_report_laws.specs.Forms.{GithubHasNoControls, HtmlHasNoControls, HtmlNamesCauses, HtmlReadsBack, HtmlSaysEnd, HtmlShowsItems, HtmlShowsPhrases, HtmlShowsValues, MarkdownHasNoControls, MarkdownKeepsMarks, MarkdownNamesCauses, MarkdownSaysEnd, MarkdownShowsPhrases, MarkdownShowsTests, MarkdownShowsValues, NamesAreLines, TextHasNoControls};
+ghost use Rattle.test_report_laws.specs.Forms.{GithubHasNoControls, HtmlHasNoControls, HtmlNamesCauses, HtmlReadsBack, HtmlSaysEnd, HtmlShowsItems, HtmlShowsPhrases, HtmlShowsValues, MarkdownHasNoControls, MarkdownKeepsMarks, MarkdownNamesCauses, MarkdownSaysEnd, MarkdownSaysMore, MarkdownShowsPhrases, MarkdownShowsTests, MarkdownShowsValues, NamesAreLines, TextHasNoControls};
 ghost use Rattle.test_report_laws.specs.Json.{JsonHasNoCommands, JsonReadsBack};
 ghost use Rattle.test_report_laws.specs.Junit.{JunitHasCases, JunitHasNoControls, JunitNamesCauses, JunitReadsBack, JunitSaysNoTests, JunitSaysNotes};
 ghost use Rattle.test_report_laws.specs.Lines.{GithubNamesCauses, NamesNamesTests, ShortIsInLine, TextNamesCauses};
@@ -56,7 +56,8 @@ pub fn no_controls()
 /// lines.
 ///
 /// What `html` and `markdown` write has the name of each failed test, the line of each disagreement, the line of each
-/// suite whose tests were not all run, and the outcome.
+/// suite whose tests were not all run, and the outcome. Of the failed tests `markdown` has those that it shows
+/// (`shown_tests`).
 ///
 /// What `junit` writes reads back as a tree in which each failed test and each of these lines is a test case in the
 /// element of its suite. The test case has the name of the test, or the line. Inside is a `failure` for a failed test,
@@ -82,7 +83,8 @@ pub fn names_causes()
 /// `15 tests run: 5 passed (1 flaky), ..` (`end`). It has each phrase of its template (`page_phrases`): what is next to
 /// each other there is next to each other in the page, with the values in their places. It has the status, the suite and
 /// the name of each failed test one after another, and with the reason as its section of failed tests renders them. It
-/// has each problem as its list of problems renders it, and a row with the name, the numbers and the time of each suite.
+/// has each problem as its list of problems renders it, a row with the name, the numbers and the time of each suite, and
+/// a row with the name and the reason of each skipped test that has a reason.
 ///
 /// It also has, somewhere in its text, every value of the report that its template has a place for (`page_holes`),
 /// escaped as for this place.
@@ -120,14 +122,17 @@ pub fn junit_says_notes()
 
 /// The summary of `markdown` has a heading with the outcome, and the numbers of the run with the word for each (`end`).
 /// It has each phrase of its template (`markdown_phrases`), with the values in their places, and every value of the
-/// report that its template has a place for (`markdown_holes`). It has a row and details for each failed test, as its
-/// sections of failed tests render them. What Markdown can read as its own in it (`marks`) is the template's, so a line,
-/// a cell and a `<pre>` end where the template ends them, whatever the lines of a run hold.
+/// report that its template has a place for (`markdown_holes`). It has a row and details for each failed test that it
+/// shows, as its sections of failed tests render them: for each one before which there are fewer than 900,000 bytes of
+/// rows and details (`shown_tests`). It has the number of the others, if there are any (`more`). What Markdown can read
+/// as its own in it (`marks`) is the template's, so a line, a cell and a `<pre>` end where the template ends them,
+/// whatever the lines of a run hold.
 pub fn markdown_shows()
     ensures end { MarkdownSaysEnd }
     ensures phrases { MarkdownShowsPhrases }
     ensures values { MarkdownShowsValues }
     ensures tests { MarkdownShowsTests }
+    ensures more { MarkdownSaysMore }
     ensures marks { MarkdownKeepsMarks }
 {
     template::laws::no_value_is_mark();

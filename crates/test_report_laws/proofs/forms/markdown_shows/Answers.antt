@@ -1,4 +1,4 @@
-use Rattle.test_report_laws.proofs.MarkdownLaws.{markdown-keeps-marks, markdown-says-end, markdown-shows-phrases, markdown-shows-tests, markdown-shows-values}
+use Rattle.test_report_laws.proofs.MarkdownLaws.{markdown-keeps-marks, markdown-says-end, markdown-says-more, markdown-shows-phrases, markdown-shows-tests, markdown-shows-values}
 use Rattle.test_report_laws.proofs.forms.markdown_shows.Goals as goal
 
 pub returns-clause-end : goal.returns-clause-end
@@ -12,6 +12,9 @@ returns-clause-values c = markdown-shows-values c.markdown_is_sound.ensures c.sh
 
 pub returns-clause-tests : goal.returns-clause-tests
 returns-clause-tests c = markdown-shows-tests c.markdown_is_sound.ensures c.shows_sections.ensures
+
+pub returns-clause-more : goal.returns-clause-more
+returns-clause-more c = markdown-says-more c.markdown_is_sound.ensures c.shows_phrases.ensures
 
 pub returns-clause-marks : goal.returns-clause-marks
 returns-clause-marks c = markdown-keeps-marks c.markdown_is_sound.ensures c.no_value_is_mark.ensures
