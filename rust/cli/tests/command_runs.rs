@@ -52,7 +52,9 @@ fn assert_refused(disagreements: &[Disagreement]) {
         line,
         prints,
         cause,
+        lacks_events,
     } = report;
+    assert!(*lacks_events);
     assert_eq!(line, "error: test failed, to rerun pass `--lib`");
     assert_eq!(
         prints,

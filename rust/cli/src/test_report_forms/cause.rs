@@ -21,6 +21,9 @@ pub(crate) struct Cause<'a> {
 
     /// What explains the cause, if anything does.
     pub(crate) why: Option<&'a str>,
+
+    /// True if no line of a file is an event of a harness, or none before cargo said that tests failed.
+    pub(crate) lacks_events: bool,
 }
 
 /// A problem of the run: a cause as it is shown, or that no test ran.
@@ -66,6 +69,7 @@ pub(crate) fn cause_of<'a>(entry: &'a Entry<'_>) -> Option<Cause<'a>> {
                 kind: "disagreement",
                 line,
                 why: text_of(why),
+                lacks_events: lacks_events(disagreement),
             })
         }
         Entry::NotRun(not_run) => {
@@ -75,6 +79,7 @@ pub(crate) fn cause_of<'a>(entry: &'a Entry<'_>) -> Option<Cause<'a>> {
                 kind: "not run",
                 line,
                 why: None,
+                lacks_events: false,
             })
         }
         Entry::Passed(_) | Entry::Skipped(_) | Entry::Failed { .. } | Entry::Suite(_) => None,
@@ -93,6 +98,21 @@ fn suite_of(disagreement: &Disagreement) -> Option<&str> {
         | Disagreement::Damaged { .. }
         | Disagreement::NoEvent
         | Disagreement::Command(_) => None,
+    }
+}
+
+/// Returns true if no line of a file is an event of a harness, or none before cargo said that tests failed.
+fn lacks_events(disagreement: &Disagreement) -> bool {
+    match disagreement {
+        Disagreement::Cargo(report) => report.lacks_events,
+        Disagreement::NoEvent => true,
+        Disagreement::EndedEarly { .. }
+        | Disagreement::LastLine { .. }
+        | Disagreement::StrayEnd { .. }
+        | Disagreement::StraySuiteEnd { .. }
+        | Disagreement::OutsideSuite { .. }
+        | Disagreement::Damaged { .. }
+        | Disagreement::Command(_) => false,
     }
 }
 

@@ -3,14 +3,14 @@
 
 use crate::test_report_forms::cause::{Cause, shown_reason};
 use crate::test_report_forms::failed_test::{FailedTest, shown_failure};
-use crate::test_report_forms::lines::without_returns;
 use crate::test_report_forms::model::suite_name;
 use crate::test_report_forms::options::Options;
 use crate::test_report_forms::place::Place;
-use crate::test_report_forms::shown::{push_line, push_name, push_text};
+use crate::test_report_forms::shown::{push_line, push_name, shown_whole};
+use crate::test_report_forms::skipped_test::skip_reason;
 use crate::test_report_forms::title::shown_name;
 use crate::test_report_forms::why::Why;
-use crate::test_report_run::note::{Failure, FailureKind, TestNote, TestOutcome};
+use crate::test_report_run::note::{Failure, FailureKind, TestNote};
 
 /// The name of the run, and of the suite of causes that name no suite.
 pub(crate) const OWN_NAME: &str = "test-report";
@@ -188,22 +188,6 @@ fn class_name(name: &str) -> String {
 /// Returns a text of the input whole, as it is shown, or `None` if there is none.
 fn whole_text(text: Option<&str>) -> Option<String> {
     text.map(shown_whole)
-}
-
-/// Returns a text as it is shown, without the carriage returns that are right before a line feed.
-fn shown_whole(text: &str) -> String {
-    let lines = without_returns(text);
-    let mut shown = String::new();
-    push_text(&mut shown, lines.as_str(), false);
-    shown
-}
-
-/// Returns why a test was skipped, if its line says so.
-fn skip_reason(outcome: &TestOutcome) -> Option<&str> {
-    match outcome {
-        TestOutcome::Skipped { reason } => text_of(reason),
-        TestOutcome::Passed | TestOutcome::Failed(_) => None,
-    }
 }
 
 /// Returns a place as it is shown, or `None` if it is not known.

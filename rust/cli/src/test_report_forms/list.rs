@@ -5,9 +5,9 @@ use crate::test_report_forms::entry::Entry;
 use crate::test_report_forms::levels::{finished_output, own_final_level, skipped_output};
 use crate::test_report_forms::options::Options;
 use crate::test_report_forms::shown::{front, push_bracket, push_spaces, push_text};
-use crate::test_report_forms::shown_why::shown_why;
 use crate::test_report_forms::slowest::Slowest;
 use crate::test_report_forms::status::{failed_status, passed_status, push_status};
+use crate::test_report_forms::text_why::text_why;
 use crate::test_report_forms::title::push_title;
 use crate::test_report_forms::why::Why;
 use crate::test_report_forms::why_lines::push_why_lines;
@@ -131,7 +131,7 @@ fn push_failed(
             display_output: true,
         } => {
             push_reason(text, test, status, why.short.as_str(), options);
-            let shown = shown_why(options, test, failure, why);
+            let shown = text_why(options, test, failure, why);
             push_why_lines(text, &shown, WHY_MARGIN, options);
         }
         OutputStoreFinal::Yes { .. } => {

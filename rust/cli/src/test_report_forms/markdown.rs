@@ -5,9 +5,9 @@ use crate::test_report_forms::document::push_document;
 use crate::test_report_forms::entry::Entry;
 use crate::test_report_forms::form::Form;
 use crate::test_report_forms::markdown_template::MARKDOWN;
+use crate::test_report_forms::markdown_values::summary_values;
 use crate::test_report_forms::model::ReportModel;
 use crate::test_report_forms::options::Options;
-use crate::test_report_forms::values::report_values;
 use crate::test_report_run::note::RunEnd;
 
 /// The form for the summary of a workflow on GitHub: a part of a page in Markdown, written at the end.
@@ -31,7 +31,7 @@ impl Form for MarkdownForm {
     }
 
     fn on_end(&mut self, end: &RunEnd, text: &mut String) {
-        let values = report_values(self.model.take_out(), end);
+        let values = summary_values(self.model.take_out(), end);
         push_document(text, MARKDOWN, values.as_slice());
     }
 }

@@ -1,13 +1,14 @@
 // Made by tools/erase from crates/test_report_forms/src/markdown_template.rt. Do not edit.
 //! The template of the summary of a workflow.
 
-/// The summary, with places for the values of `report_values`. A value outside of `<pre>` has `*` before its name, so
-/// that it stays on its line and in its cell. A reader drops the line feed after `<pre>`.
+/// The summary, with places for the values of `summary_values`. A value outside of `<pre>` has `*` before its name, so
+/// that it stays on its line and in its cell. A text of the input with an `@` is in `<code>` there, so that GitHub takes
+/// nothing in it for the name of a user. A reader drops the line feed after `<pre>`.
 pub(crate) const MARKDOWN: &str = r#"## Test report: {{*outcome}}
 
 {{*finished}} tests run: {{*passed}} passed ({{*flaky}} flaky), {{*failed}} failed ({{*timed_out}} timed out, {{*crashed}} crashed), {{*skipped}} skipped, {{*not_run}} not run{{#time}}, in {{*seconds}}s{{/time}}
 
-{{#problems}}{{#problem}}- {{*line}}{{#why}}
+{{#problems}}{{#problem}}- {{#line_code}}<code>{{/line_code}}{{*line}}{{#line_code}}</code>{{/line_code}}{{#why}}
 
 <pre>
 {{text}}</pre>
@@ -15,13 +16,25 @@ pub(crate) const MARKDOWN: &str = r#"## Test report: {{*outcome}}
 {{/problem}}
 {{/problems}}{{#failures}}| Result | Test | Time | Why |
 | --- | --- | ---: | --- |
-{{#failed}}| {{*status}} | {{#suite}}{{*name}} {{/suite}}{{*name}} | {{#note}}{{#time}}{{*seconds}}s{{/time}}{{/note}} | {{*short}} |
+{{#failed}}| {{*status}} | {{#suite}}{{#name_code}}<code>{{/name_code}}{{*name}}{{#name_code}}</code>{{/name_code}} {{/suite}}{{#name_code}}<code>{{/name_code}}{{*name}}{{#name_code}}</code>{{/name_code}} | {{#note}}{{#time}}{{*seconds}}s{{/time}}{{/note}} | {{#short_code}}<code>{{/short_code}}{{*short}}{{#short_code}}</code>{{/short_code}} |
 {{/failed}}
-{{#failed}}<details><summary>{{*status}} {{#suite}}{{*name}} {{/suite}}{{*name}}{{#note}}{{#attempts}} ({{*count}} attempts){{/attempts}}{{/note}}</summary>
+{{#failed}}<details><summary>{{*status}} {{#suite}}{{#name_code}}<code>{{/name_code}}{{*name}}{{#name_code}}</code>{{/name_code}} {{/suite}}{{#name_code}}<code>{{/name_code}}{{*name}}{{#name_code}}</code>{{/name_code}}{{#note}}{{#attempts}} ({{*count}} attempts){{/attempts}}{{/note}}</summary>
 
 <pre>
 {{why}}</pre>
 
 </details>
 
-{{/failed}}{{/failures}}"#;
+{{/failed}}{{/failures}}{{#more}}({{*count}} more failed tests: a summary on GitHub holds 1 MiB)
+{{/more}}"#;
+
+/// What the summary has of one failed test: its row and its details.
+pub(crate) const FAILED: &str = r#"| {{*status}} | {{#suite}}{{#name_code}}<code>{{/name_code}}{{*name}}{{#name_code}}</code>{{/name_code}} {{/suite}}{{#name_code}}<code>{{/name_code}}{{*name}}{{#name_code}}</code>{{/name_code}} | {{#note}}{{#time}}{{*seconds}}s{{/time}}{{/note}} | {{#short_code}}<code>{{/short_code}}{{*short}}{{#short_code}}</code>{{/short_code}} |
+<details><summary>{{*status}} {{#suite}}{{#name_code}}<code>{{/name_code}}{{*name}}{{#name_code}}</code>{{/name_code}} {{/suite}}{{#name_code}}<code>{{/name_code}}{{*name}}{{#name_code}}</code>{{/name_code}}{{#note}}{{#attempts}} ({{*count}} attempts){{/attempts}}{{/note}}</summary>
+
+<pre>
+{{why}}</pre>
+
+</details>
+
+"#;

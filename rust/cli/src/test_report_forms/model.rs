@@ -8,13 +8,14 @@ use crate::test_report_forms::junit_case::text_of;
 use crate::test_report_forms::numbers::Numbers;
 use crate::test_report_forms::options::Options;
 use crate::test_report_forms::shown::push_name;
+use crate::test_report_forms::skipped_test::SkippedTest;
 use crate::test_report_forms::slowest::Slowest;
 use crate::test_report_forms::title::push_title;
 use crate::test_report_run::note::{SuiteNote, TestNote};
 use deodarsieve::RunOutcome;
 
 /// The number of slowest tests that are listed.
-const SLOWEST: usize = 5;
+const SLOWEST: usize = 10;
 
 /// A suite in the table of suites.
 #[derive(Clone)]
@@ -47,6 +48,9 @@ pub struct ReportModel {
 
     /// The slowest tests.
     pub(crate) slowest: Slowest,
+
+    /// The skipped tests that have a reason.
+    pub(crate) skipped: Vec<SkippedTest>,
 }
 
 impl ReportModel {
@@ -58,6 +62,7 @@ impl ReportModel {
             problems: Vec::new(),
             suites: Vec::new(),
             slowest: Slowest::new(SLOWEST),
+            skipped: Vec::new(),
         }
     }
 
@@ -66,6 +71,7 @@ impl ReportModel {
         keep_failure(&mut self.failed, entry, self.options);
         keep_problem(&mut self.problems, entry);
         keep_suite(&mut self.suites, entry);
+        keep_skipped(&mut self.skipped, entry);
         keep_time(&mut self.slowest, entry);
     }
 
@@ -97,6 +103,15 @@ fn keep_suite(suites: &mut Vec<SuiteRow>, entry: &Entry<'_>) {
         && let Some(row) = SuiteRow::of(suite)
     {
         suites.push(row);
+    }
+}
+
+/// Keeps the skipped test of an entry, if it has a reason.
+fn keep_skipped(skipped: &mut Vec<SkippedTest>, entry: &Entry<'_>) {
+    if let Entry::Skipped(test) = entry
+        && let Some(shown) = SkippedTest::of(test)
+    {
+        skipped.push(shown);
     }
 }
 

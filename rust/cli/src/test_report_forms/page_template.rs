@@ -30,7 +30,7 @@ h1, h2, h3, p { margin: 0; }
 h1 { font-size: clamp(1.4rem, 4vw, 2rem); line-height: 1.25; }
 h2 { margin: 1.5rem 0 0.5rem; font-size: 1.2rem; }
 h3 { display: inline; font-size: 1rem; font-weight: 600; }
-h1, h3, th, li { overflow-wrap: anywhere; }
+h1, h3, th, li, .reason { overflow-wrap: anywhere; }
 .summary { margin: 0.25rem 0 0.75rem; color: var(--muted); font-variant-numeric: tabular-nums; }
 .word { padding: 0 0.5rem; border-radius: 0.3rem; background: var(--warn); color: var(--page); }
 .word.success { background: var(--good); }
@@ -60,6 +60,7 @@ th { width: 45%; font-weight: 600; }
 thead th { color: var(--muted); font-size: 0.875rem; }
 tbody th { font-weight: 400; }
 td .bar { margin-top: 0.45rem; }
+.reason { white-space: pre-wrap; }
 .time { width: 6.5rem; padding-right: 0; text-align: right; white-space: nowrap; font-variant-numeric: tabular-nums; }
 @media (max-width: 40rem) {
   th { width: 40%; }
@@ -110,6 +111,15 @@ td .bar { margin-top: 0.45rem; }
 {{/slow}}</tbody>
 </table>
 </section>
-{{/slowest}}</main>
+{{/slowest}}{{#skips}}<section>
+<h2>Skipped tests</h2>
+<table>
+<thead><tr><th scope="col">Test</th><th scope="col">Reason</th></tr></thead>
+<tbody>
+{{#skip}}<tr><th scope="row">{{name}}</th><td class="reason">{{reason}}</td></tr>
+{{/skip}}</tbody>
+</table>
+</section>
+{{/skips}}</main>
 </body>
 </html>"#;

@@ -3,6 +3,7 @@
 
 use crate::template::shown::{is_escaped, push_escape};
 use crate::test_report_forms::commands::begins_command;
+use crate::test_report_forms::lines::without_returns;
 
 /// The most bytes of the name of a suite or a test that are shown.
 const NAME_LIMIT: usize = 1_024;
@@ -85,6 +86,14 @@ pub(crate) fn push_text(text: &mut String, shown: &str, raw: bool) {
     } else {
         push_shown(text, shown, false);
     }
+}
+
+/// Returns a text of the input whole, as it is shown, without the carriage returns that are right before a line feed.
+pub(crate) fn shown_whole(text: &str) -> String {
+    let lines = without_returns(text);
+    let mut shown = String::new();
+    push_text(&mut shown, lines.as_str(), false);
+    shown
 }
 
 /// Appends a text with its escapes. If `one_line` is true, tabs and line feeds are escapes, too.

@@ -8,9 +8,9 @@ use crate::test_report_forms::levels::{finished_output, has_line, skipped_output
 use crate::test_report_forms::list::ShortList;
 use crate::test_report_forms::options::Options;
 use crate::test_report_forms::shown::{push_bracket, push_indented};
-use crate::test_report_forms::shown_why::shown_why;
 use crate::test_report_forms::status::{failed_status, passed_status, push_status};
 use crate::test_report_forms::summary::{outcome_text, push_summary};
+use crate::test_report_forms::text_why::text_why;
 use crate::test_report_forms::title::push_title;
 use crate::test_report_forms::why::Why;
 use crate::test_report_forms::why_lines::push_why_lines;
@@ -59,13 +59,31 @@ fn push_cause_of(entry: &Entry<'_>, text: &mut String, options: Options) {
     }
 }
 
-/// Appends the line of a cause, and under it what explains the cause.
+/// Appends the line of a cause, under it what explains the cause, and how to get lines of a harness if there were
+/// none.
 fn push_cause(text: &mut String, cause: &Cause<'_>, options: Options) {
     text.push_str(cause.line.as_str());
     text.push('\n');
     if let Some(why) = cause.why {
-        push_indented(text, why, WHY_MARGIN, options.raw)
+        push_indented(text, why, WHY_MARGIN, options.raw);
     }
+    push_advice(text, cause.lacks_events);
+}
+
+/// Appends how to get lines of a harness. Appends nothing if there were some.
+fn push_advice(text: &mut String, lacks_events: bool) {
+    if !lacks_events {
+        return;
+    }
+    push_cargo_advice(text);
+    text.push_str("    test-report -- cargo test does this by itself\n");
+}
+
+/// Appends how cargo writes lines of a harness.
+fn push_cargo_advice(text: &mut String) {
+    text.push_str(
+        "    cargo test writes such lines with: RUSTC_BOOTSTRAP=1 cargo test -- -Z unstable-options --format json\n",
+    );
 }
 
 /// Appends a failed test, with why it failed, as far as the levels show it.
@@ -84,7 +102,7 @@ fn push_failed(
     if !shows.show_immediate {
         return;
     }
-    let shown = shown_why(options, test, failure, why);
+    let shown = text_why(options, test, failure, why);
     push_why_lines(text, &shown, WHY_MARGIN, options);
 }
 

@@ -13,8 +13,11 @@
 //! | `failures` | a `failed` test with `status`, `suite` (its `name`), `name`, `note`, `short` and `why` |
 //! | `suites` | a `suite` with `name`, `words`, `bar` (as above) and `time` |
 //! | `slowest` | a `slow` test with `name`, `share` (of the longest time, in hundredths) and `seconds` |
+//! | `skips` | a `skip` with `name` and `reason`: a skipped test that has a reason |
 //!
-//! A `note` has `attempts` with a `count`, if there were several, and a `time`. A `time` has `seconds`.
+//! A `note` has `attempts` with a `count`, if there were several, and a `time`. A `time` has `seconds`. If a `line`, a
+//! `short`, or the `name` of a failed test or of its suite has an `@`, there is an item without values beside it:
+//! `line_code`, `short_code` or `name_code`.
 
 use crate::template::{Value, push_item, push_section, push_text};
 use crate::test_report_forms::cause::Problem;
@@ -22,6 +25,7 @@ use crate::test_report_forms::failed_test::FailedTest;
 use crate::test_report_forms::model::{ReportModel, SuiteRow, no_tests_ran};
 use crate::test_report_forms::numbers::Numbers;
 use crate::test_report_forms::shown::seconds_text;
+use crate::test_report_forms::skipped_test::SkippedTest;
 use crate::test_report_forms::slowest::SlowTest;
 use crate::test_report_forms::summary::outcome_text;
 use crate::test_report_run::note::{RunEnd, failed_count};
@@ -35,6 +39,7 @@ pub fn report_values(model: ReportModel, end: &RunEnd) -> Vec<Value> {
         problems,
         suites,
         slowest,
+        skipped,
     } = model;
     let mut values = run_values(end);
     push_section(&mut values, "bar", bar(Numbers::of_run(end)));
@@ -46,6 +51,7 @@ pub fn report_values(model: ReportModel, end: &RunEnd) -> Vec<Value> {
     push_section(&mut values, "failures", failed_items(failed));
     push_section(&mut values, "suites", suite_items(suites));
     push_section(&mut values, "slowest", slow_items(slowest.into_tests()));
+    push_section(&mut values, "skips", skip_items(skipped));
     values
 }
 
@@ -73,6 +79,18 @@ pub(crate) fn push_option(
     }
 }
 
+/// Returns true if a text has an `@`.
+fn has_at(text: &[u8]) -> bool {
+    text.contains(&b'@')
+}
+
+/// Adds an item without values, if a text has an `@`.
+fn push_code(values: &mut Vec<Value>, list: &'static str, is_code: bool) {
+    if is_code {
+        push_item(values, list, Vec::new());
+    }
+}
+
 /// Adds a time in seconds, if it is known.
 pub(crate) fn push_time(values: &mut Vec<Value>, time: Option<u64>) {
     let Some(micros) = time else {
@@ -83,7 +101,7 @@ pub(crate) fn push_time(values: &mut Vec<Value>, time: Option<u64>) {
 }
 
 /// Returns the values of the run that are not lists, and its time.
-fn run_values(end: &RunEnd) -> Vec<Value> {
+pub(crate) fn run_values(end: &RunEnd) -> Vec<Value> {
     let stats = &end.stats;
     let failed = failed_count(stats);
     let mut values = one_word("outcome", outcome_text(end.outcome));
@@ -127,8 +145,10 @@ fn bar(numbers: Numbers) -> Vec<Value> {
 /// Adds a problem.
 fn push_problem(problems: &mut Vec<Value>, problem: Problem) {
     let Problem { line, why } = problem;
+    let line_has_at = has_at(line.as_bytes());
     let mut values = one_text("line", line);
     push_option(&mut values, "why", "text", why);
+    push_code(&mut values, "line_code", line_has_at);
     push_item(problems, "problem", values);
 }
 
@@ -141,7 +161,7 @@ fn no_tests_problem() -> Problem {
 }
 
 /// Returns the problems, with `no test ran` first if no test ran.
-fn problem_items(problems: Vec<Problem>, outcome: RunOutcome) -> Vec<Value> {
+pub(crate) fn problem_items(problems: Vec<Problem>, outcome: RunOutcome) -> Vec<Value> {
     let mut items = Vec::new();
     if no_tests_ran(outcome) {
         push_problem(&mut items, no_tests_problem());
@@ -163,8 +183,23 @@ fn note(attempts: usize, time: Option<u64>) -> Vec<Value> {
     values
 }
 
+/// Returns the values of the suite of a failed test.
+fn own_suite_values(name: String) -> Vec<Value> {
+    let name_has_at = has_at(name.as_bytes());
+    let mut values = one_text("name", name);
+    push_code(&mut values, "name_code", name_has_at);
+    values
+}
+
+/// Adds the suite of a failed test, if it has one.
+fn push_suite(values: &mut Vec<Value>, suite: Option<String>) {
+    if let Some(name) = suite {
+        push_item(values, "suite", own_suite_values(name))
+    }
+}
+
 /// Returns the values of a failed test.
-fn failed_values(test: FailedTest) -> Vec<Value> {
+pub(crate) fn failed_values(test: FailedTest) -> Vec<Value> {
     let FailedTest {
         suite,
         name,
@@ -174,12 +209,16 @@ fn failed_values(test: FailedTest) -> Vec<Value> {
         short,
         why,
     } = test;
+    let name_has_at = has_at(name.as_bytes());
+    let short_has_at = has_at(short.as_bytes());
     let mut values = one_word("status", status);
-    push_option(&mut values, "suite", "name", suite);
+    push_suite(&mut values, suite);
     push_text(&mut values, "name", name);
     push_section(&mut values, "note", note(attempts, time));
     push_text(&mut values, "short", short);
     push_text(&mut values, "why", why);
+    push_code(&mut values, "name_code", name_has_at);
+    push_code(&mut values, "short_code", short_has_at);
     values
 }
 
@@ -239,6 +278,23 @@ fn slow_items(tests: Vec<SlowTest>) -> Vec<Value> {
     let mut items = Vec::new();
     for test in tests {
         push_item(&mut items, "slow", slow_values(test, longest));
+    }
+    items
+}
+
+/// Returns the values of a skipped test that has a reason.
+fn skip_values(test: SkippedTest) -> Vec<Value> {
+    let SkippedTest { name, reason } = test;
+    let mut values = one_text("name", name);
+    push_text(&mut values, "reason", reason);
+    values
+}
+
+/// Returns the skipped tests that have a reason.
+fn skip_items(tests: Vec<SkippedTest>) -> Vec<Value> {
+    let mut items = Vec::new();
+    for test in tests {
+        push_item(&mut items, "skip", skip_values(test));
     }
     items
 }

@@ -87,16 +87,6 @@ impl Suite {
         Ok(())
     }
 
-    /// Returns the position of the first flaky test that started after `order` tests.
-    fn later_flaky(&self, order: usize) -> Option<usize> {
-        self.flaky.iter().position(|other| other.order > order)
-    }
-
-    /// Returns the position among the flaky tests of one that started after `order` tests.
-    fn flaky_place(&self, order: usize) -> usize {
-        self.later_flaky(order).unwrap_or(self.flaky.len())
-    }
-
     /// Keeps a test that passed after several attempts until the suite is over. Such tests are kept in the
     /// order in which they started.
     fn on_flaky(
@@ -105,14 +95,13 @@ impl Suite {
         order: usize,
         details: TestDetails<'_>,
     ) -> Result<(), RunError> {
-        let at = self.flaky_place(order);
         let flaky = FlakyTest {
             test,
             order,
             stdout: owned(details.stdout),
             message: owned(details.message),
         };
-        self.flaky.insert(at, flaky);
+        self.flaky.insert(flaky);
         Ok(())
     }
 }

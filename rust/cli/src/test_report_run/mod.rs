@@ -38,6 +38,7 @@ pub mod counted;
 mod cuts;
 mod ended;
 pub mod error;
+mod flaky;
 mod headings;
 mod last_line;
 mod longest_end;

@@ -113,6 +113,10 @@ pub struct Crash {
 
     /// The last three of these prints that are not blank, or their first 200 bytes.
     pub last: Vec<String>,
+
+    /// True if another test of the suite crashed before this one. Its note is right before that of this test, and
+    /// has the same prints and the same cause.
+    pub above: bool,
 }
 
 /// A contradiction between lines of a run. A damaged line that says a failure, a file without an event of a
@@ -194,6 +198,10 @@ pub struct CargoReport {
     /// The line after the first `Caused by:` that comes after the failure and before the next heading, event or
     /// failure, or its first 200 bytes, as a terminal shows it.
     pub cause: Option<String>,
+
+    /// True if no line of the file before this failure is an event of a harness, and this is the first failure in
+    /// the file that says that tests failed.
+    pub lacks_events: bool,
 }
 
 /// How a command ended.

@@ -3,6 +3,7 @@
 
 use crate::test_report_run::counted::{Finish, count};
 use crate::test_report_run::error::{RunError, one_more};
+use crate::test_report_run::flaky::FlakyTests;
 use crate::test_report_run::last_line::{Explanation, disagrees, explained};
 use crate::test_report_run::note::{
     Crash, Disagreement, Failure, FailureKind, NotRun, Note, SuiteNote, TestOutcome, failed_count,
@@ -48,6 +49,7 @@ fn copy_of(crash: &Crash) -> Crash {
         cause,
         prints: crash.prints.clone(),
         last,
+        above: crash.above,
     }
 }
 
@@ -76,14 +78,17 @@ impl Suite {
     fn crash_left(
         &mut self,
         others: &Others,
-        left: Vec<RunningTest>,
+        mut left: Vec<RunningTest>,
         notes: &mut Vec<Note>,
     ) -> Result<(), RunError> {
         if left.is_empty() {
             return Ok(());
         }
-        let crash = self.crash(others, left.len());
-        self.crash_all(&crash, left, notes)
+        let mut crash = self.crash(others, left.len());
+        let behind = left.split_off(1);
+        self.crash_all(&crash, left, notes)?;
+        crash.above = true;
+        self.crash_all(&crash, behind, notes)
     }
 
     /// Counts all these tests as crashed in this way.
@@ -101,7 +106,7 @@ impl Suite {
         Ok(())
     }
 
-    /// Returns how a test of the suite crashed. `running` is the number of its running tests.
+    /// Returns how the first test of the suite crashed. `running` is the number of its running tests.
     fn crash(&self, others: &Others, running: usize) -> Crash {
         Crash {
             running,
@@ -109,6 +114,7 @@ impl Suite {
             cause: others.cause_behind(self.last_event),
             prints: Rc::new(others.prints_from(self.start)),
             last: others.last_prints_from(self.start),
+            above: false,
         }
     }
 
@@ -147,7 +153,8 @@ impl Suite {
 
     /// Counts the flaky tests, as failed or as passed.
     fn release_flaky(&mut self, have_failed: bool, notes: &mut Vec<Note>) -> Result<(), RunError> {
-        for flaky in std::mem::take(&mut self.flaky) {
+        let flaky_tests = std::mem::replace(&mut self.flaky, FlakyTests::new());
+        for flaky in flaky_tests.tests.into_values() {
             if have_failed {
                 self.fail_flaky(flaky, notes)?;
             } else {

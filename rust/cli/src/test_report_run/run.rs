@@ -37,6 +37,9 @@ pub struct TestRun {
     /// True if a line of the file was an event of a harness.
     has_event: bool,
 
+    /// True if a failure of cargo in the file lacks events.
+    lacked_events: bool,
+
     /// The lines of the file that are no events of a harness.
     others: Others,
 
@@ -77,6 +80,7 @@ impl TestRun {
             headings: Headings::new(),
             heading: None,
             has_event: false,
+            lacked_events: false,
             others: Others::new(),
             recent: LongestEnd::new(),
             reported: None,
@@ -123,7 +127,7 @@ impl TestRun {
     /// still open end early: their running tests crashed. After an error the run must not be used.
     pub fn end_file(&mut self) -> Result<Vec<Note>, RunError> {
         let mut notes = Vec::new();
-        self.settle(&mut notes);
+        self.settle(false, &mut notes);
         self.tell_held(&mut notes);
         self.end_suites(&mut notes)?;
         self.push_no_event(&mut notes);
@@ -147,6 +151,7 @@ impl TestRun {
         self.headings = Headings::new();
         self.heading = None;
         self.has_event = false;
+        self.lacked_events = false;
         self.others = Others::new();
         self.recent = LongestEnd::new();
         self.of_command = false;
@@ -171,7 +176,7 @@ impl TestRun {
     /// Makes the last failure of cargo known if an event comes after all that may say why.
     fn settle_at(&mut self, event: Event<'_>, notes: &mut Vec<Note>) {
         if is_after_report(event) {
-            self.settle(notes);
+            self.settle(is_event(event), notes);
         }
     }
 
@@ -264,6 +269,21 @@ impl TestRun {
 /// its line, and that a file has no event explains nothing.
 fn is_new(disagreement: &Disagreement) -> bool {
     !matches!(disagreement, Disagreement::Cargo(_) | Disagreement::NoEvent)
+}
+
+/// Returns true if a line is an event of a harness.
+fn is_event(event: Event<'_>) -> bool {
+    match event {
+        Event::SuiteStarted { .. }
+        | Event::SuiteEnded(_)
+        | Event::TestStarted { .. }
+        | Event::TestEnded { .. }
+        | Event::Other => true,
+        Event::CargoFailed { .. }
+        | Event::Heading { .. }
+        | Event::Print { .. }
+        | Event::Damaged { .. } => false,
+    }
 }
 
 /// Returns true if an event, a heading or a failure comes after all that may say why cargo failed before it.

@@ -3,6 +3,7 @@
 
 use crate::test_report_events::event::SuiteEnd;
 use crate::test_report_run::error::{RunError, one_more};
+use crate::test_report_run::flaky::FlakyTests;
 use crate::test_report_run::last_line::Tally;
 use crate::test_report_run::note::{Note, TestNote, TestOutcome, failed_count};
 use crate::test_report_run::others::{EventPlace, Others, PrintPlace};
@@ -65,8 +66,8 @@ pub(crate) struct Suite {
     /// The number of tests that were ignored.
     pub(crate) skipped: usize,
 
-    /// The tests that passed after several attempts, in the order in which they started.
-    pub(crate) flaky: Vec<FlakyTest>,
+    /// The tests that passed after several attempts.
+    pub(crate) flaky: FlakyTests,
 
     /// The sum of the times of tests, in microseconds.
     pub(crate) time: Option<u64>,
@@ -117,7 +118,7 @@ impl Suite {
             stats: RunStats::default(),
             crashed: 0,
             skipped: 0,
-            flaky: Vec::new(),
+            flaky: FlakyTests::new(),
             time: None,
             start,
             last_event,

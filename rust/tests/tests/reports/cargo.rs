@@ -51,6 +51,11 @@ fn each_form_has_what_the_compiler_said() {
     );
 }
 
+/// How `text` says to get lines of a harness.
+const ADVICE: &str = "    cargo test writes such lines with: \
+    RUSTC_BOOTSTRAP=1 cargo test -- -Z unstable-options --format json\n    \
+    test-report -- cargo test does this by itself\n";
+
 /// Checks the text up to the rule for a test program that failed after these lines, or before those after the failure.
 fn explains(before: &str, after: &str, why: &str) {
     let lines = format!("{before}error: test failed, to rerun pass `--lib`\n{after}");
@@ -59,7 +64,8 @@ fn explains(before: &str, after: &str, why: &str) {
         ..OPTIONS
     };
     let (text, _) = reported(TextForm::new(options), &[&lines]);
-    let wanted = format!("cargo: error: test failed, to rerun pass `--lib`\n{why}------------\n");
+    let wanted =
+        format!("cargo: error: test failed, to rerun pass `--lib`\n{why}{ADVICE}------------\n");
     assert!(text.starts_with(&wanted), "{text}");
 }
 
@@ -84,4 +90,26 @@ fn the_prints_before_a_failure_explain_it() {
         cause,
         "      signal: 6\n",
     );
+}
+
+#[test]
+fn only_the_first_failure_before_all_events_has_the_advice() {
+    let failed = "error: test failed, to rerun pass `--lib`\n";
+    let line = format!("cargo: {failed}");
+    let suite = "{\"type\":\"suite\",\"event\":\"started\",\"test_count\":0}\n\
+        {\"type\":\"suite\",\"event\":\"ok\",\"passed\":0,\"failed\":0}\n";
+    let written = |files: &[&str]| {
+        let (text, _) = reported(TextForm::new(OPTIONS), files);
+        let (before, _) = text.split_once("------------\n").expect("a summary");
+        before.to_owned()
+    };
+    let twice = format!("{failed}{failed}");
+    assert_eq!(written(&[&twice]), format!("{line}{ADVICE}{line}"));
+    assert_eq!(
+        written(&[failed, failed]),
+        format!("{line}{ADVICE}{line}{ADVICE}")
+    );
+    assert_eq!(written(&[&format!("{suite}{failed}")]), line);
+    let other = "error: doctest failed, to rerun pass `--doc`\n";
+    assert_eq!(written(&[other]), format!("cargo: {other}"));
 }

@@ -12,7 +12,9 @@ fn lines_in_json() {
         Case {
             name: "no line",
             lines: "",
-            notes: "no line of the input is of a test run\n",
+            notes: "no line of the input is of a test run\n\
+    \x20   cargo test writes such lines with: RUSTC_BOOTSTRAP=1 cargo test -- -Z unstable-options --format json\n\
+    \x20   test-report -- cargo test does this by itself\n",
             summary: NOTHING,
             list: "",
             outcome: "failed",
@@ -20,7 +22,9 @@ fn lines_in_json() {
         Case {
             name: "no line is an event",
             lines: "running 2 tests\ntest a ... ok\n\n{}\n{\"type\":\"benchmark\",\"event\":\"discovered\"}\n",
-            notes: "no line of the input is of a test run\n",
+            notes: "no line of the input is of a test run\n\
+    \x20   cargo test writes such lines with: RUSTC_BOOTSTRAP=1 cargo test -- -Z unstable-options --format json\n\
+    \x20   test-report -- cargo test does this by itself\n",
             summary: NOTHING,
             list: "",
             outcome: "failed",

@@ -2,6 +2,7 @@
 
 mod cargo;
 mod counting;
+mod documents;
 mod hostile;
 mod levels;
 mod shown;
@@ -29,7 +30,7 @@ const OPTIONS: Options = Options {
 
 /// Returns the report of files in a form, and whether the run succeeded.
 fn reported<F: Form>(form: F, files: &[&str]) -> (String, bool) {
-    let mut buffer = vec![0; 50_000];
+    let mut buffer = vec![0; 2_000_000];
     let mut sink = MemorySink::new(&mut buffer, None);
     let mut report = Report::new(form);
     for file in files {

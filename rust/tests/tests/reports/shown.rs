@@ -1,6 +1,7 @@
 //! How much is shown of the explanation of a failure, and in which form.
 
 use crate::{Case, OPTIONS, assert_reports, assert_reports_with, reported};
+use deodarsieve::TestOutputDisplay;
 use deodarsieve_cli::test_report_forms::options::{Options, OutputDisplay};
 use deodarsieve_cli::test_report_forms::text::TextForm;
 
@@ -120,6 +121,59 @@ the worker panicked
             outcome: "failed",
         },
     ]);
+}
+
+/// Two suites in each of which two tests crash: after a panic, and after a print.
+const CRASHES: &str = r#"{"type":"suite","event":"started","test_count":2}
+{"type":"test","event":"started","name":"a"}
+{"type":"test","event":"started","name":"b"}
+thread 'b' (8) panicked at src/b.rs:3:4:
+no money
+{"type":"suite","event":"started","test_count":2}
+{"type":"test","event":"started","name":"c"}
+{"type":"test","event":"started","name":"d"}
+log
+"#;
+
+#[test]
+fn explanations_above() {
+    let case = Case {
+        name: "an explanation is shown of the first crashed test of a suite, and prints of each",
+        lines: CRASHES,
+        notes: "CRASH suite 1 a\n    one of 2 tests that ran when its process ended\n    \
+            thread 'b' (8) panicked at src/b.rs:3:4:\n    no money\n\
+            CRASH suite 1 b\n    one of 2 tests that ran when its process ended\n    as above\n\
+            CRASH suite 2 c\n    one of 2 tests that ran when its process ended\n    log\n\
+            CRASH suite 2 d\n    one of 2 tests that ran when its process ended\n    log\n",
+        summary: "4 tests run: 0 passed (0 flaky), 4 failed (0 timed out, 4 crashed), 0 skipped, 0 not run",
+        list: "       CRASH suite 1 a: one of 2 tests that ran when its process ended: panicked at src/b.rs:3:4: no money\n       \
+            CRASH suite 1 b: one of 2 tests that ran when its process ended: panicked at src/b.rs:3:4: no money\n       \
+            CRASH suite 2 c: one of 2 tests that ran when its process ended\n       \
+            CRASH suite 2 d: one of 2 tests that ran when its process ended\n",
+        outcome: "failed",
+    };
+    assert_reports(&[case]);
+    let options = Options {
+        failure_output: TestOutputDisplay::Final,
+        ..OPTIONS
+    };
+    let listed = Case {
+        name: "the same in the list",
+        lines: CRASHES,
+        notes: "CRASH suite 1 a\nCRASH suite 1 b\nCRASH suite 2 c\nCRASH suite 2 d\n",
+        summary: "4 tests run: 0 passed (0 flaky), 4 failed (0 timed out, 4 crashed), 0 skipped, 0 not run",
+        list: "       CRASH suite 1 a: one of 2 tests that ran when its process ended: panicked at src/b.rs:3:4: no money\n             \
+            one of 2 tests that ran when its process ended\n             \
+            thread 'b' (8) panicked at src/b.rs:3:4:\n             no money\n       \
+            CRASH suite 1 b: one of 2 tests that ran when its process ended: panicked at src/b.rs:3:4: no money\n             \
+            one of 2 tests that ran when its process ended\n             as above\n       \
+            CRASH suite 2 c: one of 2 tests that ran when its process ended\n             \
+            one of 2 tests that ran when its process ended\n             log\n       \
+            CRASH suite 2 d: one of 2 tests that ran when its process ended\n             \
+            one of 2 tests that ran when its process ended\n             log\n",
+        outcome: "failed",
+    };
+    assert_reports_with(options, &[listed]);
 }
 
 #[test]

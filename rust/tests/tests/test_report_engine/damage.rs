@@ -5,7 +5,9 @@ use deodarsieve_cli::program_io::memory_device::{MemorySink, MemorySource};
 use deodarsieve_cli::test_report_forms::text::TextForm;
 
 /// The report of no event.
-const NOTHING: &str = "no line of the input is of a test run\n------------\n     \
+const NOTHING: &str = "no line of the input is of a test run\n\
+    \x20   cargo test writes such lines with: RUSTC_BOOTSTRAP=1 cargo test -- -Z unstable-options --format json\n\
+    \x20   test-report -- cargo test does this by itself\n------------\n     \
      Summary 0 tests run: 0 passed (0 flaky), 0 failed (0 timed out, 0 crashed), 0 skipped, 0 not run\n\
      outcome failed\n";
 

@@ -47,7 +47,9 @@ fn lines_nest_at_most_127_deep() {
     let event = "suite 1 ended early\nsuite 1: 3 of 3 tests were not run\n------------\n     \
          Summary 0 tests run: 0 passed (0 flaky), 0 failed (0 timed out, 0 crashed), 0 skipped, 3 not run\n\
          outcome failed\n";
-    let print = "no line of the input is of a test run\n------------\n     \
+    let print = "no line of the input is of a test run\n\
+    \x20   cargo test writes such lines with: RUSTC_BOOTSTRAP=1 cargo test -- -Z unstable-options --format json\n\
+    \x20   test-report -- cargo test does this by itself\n------------\n     \
          Summary 0 tests run: 0 passed (0 flaky), 0 failed (0 timed out, 0 crashed), 0 skipped, 0 not run\n\
          outcome failed\n";
     // The object itself is one level.

@@ -7,6 +7,9 @@ use crate::test_report_run::error::{RunError, one_more};
 use crate::test_report_run::note::{CargoReport, Disagreement, Note};
 use crate::test_report_run::run::TestRun;
 
+/// The front of the line in which cargo says that tests failed.
+const TESTS_FAILED: &[u8] = b"error: test failed";
+
 impl TestRun {
     /// Takes a heading of cargo.
     pub(crate) fn on_heading(&mut self, name: &str, path: Option<&str>) -> Result<(), RunError> {
@@ -31,14 +34,23 @@ impl TestRun {
         let disagrees = self.disagrees(failure);
         self.others.on_failure();
         if disagrees {
+            let lacks_events = self.lacks_events(plain);
             self.causes = one_more(self.causes)?;
             self.reported = Some(CargoReport {
                 line: String::from(plain),
                 prints: self.recent.text(0),
                 cause: None,
+                lacks_events,
             });
+            self.lacked_events = self.lacked_events || lacks_events;
         }
         Ok(())
+    }
+
+    /// Returns true if a failure of cargo is the first one in the file that says that tests failed, and no line of
+    /// the file was an event of a harness.
+    fn lacks_events(&self, plain: &str) -> bool {
+        !self.has_event && (!self.lacked_events && begins(plain.as_bytes(), TESTS_FAILED))
     }
 
     /// Returns true if no suite is open, and no failed test or earlier disagreement explains this failure of cargo
@@ -53,18 +65,24 @@ impl TestRun {
     }
 
     /// Makes the last failure of cargo known, if it is not yet, with the cause that was read after it. In the output of
-    /// a command it waits for the end of the command.
-    pub(crate) fn settle(&mut self, notes: &mut Vec<Note>) {
+    /// a command it waits for the end of the command. `heard` is true if an event of a harness follows.
+    pub(crate) fn settle(&mut self, heard: bool, notes: &mut Vec<Note>) {
         let Some(mut report) = self.reported.take() else {
             return;
         };
         report.cause = self.others.last_cause();
+        report.lacks_events = report.lacks_events && !heard;
         if self.of_command {
             self.held.push(report);
         } else {
             notes.push(Note::Disagreement(Disagreement::Cargo(report)));
         }
     }
+}
+
+/// Returns true if a line begins with this text.
+fn begins(line: &[u8], front: &[u8]) -> bool {
+    line.starts_with(front)
 }
 
 /// Adds the disagreement of a damaged line that says a failure.

@@ -1,0 +1,92 @@
+// Made by tools/erase from crates/test_report_forms/src/markdown_values.rt. Do not edit.
+//! The values of a finished report for the summary of a workflow. If there are many failed tests, it has the first ones.
+//!
+//! They are those of `report_values` for the run, its problems and its failed tests. If there are other failed tests,
+//! `more` has their number, as `count`.
+
+use crate::template::{Part, Value, parse_template, push_item, push_section, render};
+use crate::test_report_forms::failed_test::FailedTest;
+use crate::test_report_forms::markdown_template::FAILED;
+use crate::test_report_forms::model::ReportModel;
+use crate::test_report_forms::values::{failed_values, one_text, problem_items, run_values};
+use crate::test_report_run::note::RunEnd;
+
+/// The number of bytes of rows and details after which the summary has no other failed tests. GitHub shows a summary of
+/// at most 1 MiB.
+const MOST_BYTES: usize = 900_000;
+
+/// Returns the values of a finished report for its summary. The only error is that memory runs out.
+pub(crate) fn summary_values(model: ReportModel, end: &RunEnd) -> Vec<Value> {
+    let ReportModel {
+        options: _,
+        failed,
+        problems,
+        suites: _,
+        slowest: _,
+        skipped: _,
+    } = model;
+    let count = failed.len();
+    let shown = shown_items(failed);
+    let more = count.saturating_sub(shown.len());
+    let mut values = run_values(end);
+    push_section(
+        &mut values,
+        "problems",
+        problem_items(problems, end.outcome),
+    );
+    push_section(&mut values, "failures", shown);
+    push_more(&mut values, more);
+    values
+}
+
+/// Adds the number of other failed tests, unless there are none.
+fn push_more(values: &mut Vec<Value>, more: usize) {
+    if more == 0 {
+        return;
+    }
+    let count = format!("{more}");
+    push_item(values, "more", one_text("count", count));
+}
+
+/// Returns the failed tests that the summary shows.
+fn shown_items(tests: Vec<FailedTest>) -> Vec<Value> {
+    let parts = failed_parts();
+    fitting_items(parts.as_slice(), MOST_BYTES, tests)
+}
+
+/// Returns the parts of the template of one failed test.
+fn failed_parts() -> Vec<Part> {
+    let Some(parts) = parse_template(FAILED) else {
+        unreachable!();
+    };
+    parts
+}
+
+/// Returns failed tests, until what the parts render of them has this number of bytes.
+fn fitting_items(parts: &[Part], most: usize, tests: Vec<FailedTest>) -> Vec<Value> {
+    let mut items = Vec::new();
+    let mut room = most;
+    for test in tests {
+        let left = push_fitting(&mut items, parts, room, test);
+        room = left;
+    }
+    items
+}
+
+/// Adds a failed test, if there is room for more bytes. Returns how much room is left.
+fn push_fitting(items: &mut Vec<Value>, parts: &[Part], room: usize, test: FailedTest) -> usize {
+    if room == 0 {
+        return room;
+    }
+    let values = failed_values(test);
+    let size = rendered_size(parts, values.as_slice());
+    push_item(items, "failed", values);
+    room.saturating_sub(size)
+}
+
+/// Returns how many bytes parts render of values.
+fn rendered_size(parts: &[Part], values: &[Value]) -> usize {
+    let mut text = String::new();
+    render(&mut text, parts, values);
+    text.len()
+}

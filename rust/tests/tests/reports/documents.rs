@@ -1,0 +1,146 @@
+//! What the page and the summary of a workflow show of a run.
+
+use crate::{OPTIONS, reported};
+use deodarsieve_cli::test_report_forms::html::HtmlForm;
+use deodarsieve_cli::test_report_forms::markdown::MarkdownForm;
+
+/// A suite with a test that passes and two skipped tests, of which one has a reason.
+const SKIPPED: &str = r#"{"type":"suite","event":"started","test_count":3}
+{"type":"test","event":"started","name":"passes"}
+{"type":"test","event":"ok","name":"passes"}
+{"type":"test","event":"ignored","name":"asks_the_bank","message":"needs \"a bank\"\r\nand a <network>"}
+{"type":"test","event":"ignored","name":"is_slow"}
+{"type":"suite","event":"ok","passed":1,"failed":0,"ignored":2,"measured":0,"filtered_out":0}
+"#;
+
+/// Returns the lines of a suite of tests that pass. The test `tN` takes N seconds.
+fn timed_run(count: usize) -> String {
+    let mut lines =
+        format!("{{\"type\":\"suite\",\"event\":\"started\",\"test_count\":{count}}}\n");
+    for time in 1..=count {
+        lines += &format!(
+            "{{\"type\":\"test\",\"event\":\"started\",\"name\":\"t{time}\"}}\n\
+             {{\"type\":\"test\",\"event\":\"ok\",\"name\":\"t{time}\",\"exec_time\":{time}}}\n"
+        );
+    }
+    lines
+        + &format!(
+            "{{\"type\":\"suite\",\"event\":\"ok\",\"passed\":{count},\"failed\":0,\"ignored\":0}}\n"
+        )
+}
+
+/// Returns the numbers of the slow tests that the page lists.
+fn listed_times(count: usize) -> Vec<usize> {
+    let (page, _) = reported(HtmlForm::new(OPTIONS), &[&timed_run(count)]);
+    page.lines()
+        .filter_map(|line| {
+            line.strip_prefix("<tr><th scope=\"row\">suite 1 t")?
+                .split('<')
+                .next()?
+                .parse()
+                .ok()
+        })
+        .collect()
+}
+
+#[test]
+fn the_page_lists_the_ten_slowest_tests() {
+    for (count, wanted) in [
+        (0, vec![]),
+        (9, (1..=9).rev().collect()),
+        (10, (1..=10).rev().collect()),
+        (11, (2..=11).rev().collect()),
+        (25, (16..=25).rev().collect()),
+    ] {
+        assert_eq!(listed_times(count), wanted, "{count} tests");
+    }
+}
+
+#[test]
+fn the_page_ends_with_the_skipped_tests_that_have_a_reason() {
+    let (page, _) = reported(HtmlForm::new(OPTIONS), &[SKIPPED]);
+    let wanted = "</section>\n<section>\n<h2>Skipped tests</h2>\n<table>\n\
+                  <thead><tr><th scope=\"col\">Test</th><th scope=\"col\">Reason</th></tr></thead>\n<tbody>\n\
+                  <tr><th scope=\"row\">suite 1 asks_the_bank</th><td class=\"reason\">needs \"a bank\"\nand a &lt;network&gt;</td></tr>\n\
+                  </tbody>\n</table>\n</section>\n</main>\n</body>\n</html>\n";
+    assert!(page.ends_with(wanted), "{page}");
+    let without = SKIPPED.replace(r#","message":"needs \"a bank\"\r\nand a <network>""#, "");
+    let (page, _) = reported(HtmlForm::new(OPTIONS), &[&without]);
+    assert!(!page.contains("Skipped tests"), "{page}");
+}
+
+/// A suite with two failed tests, and the end of a test that had not started. The suite, the first test, its message and
+/// the name of the last test have an `@`.
+const MENTIONS: &str = r#"     Running tests/a@b.rs (target/debug/deps/a-46e3cc0ad64614af)
+{"type":"suite","event":"started","test_count":2}
+{"type":"test","event":"started","name":"asks@home"}
+{"type":"test","event":"failed","name":"asks@home","message":"no answer of @team"}
+{"type":"test","event":"started","name":"waits"}
+{"type":"test","event":"failed","name":"waits","message":"no answer"}
+{"type":"suite","event":"failed","passed":0,"failed":2,"ignored":0,"measured":0,"filtered_out":0}
+{"type":"test","event":"failed","name":"ends@last"}
+"#;
+
+#[test]
+fn a_summary_has_texts_with_an_at_sign_as_code() {
+    let (summary, _) = reported(MarkdownForm::new(OPTIONS), &[MENTIONS]);
+    let suite = "<code>a &#40;tests&#47;a&#64;b&#46;rs&#41;</code>";
+    let test = "<code>asks&#64;home</code>";
+    for wanted in [
+        format!("| FAIL | {suite} {test} |  | <code>no answer of &#64;team</code> |\n"),
+        format!("| FAIL | {suite} waits |  | no answer |\n"),
+        format!(
+            "<details><summary>FAIL {suite} {test}</summary>\n\n<pre>\nno answer of @team</pre>\n"
+        ),
+        format!("<details><summary>FAIL {suite} waits</summary>\n\n<pre>\nno answer</pre>\n"),
+        "- <code>ends&#64;last ended failed&#44; and had not started</code>\n".to_owned(),
+    ] {
+        assert!(summary.contains(&wanted), "{wanted}\n{summary}");
+    }
+}
+
+/// Returns the summary of a run with this number of failed tests, each of which has a message of 3,000 bytes.
+fn long_summary(count: usize) -> String {
+    let mut lines =
+        format!("{{\"type\":\"suite\",\"event\":\"started\",\"test_count\":{count}}}\n");
+    for number in 1..=count {
+        let name = format!("\"name\":\"t{number:03}\"");
+        let message = "m".repeat(3_000);
+        lines += &format!(
+            "{{\"type\":\"test\",\"event\":\"started\",{name}}}\n\
+             {{\"type\":\"test\",\"event\":\"failed\",{name},\"message\":\"{message}\"}}\n"
+        );
+    }
+    lines += "{\"type\":\"suite\",\"event\":\"failed\"}\n";
+    reported(MarkdownForm::new(OPTIONS), &[&lines]).0
+}
+
+#[test]
+fn a_summary_ends_after_900_000_bytes_of_failed_tests() {
+    let one = long_summary(1);
+    let row = one.find("| FAIL").expect("there is a row");
+    let size = one.len() - row - 1;
+    let most = 900_000_usize.div_ceil(size);
+    for (count, shown) in [
+        (most - 1, most - 1),
+        (most, most),
+        (most + 1, most),
+        (400, most),
+    ] {
+        let summary = long_summary(count);
+        assert_eq!(summary.matches("\n| FAIL | suite 1 t").count(), shown);
+        assert_eq!(
+            summary
+                .matches("\n<details><summary>FAIL suite 1 t")
+                .count(),
+            shown
+        );
+        assert!(summary.contains(&format!("suite 1 t{shown:03}</summary>")));
+        let last = format!(
+            "({} more failed tests: a summary on GitHub holds 1 MiB)\n",
+            count - shown
+        );
+        assert_eq!(summary.ends_with(&last), count > shown);
+        assert_eq!(summary.contains("more failed tests"), count > shown);
+    }
+}
