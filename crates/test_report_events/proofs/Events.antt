@@ -6,7 +6,7 @@ use Rattle.std.proofs.lemmas.Slice.Eq.{bytes_eq-Decides}
 use Rattle.std.specs.Str.{bytes_eq}
 use Rattle.serde_json.specs.Data.{Data}
 use Rattle.test_report_events.proofs.Times.{one-time}
-use Rattle.test_report_events.specs.Event.{EventView, SuiteEndView, TestEndView, SuiteStarts, SuiteEnds, TestStarts, TestEnds, OtherLine, HeadingLine, CargoFails, Prints, DamagedLine, CommandStarts, CommandOver}
+use Rattle.test_report_events.specs.Event.{EventView, SuiteEndView, TestEndView, SuiteStarts, SuiteEnds, TestStarts, TestEnds, TestIsSlow, OtherLine, HeadingLine, CargoFails, Prints, DamagedLine, CommandStarts, CommandOver}
 use Rattle.test_report_events.specs.Said.{EndsAs, HasEvent, HasName, HasType, HasVerdict, IsOther, ObjectSays, Says, text_of}
 use Rattle.test_report_events.specs.Table.{bench_result, is_text, object_said, suite_end_said, suite_said, test_end_said, test_said, typed_said}
 use Rattle.test_report_events.specs.declared.event.TestResult.{TestResult}
@@ -55,7 +55,8 @@ module _ (d : Data) (time : Option ℕ) where
       (λ a. row w (codes "ok") _ _ (λ same. (inl (of, read-as _ is same), named, refl, refl, refl, refl))
       (λ b. row w (codes "failed") _ _ (λ same. ((inl of, read-as _ is same), named, refl, refl, refl, refl))
       (λ c. row w (codes "ignored") _ _ (λ same. ((of, read-as _ is same), named, refl, refl, refl, refl))
-      (λ e. inr (inr (of, (name, named), (w, is, (a, b, c, e))))))))
+      (λ e. row w (codes "timeout") _ _ (λ same. (of, read-as _ is same, named))
+      (λ f. inr (inr (of, (name, named), (w, is, (a, b, c, e, f)))))))))
 
   -- how a benchmark ended
   text-tells : (o : Option (List ℕ)) (word : List ℕ) → is_text o word ≡ true → o ≡ Some word
@@ -142,7 +143,7 @@ module _ (d : Data) (time : Option ℕ) where
   other-row (inr (inl h)) = of-suite h.0 h.1.0 h.1.1
       ∙ (let w = h.1.0 in let o = h.1.2 in rw (unlike w _ o.0, unlike w _ o.1, unlike w _ o.2) refl)
   other-row (inr (inr h)) = of-test h.0 h.1.0 h.1.1 h.2.0 h.2.1
-      ∙ (let w = h.2.0 in let o = h.2.2 in rw (unlike w _ o.0, unlike w _ o.1, unlike w _ o.2, unlike w _ o.3) refl)
+      ∙ (let w = h.2.0 in let o = h.2.2 in rw (unlike w _ o.0, unlike w _ o.1, unlike w _ o.2, unlike w _ o.3, unlike w _ o.4) refl)
 
   pub object-only : (e : EventView) → Says time d e → object_said time d ≡ Some e
   unfolding suite_said test_said
@@ -150,6 +151,7 @@ module _ (d : Data) (time : Option ℕ) where
   object-only (SuiteEnds e) h = suite-end-row e.failed_verdict h.0 h.1 ∙ ap (λ x. Some (SuiteEnds x)) (suite-end-only e h)
   object-only (TestStarts name) h = of-test h.0 name h.2 _ h.1
   object-only (TestEnds e) h = end-row e.name h.1 e.result h.0 ∙ ap (λ x. Some (TestEnds x)) (end-only e h)
+  object-only (TestIsSlow name) h = of-test h.0 name h.2 _ h.1
   object-only OtherLine h = other-row h
   object-only (HeadingLine suite path) h = absurd h
   object-only (CargoFails failure text plain) h = absurd h

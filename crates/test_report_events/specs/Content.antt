@@ -1,7 +1,7 @@
 -- What is kept of a line that was read.
 use Rattle.std.specs.Prelude.{◌++◌, ◌∷◌, ℕ, List, Option, Some, None, codes, option_map, option_to_list}
 use Rattle.std.specs.String.{string_bytes}
-use Rattle.test_report_events.specs.Event.{CargoFails, DamagedLine, EventView, HeadingLine, OtherLine, Prints, SuiteEndView, SuiteEnds, SuiteStarts, TestEndView, TestEnds, TestStarts, key_text}
+use Rattle.test_report_events.specs.Event.{CargoFails, DamagedLine, EventView, HeadingLine, OtherLine, Prints, SuiteEndView, SuiteEnds, SuiteStarts, TestEndView, TestEnds, TestIsSlow, TestStarts, key_text}
 use Rattle.test_report_events.specs.declared.cargo.CargoLine.{CargoLine}
 use Rattle.test_report_events.specs.declared.cargo.CargoLine.TheVariants as cargo
 use Rattle.test_report_events.specs.declared.cargo.Heading.{Heading}
@@ -63,6 +63,7 @@ content_event (content.SuiteStarted key count) = SuiteStarts (option_map key_of 
 content_event (content.SuiteEnded end) = SuiteEnds (suite_end_of end)
 content_event (content.TestStarted name) = TestStarts (string_bytes name)
 content_event (content.TestEnded end) = TestEnds (end_of end)
+content_event (content.TestSlow name) = TestIsSlow (string_bytes name)
 content_event content.Other = OtherLine
 content_event (content.Heading suite path) = HeadingLine (string_bytes suite) (option_map string_bytes path)
 content_event (content.Failure failure text plain) = CargoFails failure (string_bytes text) (string_bytes plain)

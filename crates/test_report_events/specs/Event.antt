@@ -55,6 +55,8 @@ pub data EventView : Type 0 where
   TestStarts : List ℕ → EventView
   -- a test ends
   TestEnds : TestEndView → EventView
+  -- a test with this name is slow
+  TestIsSlow : List ℕ → EventView
   -- another line of a test harness
   OtherLine : EventView
   -- a heading, with the name of the suites that follow it, and the path of their binary
@@ -108,6 +110,7 @@ event_view (event.SuiteStarted key count) = SuiteStarts (option_map text_of_key 
 event_view (event.SuiteEnded e) = SuiteEnds (suite_end_view e)
 event_view (event.TestStarted name) = TestStarts name.now
 event_view (event.TestEnded name outcome details) = TestEnds (test_end_view name.now outcome details)
+event_view (event.TestSlow name) = TestIsSlow name.now
 event_view event.Other = OtherLine
 event_view (event.Heading suite path) = HeadingLine suite.now (option_map (λ path. path.now) path)
 event_view (event.CargoFailed failure line plain) = CargoFails failure line.now plain.now

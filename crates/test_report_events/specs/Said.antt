@@ -2,7 +2,7 @@
 use Rattle.std.specs.Prelude.{◌≡◌, ◌≢◌, ◌⊎◌, ℕ, List, [], ◌∷◌, codes, Bool, true, false, Option, Some, None, IsSome, MatchOption, nat_le, option_and_then, if◌then◌else◌}
 use Rattle.serde_json.specs.Data.{Data}
 use Rattle.serde_json.specs.Find.{as_number, as_str, as_u64, get}
-use Rattle.test_report_events.specs.Event.{EventView, SuiteStarts, SuiteEnds, TestStarts, TestEnds, OtherLine, HeadingLine, CargoFails, Prints, DamagedLine, CommandStarts, CommandOver, key_text}
+use Rattle.test_report_events.specs.Event.{EventView, SuiteStarts, SuiteEnds, TestStarts, TestEnds, TestIsSlow, OtherLine, HeadingLine, CargoFails, Prints, DamagedLine, CommandStarts, CommandOver, key_text}
 use Rattle.test_report_events.specs.Time.{GivesTime}
 use Rattle.test_report_events.specs.declared.event.TestResult.{TestResult}
 use Rattle.test_report_events.specs.declared.event.TestResult.TheVariants.{Ok, Failed, Ignored}
@@ -75,7 +75,8 @@ IsOtherOfSuite word = (word ≢ codes "started") × (word ≢ codes "ok") × (wo
 
 -- the word is none of the events of a test in the table
 abbrev pub IsOtherOfTest : List ℕ → Type 0
-IsOtherOfTest word = (word ≢ codes "started") × (word ≢ codes "ok") × (word ≢ codes "failed") × (word ≢ codes "ignored")
+IsOtherOfTest word =
+    (word ≢ codes "started") × (word ≢ codes "ok") × (word ≢ codes "failed") × (word ≢ codes "ignored") × (word ≢ codes "timeout")
 
 -- another line of a harness: a report, or an event of a suite or a test that is not in the table
 abbrev pub IsOther : Data → Type 0
@@ -105,6 +106,7 @@ Says time d (TestEnds e) =
     × (e.message ≡ words_of (codes "message") d)
     × (e.reason ≡ words_of (codes "reason") d)
     × (e.time ≡ time)
+Says time d (TestIsSlow name) = HasType d (codes "test") × HasEvent d (codes "timeout") × HasName d name
 Says time d OtherLine = IsOther d
 Says time d (HeadingLine suite path) = ⊥
 Says time d (CargoFails failure text plain) = ⊥

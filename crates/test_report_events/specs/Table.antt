@@ -6,7 +6,7 @@ use Rattle.serde_json.specs.View.{view}
 use Rattle.serde_json.specs.declared.value.Value.{Value}
 use Rattle.test_report_events.specs.Cargo.{CargoSays}
 use Rattle.test_report_events.specs.Content.{cargo_event}
-use Rattle.test_report_events.specs.Event.{EventView, Prints, SuiteEndView, TestEndView, SuiteStarts, SuiteEnds, TestStarts, TestEnds, OtherLine}
+use Rattle.test_report_events.specs.Event.{EventView, Prints, SuiteEndView, TestEndView, SuiteStarts, SuiteEnds, TestStarts, TestEnds, TestIsSlow, OtherLine}
 use Rattle.test_report_events.specs.Line.{EndSays, IsJson, IsLastAt, ObjectBegins}
 use Rattle.test_report_events.specs.Said.{count_of, key_of, text_of, words_of}
 use Rattle.test_report_events.specs.Time.{without_spaces}
@@ -52,6 +52,7 @@ test_said time d name event =
     else if bytes_eq event (codes "ok") then Some (TestEnds (test_end_said time d name Ok))
     else if bytes_eq event (codes "failed") then Some (TestEnds (test_end_said time d name Failed))
     else if bytes_eq event (codes "ignored") then Some (TestEnds (test_end_said time d name Ignored))
+    else if bytes_eq event (codes "timeout") then Some (TestIsSlow name)
     else Some OtherLine
 
 -- there is a text, and it is this one

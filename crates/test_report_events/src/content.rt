@@ -28,6 +28,11 @@ pub(crate) enum Content {
     /// A test ends.
     TestEnded(TestEnd),
 
+    /// A test is slow.
+    TestSlow {
+        name: String,
+    },
+
     /// Another line of a test harness.
     Other,
 
@@ -104,6 +109,9 @@ impl Content {
                 result: outcome,
                 details,
             } => Ok(Content::TestEnded(TestEnd::of(alloc, name, outcome, details)?)),
+            Event::TestSlow { name } => Ok(Content::TestSlow {
+                name: String::from_str(alloc, name)?,
+            }),
             Event::Other => Ok(Content::Other),
             Event::Heading { suite, path } => Ok(Content::Heading {
                 suite: String::from_str(alloc, suite)?,
@@ -172,6 +180,9 @@ impl Content {
                 name: name.as_str(),
             },
             Content::TestEnded(end) => end.event(),
+            Content::TestSlow { name } => Event::TestSlow {
+                name: name.as_str(),
+            },
             Content::Other => Event::Other,
             Content::Heading { suite, path } => Event::Heading {
                 suite: suite.as_str(),

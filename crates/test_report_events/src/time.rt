@@ -101,9 +101,11 @@ pub(crate) fn are_digits(bytes: &[u8]) -> bool
     bytes.iter().all(|byte| byte.is_ascii_digit())
 }
 
-/// Parses a number of seconds, and returns microseconds.
+/// Parses a number of seconds, and returns whole microseconds, rounded down. Returns `None` if the text is not a
+/// decimal number with digits on both sides of its point, if it has one, or if it has more than nine digits before
+/// the point.
 #[tactic(auto, using(crate::proofs::Values::value_short))]
-fn microseconds(number: &[u8]) -> Option<u64>
+pub fn microseconds(number: &[u8]) -> Option<u64>
     ensures { SomeIff result (time.IsSeconds number.now) (time.microseconds number.now) }
 {
     let (whole, fraction) = parts_of(number);

@@ -4,28 +4,30 @@ use Rattle.test_report_run.specs.Note.{HasNoEnd, NoteView}
 use Rattle.test_report_run.specs.Others.{OthersView}
 use Rattle.test_report_run.specs.Over.{crash_of, crashed_notes, early_disagreements, early_notes, explained_of, failed_notes, flaky_notes, last_disagreement, last_notes, number_notes, skipped_note, with_all_flaky, with_failed}
 use Rattle.std.specs.Option.{option_or}
+use Rattle.test_report_run.specs.Running.{RunningView}
 use Rattle.test_report_run.specs.Suite.{SuiteState}
 use Rattle.test_report_run.specs.declared.last_line.Explanation.{Explanation}
 
-pub early-notes : (others : OthersView) (s s1 s2 : SuiteState) (names : List (List ℕ)) (n crashed : ℕ) (old n1 n2 n3 n4 : List NoteView)
-    → n ≡ length names → crashed ≡ n
-    → s1 ≡ record s { stats = with_failed s.stats names; crashed = s.crashed + n } → n1 ≡ old ++ crashed_notes s (crash_of others s n) names
+pub early-notes : (others : OthersView) (s s1 s2 : SuiteState) (tests : List RunningView) (n crashed : ℕ) (old n1 n2 n3 n4 : List NoteView)
+    → n ≡ length tests → crashed ≡ n
+    → s1 ≡ record s { stats = with_failed s.stats tests; crashed = s.crashed + n } → n1 ≡ old ++ crashed_notes s (crash_of others s n) tests
     → s2 ≡ record s1 { stats = with_all_flaky false s1.stats s1.flaky; flaky = [] } → n2 ≡ n1 ++ flaky_notes s1 false
     → n3 ≡ n2 ++ early_disagreements s2 crashed → n4 ≡ n3 ++ number_notes s2 record { skipped = s2.skipped; left = 0; time = s2.time }
-    → n4 ≡ old ++ early_notes others s names
-early-notes others s s1 s2 names n crashed old n1 n2 n3 n4 count same after failed released flaky early numbers =
+    → n4 ≡ old ++ early_notes others s tests
+early-notes others s s1 s2 tests n crashed old n1 n2 n3 n4 count same after failed released flaky early numbers =
     rw (numbers, early, flaky, failed, released, after, same, count) (simp append_assoc)
 
 -- the same for a suite that ends by its last line: the notes of its tests `front` that may be skipped, and of the others, `back`
-pub last-notes : (s s1 s2 : SuiteState) (names front back : List (List ℕ)) (e : Explanation) (n left : ℕ) (time : Option ℕ) (old n1 n2 n3 n4 n5 : List NoteView)
-    → n ≡ length names → e ≡ explained_of s n → front ≡ take e.skipped names → back ≡ drop e.skipped names
+pub last-notes : (s s1 s2 : SuiteState) (tests front back : List RunningView) (e : Explanation) (n left : ℕ) (time : Option ℕ)
+    (old n1 n2 n3 n4 n5 : List NoteView)
+    → n ≡ length tests → e ≡ explained_of s n → front ≡ take e.skipped tests → back ≡ drop e.skipped tests
     → left ≡ (if e.others_failed then 0 else length back) → s1 ≡ record s { stats = with_failed s.stats (if e.others_failed then back else []) }
     → n1 ≡ old ++ map (skipped_note s) front → n2 ≡ n1 ++ failed_notes s HasNoEnd (if e.others_failed then back else [])
     → s2 ≡ record s1 { stats = with_all_flaky e.flaky_failed s1.stats s1.flaky; flaky = [] } → n3 ≡ n2 ++ flaky_notes s1 e.flaky_failed
     → n4 ≡ n3 ++ last_disagreement s2
     → time ≡ option_or s2.said.time s2.time
     → n5 ≡ n4 ++ number_notes s2 record { skipped = s2.skipped + e.skipped + e.nameless; left = left; time = time }
-    → n5 ≡ old ++ last_notes s names
-last-notes s s1 s2 names front back e n left time old n1 n2 n3 n4 n5 count explained first others some after skipped failed released flaky said is
+    → n5 ≡ old ++ last_notes s tests
+last-notes s s1 s2 tests front back e n left time old n1 n2 n3 n4 n5 count explained first others some after skipped failed released flaky said is
     numbers =
     rw (numbers, is, said, flaky, failed, skipped, released, after, some, first, others, explained, count) (simp append_assoc)

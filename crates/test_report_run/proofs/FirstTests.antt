@@ -1,14 +1,15 @@
 -- The first running test that passes a test, and the views of the others.
-use Rattle.std.proofs.Common.{◌≡◌, ◌∙◌, ℕ, List, ◌<◌, Bool, cond, ap, sym, arith, length, Some, None, option_map}
+use Rattle.std.proofs.Common.{◌≡◌, ◌∙◌, ℕ, List, ◌<◌, Bool, true, cond, ap, refl, sym, arith, length, Option, Some, None, IfSome, option_map}
 use Rattle.std.specs.BTreeMap.{is_at}
 use Rattle.std.specs.List.{position, position_or_len, remove}
-use Rattle.std.specs.Map.{lookup, remove_entry, values_of}
+use Rattle.std.specs.Map.{lookup, remove_entry, set_value, values_of}
 use Rattle.std.specs.Option.{option_map_or}
 use Rattle.std.specs.Ordering.{nat_cmp}
 use Rattle.std.proofs.lemmas.Bool.{lt-ltb, le-ltb}
-use Rattle.std.proofs.lemmas.List.{length-map}
-use Rattle.std.proofs.lemmas.Option.{slice_get-map, slice_get-get_or}
-use Rattle.test_report_run.specs.Running.{RunningView, no_test, running_at, running_test_view, running_view}
+use Rattle.std.proofs.Math.ListN.{set}
+use Rattle.std.proofs.lemmas.List.{length-map, map-set}
+use Rattle.std.proofs.lemmas.Option.{same_Some, slice_get-map, slice_get-get_or}
+use Rattle.test_report_run.specs.Running.{RunningView, no_test, running_at, running_test_view, running_view, with_slow}
 use Rattle.test_report_run.specs.declared.running.RunningTest.{RunningTest}
 use Rattle.test_report_run.proofs.Firsts.{IsFirst}
 use Rattle.test_report_run.proofs.Places.{map-remove, position-map}
@@ -50,3 +51,50 @@ left_view q es n first =
     ap (λ ts. running_view ts) first.1
     ∙ map-remove running_test_view tests place
     ∙ sym (ap (λ at. option_map_or (remove (running_view tests)) at (running_view tests)) (place_view q tests first.0))
+
+-- an option, mapped twice
+twice : {A B C : Type 0} (f : A → B) (g : B → C) (o : Option A) → option_map g (option_map f o) ≡ option_map (λ a. g (f a)) o
+twice f g None = refl
+twice f g (Some a) = refl
+
+-- its suite
+pub suite_view : (q : RunningView → Bool) (es : List (ℕ × RunningTest)) (n : ℕ) → IsFirst (λ t. q (running_test_view t)) es n
+    → option_map (λ t. t.suite) (lookup (is_at (nat_cmp n)) es)
+    ≡ option_map (λ at. (running_at (running_view (values_of es)) at).suite) (position q (running_view (values_of es)))
+suite_view q es n first =
+    sym (twice running_test_view (λ (v : RunningView). v.suite) (lookup (is_at (nat_cmp n)) es))
+    ∙ ap (option_map (λ (v : RunningView). v.suite)) (found_view q es n first)
+    ∙ twice (running_at (running_view (values_of es))) (λ (v : RunningView). v.suite) (position q (running_view (values_of es)))
+
+-- that test is slow from then on
+slow_value : (q : RunningView → Bool) (es : List (ℕ × RunningTest)) (n : ℕ) (t : RunningTest) → IsFirst (λ t. q (running_test_view t)) es n
+    → lookup (is_at (nat_cmp n)) es ≡ Some t
+    → running_view (values_of (set_value (is_at (nat_cmp n)) es (record t { slow = true })))
+    ≡ option_map_or (with_slow (running_view (values_of es))) (position q (running_view (values_of es))) (running_view (values_of es))
+slow_value q es n t first is =
+    let tests = values_of es in
+    let place = position_or_len (λ t. q (running_test_view t)) tests in
+    let views = running_view tests in
+    let own : running_test_view t ≡ running_at views place =
+    same_Some _ _ (ap (option_map running_test_view) (sym is) ∙ found_view q es n first ∙ ap (option_map (running_at views)) (place_view q tests first.0)) in
+    ap (λ ts. running_view ts) (first.3 (record t { slow = true }))
+    ∙ map-set running_test_view tests place (record t { slow = true })
+    ∙ ap (λ (v : RunningView). set views place (record v { slow = true })) own
+    ∙ sym (ap (λ at. option_map_or (with_slow views) at views) (place_view q tests first.0))
+
+slow_found : (q : RunningView → Bool) (es after : List (ℕ × RunningTest)) (n : ℕ) (found : Option RunningTest) → IsFirst (λ t. q (running_test_view t)) es n
+    → lookup (is_at (nat_cmp n)) es ≡ found → IfSome found (λ t. after ≡ set_value (is_at (nat_cmp n)) es (record t { slow = true }))
+    → running_view (values_of after)
+    ≡ option_map_or (with_slow (running_view (values_of es))) (position q (running_view (values_of es))) (running_view (values_of es))
+slow_found q es after n None first is changed =
+    let found : None ≡ Some (running_at (running_view (values_of es)) (position_or_len (λ t. q (running_test_view t)) (values_of es))) =
+    ap (option_map running_test_view) (sym is) ∙ found_view q es n first
+    ∙ ap (option_map (running_at (running_view (values_of es)))) (place_view q (values_of es) first.0) in
+    absurd (grind (arith, found))
+slow_found q es after n (Some t) first is changed = ap (λ es. running_view (values_of es)) changed ∙ slow_value q es n t first is
+
+pub slow_view : (q : RunningView → Bool) (es after : List (ℕ × RunningTest)) (n : ℕ) → IsFirst (λ t. q (running_test_view t)) es n
+    → IfSome (lookup (is_at (nat_cmp n)) es) (λ t. after ≡ set_value (is_at (nat_cmp n)) es (record t { slow = true }))
+    → running_view (values_of after)
+    ≡ option_map_or (with_slow (running_view (values_of es))) (position q (running_view (values_of es))) (running_view (values_of es))
+slow_view q es after n first changed = slow_found q es after n (lookup (is_at (nat_cmp n)) es) first refl changed

@@ -3,10 +3,11 @@ use Rattle.std.proofs.Common.{◌≡◌, ℕ, suc, List, [], ◌∷◌, ◌+◌,
 use Rattle.std.specs.BTreeMap.{is_at}
 use Rattle.std.specs.List.{AllByRecursion, position_or_len, remove, slice_get}
 use Rattle.std.specs.List.Sorted.{IsStrictlySortedBy}
-use Rattle.std.specs.Map.{keys_of, lookup, remove_entry, values_of}
+use Rattle.std.specs.Map.{keys_of, lookup, remove_entry, set_value, values_of}
 use Rattle.std.specs.Option.{option_map_or}
 use Rattle.std.specs.Ordering.{nat_cmp}
 use Rattle.std.specs.declared.cmp.Ordering.TheVariants.{Less}
+use Rattle.std.proofs.Math.ListN.{set}
 use Rattle.std.proofs.lemmas.Bool.{cases_eq, cases_Bool, false≢true}
 use Rattle.std.proofs.lemmas.Bool.Decides.{nat_tests}
 use Rattle.std.proofs.lemmas.Map.Keys.{sorted_head, sorted_tail}
@@ -39,20 +40,21 @@ above p k (e ∷ es) n all is = elim (cases_eq n e.0) as (λ _. k < n) [
   | inr apart ↦ above p k es n all.1 (sym (passes-later p e es n apart) ∙ is)
 ]
 
--- the place of the first entry that passes, what is left without it, and what it is
+-- the place of the first entry that passes, what is left without it, what it is, and what another one in its place gives
 abbrev pub IsFirst : {X : Type 0} → (X → Bool) → List (ℕ × X) → ℕ → Type 0
-IsFirst p es n = (position_or_len p (values_of es) < length (values_of es))
+IsFirst {X} p es n = (position_or_len p (values_of es) < length (values_of es))
     × (values_of (remove_entry (is_at (nat_cmp n)) es) ≡ remove (values_of es) (position_or_len p (values_of es)))
     × (lookup (is_at (nat_cmp n)) es ≡ slice_get (values_of es) (position_or_len p (values_of es)))
+    × ((x : X) → values_of (set_value (is_at (nat_cmp n)) es x) ≡ set (values_of es) (position_or_len p (values_of es)) x)
 
 first-here : {X : Type 0} (p : X → Bool) (e : ℕ × X) (es : List (ℕ × X)) (n : ℕ) → n ≡ e.0 → p e.1 ≡ true → IsFirst p (e ∷ es) n
-first-here p e es n same here = rw (here, is_at-same n e.0 same) (omega arith, refl, refl)
+first-here p e es n same here = rw (here, is_at-same n e.0 same) (omega arith, refl, refl, λ x. refl)
 
 first-later : {X : Type 0} (p : X → Bool) (e : ℕ × X) (es : List (ℕ × X)) (n : ℕ) → (n ≡ e.0 → ⊥) → p e.1 ≡ false → IsFirst p es n → IsFirst p (e ∷ es) n
 first-later p e es n apart here first =
     let place = position_or_len p (values_of es) in
     let next : 1 + place ≡ suc place = omega arith in
-    rw (here, is_at-apart n e.0 apart, next) (omega (arith, first.0), ap (λ vs. e.1 ∷ vs) first.1, first.2)
+    rw (here, is_at-apart n e.0 apart, next) (omega (arith, first.0), ap (λ vs. e.1 ∷ vs) first.1, first.2, λ x. ap (λ vs. e.1 ∷ vs) (first.3 x))
 
 pub first_place : {X : Type 0} (p : X → Bool) (es : List (ℕ × X)) (n : ℕ) → IsStrictlySortedBy nat_cmp (keys_of es) → passes p es n ≡ true
     → ((k : ℕ) → passes p es k ≡ true → n ≤ k) → IsFirst p es n

@@ -215,3 +215,27 @@ place_between (Some a) (Some b) k m n from to = grind (arith, nat_tests)
 pub length_zero : {X : Type 0} (xs : List X) → length xs ≡ 0 → xs ≡ []
 length_zero [] is = refl
 length_zero (x ∷ xs) is = absurd (omega (arith, is))
+
+-- a test that changes keeps its place in an index
+pub index_kept : (f : RunningTest → Bool) (before now : Option RunningTest) (test after : RunningTest) (order n : ℕ)
+    → now ≡ cond (is_at (nat_cmp order) n) (Some after) before → (order ≡ n → before ≡ Some test) → f after ≡ f test
+    → option_map_or f before false ≡ option_map_or f now false
+index_kept f before now test after order n is here kept = elim (cases_eq order n) as (λ _. option_map_or f before false ≡ option_map_or f now false) [
+  | inl same ↦
+      let t : (order == n) ≡ true = grind (arith, nat_tests) in
+      rw (is, same_number order n, t, here same) (sym kept)
+  | inr apart ↦
+      let t : (order == n) ≡ false = grind (arith, nat_tests) in
+      rw (is, same_number order n, t) refl
+]
+
+-- the tests started before if one of them changes, too
+pub some_kept : {X : Type 0} (before now : Option X) (test after : X) (order n : ℕ) → now ≡ cond (is_at (nat_cmp order) n) (Some after) before
+    → (order ≡ n → before ≡ Some test) → IsSome now → IsSome before
+some_kept before now test after order n is here found = elim (cases_eq order n) as (λ _. IsSome before) [
+  | inl same ↦ rw (here same) refl
+  | inr apart ↦
+      let t : (order == n) ≡ false = grind (arith, nat_tests) in
+      let kept : now ≡ before = is ∙ rw (same_number order n, t) refl in
+      rw (sym kept) found
+]

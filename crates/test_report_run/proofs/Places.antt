@@ -1,7 +1,5 @@
 -- Places in a list of views.
-use Rattle.std.proofs.Common.{◌≡◌, ℕ, zero, suc, List, [], ◌∷◌, ◌++◌, ◌+◌, ◌<◌, Bool, not, cond, map, refl, ap, sym, arith, length, get_or, take, drop, string_bytes, unwrap_or}
-use Rattle.test_report_run.specs.Running.{names_of, running_view}
-use Rattle.test_report_run.specs.declared.running.RunningTest.{RunningTest}
+use Rattle.std.proofs.Common.{◌≡◌, ℕ, zero, suc, List, [], ◌∷◌, ◌++◌, ◌+◌, ◌<◌, Bool, not, cond, map, refl, ap, sym, arith, length, get_or, take, drop, unwrap_or}
 use Rattle.std.specs.List.{insert, position, position_or_len, prefix_len, remove}
 use Rattle.std.proofs.Math.ListN.{set}
 use Rattle.std.proofs.lemmas.List.{get_or-map, length-map, map-set}
@@ -54,8 +52,3 @@ map_each_more v f xs ys i d z inside within done changed =
     rw (map-set v ys i z, changed) (
     map_over_more f (map v xs) (map v ys) i x (omega (arith, length-map xs v)) done (sym (get_or-map v ys i d x within))
     )
-
--- the names of the tests of a view
-pub names-view : (tests : List RunningTest) → names_of tests ≡ map (λ t. t.name) (running_view tests)
-names-view [] = refl
-names-view (t ∷ tests) = ap (λ names. string_bytes t.name ∷ names) (names-view tests)

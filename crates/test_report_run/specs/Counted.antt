@@ -1,5 +1,5 @@
 -- How a test that finished counts.
-use Rattle.std.specs.Prelude.{ℕ, false, pos}
+use Rattle.std.specs.Prelude.{ℕ, Bool, false, pos}
 use Rattle.run_events_levels.specs.TestView.{TestView}
 use Rattle.run_events_results.specs.declared.results.ExecutionResultDescription.{ExecutionResultDescription}
 use Rattle.run_events_results.specs.declared.results.ExecutionResultDescription.TheVariants as described
@@ -31,6 +31,6 @@ flaky_result_of FlakyFailed = flaky.Fail
 flaky_result_of Failed = flaky.Pass
 flaky_result_of TimedOut = flaky.Pass
 
--- what decides the counters of a test that finished in this way
-abbrev pub view_of_finish : Finish → ℕ → TestView
-view_of_finish how attempts = record { result = result_of how; attempts = attempts; is_slow = false; flaky_result = flaky_result_of how }
+-- what decides the counters of a test that finished in this way, after this number of attempts, and whether it was slow
+abbrev pub view_of_finish : Finish → ℕ → Bool → TestView
+view_of_finish how attempts slow = record { result = result_of how; attempts = attempts; is_slow = slow; flaky_result = flaky_result_of how }

@@ -34,7 +34,7 @@ with_flaky f flaky = insert flaky (position_or_len (starts_later f.order) flaky)
 
 -- the suite after the end of a test that failed
 abbrev pub after_failed : SuiteState → OverView → TestEndView → SuiteState
-after_failed s t e = with_finish s (finish_for (failure_of e).kind) t.attempts
+after_failed s t e = with_finish s (finish_for (failure_of e).kind) t.attempts t.slow
 
 -- the suite after a flaky test passed. How the test counts is known when the suite ends
 abbrev pub after_flaky : SuiteState → OverView → ℕ → TestEndView → SuiteState
@@ -53,7 +53,7 @@ timed s e = record s { time = time_sum_of s.time e.time }
 -- the suite after the end of a test
 abbrev pub after_end : SuiteState → OverView → ℕ → TestEndView → SuiteState
 after_end s t order e = elim e.result as (λ _. SuiteState) [
-  | Ok ↦ if nat_lt 1 t.attempts then after_flaky (timed s e) t order e else with_finish (timed s e) finish.Passed 1
+  | Ok ↦ if nat_lt 1 t.attempts then after_flaky (timed s e) t order e else with_finish (timed s e) finish.Passed 1 t.slow
   | Failed ↦ after_failed (timed s e) t e
   | Ignored ↦ record s { skipped = s.skipped + 1 }
 ]

@@ -1,6 +1,6 @@
 -- Kinds of events.
 use Rattle.std.specs.Prelude.{Bool, true, false}
-use Rattle.test_report_events.specs.Event.{EventView, SuiteStarts, SuiteEnds, TestStarts, TestEnds, OtherLine, HeadingLine, CargoFails, Prints, DamagedLine, CommandStarts, CommandOver}
+use Rattle.test_report_events.specs.Event.{EventView, SuiteStarts, SuiteEnds, TestStarts, TestEnds, TestIsSlow, OtherLine, HeadingLine, CargoFails, Prints, DamagedLine, CommandStarts, CommandOver}
 
 -- the line is an event of a harness
 abbrev pub is_event : EventView → Bool
@@ -8,6 +8,7 @@ is_event (SuiteStarts key count) = true
 is_event (SuiteEnds e) = true
 is_event (TestStarts name) = true
 is_event (TestEnds e) = true
+is_event (TestIsSlow name) = true
 is_event OtherLine = true
 is_event (HeadingLine name path) = false
 is_event (CargoFails f line plain) = false
@@ -15,3 +16,18 @@ is_event (Prints line plain) = false
 is_event (DamagedLine text) = false
 is_event CommandStarts = false
 is_event (CommandOver end) = false
+
+-- a heading, an event or a failure comes after all that may say why cargo failed before it
+abbrev pub is_after_report : EventView → Bool
+is_after_report (SuiteStarts key count) = true
+is_after_report (SuiteEnds e) = true
+is_after_report (TestStarts name) = true
+is_after_report (TestEnds e) = true
+is_after_report (TestIsSlow name) = true
+is_after_report OtherLine = true
+is_after_report (HeadingLine name path) = true
+is_after_report (CargoFails f line plain) = true
+is_after_report (Prints line plain) = false
+is_after_report (DamagedLine text) = false
+is_after_report CommandStarts = false
+is_after_report (CommandOver end) = false

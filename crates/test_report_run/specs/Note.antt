@@ -21,8 +21,8 @@ use Rattle.test_report_run.specs.declared.note.TestNote.{TestNote}
 use Rattle.test_report_run.specs.declared.note.TestOutcome.{TestOutcome}
 use Rattle.test_report_run.specs.declared.note.TestOutcome.TheVariants as outcome
 
--- how a test crashed: how many tests ran, whether its suite has a key, and what may say why: the line in which cargo names the cause, the text of
--- the prints, and the last three of these that are not blank; and whether another test of the suite crashed before it
+-- How a test crashed: how many tests ran, and whether its suite has a key. The line in which cargo names the cause, the text of the prints, and the last
+-- three of these that are not blank may say why. The last field says whether another test of the suite crashed before it.
 pub record CrashView : Type 0 where
   pub running : ℕ
   pub has_key : Bool
@@ -59,10 +59,11 @@ pub record TestNoteView : Type 0 where
   pub attempts : ℕ
   pub time : Option ℕ
   pub ended : Option ℕ
+  pub slow : Bool
   pub outcome : OutcomeView
 
--- a failure of cargo: its line; what may say why: the prints before it, and the line in which cargo names the cause; and whether it is the first one
--- which says that tests failed in a file without events
+-- A failure of cargo: its line, the prints before it, the line in which cargo names the cause, and whether it lacks events: it is the first failure of
+-- its file that says that tests failed, and no event comes before it or right after it.
 pub record CargoView : Type 0 where
   pub line : List ℕ
   pub prints : List ℕ
@@ -139,11 +140,12 @@ outcome_view (outcome.Failed failure) = Fails (failure_view failure)
 -- what the note of a test says
 abbrev pub test_view : TestNote → TestNoteView
 test_view t = record {
-  suite = text_view t.suite;
+  suite = option_map (λ n. string_bytes n.value) t.suite;
   name = string_bytes t.name;
   attempts = t.attempts;
   time = t.time;
   ended = t.ended;
+  slow = t.slow;
   outcome = outcome_view t.outcome;
 }
 
@@ -159,8 +161,8 @@ command_view (command.Status code) = WithStatus code
 
 -- what a disagreement says
 abbrev pub disagreement_view : Disagreement → DisagreementView
-disagreement_view (disagreement.EndedEarly suite) = EndsEarly (string_bytes suite)
-disagreement_view (disagreement.LastLine suite said passed failed) = SaysOther (string_bytes suite) said passed failed
+disagreement_view (disagreement.EndedEarly suite) = EndsEarly (string_bytes suite.value)
+disagreement_view (disagreement.LastLine suite said passed failed) = SaysOther (string_bytes suite.value) said passed failed
 disagreement_view (disagreement.StrayEnd name outcome) = StrayEnds (string_bytes name) outcome
 disagreement_view (disagreement.StraySuiteEnd key failed) = StraySuiteEnds (text_view key) failed
 disagreement_view (disagreement.OutsideSuite started) = StartsOutside started
@@ -172,7 +174,7 @@ disagreement_view (disagreement.Command end) = CommandFails (command_view end)
 -- what the note of a suite says
 abbrev pub suite_view : SuiteNote → SuiteNoteView
 suite_view s = record {
-  name = text_view s.name;
+  name = option_map (λ n. string_bytes n.value) s.name;
   stats = s.stats;
   skipped = s.skipped;
   not_run = s.not_run;
@@ -184,7 +186,7 @@ suite_view s = record {
 abbrev pub note_view : Note → NoteView
 note_view (note.Test test) = TestIs (test_view test)
 note_view (note.Disagreement d) = Disagrees (disagreement_view d)
-note_view (note.NotRun n) = IsNotRun (string_bytes n.suite) n.not_run n.initial_run_count
+note_view (note.NotRun n) = IsNotRun (string_bytes n.suite.value) n.not_run n.initial_run_count
 note_view (note.Suite suite) = SuiteIs (suite_view suite)
 
 -- the command ended with status 0
@@ -200,3 +202,15 @@ was_not_started None = false
 was_not_started (Some (NotStarted error)) = true
 was_not_started (Some (BySignal number)) = false
 was_not_started (Some (WithStatus code)) = false
+
+-- a disagreement is counted when it becomes known. Failures of cargo are counted at their lines, and that a file has no event explains nothing
+abbrev pub is_new_disagreement : DisagreementView → Bool
+is_new_disagreement (EndsEarly suite) = true
+is_new_disagreement (SaysOther suite said passed failed) = true
+is_new_disagreement (StrayEnds name how) = true
+is_new_disagreement (StraySuiteEnds key failed) = true
+is_new_disagreement (StartsOutside n) = true
+is_new_disagreement (CargoSays report) = false
+is_new_disagreement (IsDamaged text) = true
+is_new_disagreement HasNoEvent = false
+is_new_disagreement (CommandFails end) = true

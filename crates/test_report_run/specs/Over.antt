@@ -8,6 +8,7 @@ use Rattle.test_report_run.specs.Counted.{view_of_finish}
 use Rattle.test_report_run.specs.LastLine.{explanation_of, is_contradicted}
 use Rattle.test_report_run.specs.Note.{CrashView, Disagrees, EndsEarly, FailureView, Fails, HasCrashed, HasNoEnd, IsFlaky, IsNotRun, IsSkipped, KindView, NoteView, OutcomeView, Passes, SaysOther, StartsOutside, SuiteIs}
 use Rattle.test_report_run.specs.Others.{OthersView, cause_behind, last_prints_from, prints_from}
+use Rattle.test_report_run.specs.Running.{RunningView}
 use Rattle.test_report_run.specs.Said.{numbers_of}
 use Rattle.test_report_run.specs.Suite.{FlakyView, OverView, SuiteState, failed_of, suite_name, tally_of, test_note}
 use Rattle.test_report_run.specs.declared.counted.Finish.TheVariants as finish
@@ -15,20 +16,20 @@ use Rattle.test_report_run.specs.declared.last_line.Explanation.{Explanation}
 use Rattle.test_report_run.specs.declared.over.Rest.{Rest}
 
 -- a test without end is over
-abbrev pub over_of : List ℕ → OverView
-over_of name = record { name = name; attempts = 1; time = None; ended = None }
+abbrev pub over_of : RunningView → OverView
+over_of t = record { name = t.name; attempts = 1; time = None; ended = None; slow = t.slow }
 
 -- a failure that no line reports
 abbrev pub bare_failure : KindView → FailureView
 bare_failure kind = record { kind = kind; stdout = None; message = None; reason = None }
 
--- a test without end, of this name, fails so
-abbrev pub failed_note : SuiteState → KindView → List ℕ → NoteView
-failed_note s kind name = test_note s (over_of name) (Fails (bare_failure kind))
+-- this test without end fails so
+abbrev pub failed_note : SuiteState → KindView → RunningView → NoteView
+failed_note s kind t = test_note s (over_of t) (Fails (bare_failure kind))
 
--- tests without end, of these names, fail so
-abbrev pub failed_notes : SuiteState → KindView → List (List ℕ) → List NoteView
-failed_notes s kind names = map (failed_note s kind) names
+-- these tests without end fail so
+abbrev pub failed_notes : SuiteState → KindView → List RunningView → List NoteView
+failed_notes s kind tests = map (failed_note s kind) tests
 
 -- how the first test crashed while this number of tests of the suite ran, after these lines that are no events
 abbrev pub crash_of : OthersView → SuiteState → ℕ → CrashView
@@ -45,22 +46,22 @@ crash_of others s running = record {
 abbrev pub crash_again : CrashView → CrashView
 crash_again c = record c { above = true }
 
--- tests of these names crash: the first one so, and the others after it
-abbrev pub crashed_notes : SuiteState → CrashView → List (List ℕ) → List NoteView
+-- these tests crash: the first one so, and the others after it
+abbrev pub crashed_notes : SuiteState → CrashView → List RunningView → List NoteView
 crashed_notes s c [] = []
-crashed_notes s c (name ∷ names) = failed_note s (HasCrashed c) name ∷ failed_notes s (HasCrashed (crash_again c)) names
+crashed_notes s c (t ∷ tests) = failed_note s (HasCrashed c) t ∷ failed_notes s (HasCrashed (crash_again c)) tests
 
--- the statistics with one more test that failed
-abbrev pub one_failed : RunStats → List ℕ → RunStats
-one_failed stats name = with_test stats (view_of_finish finish.Failed 1)
+-- the statistics with one more test without end that failed
+abbrev pub one_failed : RunStats → RunningView → RunStats
+one_failed stats t = with_test stats (view_of_finish finish.Failed 1 t.slow)
 
--- the statistics with one more failed test for each of these names
-abbrev pub with_failed : RunStats → List (List ℕ) → RunStats
-with_failed stats names = fold one_failed stats names
+-- the statistics with all these tests as failed
+abbrev pub with_failed : RunStats → List RunningView → RunStats
+with_failed stats tests = fold one_failed stats tests
 
--- the suite with one more failure of that kind
-abbrev pub with_failure : SuiteState → SuiteState
-with_failure s = record s { stats = one_failed s.stats [] }
+-- the suite with one more test without end that failed
+abbrev pub with_failure : SuiteState → RunningView → SuiteState
+with_failure s t = record s { stats = one_failed s.stats t }
 
 -- how a flaky test counts: it passed, or it failed
 abbrev pub flaky_outcome : Bool → FlakyView → OutcomeView
@@ -77,7 +78,7 @@ flaky_notes s failed = map (flaky_note s failed) s.flaky
 
 -- the statistics with one more flaky test
 abbrev pub one_flaky : Bool → RunStats → FlakyView → RunStats
-one_flaky failed stats f = with_test stats (view_of_finish (if failed then finish.FlakyFailed else finish.Passed) f.test.attempts)
+one_flaky failed stats f = with_test stats (view_of_finish (if failed then finish.FlakyFailed else finish.Passed) f.test.attempts f.test.slow)
 
 -- the statistics with all these flaky tests
 abbrev pub with_all_flaky : Bool → RunStats → List FlakyView → RunStats
@@ -103,33 +104,33 @@ early_disagreements s crashed =
     (if nat_lt 0 s.started then Disagrees (StartsOutside s.started) ∷ [] else [])
 
 -- a suite that ends early counts its running tests as crashed, and its flaky tests as passed
-abbrev pub early_state : SuiteState → List (List ℕ) → SuiteState
-early_state s names = record s {
-  stats = with_all_flaky false (with_failed s.stats names) s.flaky;
-  crashed = s.crashed + length names;
+abbrev pub early_state : SuiteState → List RunningView → SuiteState
+early_state s tests = record s {
+  stats = with_all_flaky false (with_failed s.stats tests) s.flaky;
+  crashed = s.crashed + length tests;
   flaky = [];
 }
 
--- what becomes known when a suite ends early while tests of these names run, after these lines that are no events
-abbrev pub early_notes : OthersView → SuiteState → List (List ℕ) → List NoteView
-early_notes others s names =
-    crashed_notes s (crash_of others s (length names)) names
+-- what becomes known when a suite ends early while these tests run, after these lines that are no events
+abbrev pub early_notes : OthersView → SuiteState → List RunningView → List NoteView
+early_notes others s tests =
+    crashed_notes s (crash_of others s (length tests)) tests
     ++ (flaky_notes s false
-    ++ (early_disagreements s (length names)
-    ++ number_notes (early_state s names) record { skipped = s.skipped; left = 0; time = s.time }))
+    ++ (early_disagreements s (length tests)
+    ++ number_notes (early_state s tests) record { skipped = s.skipped; left = 0; time = s.time }))
 
 -- what the last line of a suite explains while this number of its tests run
 abbrev pub explained_of : SuiteState → ℕ → Explanation
 explained_of s left = explanation_of (tally_of s left) (numbers_of s.said) (unwrap_or s.said.ignored 0)
 
 -- the running tests that failed, by what the last line explains
-abbrev pub lost : Explanation → List (List ℕ) → List (List ℕ)
-lost e names = if e.others_failed then drop e.skipped names else []
+abbrev pub lost : Explanation → List RunningView → List RunningView
+lost e tests = if e.others_failed then drop e.skipped tests else []
 
 -- a suite that ends with its last line counts its running and its flaky tests as the line explains them
-abbrev pub last_state : SuiteState → Explanation → List (List ℕ) → SuiteState
-last_state s e names = record s {
-  stats = with_all_flaky e.flaky_failed (with_failed s.stats (lost e names)) s.flaky;
+abbrev pub last_state : SuiteState → Explanation → List RunningView → SuiteState
+last_state s e tests = record s {
+  stats = with_all_flaky e.flaky_failed (with_failed s.stats (lost e tests)) s.flaky;
   flaky = [];
 }
 
@@ -141,23 +142,23 @@ last_disagreement s =
     then Disagrees (SaysOther name said s.stats.passed (failed_of s.stats)) ∷ [] else []) (suite_name s) []
 
 -- how many tests of such a suite were skipped, how many were not run, and the time that it took
-abbrev pub rest_of : SuiteState → Explanation → List (List ℕ) → Rest
-rest_of s e names = record {
+abbrev pub rest_of : SuiteState → Explanation → List RunningView → Rest
+rest_of s e tests = record {
   skipped = s.skipped + e.skipped + e.nameless;
-  left = if e.others_failed then 0 else length (drop e.skipped names);
+  left = if e.others_failed then 0 else length (drop e.skipped tests);
   time = option_or s.said.time s.time;
 }
 
--- a test without end, of this name, was skipped
-abbrev pub skipped_note : SuiteState → List ℕ → NoteView
-skipped_note s name = test_note s (over_of name) (IsSkipped None)
+-- this test without end was skipped
+abbrev pub skipped_note : SuiteState → RunningView → NoteView
+skipped_note s t = test_note s (over_of t) (IsSkipped None)
 
--- what becomes known when a suite ends with its last line while tests of these names run
-abbrev pub last_notes : SuiteState → List (List ℕ) → List NoteView
-last_notes s names =
-    let e = explained_of s (length names) in
-    map (skipped_note s) (take e.skipped names)
-    ++ (failed_notes s HasNoEnd (lost e names)
+-- what becomes known when a suite ends with its last line while these tests run
+abbrev pub last_notes : SuiteState → List RunningView → List NoteView
+last_notes s tests =
+    let e = explained_of s (length tests) in
+    map (skipped_note s) (take e.skipped tests)
+    ++ (failed_notes s HasNoEnd (lost e tests)
     ++ (flaky_notes s e.flaky_failed
-    ++ (last_disagreement (last_state s e names)
-    ++ number_notes (last_state s e names) (rest_of s e names))))
+    ++ (last_disagreement (last_state s e tests)
+    ++ number_notes (last_state s e tests) (rest_of s e tests))))

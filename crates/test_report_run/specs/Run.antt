@@ -1,21 +1,21 @@
 -- A run, line by line.
-use Rattle.std.specs.Prelude.{◌+◌, ◌-◌, ◌++◌, ◌==◌, ◌∷◌, ◌||◌, ◌&&◌, [], ℕ, List, Bool, true, false, codes, filter, is_some, length, map, nat_eq, nat_lt, not, if◌then◌else◌, slice_index_or, slice_set, Option, Some, None, option_and_then, option_map}
+use Rattle.std.specs.Prelude.{◌+◌, ◌-◌, ◌++◌, ◌==◌, ◌∷◌, ◌||◌, ◌&&◌, [], ℕ, List, Bool, true, false, codes, filter, is_some, length, map, nat_eq, nat_le, nat_lt, not, if◌then◌else◌, slice_index_or, slice_set, Option, Some, None, option_and_then, option_map, string_bytes}
 use Rattle.std.specs.List.{count_by, fold, position, remove, starts_with}
 use Rattle.std.specs.Option.{option_map_or, option_or}
-use Rattle.test_report_events.specs.Event.{BySignal, CommandView, EventView, NotStarted, SuiteEndView, TestEndView, SuiteStarts, SuiteEnds, TestStarts, TestEnds, OtherLine, HeadingLine, CargoFails, Prints, DamagedLine, CommandStarts, CommandOver, WithStatus}
+use Rattle.test_report_events.specs.Event.{BySignal, CommandView, EventView, NotStarted, SuiteEndView, TestEndView, SuiteStarts, SuiteEnds, TestStarts, TestEnds, TestIsSlow, OtherLine, HeadingLine, CargoFails, Prints, DamagedLine, CommandStarts, CommandOver, WithStatus}
 use Rattle.test_report_events.specs.declared.event.CargoFailure.{CargoFailure}
 use Rattle.test_report_events.specs.declared.event.CargoFailure.TheVariants.{Build, Tests, Run}
 use Rattle.test_report_events.specs.declared.event.TestResult.TheVariants.{Ok, Failed, Ignored}
 use Rattle.test_report_run.specs.Ended.{after_end, after_stray, end_notes, stray_notes}
-use Rattle.test_report_run.specs.Events.{is_event}
+use Rattle.test_report_run.specs.Events.{is_after_report, is_event}
 use Rattle.test_report_run.specs.Headings.{NamedPaths, headings_of, shown_by, with_heading}
 use Rattle.test_report_run.specs.LongestEnd.{joined, with_kept}
 use Rattle.test_report_run.specs.OpenSuites.{suites_of}
-use Rattle.test_report_run.specs.Note.{CargoSays, CargoView, CommandFails, DisagreementView, Disagrees, EndsEarly, Fails, HasNoEvent, IsDamaged, IsNotRun, IsSkipped, NoteView, OutcomeView, Passes, SaysOther, StartsOutside, StrayEnds, StraySuiteEnds, SuiteIs, TestIs, cargo_view, command_view, ended_well, text_view, was_not_started}
+use Rattle.test_report_run.specs.Note.{CargoSays, CargoView, CommandFails, Disagrees, Fails, HasNoEvent, IsDamaged, IsNotRun, IsSkipped, NoteView, OutcomeView, Passes, StrayEnds, StraySuiteEnds, SuiteIs, TestIs, cargo_view, command_view, ended_well, is_new_disagreement, was_not_started}
 use Rattle.test_report_run.specs.Over.{early_notes, last_notes}
 use Rattle.test_report_run.specs.Others.{OthersView, after_failure, after_heading, after_print, event_place, last_cause, no_others, others_view}
 use Rattle.test_report_run.specs.Prints.{cut, lines_of}
-use Rattle.test_report_run.specs.Running.{RunningView, is_of, is_same, place_of_end, running_at, tests_of}
+use Rattle.test_report_run.specs.Running.{RunningView, is_of, is_same, place_of_end, running_at, tests_of, with_slow}
 use Rattle.test_report_run.specs.Name.{before_dollar}
 use Rattle.test_report_run.specs.Suite.{OverView, SuiteState, has_key, joined_by, outside_start, state_of, suite_start, with_line, with_start}
 use Rattle.test_report_run.specs.Totals.{ending, no_suites, with_suite}
@@ -57,6 +57,8 @@ pub record RunState : Type 0 where
   pub causes : ℕ
   pub causes_at_file : ℕ
   pub causes_at_cargo : ℕ
+  -- the least time of a slow test, in microseconds
+  pub slow : ℕ
 
 -- what a run keeps
 abbrev pub run_state : TestRun → RunState
@@ -65,7 +67,7 @@ run_state r = record {
   suites = suites_of r.suites;
   suites_started = r.suites.started;
   headings = headings_of r.headings;
-  heading = text_view r.heading;
+  heading = option_map (λ n. string_bytes n.value) r.heading;
   has_event = r.has_event;
   lacked_events = r.lacked_events;
   others = others_view r.others;
@@ -82,11 +84,12 @@ run_state r = record {
   causes = r.causes;
   causes_at_file = r.causes_at_file;
   causes_at_cargo = r.causes_at_cargo;
+  slow = r.slow;
 }
 
--- a run of which no line is read
-abbrev pub run_start : RunState
-run_start = record {
+-- a run of which no line is read. A test is slow from this time on
+abbrev pub run_start : ℕ → RunState
+run_start slow = record {
   outside = outside_start;
   suites = [];
   suites_started = 0;
@@ -108,6 +111,7 @@ run_start = record {
   causes = 0;
   causes_at_file = 0;
   causes_at_cargo = 0;
+  slow = slow;
 }
 
 -- a run after a line, and what the line makes known
@@ -147,9 +151,9 @@ abbrev pub with_suite_at : RunState → Option ℕ → SuiteState → RunState
 with_suite_at r None s = record r { outside = heard r s }
 with_suite_at r (Some at) s = record r { suites = slice_set r.suites at (heard r s) }
 
--- the names of the running tests of a suite
-abbrev pub names_in : RunState → SuiteState → List (List ℕ)
-names_in r s = map (λ t. t.name) (filter (is_of s.number) r.running)
+-- the running tests of a suite
+abbrev pub tests_in : RunState → SuiteState → List RunningView
+tests_in r s = filter (is_of s.number) r.running
 
 -- the run without the running tests of a suite
 abbrev pub without_tests : RunState → SuiteState → RunState
@@ -157,7 +161,7 @@ without_tests r s = record r { running = filter (λ t. not (is_of s.number t)) r
 
 -- a suite that was open ends early
 abbrev pub ended_early : Step → SuiteState → Step
-ended_early t s = step (without_tests t.run s) (t.notes ++ early_notes t.run.others s (names_in t.run s))
+ended_early t s = step (without_tests t.run s) (t.notes ++ early_notes t.run.others s (tests_in t.run s))
 
 -- the run with one more open suite
 abbrev pub opened : RunState → Option (List ℕ) → Option ℕ → RunState
@@ -193,7 +197,7 @@ stray_suite_notes e = if counts_tests e then Disagrees (StraySuiteEnds e.key e.f
 abbrev pub ended_at : RunState → SuiteEndView → ℕ → Step
 ended_at r e at =
     let s = with_line (suite_at r (Some at)) e in
-    if s.open_lines == 0 then step (without_tests (record r { suites = remove r.suites at }) s) (last_notes s (names_in r s))
+    if s.open_lines == 0 then step (without_tests (record r { suites = remove r.suites at }) s) (last_notes s (tests_in r s))
     else step (with_suite_at r (Some at) s) []
 
 -- a last line of a suite
@@ -207,13 +211,23 @@ start_counted r name = let at = suite_place r name in with_suite_at r at (with_s
 -- a test starts
 abbrev pub test_starts : RunState → List ℕ → RunState
 test_starts r name = record (start_counted r name) {
-  running = r.running ++ record { name = name; suite = (suite_at r (suite_place r name)).number; order = r.tests_started } ∷ [];
+  running = r.running ++ record { name = name; suite = (suite_at r (suite_place r name)).number; order = r.tests_started; slow = false } ∷ [];
   tests_started = r.tests_started + 1;
 }
 
+-- a test with this time is slow
+abbrev pub is_long : RunState → Option ℕ → Bool
+is_long r time = option_map_or (nat_le r.slow) time false
+
 -- what is known of a running test that ends after this number of attempts
 abbrev pub running_over : RunState → TestEndView → RunningView → ℕ → OverView
-running_over r e test attempts = record { name = test.name; attempts = attempts; time = e.time; ended = Some r.ended }
+running_over r e test attempts = record {
+  name = test.name;
+  attempts = attempts;
+  time = e.time;
+  ended = Some r.ended;
+  slow = test.slow || is_long r e.time;
+}
 
 -- the position of the open suite with this number
 abbrev pub place_of_number : RunState → Option ℕ → Option ℕ
@@ -232,7 +246,7 @@ running_ends r e at attempts = test_over (record r { running = remove r.running 
 
 -- what is known of a test that ends and was not running
 abbrev pub stray_over : RunState → TestEndView → OverView
-stray_over r e = record { name = e.name; attempts = 1; time = e.time; ended = Some r.ended }
+stray_over r e = record { name = e.name; attempts = 1; time = e.time; ended = Some r.ended; slow = is_long r e.time }
 
 -- the end of a test that was not running is counted in its suite
 abbrev pub stray_counted : RunState → TestEndView → RunState
@@ -255,6 +269,18 @@ stray_ends r e = elim e.result as (λ _. Step) [
 -- a test ends
 abbrev pub test_ends : RunState → TestEndView → Step
 test_ends r e = option_map_or (λ place. running_ends r e place.0 place.1) (place_of_end r.running e.name) (stray_ends r e)
+
+-- the suite at a position has an event
+abbrev pub heard_at : RunState → Option ℕ → RunState
+heard_at r place = with_suite_at r place (suite_at r place)
+
+-- the running test at this position is slow, and its suite has an event
+abbrev pub slow_at : RunState → ℕ → RunState
+slow_at r at = record (heard_at r (place_of_number r (running_at r.running at).suite)) { running = with_slow r.running at }
+
+-- a test is slow
+abbrev pub test_is_slow : RunState → List ℕ → RunState
+test_is_slow r name = option_map_or (λ place. slow_at r place.0) (place_of_end r.running name) r
 
 -- a heading
 abbrev pub headed : RunState → List ℕ → Option (List ℕ) → RunState
@@ -294,7 +320,7 @@ cargo_fails r f line = record (if disagrees r f then with_report r line else r) 
 abbrev pub printed : RunState → List ℕ → List ℕ → RunState
 printed r line plain = record r { others = after_print r.others line plain; recent = with_kept r.recent plain }
 
--- All that may say why cargo failed was read: the failure becomes known, or waits for the end of the command. The file has events if one follows
+-- All that may say why cargo failed was read: the failure becomes known, or waits for the end of the command. It lacks no events if one is heard now
 abbrev pub report_told : RunState → Bool → CargoView → Step
 report_told r heard report =
     let whole = record report { cause = last_cause r.others; lacks_events = report.lacks_events && not heard } in
@@ -304,20 +330,6 @@ report_told r heard report =
 -- the same, if there is such a failure
 abbrev pub settled : RunState → Bool → Step
 settled r heard = option_map_or (report_told r heard) r.reported (step r [])
-
--- a heading, an event or a failure comes after all that may say why cargo failed before it
-abbrev pub is_after_report : EventView → Bool
-is_after_report (SuiteStarts key count) = true
-is_after_report (SuiteEnds e) = true
-is_after_report (TestStarts name) = true
-is_after_report (TestEnds e) = true
-is_after_report OtherLine = true
-is_after_report (HeadingLine name path) = true
-is_after_report (CargoFails f line plain) = true
-is_after_report (Prints line plain) = false
-is_after_report (DamagedLine text) = false
-is_after_report CommandStarts = false
-is_after_report (CommandOver end) = false
 
 -- the run before a line, and what becomes known before what the line itself makes known
 abbrev pub settled_at : RunState → EventView → Step
@@ -329,6 +341,7 @@ told r (SuiteStarts key count) = suite_starts r key count
 told r (SuiteEnds e) = suite_ends r e
 told r (TestStarts name) = step (test_starts r name) []
 told r (TestEnds e) = let t = test_ends r e in step (record (t.run) { ended = t.run.ended + 1 }) t.notes
+told r (TestIsSlow name) = step (test_is_slow r name) []
 told r OtherLine = step r []
 told r (HeadingLine name path) = step (headed r name path) []
 told r (CargoFails f line plain) = step (cargo_fails r f plain) []
@@ -361,18 +374,6 @@ is_disagreement (SuiteIs s) = false
 abbrev pub is_cause : NoteView → Bool
 is_cause note = is_failed_test note || is_disagreement note
 
--- a disagreement is counted when it becomes known. Failures of cargo are counted at their lines, and that a file has no event explains nothing
-abbrev pub is_new_disagreement : DisagreementView → Bool
-is_new_disagreement (EndsEarly suite) = true
-is_new_disagreement (SaysOther suite said passed failed) = true
-is_new_disagreement (StrayEnds name how) = true
-is_new_disagreement (StraySuiteEnds key failed) = true
-is_new_disagreement (StartsOutside n) = true
-is_new_disagreement (CargoSays report) = false
-is_new_disagreement (IsDamaged text) = true
-is_new_disagreement HasNoEvent = false
-is_new_disagreement (CommandFails end) = true
-
 -- the note is of a failed test, or of a disagreement that is counted when it becomes known
 abbrev pub is_new_cause : NoteView → Bool
 is_new_cause (TestIs t) = has_failed t.outcome
@@ -402,6 +403,7 @@ marked r (SuiteStarts key count) = record r { recent = []; has_event = true }
 marked r (SuiteEnds e) = record r { recent = []; has_event = true }
 marked r (TestStarts name) = record r { recent = []; has_event = true }
 marked r (TestEnds e) = record r { recent = []; has_event = true }
+marked r (TestIsSlow name) = record r { recent = []; has_event = true }
 marked r OtherLine = record r { recent = []; has_event = true }
 marked r (HeadingLine name path) = record r { recent = [] }
 marked r (Prints line plain) = r

@@ -1,5 +1,5 @@
 -- The tests that are running.
-use Rattle.std.specs.Prelude.{◌≡◌, ◌≤◌, ◌+◌, ◌-◌, ◌==◌, ◌++◌, [], ℕ, List, Bool, codes, map, slice_index_or, take, Option, Some, None, option_and_then, option_map, string_bytes, length}
+use Rattle.std.specs.Prelude.{◌≡◌, ◌≤◌, ◌+◌, ◌-◌, ◌==◌, ◌++◌, [], ℕ, List, Bool, true, false, codes, map, slice_index_or, slice_set, take, Option, Some, None, option_and_then, option_map, string_bytes, length}
 use Rattle.std.specs.BTreeMap.{values}
 use Rattle.std.specs.List.{ends_with, find, position, range_with_len}
 use Rattle.std.specs.Fmt.{decimal}
@@ -8,15 +8,16 @@ use Rattle.std.specs.Str.{bytes_eq}
 use Rattle.test_report_run.specs.declared.running.Running.{Running}
 use Rattle.test_report_run.specs.declared.running.RunningTest.{RunningTest}
 
--- a test that runs: its name, the number of its suite, and how many tests started before it
+-- a test that runs: its name, the number of its suite, how many tests started before it, and whether a line said that it is slow
 pub record RunningView : Type 0 where
   pub name : List ℕ
   pub suite : Option ℕ
   pub order : ℕ
+  pub slow : Bool
 
 -- what is kept of a test that runs
 abbrev pub running_test_view : RunningTest → RunningView
-running_test_view t = record { name = string_bytes t.name; suite = t.suite; order = t.order }
+running_test_view t = record { name = string_bytes t.name; suite = t.suite; order = t.order; slow = t.slow }
 
 -- the tests that run, in the order in which they started
 abbrev pub running_view : List RunningTest → List RunningView
@@ -38,17 +39,17 @@ is_of suite t = is_same t.suite suite
 abbrev pub has_name : List ℕ → RunningView → Bool
 has_name name t = bytes_eq t.name name
 
--- the names of tests
-abbrev pub names_of : List RunningTest → List (List ℕ)
-names_of tests = map (λ t. string_bytes t.name) tests
-
 -- the test at a position that has none
 abbrev pub no_test : RunningView
-no_test = record { name = []; suite = None; order = 0 }
+no_test = record { name = []; suite = None; order = 0; slow = false }
 
 -- the test at this position
 abbrev pub running_at : List RunningView → ℕ → RunningView
 running_at tests at = slice_index_or tests at no_test
+
+-- the tests, of which the one at this position is slow
+abbrev pub with_slow : List RunningView → ℕ → List RunningView
+with_slow tests at = slice_set tests at (record (running_at tests at) { slow = true })
 
 -- the written name ends in `#N`
 abbrev pub ends_in_number : List ℕ → ℕ → Bool

@@ -1,5 +1,5 @@
 -- A suite of a run.
-use Rattle.std.specs.Prelude.{◌+◌, ◌-◌, [], ℕ, List, Bool, false, is_none, length, map, Option, Some, None, string_bytes}
+use Rattle.std.specs.Prelude.{◌+◌, ◌-◌, [], ℕ, List, Bool, false, is_none, length, map, Option, Some, None, option_map, string_bytes}
 use Rattle.std.specs.BTreeMap.{values}
 use Rattle.std.specs.Option.{option_map_or, option_or}
 use Rattle.std.specs.Str.{bytes_eq}
@@ -27,6 +27,7 @@ pub record OverView : Type 0 where
   pub attempts : ℕ
   pub time : Option ℕ
   pub ended : Option ℕ
+  pub slow : Bool
 
 -- a flaky test that passed at last
 pub record FlakyView : Type 0 where
@@ -56,7 +57,7 @@ pub record SuiteState : Type 0 where
 
 -- what is known of a test that is over
 abbrev pub over_view : OverTest → OverView
-over_view t = record { name = string_bytes t.name; attempts = t.attempts; time = t.time; ended = t.ended }
+over_view t = record { name = string_bytes t.name; attempts = t.attempts; time = t.time; ended = t.ended; slow = t.slow }
 
 -- what is known of a flaky test
 abbrev pub flaky_view : FlakyTest → FlakyView
@@ -71,7 +72,7 @@ abbrev pub state_of : Suite → SuiteState
 state_of s = record {
   number = s.name.number;
   key = text_view s.name.key;
-  heading = text_view s.name.heading;
+  heading = option_map (λ n. string_bytes n.value) s.name.heading;
   first_test = text_view s.name.first_test;
   test_count = s.test_count;
   started = s.started;
@@ -143,12 +144,13 @@ test_note s t outcome = TestIs record {
   attempts = t.attempts;
   time = t.time;
   ended = t.ended;
+  slow = t.slow;
   outcome = outcome;
 }
 
 -- one more test finished
-abbrev pub with_finish : SuiteState → Finish → ℕ → SuiteState
-with_finish s how attempts = record s { stats = with_test s.stats (view_of_finish how attempts) }
+abbrev pub with_finish : SuiteState → Finish → ℕ → Bool → SuiteState
+with_finish s how attempts slow = record s { stats = with_test s.stats (view_of_finish how attempts slow) }
 
 -- how many tests failed
 abbrev pub failed_of : RunStats → ℕ

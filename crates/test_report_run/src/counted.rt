@@ -65,14 +65,14 @@ fn described(finish: Finish) -> ExecutionResultDescription
     }
 }
 
-/// Returns a test that finished in this way, after this number of attempts. It was not slow.
-pub fn finished_test(finish: Finish, attempts: usize) -> FinishedTest
-    ensures { finished_view result ≡ view_of_finish finish attempts }
+/// Returns a test that finished in this way, after this number of attempts.
+pub fn finished_test(finish: Finish, attempts: usize, is_slow: bool) -> FinishedTest
+    ensures { finished_view result ≡ view_of_finish finish attempts is_slow }
 {
     FinishedTest {
         result: described(finish),
         attempts,
-        is_slow: false,
+        is_slow,
         flaky_result: match finish {
             Finish::FlakyFailed => FlakyResult::Fail,
             Finish::Passed | Finish::Failed | Finish::TimedOut => FlakyResult::Pass,
@@ -85,11 +85,12 @@ pub(crate) fn count(
     stats: &mut RunStats,
     finish: Finish,
     attempts: usize,
+    is_slow: bool,
 ) -> Result<(), CounterFull>
-    ensures counts { OnOk result (stats.new ≡ with_test stats.old (view_of_finish finish attempts)) }
-    ensures room { IsOk result ↔ TestCountersFit (with_test stats.old (view_of_finish finish attempts)) }
+    ensures counts { OnOk result (stats.new ≡ with_test stats.old (view_of_finish finish attempts is_slow)) }
+    ensures room { IsOk result ↔ TestCountersFit (with_test stats.old (view_of_finish finish attempts is_slow)) }
     ensures kept { OnErr result (stats.new ≡ stats.old) }
 {
-    let test = finished_test(finish, attempts);
+    let test = finished_test(finish, attempts, is_slow);
     stats.try_on_test_view(&test.view())
 }

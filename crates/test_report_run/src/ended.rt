@@ -67,7 +67,7 @@ impl Suite {
         if end == TestResult::Ignored {
             self.skipped = one_more(self.skipped)?;
             let reason = owned(alloc, details.message)?;
-            notes.push(self.note(alloc, test, TestOutcome::Skipped { reason })?)?;
+            notes.push(self.note(test, TestOutcome::Skipped { reason })?)?;
             return Ok(());
         }
         self.time = time_sum(self.time, details.time);
@@ -77,8 +77,8 @@ impl Suite {
         if test.attempts > 1 {
             return self.on_flaky(alloc, test, order, details);
         }
-        count(&mut self.stats, Finish::Passed, 1)?;
-        notes.push(self.note(alloc, test, TestOutcome::Passed)?)?;
+        count(&mut self.stats, Finish::Passed, 1, test.slow)?;
+        notes.push(self.note(test, TestOutcome::Passed)?)?;
         Ok(())
     }
 
@@ -124,8 +124,9 @@ impl Suite {
             &mut self.stats,
             Finish::of_failure(&failure.kind),
             test.attempts,
+            test.slow,
         )?;
-        notes.push(self.note(alloc, test, TestOutcome::Failed(failure))?)?;
+        notes.push(self.note(test, TestOutcome::Failed(failure))?)?;
         Ok(())
     }
 

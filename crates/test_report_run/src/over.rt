@@ -4,7 +4,7 @@ ghost use Rattle.std.specs.Prelude.{◌≡◌, ◌++◌, ◌∷◌, [], ◌+◌,
 ghost use Rattle.test_report_run.specs.Note.{HasCrashed, HasNoEnd, crash_view, kind_view, note_view};
 ghost use Rattle.test_report_run.specs.Others.{others_view};
 ghost use Rattle.test_report_run.specs.Over as spec;
-ghost use Rattle.test_report_run.specs.Running.{names_of, running_test_view};
+ghost use Rattle.test_report_run.specs.Running.{running_test_view, running_view};
 ghost use Rattle.test_report_run.specs.Suite.{flaky_view, over_view, state_of};
 
 use crate::counted::{Finish, count};
@@ -35,13 +35,14 @@ pub(crate) struct Rest {
 
 /// Returns a test that has no line of its end.
 fn over(test: RunningTest) -> OverTest
-    ensures { over_view result ≡ spec.over_of (running_test_view test).name }
+    ensures { over_view result ≡ spec.over_of (running_test_view test) }
 {
     OverTest {
         name: test.name,
         attempts: 1,
         time: None,
         ended: None,
+        slow: test.slow,
     }
 }
 
@@ -78,18 +79,18 @@ impl Suite {
         notes: &mut Vec<Note>,
     ) -> Result<(), RunError>
         ensures { OnOk result (map note_view notes.new.items ≡ map note_view notes.old.items
-            ++ spec.early_notes (others_view others.now) (state_of self) (names_of left.items)) }
+            ++ spec.early_notes (others_view others.now) (state_of self) (running_view left.items)) }
     {
         let crashed = left.len();
         self.crash_left(alloc, others, left, notes)?;
         self.release_flaky(alloc, false, notes)?;
-        self.push_early_end(alloc, crashed, notes)?;
+        self.push_early_end(crashed, notes)?;
         let rest = Rest {
             skipped: self.skipped as u128,
             left: 0,
             time: self.time,
         };
-        self.push_numbers(alloc, rest, notes)
+        self.push_numbers(rest, notes)
     }
 
     /// Counts the running tests of the suite as crashed. `others` are the lines of the file that are no events.
@@ -101,12 +102,12 @@ impl Suite {
         notes: &mut Vec<Note>,
     ) -> Result<(), RunError>
         ensures counts { OnOk result (state_of self.new ≡ record (state_of self.old) {
-          stats = spec.with_failed self.old.stats (names_of left.items);
+          stats = spec.with_failed self.old.stats (running_view left.items);
           crashed = self.old.crashed + length left.items;
         }) }
         ensures tells { OnOk result (map note_view notes.new.items ≡ map note_view notes.old.items
             ++ spec.crashed_notes (state_of self.old)
-            (spec.crash_of (others_view others.now) (state_of self.old) (length left.items)) (names_of left.items)) }
+            (spec.crash_of (others_view others.now) (state_of self.old) (length left.items)) (running_view left.items)) }
     {
         if left.is_empty() {
             return Ok(());
@@ -127,17 +128,17 @@ impl Suite {
         notes: &mut Vec<Note>,
     ) -> Result<(), RunError>
         ensures counts { OnOk result (state_of self.new ≡ record (state_of self.old) {
-          stats = spec.with_failed self.old.stats (names_of tests.items);
+          stats = spec.with_failed self.old.stats (running_view tests.items);
           crashed = self.old.crashed + length tests.items;
         }) }
         ensures tells { OnOk result (map note_view notes.new.items ≡ map note_view notes.old.items
             ++ spec.failed_notes (state_of self.old) (HasCrashed (crash_view crash.now))
-            (names_of tests.items)) }
+            (running_view tests.items)) }
     {
         for test in tests {
             let kind = FailureKind::Crashed(copy_of(alloc, crash)?);
             self.crashed = one_more(self.crashed)?;
-            self.fail(alloc, test, kind, notes)?;
+            self.fail(test, kind, notes)?;
         }
         Ok(())
     }
@@ -160,37 +161,31 @@ impl Suite {
     /// Counts a test without end as failed.
     fn fail(
         &mut self,
-        alloc: Global,
         test: RunningTest,
         kind: FailureKind,
         notes: &mut Vec<Note>,
     ) -> Result<(), RunError>
-        ensures counts { OnOk result (state_of self.new ≡ spec.with_failure (state_of self.old)) }
+        ensures counts { OnOk result (state_of self.new ≡ spec.with_failure (state_of self.old) (running_test_view test)) }
         ensures tells { OnOk result (map note_view notes.new.items ≡ map note_view notes.old.items
-            ++ spec.failed_note (state_of self.old) (kind_view kind) (running_test_view test).name ∷ []) }
+            ++ spec.failed_note (state_of self.old) (kind_view kind) (running_test_view test) ∷ []) }
     {
-        count(&mut self.stats, Finish::Failed, 1)?;
+        count(&mut self.stats, Finish::Failed, 1, test.slow)?;
         let failure = Failure {
             kind,
             stdout: None,
             message: None,
             reason: None,
         };
-        notes.push(self.note(alloc, over(test), TestOutcome::Failed(failure))?)?;
+        notes.push(self.note(over(test), TestOutcome::Failed(failure))?)?;
         Ok(())
     }
 
     /// Adds the disagreement of a suite that ends early, if there is one.
-    fn push_early_end(
-        &self,
-        alloc: Global,
-        crashed: usize,
-        notes: &mut Vec<Note>,
-    ) -> Result<(), RunError>
+    fn push_early_end(&self, crashed: usize, notes: &mut Vec<Note>) -> Result<(), RunError>
         ensures { OnOk result (map note_view notes.new.items ≡ map note_view notes.old.items
             ++ spec.early_disagreements (state_of self.now) crashed) }
     {
-        match self.shown_name(alloc)? {
+        match self.shown_name()? {
             Some(suite) if crashed == 0 => {
                 notes.push(Note::Disagreement(Disagreement::EndedEarly { suite }))?;
             }
@@ -220,36 +215,33 @@ impl Suite {
         let flaky_tests = std::mem::replace(&mut self.flaky, FlakyTests::new(alloc));
         for flaky in flaky_tests.tests.into_values() {
             if have_failed {
-                self.fail_flaky(alloc, flaky, notes)?;
+                self.fail_flaky(flaky, notes)?;
             } else {
-                count(&mut self.stats, Finish::Passed, flaky.test.attempts)?;
-                notes.push(self.note(alloc, flaky.test, TestOutcome::Passed)?)?;
+                let (attempts, slow) = (flaky.test.attempts, flaky.test.slow);
+                count(&mut self.stats, Finish::Passed, attempts, slow)?;
+                notes.push(self.note(flaky.test, TestOutcome::Passed)?)?;
             }
         }
         Ok(())
     }
 
     /// Counts a flaky test as failed.
-    fn fail_flaky(
-        &mut self,
-        alloc: Global,
-        flaky: FlakyTest,
-        notes: &mut Vec<Note>,
-    ) -> Result<(), RunError>
+    fn fail_flaky(&mut self, flaky: FlakyTest, notes: &mut Vec<Note>) -> Result<(), RunError>
         ensures counts { OnOk result (state_of self.new ≡ record (state_of self.old) {
           stats = spec.one_flaky true self.old.stats (flaky_view flaky);
         }) }
         ensures tells { OnOk result (map note_view notes.new.items ≡ map note_view notes.old.items
             ++ spec.flaky_note (state_of self.old) true (flaky_view flaky) ∷ []) }
     {
-        count(&mut self.stats, Finish::FlakyFailed, flaky.test.attempts)?;
+        let (attempts, slow) = (flaky.test.attempts, flaky.test.slow);
+        count(&mut self.stats, Finish::FlakyFailed, attempts, slow)?;
         let failure = Failure {
             kind: FailureKind::Flaky,
             stdout: flaky.stdout,
             message: flaky.message,
             reason: None,
         };
-        notes.push(self.note(alloc, flaky.test, TestOutcome::Failed(failure))?)?;
+        notes.push(self.note(flaky.test, TestOutcome::Failed(failure))?)?;
         Ok(())
     }
 
@@ -261,21 +253,21 @@ impl Suite {
         notes: &mut Vec<Note>,
     ) -> Result<(), RunError>
         ensures { OnOk result (map note_view notes.new.items ≡ map note_view notes.old.items
-            ++ spec.last_notes (state_of self) (names_of left.items)) }
+            ++ spec.last_notes (state_of self) (running_view left.items)) }
     {
         let explained = self.explained(left.len())?;
         let mut skipped = left;
         let others = skipped.split_off(explained.skipped)?;
-        self.skip_all(alloc, skipped, notes)?;
-        let left = self.fail_lost(alloc, explained.others_failed, others, notes)?;
+        self.skip_all(skipped, notes)?;
+        let left = self.fail_lost(explained.others_failed, others, notes)?;
         self.release_flaky(alloc, explained.flaky_failed, notes)?;
-        self.push_disagreement(alloc, notes)?;
+        self.push_disagreement(notes)?;
         let rest = Rest {
             skipped: self.skipped as u128 + explained.skipped as u128 + explained.nameless,
             left,
             time: self.said.time.or(self.time),
         };
-        self.push_numbers(alloc, rest, notes)
+        self.push_numbers(rest, notes)
     }
 
     /// Returns which tests the last line explains. `left` is the number of running tests.
@@ -290,20 +282,19 @@ impl Suite {
     /// Counts tests without end as failed if `have_failed` is true. Returns how many are not counted.
     fn fail_lost(
         &mut self,
-        alloc: Global,
         have_failed: bool,
         tests: Vec<RunningTest>,
         notes: &mut Vec<Note>,
     ) -> Result<usize, RunError>
         ensures counts { OnOk result (state_of self.new ≡ record (state_of self.old) {
-          stats = spec.with_failed self.old.stats (if have_failed then names_of tests.items else []);
+          stats = spec.with_failed self.old.stats (if have_failed then running_view tests.items else []);
         }) }
         ensures tells { OnOk result (map note_view notes.new.items ≡ map note_view notes.old.items
-            ++ spec.failed_notes (state_of self.old) HasNoEnd (if have_failed then names_of tests.items else [])) }
+            ++ spec.failed_notes (state_of self.old) HasNoEnd (if have_failed then running_view tests.items else [])) }
         ensures left { IfOk result (λ left. left ≡ (if have_failed then 0 else length tests.items)) }
     {
         if have_failed {
-            self.fail_all(alloc, tests, notes)?;
+            self.fail_all(tests, notes)?;
             Ok(0)
         } else {
             Ok(tests.len())
@@ -311,49 +302,39 @@ impl Suite {
     }
 
     /// Counts tests without end as failed.
-    fn fail_all(
-        &mut self,
-        alloc: Global,
-        tests: Vec<RunningTest>,
-        notes: &mut Vec<Note>,
-    ) -> Result<(), RunError>
+    fn fail_all(&mut self, tests: Vec<RunningTest>, notes: &mut Vec<Note>) -> Result<(), RunError>
         ensures counts { OnOk result (state_of self.new ≡ record (state_of self.old) {
-          stats = spec.with_failed self.old.stats (names_of tests.items);
+          stats = spec.with_failed self.old.stats (running_view tests.items);
         }) }
         ensures tells { OnOk result (map note_view notes.new.items ≡ map note_view notes.old.items
-            ++ spec.failed_notes (state_of self.old) HasNoEnd (names_of tests.items)) }
+            ++ spec.failed_notes (state_of self.old) HasNoEnd (running_view tests.items)) }
     {
         for test in tests {
-            self.fail(alloc, test, FailureKind::WithoutEnd, notes)?;
+            self.fail(test, FailureKind::WithoutEnd, notes)?;
         }
         Ok(())
     }
 
     /// Adds that tests without end were skipped.
-    fn skip_all(
-        &self,
-        alloc: Global,
-        tests: Vec<RunningTest>,
-        notes: &mut Vec<Note>,
-    ) -> Result<(), RunError>
+    fn skip_all(&self, tests: Vec<RunningTest>, notes: &mut Vec<Note>) -> Result<(), RunError>
         ensures { OnOk result (map note_view notes.new.items ≡ map note_view notes.old.items
-            ++ map (spec.skipped_note (state_of self.now)) (names_of tests.items)) }
+            ++ map (spec.skipped_note (state_of self.now)) (running_view tests.items)) }
     {
         for test in tests {
             let outcome = TestOutcome::Skipped { reason: None };
-            notes.push(self.note(alloc, over(test), outcome)?)?;
+            notes.push(self.note(over(test), outcome)?)?;
         }
         Ok(())
     }
 
     /// Adds a disagreement if the last line contradicts the tests.
-    fn push_disagreement(&self, alloc: Global, notes: &mut Vec<Note>) -> Result<(), RunError>
+    fn push_disagreement(&self, notes: &mut Vec<Note>) -> Result<(), RunError>
         ensures { OnOk result (map note_view notes.new.items ≡ map note_view notes.old.items
             ++ spec.last_disagreement (state_of self.now)) }
     {
         let said = self.said.numbers()?;
         let (passed, failed) = (self.stats.passed, failed_count(&self.stats));
-        let name = self.shown_name(alloc)?;
+        let name = self.shown_name()?;
         if let (Some(suite), true) = (name, disagrees(said, passed, failed)) {
             notes.push(Note::Disagreement(Disagreement::LastLine {
                 suite,
@@ -366,14 +347,14 @@ impl Suite {
     }
 
     /// Adds the numbers of the suite, after how many of its tests did not run if that is not 0.
-    fn push_numbers(&self, alloc: Global, rest: Rest, notes: &mut Vec<Note>) -> Result<(), RunError>
+    fn push_numbers(&self, rest: Rest, notes: &mut Vec<Note>) -> Result<(), RunError>
         ensures { OnOk result (map note_view notes.new.items ≡ map note_view notes.old.items
             ++ spec.number_notes (state_of self.now) rest) }
     {
         let finished = self.stats.finished_count as u128;
         let initial_run_count = self.initial_run_count(rest);
         let not_run = initial_run_count - finished;
-        if let (Some(suite), true) = (self.shown_name(alloc)?, not_run > 0) {
+        if let (Some(suite), true) = (self.shown_name()?, not_run > 0) {
             notes.push(Note::NotRun(NotRun {
                 suite,
                 not_run,
@@ -381,7 +362,7 @@ impl Suite {
             }))?;
         }
         notes.push(Note::Suite(SuiteNote {
-            name: self.shown_name(alloc)?,
+            name: self.shown_name()?,
             stats: self.stats,
             skipped: rest.skipped,
             not_run,

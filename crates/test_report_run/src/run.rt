@@ -3,8 +3,8 @@
 ghost use Rattle.std.specs.Prelude.{◌≡◌, ◌++◌, ◌∷◌, [], IfOk, OnOk, if◌then◌else◌, map, option_map, option_to_list};
 ghost use Rattle.test_report_events.specs.Content.{events_of};
 ghost use Rattle.test_report_events.specs.Event.{event_view};
-ghost use Rattle.test_report_run.specs.Events.{is_event};
-ghost use Rattle.test_report_run.specs.Note.{disagreement_view, note_view};
+ghost use Rattle.test_report_run.specs.Events.{is_after_report, is_event};
+ghost use Rattle.test_report_run.specs.Note.{disagreement_view, is_new_disagreement, note_view};
 ghost use Rattle.test_report_run.specs.Run as spec;
 ghost use Rattle.test_report_run.specs.Run.{run_state};
 
@@ -24,6 +24,7 @@ use crate::running::Running;
 use crate::suite::Suite;
 use crate::totals::Totals;
 use std::alloc::{AllocError, Global};
+use std::rc::Rc;
 use test_report_events::event::Event;
 use test_report_events::line::Line;
 
@@ -38,7 +39,7 @@ pub struct TestRun {
 
     /// The headings of the file, and the name that the last one gives the suites after it.
     headings: Headings,
-    heading: Option<String>,
+    heading: Option<Rc<String>>,
 
     /// True if a line of the file was an event of a harness.
     has_event: bool,
@@ -75,12 +76,15 @@ pub struct TestRun {
     causes: usize,
     causes_at_file: usize,
     causes_at_cargo: usize,
+
+    /// The least time of a slow test, in microseconds.
+    slow: u64,
 }
 
 impl TestRun {
-    /// Returns a run before its first line.
-    pub fn new(alloc: Global) -> TestRun
-        ensures { run_state result ≡ spec.run_start }
+    /// Returns a run before its first line. A test whose time is at least `slow` microseconds is slow.
+    pub fn new(alloc: Global, slow: u64) -> TestRun
+        ensures { run_state result ≡ spec.run_start slow }
     {
         TestRun {
             outside: Suite::outside(alloc),
@@ -102,6 +106,7 @@ impl TestRun {
             causes: 0,
             causes_at_file: 0,
             causes_at_cargo: 0,
+            slow,
         }
     }
 
@@ -213,7 +218,7 @@ impl TestRun {
         Ok(())
     }
 
-    /// Makes the last failure of cargo known if an event comes after all that may say why.
+    /// Makes the last failure of cargo known, if no line after this event can explain it.
     fn settle_at(&mut self, event: Event<'_>, notes: &mut Vec<Note>) -> Result<(), AllocError>
         ensures takes { OnOk result (run_state self.new
             ≡ (spec.settled_at (run_state self.old) (event_view event.entry)).run) }
@@ -249,6 +254,10 @@ impl TestRun {
                 result: end,
                 details,
             } => self.on_test_ended(alloc, name, end, details, notes),
+            Event::TestSlow { name } => {
+                self.on_test_slow(name);
+                Ok(())
+            }
             Event::Other => Ok(()),
             Event::Heading { suite, path } => self.on_heading(alloc, suite, path),
             Event::CargoFailed { failure, plain, .. } => {
@@ -283,6 +292,7 @@ impl TestRun {
             | Event::SuiteEnded(_)
             | Event::TestStarted { .. }
             | Event::TestEnded { .. }
+            | Event::TestSlow { .. }
             | Event::Other => self.has_event = true,
             Event::CargoFailed { .. } => {
                 if self.suites.list.is_empty() {
@@ -295,7 +305,7 @@ impl TestRun {
 
     /// Forgets the prints before an event after which they cannot say why cargo fails.
     fn forget_prints(&mut self, alloc: Global, event: Event<'_>)
-        ensures { run_state self.new ≡ (if spec.is_after_report (event_view event.entry)
+        ensures { run_state self.new ≡ (if is_after_report (event_view event.entry)
             then record (run_state self.old) { recent = [] } else run_state self.old) }
     {
         if is_after_report(event) {
@@ -341,7 +351,7 @@ impl TestRun {
 /// Returns true if a disagreement is counted among the causes when it becomes known. A failure of cargo is counted at
 /// its line, and that a file has no event explains nothing.
 fn is_new(disagreement: &Disagreement) -> bool
-    ensures { result ≡ spec.is_new_disagreement (disagreement_view disagreement.now) }
+    ensures { result ≡ is_new_disagreement (disagreement_view disagreement.now) }
 {
     !matches!(disagreement, Disagreement::Cargo(_) | Disagreement::NoEvent)
 }
@@ -355,6 +365,7 @@ fn is_event(event: Event<'_>) -> bool
         | Event::SuiteEnded(_)
         | Event::TestStarted { .. }
         | Event::TestEnded { .. }
+        | Event::TestSlow { .. }
         | Event::Other => true,
         Event::CargoFailed { .. }
         | Event::Heading { .. }
@@ -365,7 +376,7 @@ fn is_event(event: Event<'_>) -> bool
 
 /// Returns true if an event, a heading or a failure comes after all that may say why cargo failed before it.
 fn is_after_report(event: Event<'_>) -> bool
-    ensures { result ≡ spec.is_after_report (event_view event.entry) }
+    ensures { result ≡ is_after_report (event_view event.entry) }
 {
     !matches!(event, Event::Print { .. } | Event::Damaged { .. })
 }

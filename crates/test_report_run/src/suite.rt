@@ -1,6 +1,6 @@
 //! An open suite of a run.
 
-ghost use Rattle.std.specs.Prelude.{◌≡◌, ◌==◌, ◌<◌, ◌^◌, ◌↔◌, IfOk, IsOk, OnOk, option_map};
+ghost use Rattle.std.specs.Prelude.{◌≡◌, ◌==◌, ◌<◌, ◌^◌, ◌↔◌, IfOk, IsOk, OnOk, option_map, string_bytes};
 ghost use Rattle.test_report_events.specs.Event.{suite_end_view};
 ghost use Rattle.test_report_run.specs.Note.{note_view, outcome_view, text_view};
 ghost use Rattle.test_report_run.specs.Others.{no_others, others_view};
@@ -15,6 +15,7 @@ use crate::said::{Said, sum};
 use crate::suite_name::SuiteName;
 use run_events_stats::stats::RunStats;
 use std::alloc::{AllocError, Global};
+use std::rc::Rc;
 use test_report_events::event::SuiteEnd;
 
 /// A test that is over, without its outcome.
@@ -31,6 +32,9 @@ pub(crate) struct OverTest {
 
     /// The number of tests that ended before this one, or `None` if no line says that it ended.
     pub(crate) ended: Option<usize>,
+
+    /// True if the test was slow.
+    pub(crate) slow: bool,
 }
 
 /// A test that passed after several attempts. The last line of its suite may still count it as failed.
@@ -91,12 +95,13 @@ impl Suite {
         alloc: Global,
         number: usize,
         key: Option<String>,
-        heading: Option<String>,
+        heading: Option<Rc<String>>,
         test_count: Option<u128>,
         others: &Others,
     ) -> Result<Suite, AllocError>
         ensures { IfOk result (λ suite. state_of suite
-            ≡ suite_start (Some number) (text_view key) (text_view heading) test_count (others_view others.now)) }
+            ≡ suite_start (Some number) (text_view key) (option_map (λ n. string_bytes n.value) heading)
+            test_count (others_view others.now)) }
     {
         let name = SuiteName::new(alloc, number, key, heading)?;
         Ok(Suite::named(
@@ -131,7 +136,8 @@ impl Suite {
     ) -> Suite
         requires { text_view name.first_test ≡ None }
         ensures { state_of result
-            ≡ record (suite_start name.number (text_view name.key) (text_view name.heading) test_count no_others) {
+            ≡ record (suite_start name.number (text_view name.key)
+            (option_map (λ n. string_bytes n.value) name.heading) test_count no_others) {
               start = start;
               last_event = last_event;
             } }
@@ -197,10 +203,10 @@ impl Suite {
     }
 
     /// Returns the name of the suite, or `None` for the tests outside of a suite.
-    pub(crate) fn shown_name(&self, alloc: Global) -> Result<Option<String>, AllocError>
-        ensures { IfOk result (λ name. text_view name ≡ suite_name (state_of self.now)) }
+    pub(crate) fn shown_name(&self) -> Result<Option<Rc<String>>, AllocError>
+        ensures { IfOk result (λ name. option_map (λ n. string_bytes n.value) name ≡ suite_name (state_of self.now)) }
     {
-        self.name.shown(alloc)
+        self.name.shown()
     }
 
     /// Returns true if the suite has this key, or has no key if `key` is `None`.
@@ -215,21 +221,17 @@ impl Suite {
     }
 
     /// Returns the note of a test of the suite.
-    pub(crate) fn note(
-        &self,
-        alloc: Global,
-        test: OverTest,
-        outcome: TestOutcome,
-    ) -> Result<Note, AllocError>
+    pub(crate) fn note(&self, test: OverTest, outcome: TestOutcome) -> Result<Note, AllocError>
         ensures { IfOk result (λ note. note_view note
             ≡ test_note (state_of self.now) (over_view test) (outcome_view outcome)) }
     {
         Ok(Note::Test(TestNote {
-            suite: self.shown_name(alloc)?,
+            suite: self.shown_name()?,
             name: test.name,
             attempts: test.attempts,
             time: test.time,
             ended: test.ended,
+            slow: test.slow,
             outcome,
         }))
     }

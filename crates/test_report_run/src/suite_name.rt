@@ -1,14 +1,15 @@
 //! The name of a suite.
 
-ghost use Rattle.std.specs.Prelude.{◌≡◌, IfOk, OnOk, None, Some, option_map};
+ghost use Rattle.std.specs.Prelude.{◌≡◌, IfOk, OnOk, None, Some, option_and_then, option_map, string_bytes};
 ghost use Rattle.std.specs.Option.{option_or};
-ghost use Rattle.test_report_run.specs.Name.{given_by, name_by, name_of};
+ghost use Rattle.test_report_run.specs.Name.{before_dollar, given_by, name_by, name_of};
 ghost use Rattle.test_report_run.specs.Note.{text_view};
 
 use std::alloc::{AllocError, Global};
+use std::rc::Rc;
 
-/// The number and the texts that can name a suite, and the name that they give it. The name is made once,
-/// because each note of a test has a copy of it.
+/// The number and the texts that can name a suite, and the name that they give it. The name is made once, and the
+/// notes of the suite share it.
 #[derive(Drop)]
 pub(crate) struct SuiteName {
     /// The number of the suite, from 1 on in the order of first lines, or `None` for the tests outside of a
@@ -19,15 +20,16 @@ pub(crate) struct SuiteName {
     pub(crate) key: Option<String>,
 
     /// The last heading before the suite started.
-    pub(crate) heading: Option<String>,
+    pub(crate) heading: Option<Rc<String>>,
 
     /// The name in the first line of a test of the suite.
     pub(crate) first_test: Option<String>,
 
     /// The name of the suite, or `None` for the tests outside of a suite.
-    shown: Option<String>,
+    shown: Option<Rc<String>>,
 
-    ghost shows: { text_view shown ≡ name_by number (text_view key) (text_view heading) (text_view first_test) },
+    ghost shows: { option_map (λ n. string_bytes n.value) shown
+        ≡ name_by number (text_view key) (option_map (λ n. string_bytes n.value) heading) (text_view first_test) },
 }
 
 impl SuiteName {
@@ -35,7 +37,7 @@ impl SuiteName {
     pub(crate) fn outside() -> SuiteName
         ensures number { result.number ≡ None }
         ensures key { text_view result.key ≡ None }
-        ensures heading { text_view result.heading ≡ None }
+        ensures heading { option_map (λ n. string_bytes n.value) result.heading ≡ None }
         ensures first_test { text_view result.first_test ≡ None }
     {
         SuiteName {
@@ -52,15 +54,17 @@ impl SuiteName {
         alloc: Global,
         number: usize,
         key: Option<String>,
-        heading: Option<String>,
+        heading: Option<Rc<String>>,
     ) -> Result<SuiteName, AllocError>
         ensures number { IfOk result (λ name. name.number ≡ Some number) }
         ensures key { IfOk result (λ name. text_view name.key ≡ text_view key) }
-        ensures heading { IfOk result (λ name. text_view name.heading ≡ text_view heading) }
+        ensures heading { IfOk result (λ name. option_map (λ n. string_bytes n.value) name.heading
+            ≡ option_map (λ n. string_bytes n.value) heading) }
         ensures first_test { IfOk result (λ name. text_view name.first_test ≡ None) }
     {
         let number = Some(number);
-        let shown = shown_name(alloc, number, given_name(&key, &heading, &None))?;
+        let given = given_name(alloc, &key, &heading, &None)?;
+        let shown = shown_name(alloc, number, given)?;
         Ok(SuiteName {
             number,
             key,
@@ -74,7 +78,8 @@ impl SuiteName {
     pub(crate) fn take_test(&mut self, alloc: Global, name: &str) -> Result<(), AllocError>
         ensures number { self.new.number ≡ self.old.number }
         ensures key { text_view self.new.key ≡ text_view self.old.key }
-        ensures heading { text_view self.new.heading ≡ text_view self.old.heading }
+        ensures heading { option_map (λ n. string_bytes n.value) self.new.heading
+            ≡ option_map (λ n. string_bytes n.value) self.old.heading }
         ensures first_test { OnOk result (text_view self.new.first_test
             ≡ option_or (text_view self.old.first_test) (Some name.now)) }
     {
@@ -82,17 +87,17 @@ impl SuiteName {
             return Ok(());
         }
         let first_test = Some(String::from_str(alloc, name)?);
-        let given = given_name(&self.key, &self.heading, &first_test);
+        let given = given_name(alloc, &self.key, &self.heading, &first_test)?;
         let shown = shown_name(alloc, self.number, given)?;
         self.first_test = first_test;
         self.shown = shown;
         Ok(())
     }
 
-    /// Returns a copy of the name, or `None` for the tests outside of a suite.
-    pub(crate) fn shown(&self, alloc: Global) -> Result<Option<String>, AllocError>
-        ensures { IfOk result (λ shown. text_view shown ≡ name_by self.now.number
-            (text_view self.now.key) (text_view self.now.heading) (text_view self.now.first_test)) }
+    /// Returns the name, or `None` for the tests outside of a suite.
+    pub(crate) fn shown(&self) -> Result<Option<Rc<String>>, AllocError>
+        ensures { IfOk result (λ shown. option_map (λ n. string_bytes n.value) shown
+            ≡ name_by self.now.number (text_view self.now.key) (option_map (λ n. string_bytes n.value) self.now.heading) (text_view self.now.first_test)) }
     {
         match &self.shown {
             Some(shown) => Ok(Some(shown.clone()?)),
@@ -102,23 +107,42 @@ impl SuiteName {
 }
 
 /// Returns the name that texts give a suite: its key, or else the heading, or else the part of its first
-/// test's name before the first `$`.
-fn given_name<'a>(
-    key: &'a Option<String>,
-    heading: &'a Option<String>,
-    first_test: &'a Option<String>,
-) -> Option<&'a str>
-    ensures { option_map (λ name. name.now) result
-        ≡ given_by (text_view key.now) (text_view heading.now) (text_view first_test.now) }
+/// test's name before the first `$`. The name is shared with the heading.
+fn given_name(
+    alloc: Global,
+    key: &Option<String>,
+    heading: &Option<Rc<String>>,
+    first_test: &Option<String>,
+) -> Result<Option<Rc<String>>, AllocError>
+    ensures { IfOk result (λ name. option_map (λ n. string_bytes n.value) name
+        ≡ given_by (text_view key.now) (option_map (λ n. string_bytes n.value) heading.now) (text_view first_test.now)) }
 {
     if let Some(key) = key {
-        return Some(key.as_str());
+        return Ok(Some(shared(alloc, key.as_str())?));
     }
     if let Some(heading) = heading {
-        return Some(heading.as_str());
+        return Ok(Some(heading.clone()?));
     }
-    let (name, _) = first_test.as_ref()?.split_once('$')?;
+    match before_dollar(first_test) {
+        Some(name) => Ok(Some(shared(alloc, name)?)),
+        None => Ok(None),
+    }
+}
+
+/// Returns the part of the name of a test before the first `$`.
+fn before_dollar(test: &Option<String>) -> Option<&str>
+    ensures { option_map (λ name. name.now) result
+        ≡ option_and_then before_dollar (text_view test.now) }
+{
+    let (name, _) = test.as_ref()?.split_once('$')?;
     Some(name)
+}
+
+/// Returns a copy of a text, which can be shared.
+fn shared(alloc: Global, text: &str) -> Result<Rc<String>, AllocError>
+    ensures { IfOk result (λ shared. string_bytes shared.value ≡ text.now) }
+{
+    Ok(Rc::new(alloc, String::from_str(alloc, text)?)?)
 }
 
 /// Returns the name of a suite: the given one, or else `suite` and its number. The tests outside of a suite
@@ -126,16 +150,17 @@ fn given_name<'a>(
 fn shown_name(
     alloc: Global,
     number: Option<usize>,
-    given: Option<&str>,
-) -> Result<Option<String>, AllocError>
-    ensures { IfOk result (λ shown. text_view shown
-        ≡ name_of number (option_map (λ name. name.now) given.entry)) }
+    given: Option<Rc<String>>,
+) -> Result<Option<Rc<String>>, AllocError>
+    ensures { IfOk result (λ shown. option_map (λ n. string_bytes n.value) shown
+        ≡ name_of number (option_map (λ n. string_bytes n.value) given)) }
 {
     let Some(number) = number else {
         return Ok(None);
     };
-    if let Some(name) = given {
-        return Ok(Some(String::from_str(alloc, name)?));
+    if given.is_some() {
+        return Ok(given);
     }
-    Ok(Some(format!(in alloc; "suite {number}")?))
+    let name = format!(in alloc; "suite {number}")?;
+    Ok(Some(Rc::new(alloc, name)?))
 }

@@ -1,6 +1,6 @@
 //! What opens, finds and removes open suites.
 
-ghost use Rattle.std.specs.Prelude.{◌≡◌, ◌<◌, ◌+◌, ◌++◌, ◌∷◌, [], Some, None, OnOk, length, option_map, slice_get};
+ghost use Rattle.std.specs.Prelude.{◌≡◌, ◌<◌, ◌+◌, ◌++◌, ◌∷◌, [], Some, None, OnOk, length, option_map, slice_get, string_bytes};
 ghost use Rattle.std.specs.List.{position, remove};
 ghost use Rattle.test_report_run.specs.Note.{text_view};
 ghost use Rattle.test_report_run.specs.OpenSuites.{states_in, suites_of};
@@ -14,6 +14,7 @@ use crate::open_suites::keys::KeyNumbers;
 use crate::others::Others;
 use crate::suite::Suite;
 use std::alloc::Global;
+use std::rc::Rc;
 
 impl OpenSuites {
     /// Returns no suites.
@@ -34,13 +35,14 @@ impl OpenSuites {
         &mut self,
         alloc: Global,
         key: Option<String>,
-        heading: Option<String>,
+        heading: Option<Rc<String>>,
         test_count: Option<u128>,
         others: &Others,
     ) -> Result<(), RunError>
         requires { position (has_key (text_view key)) (suites_of self.old) ≡ None }
         ensures suites { OnOk result (suites_of self.new ≡ suites_of self.old
-            ++ suite_start (Some (self.old.started + 1)) (text_view key) (text_view heading) test_count (others_view others.now) ∷ []) }
+            ++ suite_start (Some (self.old.started + 1)) (text_view key) (option_map (λ n. string_bytes n.value) heading)
+            test_count (others_view others.now) ∷ []) }
         ensures started { OnOk result (self.new.started ≡ self.old.started + 1) }
     {
         let number = one_more(self.started)?;

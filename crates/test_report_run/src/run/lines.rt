@@ -12,6 +12,7 @@ use crate::error::{RunError, one_more};
 use crate::note::{CargoReport, Disagreement, Note};
 use crate::run::TestRun;
 use std::alloc::{AllocError, Global};
+use std::rc::Rc;
 use test_report_events::event::CargoFailure;
 
 /// The front of the line in which cargo says that tests failed.
@@ -29,7 +30,8 @@ impl TestRun {
             (option_map (λ path. path.now) path.entry)) }
     {
         self.others.on_heading(alloc)?;
-        self.heading = Some(self.headings.on_heading(alloc, name, path)?);
+        let name = self.headings.on_heading(alloc, name, path)?;
+        self.heading = Some(Rc::new(alloc, name)?);
         Ok(())
     }
 

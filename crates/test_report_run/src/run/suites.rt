@@ -183,7 +183,7 @@ impl TestRun {
         ensures takes { OnOk result (run_state self.new
             ≡ spec.without_tests (run_state self.old) (state_of suite)) }
         ensures tells { OnOk result (map note_view notes.new.items ≡ map note_view notes.old.items
-            ++ last_notes (state_of suite) (spec.names_in (run_state self.old) (state_of suite))) }
+            ++ last_notes (state_of suite) (spec.tests_in (run_state self.old) (state_of suite))) }
     {
         let left = self.running.take_suite(alloc, suite.name.number)?;
         suite.end(alloc, left, notes)

@@ -1,6 +1,6 @@
 //! The starts and the ends of tests.
 
-ghost use Rattle.std.specs.Prelude.{◌≡◌, ◌++◌, [], IfOk, OnOk, map};
+ghost use Rattle.std.specs.Prelude.{◌≡◌, ◌++◌, ◌||◌, [], IfOk, OnOk, map};
 ghost use Rattle.test_report_events.specs.Event.{TestEnds, test_end_view};
 ghost use Rattle.test_report_run.specs.Note.{note_view};
 ghost use Rattle.test_report_run.specs.Run as spec;
@@ -44,6 +44,43 @@ impl TestRun {
                 Ok(self.outside.name.number)
             }
         }
+    }
+
+    /// Marks the running test with this name as slow, and stores that its suite had an event. Changes nothing if there
+    /// is no such test.
+    pub(crate) fn on_test_slow(&mut self, name: &str)
+        ensures { run_state self.new ≡ spec.test_is_slow (run_state self.old) name.now }
+    {
+        if let Some(number) = self.running.mark_slow(name) {
+            self.hear(number);
+        }
+    }
+
+    /// Stores that the line is an event of a suite. `number` is the number of the suite, or `None` for the tests
+    /// outside of a suite.
+    fn hear(&mut self, number: Option<usize>)
+        ensures { run_state self.new ≡ spec.heard_at (run_state self.old)
+            (spec.place_of_number (run_state self.old) number) }
+    {
+        let place = self.others.event_place();
+        match self.suite_of_number(number) {
+            Some(at) => self.suites.list[at].last_event = place,
+            None => self.outside.last_event = place,
+        }
+    }
+
+    /// Returns true if a running test that ends with this time is slow.
+    fn is_slow(&self, test: &RunningTest, time: Option<u64>) -> bool
+        ensures { result ≡ (test.now.slow || spec.is_long (run_state self.now) time) }
+    {
+        test.slow || self.is_long(time)
+    }
+
+    /// Returns true if a test with this time is slow.
+    fn is_long(&self, time: Option<u64>) -> bool
+        ensures { result ≡ spec.is_long (run_state self.now) time }
+    {
+        time.is_some_and(|time| self.slow <= time)
     }
 
     /// Returns the position of the open suite that a starting test with this name belongs to, or `None` if no
@@ -122,12 +159,14 @@ impl TestRun {
             ++ (spec.test_over (run_state self.old) (test_end_view [] end details.entry) (running_test_view test) attempts).notes) }
     {
         let order = test.order;
+        let slow = self.is_slow(&test, details.time);
         let place = self.suite_of_number(test.suite);
         let over = OverTest {
             name: test.name,
             attempts,
             time: details.time,
             ended: Some(self.ended),
+            slow,
         };
         let event = self.others.event_place();
         match place {
@@ -194,11 +233,13 @@ impl TestRun {
         ensures tells { OnOk result (map note_view notes.new.items ≡ map note_view notes.old.items
             ++ spec.stray_test (run_state self.old) (test_end_view name.now end details.entry)) }
     {
+        let slow = self.is_long(details.time);
         let test = OverTest {
             name: String::from_str(alloc, name)?,
             attempts: 1,
             time: details.time,
             ended: Some(self.ended),
+            slow,
         };
         let event = self.others.event_place();
         match self.suite_of(name) {

@@ -3,11 +3,11 @@
 ghost use Rattle.std.specs.Prelude.{◌≡◌, ◌≤◌, ◌++◌, ◌∷◌, [], ◌+◌, ◌-◌, ℕ, List, true, false, filter, length, not, IfNone, IfOk, IfSome, MatchOption, OnOk, option_map, slice_get};
 ghost use Rattle.std.specs.BTreeMap.{get, is_at};
 ghost use Rattle.std.specs.List.{position, remove};
-ghost use Rattle.std.specs.Map.{remove_entry};
+ghost use Rattle.std.specs.Map.{remove_entry, set_value};
 ghost use Rattle.std.specs.Option.{option_map_or};
 ghost use Rattle.std.specs.Ordering.{nat_cmp};
 ghost use Rattle.test_report_run.specs.Orders.{is_in_suite};
-ghost use Rattle.test_report_run.specs.Running.{CountsAttempts, RunningView, ended_at, has_name, is_of, place_of_end, running_at, running_test_view, running_view, split_of, tests_of};
+ghost use Rattle.test_report_run.specs.Running.{CountsAttempts, RunningView, ended_at, has_name, is_of, place_of_end, running_at, running_test_view, running_view, split_of, tests_of, with_slow};
 
 use crate::error::{RunError, one_more};
 use crate::running::names::NameOrders;
@@ -36,7 +36,7 @@ impl Running {
     /// tests may be missing.
     pub fn begin(&mut self, alloc: Global, name: &str, suite: Option<usize>) -> Result<(), RunError>
         ensures tests { OnOk result (tests_of self.new ≡ tests_of self.old
-            ++ record { name = name.now; suite = suite; order = self.old.started } ∷ []) }
+            ++ record { name = name.now; suite = suite; order = self.old.started; slow = false } ∷ []) }
         ensures started { OnOk result (self.new.started ≡ self.old.started + 1) }
     {
         let order = self.started;
@@ -45,6 +45,7 @@ impl Running {
             name: String::from_str(alloc, name)?,
             suite,
             order,
+            slow: false,
         };
         let Running {
             mut tests,
@@ -79,6 +80,22 @@ impl Running {
         let (name, attempts) = name_and_attempts(written)?;
         let test = self.remove_named(name)?;
         Some((test, attempts))
+    }
+
+    /// Marks the running test that a line calls slow, and returns the number of its suite, which is `None` outside of
+    /// a suite. `written` is the name in the line. Returns `None` if no such test is running.
+    pub(crate) fn mark_slow(&mut self, written: &str) -> Option<Option<usize>>
+        ensures suite { result ≡ option_map (λ place. (running_at (tests_of self.old) place.0).suite)
+            (place_of_end (tests_of self.old) written.now) }
+        ensures marks { tests_of self.new ≡ option_map_or (λ place. with_slow (tests_of self.old) place.0)
+            (place_of_end (tests_of self.old) written.now) (tests_of self.old) }
+        ensures started { self.new.started ≡ self.old.started }
+    {
+        if let Some(suite) = self.mark_named(written) {
+            return Some(suite);
+        }
+        let (name, _) = name_and_attempts(written)?;
+        self.mark_named(name)
     }
 
     /// Returns the name of the test that started last.
@@ -119,6 +136,30 @@ impl Running {
     {
         let order = self.names.first(name)?;
         self.remove(order)
+    }
+
+    /// Marks the first test with a name as slow, and returns the number of its suite.
+    fn mark_named(&mut self, name: &str) -> Option<Option<usize>>
+        ensures suite { result ≡ option_map (λ at. (running_at (tests_of self.old) at).suite)
+            (position (has_name name.now) (tests_of self.old)) }
+        ensures marks { tests_of self.new ≡ option_map_or (with_slow (tests_of self.old))
+            (position (has_name name.now) (tests_of self.old)) (tests_of self.old) }
+        ensures started { self.new.started ≡ self.old.started }
+    {
+        let order = self.names.first(name)?;
+        self.mark(order)
+    }
+
+    /// Marks the test with this number as slow, and returns the number of its suite.
+    fn mark(&mut self, order: usize) -> Option<Option<usize>>
+        ensures suite { result ≡ option_map (λ t. t.suite) (get nat_cmp self.old.tests order) }
+        ensures marks { IfSome (get nat_cmp self.old.tests order) (λ t. self.new.tests.entries
+            ≡ set_value (is_at (nat_cmp order)) self.old.tests.entries (record t { slow = true })) }
+        ensures started { self.new.started ≡ self.old.started }
+    {
+        let test = self.tests.get_mut(&order)?;
+        test.slow = true;
+        Some(test.suite)
     }
 
     /// Removes the first test of a suite, and returns it.

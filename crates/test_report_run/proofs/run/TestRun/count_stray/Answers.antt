@@ -1,5 +1,5 @@
 -- A stray end counts in the suite that its test would belong to.
-use Rattle.std.proofs.Common.{◌∙◌, ◌++◌, ◌<◌, List, ℕ, ap, arith, length, map, refl, sym}
+use Rattle.std.proofs.Common.{◌∙◌, ◌++◌, ◌<◌, Bool, List, ℕ, ap, arith, length, map, refl, sym}
 use Rattle.std.proofs.lemmas.Grind.{common_steps}
 use Rattle.test_report_events.specs.Event.{test_end_view}
 use Rattle.test_report_run.specs.Ended.{after_stray, stray_notes}
@@ -47,13 +47,14 @@ returns-in_ok-on_stray_end-in-Some-clause-takes c =
     let r = run_state c.args.self.now in
     let e = test_end_view c.args.name.now c.args.end c.args.details in
     let s = state_of c.deref_mut.result.now in
-    let over : List ℕ → OverView = λ name. record (stray_over r e) { name = name } in
+    let over : List ℕ → Bool → OverView = λ name slow. record (stray_over r e) { name = name; slow = slow } in
     let inside : c.in-Some.at < length c.args.self.now.suites.list.items = grind (arith, common_steps) in
     with_suite-at r _ c.args.self.now.suites.list.items c.in-Some.at (suite_place r c.args.name.now) c.index_mut-suite.result.now c.deref_mut.result.now
     c.deref_mut-in-Some.result.now c.event_place-event.result
     (λ s. after_stray s (stray_over r e) e) refl refl inside c.in-Some.ensures c.index_mut-suite.ensures.value c.deref_mut.ensures.value
     (ap state_of c.deref_mut-in-Some.ensures.value ∙ c.in_ok-on_stray_end-in-Some.ensures.takes
-    ∙ ap (λ name. after_stray s (over name) e) c.in_ok-from_str.ensures.ok)
+    ∙ ap (λ name. after_stray s (over name c.is_long-slow.result) e) c.in_ok-from_str.ensures.ok
+    ∙ ap (λ slow. after_stray s (over c.args.name.now slow) e) c.is_long-slow.ensures)
     c.event_place-event.ensures
 
 pub returns-in_ok-on_stray_end-in-Some-clause-tells : goal.returns-in_ok-on_stray_end-in-Some-clause-tells
@@ -62,9 +63,10 @@ returns-in_ok-on_stray_end-in-Some-clause-tells c =
     let e = test_end_view c.args.name.now c.args.end c.args.details in
     let s = state_of c.deref_mut.result.now in
     let notes = map note_view c.args.notes.now.items in
-    let over : List ℕ → OverView = λ name. record (stray_over r e) { name = name } in
+    let over : List ℕ → Bool → OverView = λ name slow. record (stray_over r e) { name = name; slow = slow } in
     let inside : c.in-Some.at < length c.args.self.now.suites.list.items = grind (arith, common_steps) in
     let place = suite-at r c.args.self.now.suites.list.items c.in-Some.at (suite_place r c.args.name.now) c.index_mut-suite.result.now refl
     inside c.in-Some.ensures c.index_mut-suite.ensures.value ∙ sym (ap state_of c.deref_mut.ensures.value) in
-    c.in_ok-on_stray_end-in-Some.ensures.tells ∙ ap (λ name. notes ++ stray_notes s (over name) e) c.in_ok-from_str.ensures.ok
+    c.in_ok-on_stray_end-in-Some.ensures.tells ∙ ap (λ name. notes ++ stray_notes s (over name c.is_long-slow.result) e) c.in_ok-from_str.ensures.ok
+    ∙ ap (λ slow. notes ++ stray_notes s (over c.args.name.now slow) e) c.is_long-slow.ensures
     ∙ ap (λ s. notes ++ stray_notes s (stray_over r e) e) (sym place)

@@ -1,17 +1,12 @@
 -- A suite ends early, with its running tests.
-use Rattle.std.proofs.Common.{◌≡◌, ◌∙◌, ap, map}
 use Rattle.std.proofs.lemmas.Result.{on_ok_weaker}
-use Rattle.test_report_run.specs.Run.{names_in, run_state}
-use Rattle.test_report_run.specs.Running.{RunningView, names_of}
+use Rattle.test_report_run.specs.Run.{run_state}
 use Rattle.test_report_run.specs.Suite.{state_of}
-use Rattle.test_report_run.proofs.Places.{names-view}
 use Rattle.test_report_run.proofs.Runs.{ended-early}
 use Rattle.test_report_run.proofs.run.TestRun.end_early.Goals as goal
 
 pub returns : goal.returns
 returns c =
     let left = c.in_ok-left.ensures in
-    let name : names_of c.in_ok-left.left.items ≡ names_in (run_state c.args.self.now) (state_of c.args.suite) =
-    names-view c.in_ok-left.left.items ∙ ap (λ tests. map (λ (t : RunningView). t.name) tests) left.taken in
     on_ok_weaker c.end_early.result
-    (ended-early (run_state c.args.self.now) _ (state_of c.args.suite) _ _ _ name (rw (left.left, left.started))) c.end_early.ensures
+    (ended-early (run_state c.args.self.now) _ (state_of c.args.suite) _ _ _ left.taken (rw (left.left, left.started))) c.end_early.ensures

@@ -1,5 +1,5 @@
 -- The tests with one more.
-use Rattle.std.proofs.Common.{◌≡◌, ◌∙◌, ◌+◌, ◌++◌, ◌∷◌, [], ℕ, None, ◌==◌, ◌<◌, ap, arith, rules, string_bytes, sym}
+use Rattle.std.proofs.Common.{◌≡◌, ◌∙◌, ◌+◌, ◌++◌, ◌∷◌, [], ℕ, None, ◌==◌, ◌<◌, false, ap, arith, rules, string_bytes, sym}
 use Rattle.std.specs.BTreeMap.{get}
 use Rattle.std.specs.Map.{values_of}
 use Rattle.std.specs.Option.{IsSome, option_eq}
@@ -17,7 +17,7 @@ invariant_of-drop c =
     let order = c.args.self.now.started in
     let since : run.started ≡ order = ap (λ (r : Running). r.started) c.replace-tests.ensures.value in
     let under : (n : ℕ) → IsSome (get nat_cmp run.tests n) → n < order = λ n found. rw (sym since) (run.below n found) in
-    let test : RunningTest = record { name = c.in_ok-from_str.field-0; suite = c.args.suite; order = order } in
+    let test : RunningTest = record { name = c.in_ok-from_str.field-0; suite = c.args.suite; order = order; slow = false } in
     let started : c.in_ok-started.started ≡ order + 1 = search rules in
     let gets = c.in_ok-insert-3.ensures.updates.0 in
     let none : (n : ℕ) → order ≡ n → get nat_cmp run.tests n ≡ None = λ n same. none_at (get nat_cmp run.tests n) order n (under n) same in
@@ -35,7 +35,7 @@ pub returns-clause-tests : goal.returns-clause-tests
 returns-clause-tests c =
     let run = c.args.self.now in
     let order = run.started in
-    let test : RunningTest = record { name = c.in_ok-from_str.field-0; suite = c.args.suite; order = order } in
+    let test : RunningTest = record { name = c.in_ok-from_str.field-0; suite = c.args.suite; order = order; slow = false } in
     let last : c.insert-3.new.self.entries ≡ run.tests.entries ++ (order, test) ∷ [] =
     grind (arith, c.in_ok-insert-3.ensures.entries, insert_last run.tests.entries order test run.below) in
     let view = ap (λ es. running_view (values_of es)) last ∙ view_last run.tests.entries order test in

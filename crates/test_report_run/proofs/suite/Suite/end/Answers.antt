@@ -1,23 +1,22 @@
 -- The notes of a suite that ends by its last line.
-use Rattle.std.proofs.Common.{◌∙◌, List, ℕ, ap, arith, sym, string_bytes}
+use Rattle.std.proofs.Common.{◌∙◌, ap, arith, sym}
 use Rattle.std.proofs.lemmas.List.{drop-map, length-map, take-map}
 use Rattle.std.proofs.lemmas.Result.{on_ok_weaker}
-use Rattle.test_report_run.specs.Running.{names_of}
-use Rattle.test_report_run.specs.declared.running.RunningTest.{RunningTest}
+use Rattle.test_report_run.specs.Running.{running_test_view, running_view}
 use Rattle.test_report_run.proofs.Ends.{last-notes}
 use Rattle.test_report_run.proofs.suite.Suite.end.Goals as goal
 
 pub returns : goal.returns
 returns c =
-    let name : RunningTest → List ℕ = λ t. string_bytes t.name in
     let tests = c.args.left.items in
     let e = c.in_ok-explained.explained in
     let lost = c.in_ok-left.ensures in
     let flaky = c.in_ok-release_flaky.ensures in
     on_ok_weaker c.push_numbers.result
-    (last-notes _ _ _ (names_of tests) _ (names_of c.in_ok-others.others.items) e _ c.in_ok-left.left _ _ _ _ _ _ _
-    (grind (arith, c.len.ensures, c.args.left.ok, length-map tests name)) c.in_ok-explained.ensures.0
-    (ap names_of c.in_ok-others.ensures.items ∙ sym (take-map name e.skipped tests))
-    (ap names_of c.in_ok-others.ensures.tail ∙ sym (drop-map name e.skipped tests)) (rw (length-map c.in_ok-others.others.items name) lost.left)
+    (last-notes _ _ _ (running_view tests) _ (running_view c.in_ok-others.others.items) e _ c.in_ok-left.left _ _ _ _ _ _ _
+    (grind (arith, c.len.ensures, c.args.left.ok, length-map tests running_test_view)) c.in_ok-explained.ensures.0
+    (ap running_view c.in_ok-others.ensures.items ∙ sym (take-map running_test_view e.skipped tests))
+    (ap running_view c.in_ok-others.ensures.tail ∙ sym (drop-map running_test_view e.skipped tests))
+    (rw (length-map c.in_ok-others.others.items running_test_view) lost.left)
     lost.counts c.in_ok-skip_all.ensures lost.tells flaky.counts flaky.tells c.in_ok-push_disagreement.ensures c.or.ensures)
     c.push_numbers.ensures

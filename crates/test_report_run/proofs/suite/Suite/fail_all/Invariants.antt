@@ -2,12 +2,12 @@
 use Rattle.std.proofs.Common.{◌≡◌, ◌++◌, map}
 use Rattle.test_report_run.specs.Note.{HasNoEnd, note_view}
 use Rattle.test_report_run.specs.Over.{failed_notes, with_failed}
-use Rattle.test_report_run.specs.Running.{names_of}
+use Rattle.test_report_run.specs.Running.{running_view}
 use Rattle.test_report_run.specs.Suite.{state_of}
 use Rattle.test_report_run.proofs.suite.Suite.fail_all.Given as goal
 
 abbrev pub invariant-loop-test : goal.invariant-loop-test
 invariant-loop-test l =
-    (state_of l.self ≡ record (state_of l.fn.self) { stats = with_failed l.fn.self.stats (names_of l.yielded) })
+    (state_of l.self ≡ record (state_of l.fn.self) { stats = with_failed l.fn.self.stats (running_view l.yielded) })
     × (map note_view l.notes.items ≡ map note_view l.fn.notes.items
-    ++ failed_notes (state_of l.fn.self) HasNoEnd (names_of l.yielded))
+    ++ failed_notes (state_of l.fn.self) HasNoEnd (running_view l.yielded))

@@ -2,9 +2,9 @@
 use Rattle.std.proofs.Common.{◌≡◌, ◌++◌, map}
 use Rattle.test_report_run.specs.Note.{note_view}
 use Rattle.test_report_run.specs.Over.{skipped_note}
-use Rattle.test_report_run.specs.Running.{names_of}
+use Rattle.test_report_run.specs.Running.{running_view}
 use Rattle.test_report_run.specs.Suite.{state_of}
 use Rattle.test_report_run.proofs.suite.Suite.skip_all.Given as goal
 
 abbrev pub invariant-loop-test : goal.invariant-loop-test
-invariant-loop-test l = map note_view l.notes.items ≡ map note_view l.fn.notes.items ++ map (skipped_note (state_of l.fn.self)) (names_of l.yielded)
+invariant-loop-test l = map note_view l.notes.items ≡ map note_view l.fn.notes.items ++ map (skipped_note (state_of l.fn.self)) (running_view l.yielded)
