@@ -16,9 +16,6 @@ begins text word = starts_with nat_eq text word
 abbrev pub is_low : ℕ → Bool
 is_low b = nat_lt b 128
 
-same-test : (a b x : Bool) → a ≡ b → (a && x) ≡ (b && x)
-same-test a b x e = ap (λ t. t && x) e
-
 other-test : (a b x y : Bool) → a ≡ false → b ≡ false → (a && x) ≡ (b && y)
 other-test a b x y e f = ap (λ t. t && x) e ∙ sym (ap (λ t. t && y) f)
 

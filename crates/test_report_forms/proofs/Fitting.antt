@@ -1,5 +1,5 @@
 -- The failed tests for which a summary has room, one after another.
-use Rattle.std.proofs.Common.{◌≡◌, ◌∙◌, ◌-◌, refl, sym, ap, ℕ, List, [], ◌∷◌, ◌++◌, append-nil, append_assoc, codes, length, map}
+use Rattle.std.proofs.Common.{◌≡◌, ◌∙◌, ◌-◌, sym, ap, ℕ, List, [], ◌∷◌, ◌++◌, append-nil, append_assoc, codes, length, map}
 use Rattle.std.proofs.lemmas.List.{length-map, map-append}
 use Rattle.template.specs.Template.{ItemValue, Parts, ValueView, value_view, values_of}
 use Rattle.template.specs.declared.value.Value.{Value}

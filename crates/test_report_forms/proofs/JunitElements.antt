@@ -127,7 +127,7 @@ only-kinds c =
       only-kind (codes "failure") refl refl c,
       only-kind (codes "error") refl refl c,
       only-kind (codes "skipped") refl refl c,
-      only-kind (codes "reason") refl refl c,
+      only-kind (codes "skipped_because") refl refl c,
       only-kind (codes "flaky") refl refl c,
       only-kind (codes "output") refl refl c,
     ) refl

@@ -116,7 +116,7 @@ abbrev pub kinds : Values → List TreeView
 kinds vs =
     of_kind (codes "failure") vs
     ++ (of_kind (codes "error") vs
-    ++ (of_kind (codes "skipped") vs ++ (of_kind (codes "reason") vs ++ (of_kind (codes "flaky") vs ++ (of_kind (codes "output") vs ++ [])))))
+    ++ (of_kind (codes "skipped") vs ++ (of_kind (codes "skipped_because") vs ++ (of_kind (codes "flaky") vs ++ (of_kind (codes "output") vs ++ [])))))
 
 case-order : (vs : Values) → parts_elements case_contents vs ≡ kinds vs
 unfolding parse step chars encode_utf8 junit_parts suite_parts case_parts kind_parts filled_trees read_part read_parts
@@ -148,7 +148,7 @@ pub skipped_elements : elements (trees_of (kind_parts (codes "skipped")) NoValue
 unfolding parse step chars encode_utf8 junit_parts suite_parts case_parts kind_parts filled_trees read_part read_parts
 skipped_elements = refl
 
-pub skipped_reason : (i : Values) → elements (trees_of (kind_parts (codes "reason")) i)
+pub skipped_reason : (i : Values) → elements (trees_of (kind_parts (codes "skipped_because")) i)
     ≡ ElementTree (codes "skipped") (attribute (codes "message") (text_of (codes "message") i) ∷ []) NoTrees ∷ []
 unfolding parse step chars encode_utf8 junit_parts suite_parts case_parts kind_parts filled_trees read_part read_parts
 skipped_reason i = refl

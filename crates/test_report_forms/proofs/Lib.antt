@@ -1,5 +1,6 @@
 pub mod Begins
 pub mod Both
+pub mod Characters
 pub mod Cuts
 pub mod Dots
 pub mod Ends
@@ -13,6 +14,7 @@ pub mod JunitParts
 pub mod JunitElements
 pub mod JunitEntries
 pub mod Kept
+pub mod Outputs
 pub mod Page
 pub mod Places
 pub mod Pushed

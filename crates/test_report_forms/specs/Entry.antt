@@ -22,7 +22,7 @@ entry_view (entry.Passed test) = TestPassed (test_view test.now)
 entry_view (entry.Skipped test) = TestSkipped (test_view test.now)
 entry_view (entry.Failed test failure why) = TestFailed (test_view test.now) (failure_view failure.now) (why_view why)
 entry_view (entry.Disagreement d why) = LinesDisagree (disagreement_view d.now) (option_map string_bytes why)
-entry_view (entry.NotRun n) = SuiteNotRun (string_bytes n.now.suite) n.now.not_run n.now.initial_run_count
+entry_view (entry.NotRun n) = SuiteNotRun (string_bytes n.now.suite.value) n.now.not_run n.now.initial_run_count
 entry_view (entry.Suite suite) = SuiteOver (suite_view suite.now)
 
 -- this is the entry of a test that counts so

@@ -6,6 +6,7 @@ use Rattle.test_report_forms.specs.Json.{IsStateOf, json_state, json_written}
 use Rattle.test_report_forms.specs.Junit.{junit_of, junit_state, junit_view}
 use Rattle.test_report_forms.specs.Markdown.{markdown_of}
 use Rattle.test_report_forms.specs.Model.{IsModelOf}
+use Rattle.test_report_forms.specs.WholeOutput.{page_limits, summary_limits}
 use Rattle.test_report_forms.specs.declared.files.FileForms.{FileForms}
 use Rattle.test_report_forms.specs.declared.files.FileTexts.{FileTexts}
 use Rattle.test_report_forms.specs.declared.html.HtmlForm.{HtmlForm}
@@ -33,7 +34,7 @@ junit_last form entries end = junit_of form.options entries end
 
 -- the form for a browser has taken these entries
 abbrev pub HtmlKnows : HtmlForm → List EntryView → Type 0
-HtmlKnows form entries = IsModelOf form.model entries
+HtmlKnows form entries = IsModelOf page_limits form.model entries
 
 -- what the form for a browser writes at the end
 abbrev pub html_last : HtmlForm → List EntryView → RunEnd → List ℕ
@@ -41,7 +42,7 @@ html_last form entries end = html_of form.model.options entries end
 
 -- the form for a summary has taken these entries
 abbrev pub MarkdownKnows : MarkdownForm → List EntryView → Type 0
-MarkdownKnows form entries = IsModelOf form.model entries
+MarkdownKnows form entries = IsModelOf summary_limits form.model entries
 
 -- what the form for a summary writes at the end
 abbrev pub markdown_last : MarkdownForm → List EntryView → RunEnd → List ℕ

@@ -23,11 +23,16 @@ abbrev pub run_holes : Hole → List HoleView
 run_holes kind =
     holes kind [] (codes "outcome" ∷ codes "finished" ∷ codes "passed" ∷ codes "flaky" ∷ codes "failed" ∷ codes "timed_out" ∷ codes "crashed"
     ∷ codes "skipped" ∷ codes "not_run" ∷ [])
-    ++ holes kind (codes "time" ∷ []) (codes "seconds" ∷ [])
+    ++ (holes kind (codes "slow" ∷ []) (codes "count" ∷ []) ++ holes kind (codes "time" ∷ []) (codes "seconds" ∷ []))
 
 -- the holes for each problem: of this kind for its line, and of a text for what explains it
 abbrev pub problem_holes : Hole → List (List ℕ) → List HoleView
 problem_holes kind path = holes kind path (codes "line" ∷ []) ++ holes hole.Text (path ++ (codes "why" ∷ [])) (codes "text" ∷ [])
+
+-- the holes for the whole output of a failed test: of this kind for the number of its lines, and of a text for its text
+abbrev pub output_holes : Hole → List (List ℕ) → List HoleView
+output_holes kind path =
+    holes kind (path ++ (codes "output" ∷ [])) (codes "lines" ∷ []) ++ holes hole.Text (path ++ (codes "output" ∷ [])) (codes "text" ∷ [])
 
 -- these parts have a hole
 abbrev pub has_hole : Parts → HoleView → Bool

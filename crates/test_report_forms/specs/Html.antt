@@ -10,7 +10,7 @@ use Rattle.template.specs.Sections.{first_section, sections}
 use Rattle.template.specs.Template.{Parts, Values, parts_text, values_of}
 use Rattle.template.specs.declared.hole.Hole.TheVariants as hole
 use Rattle.test_report_forms.specs.Entry.{EntryView}
-use Rattle.test_report_forms.specs.Holes.{HoleView, PhraseView, has_hole, holes, phrase_text, phrases, problem_holes, run_holes, shows_phrase}
+use Rattle.test_report_forms.specs.Holes.{HoleView, PhraseView, has_hole, holes, output_holes, phrase_text, phrases, problem_holes, run_holes, shows_phrase}
 use Rattle.test_report_forms.specs.Model.{FailedView, ProblemView, RowView}
 use Rattle.test_report_forms.specs.Skipped.{SkippedView}
 use Rattle.test_report_forms.specs.Values.{failed_values, problem_values, skip_values, suite_values, values_of_run}
@@ -42,7 +42,7 @@ failed_holes path =
     holes hole.Text path (codes "status" ∷ codes "name" ∷ codes "why" ∷ [])
     ++ (holes hole.Text (path ++ (codes "suite" ∷ [])) (codes "name" ∷ [])
     ++ (holes hole.Text (path ++ (codes "note" ∷ codes "attempts" ∷ [])) (codes "count" ∷ [])
-    ++ holes hole.Text (path ++ (codes "note" ∷ codes "time" ∷ [])) (codes "seconds" ∷ [])))
+    ++ (holes hole.Text (path ++ (codes "note" ∷ codes "time" ∷ [])) (codes "seconds" ∷ []) ++ output_holes hole.Text path)))
 
 -- the holes for a suite
 abbrev pub suite_holes : List (List ℕ) → List HoleView
@@ -67,10 +67,14 @@ page_holes =
 abbrev pub heading_phrase : List ℕ
 heading_phrase = codes "<h1>Test report: <span class=\"word {{outcome}}\">{{outcome}}</span></h1>"
 
+-- how many tests were slow, if some were
+abbrev pub slow_number_phrase : List ℕ
+slow_number_phrase = codes "{{#slow}}, {{count}} slow{{/slow}}"
+
 -- the numbers of a run, each with its word
 abbrev pub numbers_phrase : List ℕ
 numbers_phrase =
-    codes "{{finished}} tests run: {{passed}} passed ({{flaky}} flaky), {{failed}} failed ({{timed_out}} timed out, "
+    codes "{{finished}} tests run: {{passed}} passed ({{flaky}} flaky" ++ slow_number_phrase ++ codes "), {{failed}} failed ({{timed_out}} timed out, "
     ++ codes "{{crashed}} crashed), {{skipped}} skipped, {{not_run}} not run"
 
 -- the time of a run, if it is known, at the end of the numbers
@@ -88,6 +92,12 @@ problem_phrase = codes "<li>{{line}}{{#why}}<pre><code>{{text}}</code></pre>{{/w
 -- the status, the suite and the name of a failed test
 abbrev pub title_phrase : List ℕ
 title_phrase = codes "<span class=\"status\">{{status}}</span> {{#suite}}<span class=\"suite\">{{name}}</span> {{/suite}}<span>{{name}}</span>"
+
+-- the reason of a failed test and, if it is shown, its whole output: how many lines it has, and its text
+abbrev pub reason_phrase : List ℕ
+reason_phrase =
+    codes "<pre><code>{{why}}</code></pre>\n{{#output}}<details>\n<summary>output, {{lines}} lines</summary>\n"
+    ++ codes "<pre><code>{{text}}</code></pre>\n</details>\n{{/output}}"
 
 -- the bar of numbers
 abbrev pub bar_phrase : List ℕ
@@ -130,7 +140,7 @@ page_phrases =
     ++ (phrases (codes "problems" ∷ []) (codes "<h2>Problems of the run</h2>\n" ∷ [])
     ++ (phrases (codes "problems" ∷ codes "problem" ∷ []) (problem_phrase ∷ [])
     ++ (phrases (codes "failures" ∷ []) (codes "<h2>Failed tests</h2>\n" ∷ [])
-    ++ (phrases (codes "failures" ∷ codes "failed" ∷ []) (title_phrase ∷ codes "<pre><code>{{why}}</code></pre>" ∷ [])
+    ++ (phrases (codes "failures" ∷ codes "failed" ∷ []) (title_phrase ∷ reason_phrase ∷ [])
     ++ (phrases (codes "failures" ∷ codes "failed" ∷ codes "note" ∷ [])
     (codes "{{#attempts}} ({{count}} attempts){{/attempts}}{{#time}} {{seconds}}s{{/time}}" ∷ [])
     ++ (phrases (codes "suites" ∷ codes "suite" ∷ []) (suite_phrase ∷ [])

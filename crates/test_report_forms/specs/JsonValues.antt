@@ -39,8 +39,9 @@ time_member time = map (λ micros. (codes "time", number (seconds micros))) (opt
 -- numbers of tests
 unfoldable pub numbers_json : RunStats → ℕ → ℕ → ℕ → Json
 numbers_json stats crashed skipped not_run = object_of (
-    ((((((number_member (codes "finished") stats.finished_count ++ number_member (codes "passed") stats.passed)
-    ++ number_member (codes "flaky") stats.flaky) ++ number_member (codes "failed") (stats.finished_count - stats.passed))
+    (((((((number_member (codes "finished") stats.finished_count ++ number_member (codes "passed") stats.passed)
+    ++ number_member (codes "flaky") stats.flaky) ++ number_member (codes "slow") stats.passed_slow)
+    ++ number_member (codes "failed") (stats.finished_count - stats.passed))
     ++ number_member (codes "timed_out") stats.failed_timed_out) ++ number_member (codes "crashed") crashed)
     ++ number_member (codes "skipped") skipped) ++ number_member (codes "not_run") not_run)
 

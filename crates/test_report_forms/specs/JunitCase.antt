@@ -128,7 +128,7 @@ failed_reason failed f = record {
 
 -- the test case of a test that failed
 abbrev pub failed_case : TestNoteView → FailureView → WhyView → Options → CaseView
-failed_case t f w o = test_case t (option_map shown_place w.place) (FailedCase (failed_reason (shown_failure_of t f w o) f))
+failed_case t f w o = test_case t (option_map shown_place w.place) (FailedCase (failed_reason (shown_failure_of t f w o 0) f))
 
 -- the name of the run, and of the suite of causes that name no suite
 abbrev pub own_name : List ℕ

@@ -42,7 +42,7 @@ place_item place = items (codes "place") place_values (option_to_list place)
 -- that a test was skipped, with the reason if there is one
 abbrev pub skipped_items : Option (List ℕ) → List ValueView
 skipped_items None = ItemValue (codes "skipped") NoValues ∷ []
-skipped_items (Some reason) = ItemValue (codes "reason") (values_of (one_text (codes "message") reason)) ∷ []
+skipped_items (Some reason) = ItemValue (codes "skipped_because") (values_of (one_text (codes "message") reason)) ∷ []
 
 -- the kind of a test case
 abbrev pub kind_values : CaseKindView → List ValueView

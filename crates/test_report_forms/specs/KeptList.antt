@@ -11,6 +11,7 @@ abbrev pub IsListOf : ShortList → Options → List EntryView → Type 0
 IsListOf list o entries =
     (string_bytes list.passed ≡ part_at o final.Pass entries)
     × (string_bytes list.skipped ≡ part_at o final.Skip entries)
+    × (string_bytes list.slow ≡ part_at o final.Slow entries)
     × (string_bytes list.flaky ≡ part_at o final.Flaky entries)
     × (string_bytes list.failed ≡ part_at o final.Fail entries)
     × (map slow_line_view list.slowest.tests.items ≡ slow_lines o entries)

@@ -35,23 +35,23 @@ abbrev pub attempts_for : Finish → ℕ → ℕ
 attempts_for finish.FlakyFailed attempts = max attempts 2
 attempts_for how attempts = attempts
 
--- what decides the levels of a test that finished in this way after this number of attempts
-abbrev pub own_view : Finish → ℕ → TestView
-own_view how attempts = view_of_finish how (attempts_for how attempts)
+-- what decides the levels of a test that finished in this way after this number of attempts, and whether it was slow
+abbrev pub own_view : Finish → ℕ → Bool → TestView
+own_view how attempts slow = view_of_finish how (attempts_for how attempts) slow
 
 -- the level of the test
-abbrev pub own_level : Finish → ℕ → StatusLevel
-own_level how attempts = unwrap_or (level_of (own_view how attempts)) level.Fail
+abbrev pub own_level : Finish → ℕ → Bool → StatusLevel
+own_level how attempts slow = unwrap_or (level_of (own_view how attempts slow)) level.Fail
 
 -- its level at the end of the run
-abbrev pub own_final_level : Finish → ℕ → FinalStatusLevel
-own_final_level how attempts = unwrap_or (final_level_of (own_view how attempts)) final.Fail
+abbrev pub own_final_level : Finish → ℕ → Bool → FinalStatusLevel
+own_final_level how attempts slow = unwrap_or (final_level_of (own_view how attempts slow)) final.Fail
 
 -- what is shown of it, and what is stored for the list at the end
-unfoldable pub finished_output : Options → Finish → ℕ → OutputOnTestFinished
-finished_output o how attempts =
-    visibility (asked_of (levels_of o) (display_of o.failure_output how) (own_level how attempts) (own_final_level how attempts)
-    (own_view how attempts).result) None
+unfoldable pub finished_output : Options → Finish → ℕ → Bool → OutputOnTestFinished
+finished_output o how attempts slow =
+    visibility (asked_of (levels_of o) (display_of o.failure_output how) (own_level how attempts slow) (own_final_level how attempts slow)
+    (own_view how attempts slow).result) None
 
 -- what is shown of a skipped test, and what is stored for the list at the end
 unfoldable pub skipped_output : Options → OutputOnTestFinished

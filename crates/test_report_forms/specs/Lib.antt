@@ -32,6 +32,7 @@ pub mod Suites
 pub mod Text
 pub mod Title
 pub mod Values
+pub mod WholeOutput
 pub mod Why
 pub mod WhyLines
 pub mod Words

@@ -1,5 +1,5 @@
 -- The list at the end of a report.
-use Rattle.std.specs.Prelude.{◌==◌, ℕ, List, ◌++◌, ◌-◌, ◌∷◌, [], codes, if◌then◌else◌, length, nat_lt, replicate, string_bytes, take}
+use Rattle.std.specs.Prelude.{◌==◌, ◌&&◌, ℕ, List, Bool, ◌++◌, ◌-◌, ◌∷◌, [], codes, if◌then◌else◌, length, nat_lt, not, replicate, string_bytes, take}
 use Rattle.std.specs.Fmt.{decimal}
 use Rattle.std.specs.List.{flat_map, fold, insert, position_or_len}
 use Rattle.std.specs.Option.{option_map_or}
@@ -48,6 +48,10 @@ flaky_word attempts = codes "FLAKY " ++ (decimal attempts ++ (codes "/" ++ decim
 abbrev pub passed_word : ℕ → List ℕ
 passed_word attempts = if nat_lt 1 attempts then flaky_word attempts else codes "PASS"
 
+-- the same in the list, where a slow test has a word of its own
+abbrev pub listed_word : ℕ → Bool → List ℕ
+listed_word attempts slow = if not (nat_lt 1 attempts) && slow then codes "SLOW" else passed_word attempts
+
 -- the line of a test that did not fail
 unfoldable pub ended_line : Options → TestNoteView → List ℕ → List ℕ
 ended_line o t word = list_line o word t ++ codes "\n"
@@ -58,18 +62,18 @@ failed_line o t word short = list_line o word t ++ (codes ": " ++ (shown_text o.
 
 -- the lines of an entry in the list
 abbrev pub item : Options → EntryView → List ℕ
-item o (TestPassed t) = listed_text (finished_output o Passed t.attempts).store_final (ended_line o t (passed_word t.attempts)) []
+item o (TestPassed t) = listed_text (finished_output o Passed t.attempts t.slow).store_final (ended_line o t (listed_word t.attempts t.slow)) []
 item o (TestSkipped t) = listed_text (skipped_output o).store_final (ended_line o t (codes "SKIP")) []
 item o (TestFailed t f w) =
-    listed_text (finished_output o (finish_for f.kind) t.attempts).store_final (failed_line o t (failed_word f.kind) w.short)
+    listed_text (finished_output o (finish_for f.kind) t.attempts t.slow).store_final (failed_line o t (failed_word f.kind) w.short)
     (why_lines 13 o (text_why o t f w))
 item o _ = []
 
 -- the level at the end of the run of the test of an entry
 abbrev pub final_level_of : EntryView → FinalStatusLevel
-final_level_of (TestPassed t) = own_final_level Passed t.attempts
+final_level_of (TestPassed t) = own_final_level Passed t.attempts t.slow
 final_level_of (TestSkipped t) = final.Skip
-final_level_of (TestFailed t f w) = own_final_level (finish_for f.kind) t.attempts
+final_level_of (TestFailed t f w) = own_final_level (finish_for f.kind) t.attempts t.slow
 final_level_of _ = final.None
 
 -- lines in the part of the list for this level, if their test has the level
@@ -106,8 +110,8 @@ slow_lines o entries = fold (put_falling o.slowest) [] (flat_map (slow_of o) ent
 abbrev pub text_of_lines : List KeyedLine → List ℕ
 text_of_lines lines = flat_map (λ l. l.line) lines
 
--- the list: the tests that passed, the skipped ones, the flaky ones, the failed ones, and then the slowest
+-- the list: the tests that passed, the skipped ones, the slow ones, the flaky ones, the failed ones, and then the slowest
 unfoldable pub short_list : Options → List EntryView → List ℕ
 short_list o entries =
-    part_at o final.Pass entries ++ (part_at o final.Skip entries ++ (part_at o final.Flaky entries ++ (part_at o final.Fail entries
-    ++ text_of_lines (slow_lines o entries))))
+    part_at o final.Pass entries ++ (part_at o final.Skip entries ++ (part_at o final.Slow entries ++ (part_at o final.Flaky entries
+    ++ (part_at o final.Fail entries ++ text_of_lines (slow_lines o entries)))))

@@ -10,10 +10,11 @@ use Rattle.template.specs.Sections.{sections}
 use Rattle.template.specs.Template.{ItemValue, NoParts, Parts, ValueView, Values, parts_text, section, values_of}
 use Rattle.template.specs.declared.hole.Hole.TheVariants as hole
 use Rattle.test_report_forms.specs.Entry.{EntryView}
-use Rattle.test_report_forms.specs.Holes.{HoleView, PhraseView, has_hole, holes, phrases, problem_holes, run_holes, shows_phrase}
+use Rattle.test_report_forms.specs.Holes.{HoleView, PhraseView, has_hole, holes, output_holes, phrases, problem_holes, run_holes, shows_phrase}
 use Rattle.test_report_forms.specs.Model.{FailedView, ReportView, report_of}
 use Rattle.test_report_forms.specs.Values.{failed_items, failed_values, one_text, problem_items, run_values}
 use Rattle.test_report_forms.specs.declared.markdown_template.TheConstants.{FAILED, MARKDOWN}
+use Rattle.test_report_forms.specs.WholeOutput.{summary_limits}
 use Rattle.test_report_run.specs.declared.note.RunEnd.{RunEnd}
 use Rattle.test_report_forms.specs.declared.options.Options.{Options}
 
@@ -58,7 +59,7 @@ summary_values r =
 
 -- the values of a run with these entries for its summary
 abbrev pub summary_of_run : Options → List EntryView → RunEnd → Values
-summary_of_run o entries end = values_of (summary_values (report_of o entries end))
+summary_of_run o entries end = values_of (summary_values (report_of summary_limits o entries end))
 
 -- what is written at the end of a run with these entries
 unfoldable pub markdown_of : Options → List EntryView → RunEnd → List ℕ
@@ -96,7 +97,8 @@ abbrev pub details_holes : List (List ℕ) → List HoleView
 details_holes path =
     holes hole.Plain path (codes "status" ∷ codes "name" ∷ [])
     ++ (holes hole.Plain (path ++ (codes "suite" ∷ [])) (codes "name" ∷ [])
-    ++ (holes hole.Plain (path ++ (codes "note" ∷ codes "attempts" ∷ [])) (codes "count" ∷ []) ++ holes hole.Text path (codes "why" ∷ [])))
+    ++ (holes hole.Plain (path ++ (codes "note" ∷ codes "attempts" ∷ [])) (codes "count" ∷ [])
+    ++ (holes hole.Text path (codes "why" ∷ []) ++ output_holes hole.Plain path)))
 
 -- the holes that the summary has
 abbrev pub markdown_holes : List HoleView
@@ -109,10 +111,14 @@ markdown_holes =
 abbrev pub heading_phrase : List ℕ
 heading_phrase = codes "## Test report: {{*outcome}}\n\n"
 
+-- how many tests were slow, if some were
+abbrev pub slow_number_phrase : List ℕ
+slow_number_phrase = codes "{{#slow}}, {{*count}} slow{{/slow}}"
+
 -- the numbers of a run, each with its word
 abbrev pub numbers_phrase : List ℕ
 numbers_phrase =
-    codes "{{*finished}} tests run: {{*passed}} passed ({{*flaky}} flaky), {{*failed}} failed ({{*timed_out}} timed out, "
+    codes "{{*finished}} tests run: {{*passed}} passed ({{*flaky}} flaky" ++ slow_number_phrase ++ codes "), {{*failed}} failed ({{*timed_out}} timed out, "
     ++ codes "{{*crashed}} crashed), {{*skipped}} skipped, {{*not_run}} not run"
 
 -- the time of a run, if it is known, at the end of the numbers
@@ -146,11 +152,17 @@ abbrev pub row_phrase : List ℕ
 row_phrase =
     codes "| {{*status}} | " ++ (title_phrase ++ (codes " | {{#note}}{{#time}}{{*seconds}}s{{/time}}{{/note}} | " ++ (short_phrase ++ codes " |\n")))
 
--- the details of a failed test: its status, its suite and name, its attempts and its reason
+-- the whole output of a failed test, if it is shown: how many lines it has, and its text
+abbrev pub output_phrase : List ℕ
+output_phrase =
+    codes "{{#output}}<details><summary>output, {{*lines}} lines</summary>\n\n<pre>\n{{text}}</pre>\n\n</details>\n\n{{/output}}"
+
+-- the details of a failed test: its status, its suite and name, its attempts, its reason and its output
 abbrev pub details_phrase : List ℕ
 details_phrase =
     codes "<details><summary>{{*status}} " ++ (title_phrase
-    ++ (codes "{{#note}}{{#attempts}} ({{*count}} attempts){{/attempts}}{{/note}}</summary>" ++ codes "\n\n<pre>\n{{why}}</pre>\n\n</details>\n"))
+    ++ (codes "{{#note}}{{#attempts}} ({{*count}} attempts){{/attempts}}{{/note}}</summary>" ++ (codes "\n\n<pre>\n{{why}}</pre>\n\n"
+    ++ (output_phrase ++ codes "</details>\n"))))
 
 -- the number of other failed tests
 abbrev pub more_phrase : List ℕ

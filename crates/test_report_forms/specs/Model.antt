@@ -1,6 +1,7 @@
 -- The model of a finished report: what the forms show that write all at the end.
 use Rattle.std.specs.Prelude.{◌≡◌, ◌==◌, ◌&&◌, ◌-◌, not, ◌∷◌, [], ℕ, Bool, true, false, List, codes, filter_map, if◌then◌else◌, map, Option, Some, None, option_map, string_bytes, unwrap_or}
 use Rattle.std.specs.List.{fold}
+use Rattle.std.specs.Option.{option_map_or}
 use Rattle.run_events_stats.specs.declared.outcome.run_outcome.RunOutcome.{RunOutcome}
 use Rattle.run_events_stats.specs.declared.outcome.run_outcome.RunOutcome.TheVariants as outcome
 use Rattle.test_report_forms.specs.Entry.{EntryView, LinesDisagree, SuiteNotRun, SuiteOver, TestFailed, TestPassed, TestSkipped}
@@ -9,6 +10,7 @@ use Rattle.test_report_forms.specs.Shown.{front, shown_name, shown_text}
 use Rattle.test_report_forms.specs.ShownWhy.{limited_why, shown_why}
 use Rattle.test_report_forms.specs.Skipped.{SkippedView, skipped_tests, skipped_view}
 use Rattle.test_report_forms.specs.Title.{title, title_name}
+use Rattle.test_report_forms.specs.WholeOutput.{OutputView, output_view, room_after, whole_output}
 use Rattle.test_report_forms.specs.Why.{WhyView}
 use Rattle.test_report_forms.specs.Words.{disagreement_line, failed_word, not_run_line}
 use Rattle.test_report_forms.specs.declared.cause.Cause.{Cause}
@@ -18,6 +20,7 @@ use Rattle.test_report_forms.specs.declared.model.ReportModel.{ReportModel}
 use Rattle.test_report_forms.specs.declared.model.SuiteRow.{SuiteRow}
 use Rattle.test_report_forms.specs.declared.numbers.Numbers.{Numbers}
 use Rattle.test_report_forms.specs.declared.options.Options.{Options}
+use Rattle.test_report_forms.specs.declared.whole_output.OutputLimits.{OutputLimits}
 use Rattle.test_report_run.specs.Note.{CargoSays, CommandFails, DisagreementView, EndsEarly, FailureView, HasNoEvent, IsDamaged, SaysOther, StartsOutside, StrayEnds, StraySuiteEnds, SuiteNoteView, TestNoteView, text_view}
 use Rattle.test_report_run.specs.declared.note.RunEnd.{RunEnd}
 
@@ -30,6 +33,7 @@ pub record FailedView : Type 0 where
   pub time : Option ℕ
   pub short : List ℕ
   pub why : List ℕ
+  pub output : Option OutputView
 
 -- a failed test that is kept
 abbrev pub failed_view : FailedTest → FailedView
@@ -41,11 +45,12 @@ failed_view t = record {
   time = t.time;
   short = string_bytes t.short;
   why = string_bytes t.why;
+  output = option_map output_view t.output;
 }
 
--- a test that failed in this way, as it is shown
-abbrev pub shown_failure_of : TestNoteView → FailureView → WhyView → Options → FailedView
-shown_failure_of t f w o = record {
+-- a test that failed in this way, as it is shown, with at most this many bytes of its output
+abbrev pub shown_failure_of : TestNoteView → FailureView → WhyView → Options → ℕ → FailedView
+shown_failure_of t f w o most = record {
   suite = option_map shown_name t.suite;
   name = shown_name (title_name t);
   status = failed_word f.kind;
@@ -53,6 +58,7 @@ shown_failure_of t f w o = record {
   time = t.time;
   short = shown_text false (front w.short o.limit);
   why = limited_why (shown_why o t f w) o.limit;
+  output = whole_output most f (shown_why o t f w) o.limit;
 }
 
 -- a disagreement, or a suite whose tests were not all run: the suite that it names, its kind, its line, and what explains it
@@ -66,7 +72,7 @@ pub record CauseView : Type 0 where
 -- a cause that is kept
 abbrev pub cause_view : Cause → CauseView
 cause_view c = record {
-  suite = option_map (λ s. s.now) c.suite;
+  suite = option_map (λ s. string_bytes s.now.value) c.suite;
   kind = c.kind.now;
   line = string_bytes c.line;
   why = option_map (λ w. w.now) c.why;
@@ -118,18 +124,39 @@ cause_of_entry (SuiteNotRun suite n of) = Some record {
 }
 cause_of_entry (SuiteOver s) = None
 
--- the failed test of an entry, if it has one
-abbrev pub failure_of_entry : Options → EntryView → Option FailedView
-failure_of_entry o (TestPassed t) = None
-failure_of_entry o (TestSkipped t) = None
-failure_of_entry o (TestFailed t f w) = Some (shown_failure_of t f w o)
-failure_of_entry o (LinesDisagree d why) = None
-failure_of_entry o (SuiteNotRun suite n of) = None
-failure_of_entry o (SuiteOver s) = None
+-- the failed test of an entry, if it has one, with at most this many bytes of its output
+abbrev pub failure_of_entry : Options → ℕ → EntryView → Option FailedView
+failure_of_entry o most (TestPassed t) = None
+failure_of_entry o most (TestSkipped t) = None
+failure_of_entry o most (TestFailed t f w) = Some (shown_failure_of t f w o most)
+failure_of_entry o most (LinesDisagree d why) = None
+failure_of_entry o most (SuiteNotRun suite n of) = None
+failure_of_entry o most (SuiteOver s) = None
 
--- the failed tests of a list of entries
-abbrev pub failures_of : Options → List EntryView → List FailedView
-failures_of o entries = filter_map (failure_of_entry o) entries
+-- how much room for outputs is left after a failed test
+abbrev pub room_after_test : ℕ → FailedView → ℕ
+room_after_test room t = room_after room t.output
+
+-- how much is left after an entry
+abbrev pub room_after_entry : Options → ℕ → ℕ → EntryView → ℕ
+room_after_entry o most room entry = option_map_or (room_after_test room) (failure_of_entry o most entry) room
+
+-- a failed test, without its output if there is no room for outputs
+abbrev pub output_if_room : ℕ → FailedView → FailedView
+output_if_room room t = if room == 0 then record t { output = None } else t
+
+-- failed tests, with those outputs before which there is room
+abbrev pub with_room : ℕ → List FailedView → List FailedView
+with_room room [] = []
+with_room room (t ∷ ts) = output_if_room room t ∷ with_room (room_after_test room t) ts
+
+-- the failed tests of a list of entries, with at most this many bytes of each output
+abbrev pub all_failures : Options → ℕ → List EntryView → List FailedView
+all_failures o most entries = filter_map (failure_of_entry o most) entries
+
+-- the failed tests of a list of entries, with the outputs that the limits allow
+abbrev pub failures_of : OutputLimits → Options → List EntryView → List FailedView
+failures_of limits o entries = with_room limits.all (all_failures o limits.each entries)
 
 -- the line of the cause of an entry
 abbrev pub cause_line : EntryView → Option (List ℕ)
@@ -256,12 +283,12 @@ pub record ReportView : Type 0 where
   pub slowest : List KeyedLine
   pub skipped : List SkippedView
 
--- the report of a run with these entries
-abbrev pub report_of : Options → List EntryView → RunEnd → ReportView
-report_of o entries end = record {
+-- the report of a run with these entries, with the outputs that the limits allow
+abbrev pub report_of : OutputLimits → Options → List EntryView → RunEnd → ReportView
+report_of limits o entries end = record {
   end = end;
   problems = all_problems end.outcome (problems_of entries);
-  failed = failures_of o entries;
+  failed = failures_of limits o entries;
   suites = suite_rows entries;
   slowest = slowest_tests entries;
   skipped = skipped_tests entries;
@@ -278,9 +305,11 @@ report_view m end = record {
   skipped = map skipped_view m.skipped.items;
 }
 
--- what is kept is of these entries
-pub record IsModelOf (m : ReportModel) (entries : List EntryView) : Type 0 where
-  pub failed : map failed_view m.failed.items ≡ failures_of m.options entries
+-- what is kept is of these entries, with the outputs that the limits allow
+pub record IsModelOf (limits : OutputLimits) (m : ReportModel) (entries : List EntryView) : Type 0 where
+  pub limits_are : m.limits ≡ limits
+  pub failed : map failed_view m.failed.items ≡ failures_of limits m.options entries
+  pub room : m.room ≡ fold room_after_test limits.all (all_failures m.options limits.each entries)
   pub problems : map problem_view m.problems.items ≡ problems_of entries
   pub suites : map row_view m.suites.items ≡ suite_rows entries
   pub slowest : map slow_line_view m.slowest.tests.items ≡ slowest_tests entries

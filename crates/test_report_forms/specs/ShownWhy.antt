@@ -74,11 +74,11 @@ is_below_crash HasTimedOut = false
 is_below_crash HasNoEnd = false
 is_below_crash IsFlaky = false
 
--- why a test crashed whose explanation is shown of the test before it
+-- why a test crashed, if the explanation is shown for the test before it
 abbrev pub why_below : TestNoteView → FailureView → ShownWhyView
 why_below t f = record { text = joined (parts_of f.kind f t.time (Some (codes "as above"))); hidden = 0 }
 
--- why a test failed, as the form for people shows it: an explanation that is shown of the test before it is not shown again
+-- why a test failed, as the form for people shows it: an explanation that is shown for the test before it is not shown again
 abbrev pub text_why : Options → TestNoteView → FailureView → WhyView → ShownWhyView
 text_why o t f w = if is_below_crash f.kind && is_some w.explanation then why_below t f else shown_why o t f w
 

@@ -1,10 +1,9 @@
 -- The suites that a form keeps at the end of a run, each with what the form keeps of its tests, called its cases.
-use Rattle.std.specs.Prelude.{◌++◌, ◌∷◌, [], ℕ, Bool, true, false, List, if◌then◌else◌, map, Option, Some, None}
+use Rattle.std.specs.Prelude.{◌++◌, ◌∷◌, [], ℕ, Bool, true, false, List, if◌then◌else◌, map, Option, Some, None, option_map, string_bytes}
 use Rattle.std.specs.List.{find}
 use Rattle.std.specs.Str.{bytes_eq}
 use Rattle.test_report_forms.specs.declared.open_suites.OpenSuites.{OpenSuites}
 use Rattle.test_report_forms.specs.declared.open_suites.Suite.{Suite}
-use Rattle.test_report_run.specs.Note.{text_view}
 
 -- a suite, its time and its cases. It has no name if it is of the tests outside of a suite
 pub record SuiteOf (X : Type 0) : Type 0 where
@@ -22,7 +21,7 @@ same_name None None = true
 module _ {X : Type 0} where
   -- a suite that is kept
   abbrev pub suite_of : Suite X → SuiteOf X
-  suite_of s = record { name = text_view s.name; time = s.time; cases = s.cases.items }
+  suite_of s = record { name = option_map (λ n. string_bytes n.value) s.name; time = s.time; cases = s.cases.items }
 
   -- the open suites that are kept
   abbrev pub open_of : OpenSuites X → List (SuiteOf X)

@@ -39,11 +39,11 @@ ended_text shows head below = if has_line shows then head ++ (if shows.show_imme
 -- a failed test, with why it failed
 unfoldable pub failed_text : Options → TestNoteView → FailureView → WhyView → List ℕ
 failed_text o t f w =
-    ended_text (finished_output o (finish_for f.kind) t.attempts) (failed_head o t (failed_word f.kind)) (why_lines 4 o (text_why o t f w))
+    ended_text (finished_output o (finish_for f.kind) t.attempts t.slow) (failed_head o t (failed_word f.kind)) (why_lines 4 o (text_why o t f w))
 
 -- a test that passed
 unfoldable pub passed_text : Options → TestNoteView → List ℕ
-passed_text o t = ended_text (finished_output o Passed t.attempts) (ended_head o t (passed_word t.attempts)) []
+passed_text o t = ended_text (finished_output o Passed t.attempts t.slow) (ended_head o t (passed_word t.attempts)) []
 
 -- a skipped test
 unfoldable pub skipped_text : Options → TestNoteView → List ℕ

@@ -8,6 +8,7 @@ use Rattle.test_report_forms.specs.List.{KeyedLine}
 use Rattle.test_report_forms.specs.Model.{FailedView, ProblemView, ReportView, RowView, numbers_of_run, report_of}
 use Rattle.test_report_forms.specs.Shown.{seconds}
 use Rattle.test_report_forms.specs.Skipped.{SkippedView}
+use Rattle.test_report_forms.specs.WholeOutput.{OutputView, page_limits}
 use Rattle.test_report_forms.specs.Words.{outcome_word}
 use Rattle.test_report_run.specs.declared.note.RunEnd.{RunEnd}
 use Rattle.test_report_forms.specs.declared.numbers.Numbers.{Numbers}
@@ -28,6 +29,10 @@ option_item list name text = items list (one_text name) (option_to_list text)
 -- a time, if it is known
 abbrev pub time_item : Option ℕ → List ValueView
 time_item time = option_item (codes "time") (codes "seconds") (option_map seconds time)
+
+-- how many tests were slow, if some were
+abbrev pub slow_item : ℕ → List ValueView
+slow_item n = items (codes "slow") (one_text (codes "count")) (if nat_lt 0 n then decimal n ∷ [] else [])
 
 -- a part of a bar, unless its number is 0
 abbrev pub part_item : List ℕ → ℕ → List ValueView
@@ -89,12 +94,20 @@ own_suite_values name = one_text (codes "name") name ++ code_item (codes "name_c
 abbrev pub own_suite : Option (List ℕ) → List ValueView
 own_suite suite = items (codes "suite") own_suite_values (option_to_list suite)
 
+-- the values of the whole output of a failed test
+abbrev pub output_values : OutputView → List ValueView
+output_values x = one_text (codes "lines") (decimal x.lines) ++ one_text (codes "text") x.text
+
+-- the whole output of a failed test, if it is shown
+abbrev pub output_item : Option OutputView → List ValueView
+output_item output = items (codes "output") output_values (option_to_list output)
+
 -- the values of a failed test
 abbrev pub failed_values : FailedView → List ValueView
 failed_values t =
-    ((((((one_text (codes "status") t.status ++ own_suite t.suite) ++ one_text (codes "name") t.name)
+    (((((((one_text (codes "status") t.status ++ own_suite t.suite) ++ one_text (codes "name") t.name)
     ++ section (codes "note") (note t.attempts t.time)) ++ one_text (codes "short") t.short) ++ one_text (codes "why") t.why)
-    ++ code_item (codes "name_code") t.name) ++ code_item (codes "short_code") t.short
+    ++ code_item (codes "name_code") t.name) ++ code_item (codes "short_code") t.short) ++ output_item t.output
 
 -- the failed tests
 abbrev pub failed_items : List FailedView → List ValueView
@@ -145,7 +158,8 @@ run_values e =
     TextValue (codes "outcome") (outcome_word e.outcome)
     ∷ number (codes "finished") e.stats.finished_count ∷ number (codes "passed") e.stats.passed ∷ number (codes "flaky") e.stats.flaky
     ∷ number (codes "failed") (e.stats.finished_count - e.stats.passed) ∷ number (codes "timed_out") e.stats.failed_timed_out
-    ∷ number (codes "crashed") e.crashed ∷ number (codes "skipped") e.skipped ∷ number (codes "not_run") e.not_run ∷ time_item e.time
+    ∷ number (codes "crashed") e.crashed ∷ number (codes "skipped") e.skipped ∷ number (codes "not_run") e.not_run
+    ∷ (slow_item e.stats.passed_slow ++ time_item e.time)
 
 -- the values of a finished report
 unfoldable pub report_values : ReportView → List ValueView
@@ -154,6 +168,6 @@ report_values r =
     ++ section (codes "failures") (failed_items r.failed)) ++ section (codes "suites") (suite_items r.suites))
     ++ section (codes "slowest") (slow_items r.slowest)) ++ section (codes "skips") (skip_items r.skipped)
 
--- the values of a run with these entries
+-- the values of a run with these entries for a page
 abbrev pub values_of_run : Options → List EntryView → RunEnd → Values
-values_of_run o entries end = values_of (report_values (report_of o entries end))
+values_of_run o entries end = values_of (report_values (report_of page_limits o entries end))

@@ -1,5 +1,5 @@
 -- The words for results, outcomes, causes and numbers.
-use Rattle.std.specs.Prelude.{ℕ, List, Bool, ◌++◌, ◌∷◌, codes, if◌then◌else◌, None, Option, Some}
+use Rattle.std.specs.Prelude.{ℕ, List, [], Bool, ◌++◌, ◌∷◌, codes, if◌then◌else◌, nat_lt, None, Option, Some}
 use Rattle.std.specs.Fmt.{decimal}
 use Rattle.std.specs.Str.{bytes_eq}
 use Rattle.run_events_stats.specs.declared.outcome.run_outcome.RunOutcome.{RunOutcome}
@@ -91,11 +91,19 @@ disagreement_line (CommandFails end) = codes "the command " ++ command_words end
 unfoldable pub not_run_line : List ℕ → ℕ → ℕ → List ℕ
 not_run_line suite n of = shown_name suite ++ (codes ": " ++ (decimal n ++ (codes " of " ++ (decimal of ++ codes " tests were not run"))))
 
+-- how many tests that passed were slow, if some were
+unfoldable pub slow_number : RunEnd → List ℕ
+slow_number e = if nat_lt 0 e.stats.passed_slow then codes ", " ++ (decimal e.stats.passed_slow ++ codes " slow") else []
+
+-- how many tests ran, how many passed, and how many of these are flaky
+unfoldable pub finished_numbers : RunEnd → List ℕ
+finished_numbers e =
+    decimal e.stats.finished_count ++ (codes " tests run: " ++ (decimal e.stats.passed ++ (codes " passed (" ++ (decimal e.stats.flaky
+    ++ codes " flaky"))))
+
 -- how many tests ran, and how many passed
 unfoldable pub passed_numbers : RunEnd → List ℕ
-passed_numbers e =
-    decimal e.stats.finished_count ++ (codes " tests run: " ++ (decimal e.stats.passed ++ (codes " passed (" ++ (decimal e.stats.flaky
-    ++ codes " flaky), "))))
+passed_numbers e = finished_numbers e ++ (slow_number e ++ codes "), ")
 
 -- how many tests failed
 unfoldable pub failed_numbers : RunEnd → List ℕ

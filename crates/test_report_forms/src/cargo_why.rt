@@ -12,7 +12,7 @@ use std::alloc::{AllocError, Global};
 use test_report_run::note::{CargoReport, Disagreement};
 
 /// Returns what explains a disagreement. `None` if it is no failure of cargo, or if nothing explains it.
-pub(crate) fn reason_of(
+pub(crate) fn disagreement_why(
     alloc: Global,
     disagreement: &Disagreement,
 ) -> Result<Option<String>, AllocError>

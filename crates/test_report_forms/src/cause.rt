@@ -12,6 +12,7 @@ use crate::junit_case::text_of;
 use crate::shown::{push_line, push_name, push_name_and_space, push_text};
 use std::alloc::{AllocError, Global};
 use std::fmt::Write;
+use std::rc::Rc;
 use test_report_events::event::TestResult;
 use test_report_run::note::{CommandEnd, Disagreement, NotRun, SaidNumbers};
 
@@ -19,7 +20,7 @@ use test_report_run::note::{CommandEnd, Disagreement, NotRun, SaidNumbers};
 #[derive(Drop)]
 pub(crate) struct Cause<'a> {
     /// The name of the suite, or `None` if the cause names no suite.
-    pub(crate) suite: Option<&'a str>,
+    pub(crate) suite: Option<&'a Rc<String>>,
 
     /// The kind: `disagreement` or `not run`.
     pub(crate) kind: &'static str,
@@ -92,7 +93,7 @@ pub(crate) fn cause_of<'a>(
         Entry::NotRun(not_run) => {
             push_not_run(&mut line, not_run)?;
             Ok(Some(Cause {
-                suite: Some(not_run.suite.as_str()),
+                suite: Some(&not_run.suite),
                 kind: "not run",
                 line,
                 why: None,
@@ -104,12 +105,12 @@ pub(crate) fn cause_of<'a>(
 }
 
 /// Returns the suite that a disagreement names, or `None`.
-fn suite_of(disagreement: &Disagreement) -> Option<&str>
-    ensures { option_map (λ s. s.now) result ≡ suite_of (disagreement_view disagreement.now) }
+fn suite_of(disagreement: &Disagreement) -> Option<&Rc<String>>
+    ensures { option_map (λ s. string_bytes s.now.value) result ≡ suite_of (disagreement_view disagreement.now) }
 {
     match disagreement {
-        Disagreement::EndedEarly { suite } => Some(suite.as_str()),
-        Disagreement::LastLine { suite, .. } => Some(suite.as_str()),
+        Disagreement::EndedEarly { suite } => Some(suite),
+        Disagreement::LastLine { suite, .. } => Some(suite),
         Disagreement::StrayEnd { .. }
         | Disagreement::StraySuiteEnd { .. }
         | Disagreement::OutsideSuite { .. }
@@ -280,7 +281,7 @@ fn push_key_and_verdict(
     ensures { OnOk result (string_bytes text.new
         ≡ string_bytes text.old ++ key_and_verdict (text_view key.now) failed_verdict) }
 {
-    push_name_and_space(text, key)?;
+    push_name_and_space(text, text_of(key))?;
     text.push_str(verdict(failed_verdict))
 }
 
@@ -288,7 +289,7 @@ fn push_key_and_verdict(
 #[tactic(auto, unfolding(crate::specs::Words::not_run_line))]
 fn push_not_run(text: &mut String, not_run: &NotRun) -> Result<(), AllocError>
     ensures { OnOk result (string_bytes text.new ≡ string_bytes text.old
-        ++ not_run_line (string_bytes not_run.now.suite) not_run.now.not_run not_run.now.initial_run_count) }
+        ++ not_run_line (string_bytes not_run.now.suite.value) not_run.now.not_run not_run.now.initial_run_count) }
 {
     push_name(text, not_run.suite.as_str())?;
     let (count, initial) = (not_run.not_run, not_run.initial_run_count);

@@ -4,7 +4,7 @@ ghost use Rattle.std.specs.Prelude.{IfOk};
 ghost use Rattle.test_report_forms.specs.Entry.{IsEntryOf, entry_view};
 ghost use Rattle.test_report_run.specs.Note.{note_view};
 
-use crate::cargo_why::reason_of;
+use crate::cargo_why::disagreement_why;
 use crate::why::Why;
 use std::alloc::{AllocError, Global};
 use test_report_run::note::{
@@ -66,7 +66,7 @@ impl<'a> Entry<'a> {
             },
             Note::Disagreement(disagreement) => Ok(Entry::Disagreement {
                 disagreement,
-                why: reason_of(alloc, disagreement)?,
+                why: disagreement_why(alloc, disagreement)?,
             }),
             Note::NotRun(not_run) => Ok(Entry::NotRun(not_run)),
             Note::Suite(suite) => Ok(Entry::Suite(suite)),

@@ -14,8 +14,10 @@ use crate::shown::{front, push_name, push_text};
 use crate::shown_why::{ShownWhy, push_why, shown_why};
 use crate::status::failed_status;
 use crate::title::shown_name;
+use crate::whole_output::{WholeOutput, whole_output};
 use crate::why::Why;
 use std::alloc::{AllocError, Global};
+use std::rc::Rc;
 use test_report_run::note::{Failure, TestNote};
 
 /// A failed test. In its texts control characters are already escapes.
@@ -41,18 +43,22 @@ pub(crate) struct FailedTest {
 
     /// Why it failed.
     pub(crate) why: String,
+
+    /// The whole output, if `why` does not show all of it.
+    pub(crate) output: Option<WholeOutput>,
 }
 
-/// Returns a failed test as it is shown.
+/// Returns a failed test as it is shown, with at most `most` bytes of its whole output. If `most` is 0, it has none.
 pub(crate) fn shown_failure(
     alloc: Global,
     test: &TestNote,
     failure: &Failure,
     why: &Why<'_>,
     options: Options,
+    most: usize,
 ) -> Result<FailedTest, AllocError>
     ensures { IfOk result (λ t. failed_view t
-        ≡ shown_failure_of (test_view test.now) (failure_view failure.now) (why_view why.now) options) }
+        ≡ shown_failure_of (test_view test.now) (failure_view failure.now) (why_view why.now) options most) }
 {
     let shown = shown_why(alloc, options, test, failure, why)?;
     Ok(FailedTest {
@@ -63,6 +69,7 @@ pub(crate) fn shown_failure(
         time: test.time,
         short: short_text(alloc, why.short.as_str(), options.limit)?,
         why: why_text(alloc, &shown, options.limit)?,
+        output: whole_output(alloc, failure, &shown, options.limit, most)?,
     })
 }
 
@@ -95,8 +102,8 @@ fn why_text(alloc: Global, why: &ShownWhy, limit: usize) -> Result<String, Alloc
 }
 
 /// Returns the name of a suite as it is shown.
-fn shown_suite(alloc: Global, suite: &Option<String>) -> Result<Option<String>, AllocError>
-    ensures { IfOk result (λ name. text_view name ≡ option_map shown_name (text_view suite.now)) }
+fn shown_suite(alloc: Global, suite: &Option<Rc<String>>) -> Result<Option<String>, AllocError>
+    ensures { IfOk result (λ name. text_view name ≡ option_map shown_name (option_map (λ n. string_bytes n.value) suite.now)) }
 {
     match suite {
         Some(suite) => {

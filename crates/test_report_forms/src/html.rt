@@ -37,12 +37,13 @@ impl Form for HtmlForm {
     ghost use Rattle.std.specs.Prelude.{[]};
     ghost use Rattle.test_report_forms.specs.Html.{html_of};
     ghost use Rattle.test_report_forms.specs.Model.{IsModelOf};
+    ghost use Rattle.test_report_forms.specs.WholeOutput.{page_limits};
 
     ghost line = { λ form entry. [] };
 
     ghost last = { λ form entries end. html_of form.model.options entries end };
 
-    ghost Knows = { λ form entries. IsModelOf form.model entries };
+    ghost Knows = { λ form entries. IsModelOf page_limits form.model entries };
 
     fn on_entry(
         &mut self,

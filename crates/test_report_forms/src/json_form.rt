@@ -8,7 +8,7 @@ ghost use Rattle.test_report_forms.specs.Json.{IsStateOf, JsonState};
 ghost use Rattle.test_report_forms.specs.JsonText as spec_text;
 ghost use Rattle.test_report_forms.specs.JsonText.{hidden, json_text};
 ghost use Rattle.test_report_forms.specs.JsonValues.{all_problems};
-ghost use Rattle.test_report_run.specs.Note.{suite_view, text_view};
+ghost use Rattle.test_report_run.specs.Note.{suite_view};
 
 use crate::cause::cause_of;
 use crate::commands::is_command;
@@ -17,11 +17,11 @@ use crate::form::Form;
 use crate::json_values::{
     failed_json, no_tests_json, open_suite_json, problem_json, report_json, suite_json, test_json,
 };
-use crate::junit_case::text_of;
 use crate::model::no_tests_ran;
-use crate::open_suites::OpenSuites;
+use crate::open_suites::{OpenSuites, name_of};
 use crate::options::Options;
 use std::alloc::{AllocError, Global};
+use std::rc::Rc;
 use test_report_run::note::{RunEnd, SuiteNote};
 
 /// The form for other programs: one object of JSON, written at the end. It keeps each test, suite and problem as
@@ -57,14 +57,22 @@ impl JsonForm {
     {
         match entry {
             Entry::Passed(test) => {
-                self.add(alloc, &test.suite, test_json(alloc, test, "passed")?)
+                self.add(
+                    alloc,
+                    name_of(&test.suite),
+                    test_json(alloc, test, "passed")?,
+                )
             }
             Entry::Skipped(test) => {
-                self.add(alloc, &test.suite, test_json(alloc, test, "skipped")?)
+                self.add(
+                    alloc,
+                    name_of(&test.suite),
+                    test_json(alloc, test, "skipped")?,
+                )
             }
             Entry::Failed { test, failure, why } => {
                 let json = failed_json(alloc, test, failure, why, self.options)?;
-                self.add(alloc, &test.suite, json)
+                self.add(alloc, name_of(&test.suite), json)
             }
             Entry::Disagreement { .. } | Entry::NotRun(_) => self.on_cause(alloc, entry),
             Entry::Suite(suite) => self.on_suite(alloc, suite),
@@ -72,12 +80,17 @@ impl JsonForm {
     }
 
     /// Adds a test to its suite.
-    fn add(&mut self, alloc: Global, suite: &Option<String>, test: String) -> Result<(), AllocError>
+    fn add(
+        &mut self,
+        alloc: Global,
+        suite: Option<&Rc<String>>,
+        test: String,
+    ) -> Result<(), AllocError>
         ensures state { OnOk result ((j : JsonState) (t : Json) → IsStateOf self.old j → string_bytes test ≡ json_text t
-            → IsStateOf self.new (spec.add_test j (text_view suite.now) t)) }
+            → IsStateOf self.new (spec.add_test j (option_map (λ n. string_bytes n.now.value) suite.entry) t)) }
         ensures options { self.new.options ≡ self.old.options }
     {
-        self.suites.add(alloc, text_of(suite), test)
+        self.suites.add(alloc, suite, test)
     }
 
     /// Takes a disagreement, or a suite whose tests were not all run.
@@ -98,7 +111,7 @@ impl JsonForm {
             → IsStateOf self.new (spec.end_suite j (suite_view suite.now))) }
         ensures options { self.new.options ≡ self.old.options }
     {
-        if let Some(over) = self.suites.end_suite(alloc, text_of(&suite.name))? {
+        if let Some(over) = self.suites.end_suite(alloc, name_of(&suite.name))? {
             let json = suite_json(alloc, suite, over.cases.as_slice())?;
             self.over.push(json)?;
         }

@@ -13,7 +13,7 @@ ghost use Rattle.test_report_run.specs.Note.{failure_view, kind_view, suite_view
 
 use crate::cause::Cause;
 use crate::json_object::JsonObject;
-use crate::junit_case::text_of;
+use crate::junit_case::{shared_text, text_of};
 use crate::open_suites::Suite;
 use crate::options::Options;
 use crate::place::Place;
@@ -138,6 +138,7 @@ fn numbers_json(
     object.number("finished", stats.finished_count as u128)?;
     object.number("passed", stats.passed as u128)?;
     object.number("flaky", stats.flaky as u128)?;
+    object.number("slow", stats.passed_slow as u128)?;
     object.number("failed", failed_count(stats) as u128)?;
     object.number("timed_out", stats.failed_timed_out as u128)?;
     object.number("crashed", crashed as u128)?;
@@ -164,7 +165,7 @@ pub(crate) fn suite_json(
         suite.not_run,
     )?;
     let mut object = JsonObject::new(alloc);
-    object.option(alloc, "name", text_of(&suite.name))?;
+    object.option(alloc, "name", shared_text(&suite.name))?;
     object.value("numbers", numbers.as_str())?;
     object.time(suite.time)?;
     object.list(alloc, "tests", tests)?;
@@ -178,7 +179,7 @@ pub(crate) fn open_suite_json(alloc: Global, suite: &Suite<String>) -> Result<St
         → string_bytes text ≡ json_text (spec.open_suite_json s)) }
 {
     let mut object = JsonObject::new(alloc);
-    object.option(alloc, "name", text_of(&suite.name))?;
+    object.option(alloc, "name", shared_text(&suite.name))?;
     object.list(alloc, "tests", suite.cases.as_slice())?;
     object.into_json(alloc)
 }
@@ -190,7 +191,7 @@ pub(crate) fn problem_json(alloc: Global, cause: &Cause<'_>) -> Result<String, A
 {
     let mut object = JsonObject::new(alloc);
     object.text(alloc, "kind", cause.kind)?;
-    object.option(alloc, "suite", cause.suite)?;
+    object.option(alloc, "suite", cause.suite.map(|suite| suite.as_str()))?;
     object.text(alloc, "line", cause.line.as_str())?;
     object.option(alloc, "why", cause.why)?;
     object.into_json(alloc)

@@ -10,19 +10,19 @@ ghost use Rattle.test_report_forms.specs.JunitCase.{case_view};
 ghost use Rattle.test_report_forms.specs.JunitSuite.{suite_view};
 ghost use Rattle.test_report_forms.specs.Model.{cause_of_entry, cause_view, no_tests_ran};
 ghost use Rattle.test_report_forms.specs.Suites.{suite_over};
-ghost use Rattle.test_report_run.specs.Note.{text_view};
 
 use crate::cause::{Cause, cause_of};
 use crate::document::push_document;
 use crate::entry::Entry;
 use crate::form::Form;
-use crate::junit_case::{Case, OWN_NAME, text_of};
+use crate::junit_case::{Case, OWN_NAME};
 use crate::junit_template::JUNIT;
 use crate::junit_values::junit_values;
 use crate::model::no_tests_ran;
-use crate::open_suites::{OpenSuites, Suite};
+use crate::open_suites::{OpenSuites, Suite, name_of};
 use crate::options::Options;
 use std::alloc::{AllocError, Global};
+use std::rc::Rc;
 use template::Value;
 use test_report_run::note::{RunEnd, SuiteNote};
 
@@ -53,9 +53,14 @@ impl JunitForm {
     }
 
     /// Adds a test case to a suite.
-    fn add(&mut self, alloc: Global, suite: Option<&str>, case: Case) -> Result<(), AllocError>
+    fn add(
+        &mut self,
+        alloc: Global,
+        suite: Option<&Rc<String>>,
+        case: Case,
+    ) -> Result<(), AllocError>
         ensures state { OnOk result (junit_view self.new
-            ≡ spec.add_case (junit_view self.old) (option_map (λ n. n.now) suite.entry) (case_view case)) }
+            ≡ spec.add_case (junit_view self.old) (option_map (λ n. string_bytes n.now.value) suite.entry) (case_view case)) }
         ensures options { self.new.options ≡ self.old.options }
     {
         self.suites.add(alloc, suite, case)
@@ -69,17 +74,15 @@ impl JunitForm {
         ensures options { self.new.options ≡ self.old.options }
     {
         match entry {
-            Entry::Passed(test) => self.add(
-                alloc,
-                text_of(&test.suite),
-                Case::passed(alloc, test)?,
-            ),
+            Entry::Passed(test) => {
+                self.add(alloc, name_of(&test.suite), Case::passed(alloc, test)?)
+            }
             Entry::Skipped(test) => {
-                self.add(alloc, text_of(&test.suite), Case::skipped(alloc, test)?)
+                self.add(alloc, name_of(&test.suite), Case::skipped(alloc, test)?)
             }
             Entry::Failed { test, failure, why } => {
                 let case = Case::failed(alloc, test, failure, why, self.options)?;
-                self.add(alloc, text_of(&test.suite), case)
+                self.add(alloc, name_of(&test.suite), case)
             }
             Entry::Disagreement { .. } | Entry::NotRun(_) => self.on_cause(alloc, entry),
             Entry::Suite(suite) => self.on_suite(alloc, suite),
@@ -117,10 +120,10 @@ impl JunitForm {
     /// Takes the end of a suite. The tests outside of a suite are left out if there are none.
     fn on_suite(&mut self, alloc: Global, suite: &SuiteNote) -> Result<(), AllocError>
         ensures state { OnOk result (junit_view self.new
-            ≡ spec.end_suite (junit_view self.old) (text_view suite.now.name) suite.now.time) }
+            ≡ spec.end_suite (junit_view self.old) (option_map (λ n. string_bytes n.value) suite.now.name) suite.now.time) }
         ensures options { self.new.options ≡ self.old.options }
     {
-        match self.take_suite(alloc, text_of(&suite.name))? {
+        match self.take_suite(alloc, name_of(&suite.name))? {
             Some(over) => self.close(over, suite.time),
             None => Ok(()),
         }
@@ -131,12 +134,12 @@ impl JunitForm {
     fn take_suite(
         &mut self,
         alloc: Global,
-        name: Option<&str>,
+        name: Option<&Rc<String>>,
     ) -> Result<Option<Suite<Case>>, AllocError>
         ensures over { IfOk result (λ over. option_map suite_view over
-            ≡ suite_over (option_map (λ n. n.now) name.entry) (junit_view self.old).suites) }
+            ≡ suite_over (option_map (λ n. string_bytes n.now.value) name.entry) (junit_view self.old).suites) }
         ensures rest { OnOk result (junit_view self.new
-            ≡ spec.without_suite (junit_view self.old) (option_map (λ n. n.now) name.entry)) }
+            ≡ spec.without_suite (junit_view self.old) (option_map (λ n. string_bytes n.now.value) name.entry)) }
         ensures options { self.new.options ≡ self.old.options }
     {
         self.suites.end_suite(alloc, name)
@@ -209,9 +212,12 @@ fn push_own(alloc: Global, suites: &mut Vec<Suite<Case>>, own: Vec<Case>) -> Res
     if own.is_empty() {
         return Ok(());
     }
-    let mut suite = Suite::new(alloc, Some(OWN_NAME))?;
-    suite.cases = own;
-    suites.push(suite)?;
+    let name = Rc::new(alloc, String::from_str(alloc, OWN_NAME)?)?;
+    suites.push(Suite {
+        name: Some(name),
+        time: None,
+        cases: own,
+    })?;
     Ok(())
 }
 

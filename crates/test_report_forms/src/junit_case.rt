@@ -18,6 +18,7 @@ use crate::skipped_test::skip_reason;
 use crate::title::shown_name;
 use crate::why::Why;
 use std::alloc::{AllocError, Global};
+use std::rc::Rc;
 use test_report_run::note::{Failure, FailureKind, TestNote};
 
 /// The name of the run, and of the suite of causes that name no suite.
@@ -98,7 +99,7 @@ impl Case {
         ensures { IfOk result (λ c. case_view c
             ≡ spec.test_case (test_view test.now) (option_map case_place_view place) (case_kind_view kind)) }
     {
-        let suite = suite_name(alloc, text_of(&test.suite))?;
+        let suite = suite_name(alloc, shared_text(&test.suite))?;
         Ok(Case {
             name: name_text(alloc, shown_name(test))?,
             class: class_name(alloc, suite.as_str())?,
@@ -136,7 +137,7 @@ impl Case {
             ≡ spec.failed_case (test_view test.now) (failure_view failure.now) (why_view why.now) options) }
     {
         let place = shown_place(alloc, why.place)?;
-        let FailedTest { short, why, .. } = shown_failure(alloc, test, failure, why, options)?;
+        let FailedTest { short, why, .. } = shown_failure(alloc, test, failure, why, options, 0)?;
         let reason = Reason {
             is_error: is_error(&failure.kind),
             message: short,
@@ -292,4 +293,12 @@ pub(crate) fn text_of(text: &Option<String>) -> Option<&str>
     ensures { option_map (λ t. t.now) result ≡ text_view text.now }
 {
     text.as_ref().map(String::as_str)
+}
+
+/// Returns the text of a shared `String`.
+pub(crate) fn shared_text(text: &Option<Rc<String>>) -> Option<&str>
+    ensures { option_map (λ t. t.now) result ≡ option_map (λ n. string_bytes n.value) text.now }
+{
+    let text = text.as_ref()?;
+    Some(text.as_str())
 }

@@ -8,20 +8,20 @@
 //! | `class` | each `case`: the name of its suite, with `_` for each `.` |
 //! | `place` (its `file` and `line`) | each `case` that failed, if its place is known |
 //! | `flaky` (its `attempt`s) | each `case` that passed after attempts that failed |
-//! | `reason` (its `message`) | each `case` that was skipped with a reason |
+//! | `skipped_because` (its `message`) | each `case` that was skipped with a reason |
 //! | `skipped` | each other `case` that was skipped |
 //! | `failure` or `error` (`message`, `type`, `why`), `output` (its `text`) | each `case` that failed |
 
-ghost use Rattle.std.specs.Prelude.{◌≡◌, ◌++◌, IfOk, OnOk, map, option_map, string_bytes};
+ghost use Rattle.std.specs.Prelude.{◌≡◌, ◌++◌, ◌∷◌, [], IfOk, OnOk, codes, map, option_map, string_bytes};
 ghost use Rattle.std.specs.Fmt.{decimal};
-ghost use Rattle.template.specs.Template.{value_view};
+ghost use Rattle.template.specs.Template.{ItemValue, value_view, values_of};
 ghost use Rattle.test_report_forms.specs.JunitCase.{case_kind_view, case_place_view, case_view, reason_view};
 ghost use Rattle.test_report_forms.specs.JunitSuite.{suite_view};
 ghost use Rattle.test_report_forms.specs.JunitValues as spec;
 ghost use Rattle.test_report_forms.specs.Values.{one_text};
 ghost use Rattle.test_report_run.specs.Note.{text_view};
 
-use crate::junit_case::{Case, CaseKind, CasePlace, Reason, text_of};
+use crate::junit_case::{Case, CaseKind, CasePlace, Reason, shared_text};
 use crate::junit_suite::JunitCounts;
 use crate::model::suite_name;
 use crate::open_suites::Suite;
@@ -52,7 +52,7 @@ fn suite_values(alloc: Global, suite: Suite<Case>) -> Result<Vec<Value>, AllocEr
 {
     let Suite { name, time, cases } = suite;
     let mut values = counts_values(alloc, JunitCounts::of_cases(cases.as_slice()))?;
-    push_text(&mut values, "name", suite_name(alloc, text_of(&name))?)?;
+    push_text(&mut values, "name", suite_name(alloc, shared_text(&name))?)?;
     push_time(alloc, &mut values, time)?;
     for case in cases {
         push_item(&mut values, "case", case_values(alloc, case)?)?;
@@ -143,9 +143,22 @@ fn push_skipped(
         ≡ map value_view values.old.items ++ spec.skipped_items (text_view reason)) }
 {
     match reason {
-        Some(reason) => push_item(values, "reason", one_text(alloc, "message", reason)?),
+        Some(reason) => push_because(alloc, values, "skipped_because", reason),
         None => push_item(values, "skipped", Vec::new(alloc)),
     }
+}
+
+/// Adds the reason why a test was skipped, as an item of this list.
+fn push_because(
+    alloc: Global,
+    values: &mut Vec<Value>,
+    list: &'static str,
+    reason: String,
+) -> Result<(), AllocError>
+    ensures { OnOk result (map value_view values.new.items ≡ map value_view values.old.items
+        ++ (ItemValue list.now (values_of (one_text (codes "message") (string_bytes reason))) ∷ [])) }
+{
+    push_item(values, list, one_text(alloc, "message", reason)?)
 }
 
 /// Returns this number of attempts.

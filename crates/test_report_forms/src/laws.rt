@@ -26,7 +26,7 @@ pub fn one_entry()
 /// The template of the page is one element, in which no value is read as markup. It ends by `/>` only elements that
 /// have no content in HTML, and none of these by an end tag. Its own texts have no control characters. It has a place
 /// for each value in `page_holes`, and each phrase in `page_phrases`: for example, each number of the run is next to its
-/// word. It shows a failed test's status, suite, name, note and reason together.
+/// word. It shows a failed test's status, suite, name, note, reason and output together.
 pub fn page_is_sound()
     ensures { PageIsSound }
 {}
@@ -34,7 +34,7 @@ pub fn page_is_sound()
 /// In the template of the summary no value is a mark of Markdown. Its own texts have no control characters. It has a
 /// place for the outcome, the numbers and the time of the run, and for the line of each problem and what explains it,
 /// and each phrase in `markdown_phrases`. It shows a failed test's status, suite, name, time and short reason in a row
-/// of the table, and its status, suite, name, attempts and reason in the details after the table.
+/// of the table, and its status, suite, name, attempts, reason and output in the details after the table.
 pub fn markdown_is_sound()
     ensures { MarkdownIsSound }
 {}

@@ -45,17 +45,19 @@ fn attempts_for(finish: Finish, attempts: usize) -> usize
 }
 
 /// Returns a test that finished in this way, as the levels take it.
-fn own_test(finish: Finish, attempts: usize) -> FinishedTest
-    ensures { finished_view result ≡ spec.own_view finish attempts }
+fn own_test(finish: Finish, attempts: usize, is_slow: bool) -> FinishedTest
+    ensures { finished_view result ≡ spec.own_view finish attempts is_slow }
 {
-    finished_test(finish, attempts_for(finish, attempts))
+    finished_test(finish, attempts_for(finish, attempts), is_slow)
 }
 
 /// Returns the level of a finished test at the end of the run.
-pub(crate) fn own_final_level(finish: Finish, attempts: usize) -> FinalStatusLevel
-    ensures { result ≡ spec.own_final_level finish attempts }
+pub(crate) fn own_final_level(finish: Finish, attempts: usize, is_slow: bool) -> FinalStatusLevel
+    ensures { result ≡ spec.own_final_level finish attempts is_slow }
 {
-    own_test(finish, attempts).view().final_status_level()
+    own_test(finish, attempts, is_slow)
+        .view()
+        .final_status_level()
 }
 
 /// Returns what is shown of a finished test, and what is stored for the list at the end.
@@ -64,10 +66,11 @@ pub(crate) fn finished_output(
     options: Options,
     finish: Finish,
     attempts: usize,
+    is_slow: bool,
 ) -> OutputOnTestFinished
-    ensures { result ≡ spec.finished_output options finish attempts }
+    ensures { result ≡ spec.finished_output options finish attempts is_slow }
 {
-    let test = own_test(finish, attempts);
+    let test = own_test(finish, attempts, is_slow);
     let view = test.view();
     levels_of(options).compute_output_on_test_finished(
         display_of(options.failure_output, finish),

@@ -29,6 +29,7 @@
 //! ```
 #![tactic(auto)]
 
+pub mod annotated;
 mod cargo_why;
 mod cause;
 mod commands;
@@ -73,6 +74,7 @@ pub mod text;
 mod text_why;
 mod title;
 pub mod values;
+mod whole_output;
 pub mod why;
 mod why_lines;
 mod written;

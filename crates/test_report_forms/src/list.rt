@@ -15,7 +15,7 @@ use crate::levels::{finished_output, own_final_level, skipped_output};
 use crate::options::Options;
 use crate::shown::{front, push_bracket, push_spaces, push_text};
 use crate::slowest::Slowest;
-use crate::status::{failed_status, passed_status, push_status};
+use crate::status::{failed_status, listed_status, push_status};
 use crate::text_why::text_why;
 use crate::title::push_title;
 use crate::why::Why;
@@ -36,6 +36,7 @@ const WHY_MARGIN: usize = 13;
 pub(crate) struct ShortList {
     passed: String,
     skipped: String,
+    slow: String,
     flaky: String,
     failed: String,
     slowest: Slowest,
@@ -46,6 +47,7 @@ impl ShortList {
     pub(crate) fn new(alloc: Global, most: usize) -> ShortList
         ensures passed { string_bytes result.passed ≡ [] }
         ensures skipped { string_bytes result.skipped ≡ [] }
+        ensures slow { string_bytes result.slow ≡ [] }
         ensures flaky { string_bytes result.flaky ≡ [] }
         ensures failed { string_bytes result.failed ≡ [] }
         ensures slowest { map slow_line_view result.slowest.tests.items ≡ [] }
@@ -54,6 +56,7 @@ impl ShortList {
         ShortList {
             passed: String::new(alloc),
             skipped: String::new(alloc),
+            slow: String::new(alloc),
             flaky: String::new(alloc),
             failed: String::new(alloc),
             slowest: Slowest::new(alloc, most),
@@ -72,6 +75,8 @@ impl ShortList {
             ++ spec.item_at options levels.Pass (entry_view entry.now)) }
         ensures skipped { OnOk result (string_bytes self.new.skipped ≡ string_bytes self.old.skipped
             ++ spec.item_at options levels.Skip (entry_view entry.now)) }
+        ensures slow { OnOk result (string_bytes self.new.slow ≡ string_bytes self.old.slow
+            ++ spec.item_at options levels.Slow (entry_view entry.now)) }
         ensures flaky { OnOk result (string_bytes self.new.flaky ≡ string_bytes self.old.flaky
             ++ spec.item_at options levels.Flaky (entry_view entry.now)) }
         ensures failed { OnOk result (string_bytes self.new.failed ≡ string_bytes self.old.failed
@@ -93,6 +98,8 @@ impl ShortList {
             ++ spec.line_at levels.Pass level line.now) }
         ensures skipped { OnOk result (string_bytes self.new.skipped ≡ string_bytes self.old.skipped
             ++ spec.line_at levels.Skip level line.now) }
+        ensures slow { OnOk result (string_bytes self.new.slow ≡ string_bytes self.old.slow
+            ++ spec.line_at levels.Slow level line.now) }
         ensures flaky { OnOk result (string_bytes self.new.flaky ≡ string_bytes self.old.flaky
             ++ spec.line_at levels.Flaky level line.now) }
         ensures failed { OnOk result (string_bytes self.new.failed ≡ string_bytes self.old.failed
@@ -102,6 +109,7 @@ impl ShortList {
         match level {
             FinalStatusLevel::Pass => self.passed.push_str(line),
             FinalStatusLevel::Skip => self.skipped.push_str(line),
+            FinalStatusLevel::Slow => self.slow.push_str(line),
             FinalStatusLevel::Flaky => self.flaky.push_str(line),
             FinalStatusLevel::Fail => self.failed.push_str(line),
             _ => Ok(()),
@@ -111,11 +119,13 @@ impl ShortList {
     /// Appends the list.
     pub(crate) fn push(&self, text: &mut String) -> Result<(), AllocError>
         ensures { OnOk result (string_bytes text.new ≡ string_bytes text.old
-            ++ (string_bytes self.now.passed ++ (string_bytes self.now.skipped ++ (string_bytes self.now.flaky
-            ++ (string_bytes self.now.failed ++ text_of_lines (map slow_line_view self.now.slowest.tests.items)))))) }
+            ++ (string_bytes self.now.passed ++ (string_bytes self.now.skipped ++ (string_bytes self.now.slow
+            ++ (string_bytes self.now.flaky ++ (string_bytes self.now.failed
+            ++ text_of_lines (map slow_line_view self.now.slowest.tests.items))))))) }
     {
         text.push_str(self.passed.as_str())?;
         text.push_str(self.skipped.as_str())?;
+        text.push_str(self.slow.as_str())?;
         text.push_str(self.flaky.as_str())?;
         text.push_str(self.failed.as_str())?;
         for slow in self.slowest.tests() {
@@ -130,10 +140,10 @@ fn final_level_of(entry: &Entry<'_>) -> FinalStatusLevel
     ensures { result ≡ spec.final_level_of (entry_view entry.now) }
 {
     match entry {
-        Entry::Passed(test) => own_final_level(Finish::Passed, test.attempts),
+        Entry::Passed(test) => own_final_level(Finish::Passed, test.attempts, test.slow),
         Entry::Skipped(_) => FinalStatusLevel::Skip,
         Entry::Failed { test, failure, .. } => {
-            own_final_level(Finish::of_failure(&failure.kind), test.attempts)
+            own_final_level(Finish::of_failure(&failure.kind), test.attempts, test.slow)
         }
         Entry::Disagreement { .. } | Entry::NotRun(_) | Entry::Suite(_) => FinalStatusLevel::None,
     }
@@ -167,12 +177,12 @@ fn push_passed(
     options: Options,
 ) -> Result<(), AllocError>
     ensures { OnOk result (string_bytes text.new ≡ string_bytes text.old ++ listed_text
-        (finished_output options Finish.Passed test.now.attempts).store_final
-        (spec.ended_line options (test_view test.now) (spec.passed_word test.now.attempts)) []) }
+        (finished_output options Finish.Passed test.now.attempts test.now.slow).store_final
+        (spec.ended_line options (test_view test.now) (spec.listed_word test.now.attempts test.now.slow)) []) }
 {
-    match finished_output(options, Finish::Passed, test.attempts).store_final {
+    match finished_output(options, Finish::Passed, test.attempts, test.slow).store_final {
         OutputStoreFinal::Yes { .. } => {
-            let status = passed_status(alloc, test.attempts)?;
+            let status = listed_status(alloc, test.attempts, test.slow)?;
             push_ended(text, test, status.as_str(), options)
         }
         OutputStoreFinal::No => Ok(()),
@@ -203,7 +213,14 @@ fn push_failed(
         ++ spec.item options (TestFailed (test_view test.now) (failure_view failure.now) (why_view why.now))) }
 {
     let status = failed_status(&failure.kind);
-    match finished_output(options, Finish::of_failure(&failure.kind), test.attempts).store_final {
+    match finished_output(
+        options,
+        Finish::of_failure(&failure.kind),
+        test.attempts,
+        test.slow,
+    )
+    .store_final
+    {
         OutputStoreFinal::Yes {
             display_output: true,
         } => {

@@ -25,7 +25,7 @@ impl MarkdownForm {
         ensures options { result.model.options ≡ options }
     {
         MarkdownForm {
-            model: ReportModel::new(alloc, options),
+            model: ReportModel::of_summary(alloc, options),
         }
     }
 }
@@ -34,12 +34,13 @@ impl Form for MarkdownForm {
     ghost use Rattle.std.specs.Prelude.{[]};
     ghost use Rattle.test_report_forms.specs.Markdown.{markdown_of};
     ghost use Rattle.test_report_forms.specs.Model.{IsModelOf};
+    ghost use Rattle.test_report_forms.specs.WholeOutput.{summary_limits};
 
     ghost line = { λ form entry. [] };
 
     ghost last = { λ form entries end. markdown_of form.model.options entries end };
 
-    ghost Knows = { λ form entries. IsModelOf form.model entries };
+    ghost Knows = { λ form entries. IsModelOf summary_limits form.model entries };
 
     fn on_entry(
         &mut self,

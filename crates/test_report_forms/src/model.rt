@@ -7,24 +7,40 @@ ghost use Rattle.test_report_forms.specs.List.{put_falling, slow_line_view};
 ghost use Rattle.test_report_forms.specs.Model as spec;
 ghost use Rattle.test_report_forms.specs.Model.{IsModelOf, failed_view, problem_view, row_view};
 ghost use Rattle.test_report_forms.specs.Skipped.{skipped_of_entry, skipped_view};
-ghost use Rattle.test_report_run.specs.Note.{suite_view, test_view, text_view};
+ghost use Rattle.test_report_forms.specs.WholeOutput.{page_limits, summary_limits};
+ghost use Rattle.test_report_forms.specs.declared.whole_output.OutputLimits.{OutputLimits};
+ghost use Rattle.test_report_run.specs.Note.{suite_view, test_view};
 
 use crate::cause::{Problem, cause_of};
 use crate::entry::Entry;
 use crate::failed_test::{FailedTest, shown_failure};
-use crate::junit_case::text_of;
+use crate::junit_case::shared_text;
 use crate::numbers::Numbers;
 use crate::options::Options;
 use crate::shown::push_name;
 use crate::skipped_test::SkippedTest;
 use crate::slowest::Slowest;
 use crate::title::push_title;
+use crate::whole_output::{OutputLimits, room_after};
 use run_events_stats::outcome::RunOutcome;
 use std::alloc::{AllocError, Global};
+use std::rc::Rc;
 use test_report_run::note::{SuiteNote, TestNote};
 
 /// The number of slowest tests that are listed.
 const SLOWEST: usize = 10;
+
+/// How much of the outputs of failed tests a page has.
+const PAGE_LIMITS: OutputLimits = OutputLimits {
+    each: 1_048_576,
+    all: 16_777_216,
+};
+
+/// How much of the outputs of failed tests a summary has. After this number of bytes it has no failed tests.
+const SUMMARY_LIMITS: OutputLimits = OutputLimits {
+    each: 16_384,
+    all: 900_000,
+};
 
 /// A suite in the table of suites.
 #[derive(Drop)]
@@ -46,6 +62,12 @@ pub struct ReportModel {
     /// How the reasons are shown.
     pub(crate) options: Options,
 
+    /// How much of the outputs of failed tests is kept.
+    pub(crate) limits: OutputLimits,
+
+    /// The number of bytes of outputs, as they are written, for which there is room.
+    pub(crate) room: usize,
+
     /// The failed tests.
     pub(crate) failed: Vec<FailedTest>,
 
@@ -63,13 +85,32 @@ pub struct ReportModel {
 }
 
 impl ReportModel {
-    /// Returns the model of a run without entries. Of the options it uses only `limit` and `output`.
+    /// Returns the model of a run without entries, for a page. Of the options it uses only `limit` and `output`. Of the
+    /// output of a failed test it keeps at most 1 MiB, and of all outputs 16 MiB.
     pub fn new(alloc: Global, options: Options) -> ReportModel
         ensures options { result.options ≡ options }
-        ensures nothing { IsModelOf result [] }
+        ensures nothing { IsModelOf page_limits result [] }
+    {
+        ReportModel::with_limits(alloc, options, PAGE_LIMITS)
+    }
+
+    /// Returns the model of a run without entries, for a summary.
+    pub(crate) fn of_summary(alloc: Global, options: Options) -> ReportModel
+        ensures options { result.options ≡ options }
+        ensures nothing { IsModelOf summary_limits result [] }
+    {
+        ReportModel::with_limits(alloc, options, SUMMARY_LIMITS)
+    }
+
+    /// Returns the model of a run without entries.
+    fn with_limits(alloc: Global, options: Options, limits: OutputLimits) -> ReportModel
+        ensures options { result.options ≡ options }
+        ensures nothing { IsModelOf limits result [] }
     {
         ReportModel {
             options,
+            limits,
+            room: limits.all,
             failed: Vec::new(alloc),
             problems: Vec::new(alloc),
             suites: Vec::new(alloc),
@@ -80,11 +121,20 @@ impl ReportModel {
 
     /// Keeps what is shown of an entry. The only error is that memory runs out.
     pub fn on_entry(&mut self, alloc: Global, entry: &Entry<'_>) -> Result<(), AllocError>
-        ensures knows { OnOk result ((entries : List EntryView)
-            → IsModelOf self.old entries → IsModelOf self.new (entries ++ entry_view entry.now ∷ [])) }
+        ensures knows { OnOk result ((limits : OutputLimits) (entries : List EntryView)
+            → IsModelOf limits self.old entries → IsModelOf limits self.new (entries ++ entry_view entry.now ∷ [])) }
         ensures same { self.new.options ≡ self.old.options }
     {
-        keep_failure(alloc, &mut self.failed, entry, self.options)?;
+        let most = self.limits.most(self.room);
+        let room = keep_failure(
+            alloc,
+            &mut self.failed,
+            self.room,
+            entry,
+            self.options,
+            most,
+        )?;
+        self.room = room;
         keep_problem(alloc, &mut self.problems, entry)?;
         keep_suite(alloc, &mut self.suites, entry)?;
         keep_skipped(alloc, &mut self.skipped, entry)?;
@@ -95,26 +145,32 @@ impl ReportModel {
     pub(crate) fn take_out(&mut self, alloc: Global) -> ReportModel
         ensures { result ≡ self.old }
     {
-        let options = self.options;
-        std::mem::replace(self, ReportModel::new(alloc, options))
+        let (options, limits) = (self.options, self.limits);
+        std::mem::replace(self, ReportModel::with_limits(alloc, options, limits))
     }
 }
 
-/// Keeps the failed test of an entry, if it has one.
+/// Keeps the failed test of an entry, if it has one, with at most `most` bytes of its output. Returns how much room for
+/// outputs is left.
 fn keep_failure(
     alloc: Global,
     failed: &mut Vec<FailedTest>,
+    room: usize,
     entry: &Entry<'_>,
     options: Options,
-) -> Result<(), AllocError>
-    ensures { OnOk result (map failed_view failed.new.items ≡ map failed_view failed.old.items
-        ++ option_to_list (spec.failure_of_entry options (entry_view entry.now))) }
+    most: usize,
+) -> Result<usize, AllocError>
+    ensures keeps { OnOk result (map failed_view failed.new.items ≡ map failed_view failed.old.items
+        ++ option_to_list (spec.failure_of_entry options most (entry_view entry.now))) }
+    ensures leaves { IfOk result (λ left. left ≡ spec.room_after_entry options most room (entry_view entry.now)) }
 {
-    if let Entry::Failed { test, failure, why } = entry {
-        let shown = shown_failure(alloc, test, failure, why, options)?;
-        failed.push(shown)?;
-    }
-    Ok(())
+    let Entry::Failed { test, failure, why } = entry else {
+        return Ok(room);
+    };
+    let shown = shown_failure(alloc, test, failure, why, options, most)?;
+    let left = room_after(room, &shown.output);
+    failed.push(shown)?;
+    Ok(left)
 }
 
 /// Keeps a disagreement, or a suite whose tests were not all run.
@@ -207,7 +263,7 @@ impl SuiteRow {
             return Ok(None);
         }
         Ok(Some(SuiteRow {
-            name: suite_name(alloc, text_of(&suite.name))?,
+            name: suite_name(alloc, shared_text(&suite.name))?,
             numbers,
             time: suite.time,
         }))
@@ -215,8 +271,8 @@ impl SuiteRow {
 }
 
 /// Returns true if a suite of this name with these numbers has a row. Every suite with a name has one.
-fn has_row(name: &Option<String>, numbers: Numbers) -> bool
-    ensures { result ≡ spec.has_row (text_view name.now) numbers }
+fn has_row(name: &Option<Rc<String>>, numbers: Numbers) -> bool
+    ensures { result ≡ spec.has_row (option_map (λ n. string_bytes n.value) name.now) numbers }
 {
     name.is_some() || !numbers.are_zero()
 }

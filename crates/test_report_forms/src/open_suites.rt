@@ -1,17 +1,18 @@
 //! Suites that have not ended, with what a form keeps of their tests.
 
-ghost use Rattle.std.specs.Prelude.{◌≡◌, [], IfOk, OnOk, option_map};
+ghost use Rattle.std.specs.Prelude.{◌≡◌, [], IfOk, OnOk, option_map, string_bytes};
 ghost use Rattle.std.specs.List.{find, position};
 ghost use Rattle.test_report_forms.specs.Suites as spec;
 ghost use Rattle.test_report_forms.specs.Suites.{is_named, open_of, suite_of};
 
 use std::alloc::{AllocError, Global};
+use std::rc::Rc;
 
 /// A suite, and what a form keeps of its tests.
 #[derive(Drop)]
 pub(crate) struct Suite<C> {
     /// Its name, or `None` for the tests outside of a suite.
-    pub(crate) name: Option<String>,
+    pub(crate) name: Option<Rc<String>>,
 
     /// The time that it took, in microseconds, if it is known.
     pub(crate) time: Option<u64>,
@@ -28,12 +29,12 @@ pub(crate) struct OpenSuites<C> {
 
 impl<C: Drop> Suite<C> {
     /// Returns a suite without cases, or the tests outside of a suite if there is no name.
-    pub(crate) fn new(alloc: Global, name: Option<&str>) -> Result<Suite<C>, AllocError>
-        ensures { IfOk result (λ s. suite_of s ≡ spec.new_suite (option_map (λ n. n.now) name.entry)) }
+    pub(crate) fn new(alloc: Global, name: Option<&Rc<String>>) -> Result<Suite<C>, AllocError>
+        ensures { IfOk result (λ s. suite_of s ≡ spec.new_suite (option_map (λ n. string_bytes n.now.value) name.entry)) }
     {
         Ok(Suite {
             name: match name {
-                Some(name) => Some(String::from_str(alloc, name)?),
+                Some(name) => Some(name.clone()?),
                 None => None,
             },
             time: None,
@@ -42,11 +43,11 @@ impl<C: Drop> Suite<C> {
     }
 
     /// Returns true if the suite has this name.
-    fn is_named(&self, name: Option<&str>) -> bool
-        ensures { result ≡ is_named (option_map (λ n. n.now) name.entry) (suite_of self.now) }
+    fn is_named(&self, name: Option<&Rc<String>>) -> bool
+        ensures { result ≡ is_named (option_map (λ n. string_bytes n.now.value) name.entry) (suite_of self.now) }
     {
         match (&self.name, name) {
-            (Some(own), Some(name)) => own.as_str() == name,
+            (Some(own), Some(name)) => own == name,
             (None, None) => true,
             _ => false,
         }
@@ -72,8 +73,8 @@ impl<C: Drop> OpenSuites<C> {
     }
 
     /// Returns the place of the first suite of this name.
-    fn place_of(&self, name: Option<&str>) -> Option<usize>
-        ensures { result ≡ position (λ s. is_named (option_map (λ n. n.now) name.entry) (suite_of s)) self.now.list.items }
+    fn place_of(&self, name: Option<&Rc<String>>) -> Option<usize>
+        ensures { result ≡ position (λ s. is_named (option_map (λ n. string_bytes n.now.value) name.entry) (suite_of s)) self.now.list.items }
     {
         self.list.iter().position(|open| open.is_named(name))
     }
@@ -82,11 +83,11 @@ impl<C: Drop> OpenSuites<C> {
     pub(crate) fn add(
         &mut self,
         alloc: Global,
-        name: Option<&str>,
+        name: Option<&Rc<String>>,
         case: C,
     ) -> Result<(), AllocError>
         ensures { OnOk result (open_of self.new
-            ≡ spec.added_to (option_map (λ n. n.now) name.entry) case (open_of self.old)) }
+            ≡ spec.added_to (option_map (λ n. string_bytes n.now.value) name.entry) case (open_of self.old)) }
     {
         match self.place_of(name) {
             Some(at) => self.list[at].add(case),
@@ -104,12 +105,12 @@ impl<C: Drop> OpenSuites<C> {
     pub(crate) fn end_suite(
         &mut self,
         alloc: Global,
-        name: Option<&str>,
+        name: Option<&Rc<String>>,
     ) -> Result<Option<Suite<C>>, AllocError>
         ensures over { IfOk result (λ over. option_map suite_of over
-            ≡ spec.suite_over (option_map (λ n. n.now) name.entry) (open_of self.old)) }
+            ≡ spec.suite_over (option_map (λ n. string_bytes n.now.value) name.entry) (open_of self.old)) }
         ensures rest { OnOk result (open_of self.new
-            ≡ spec.without_first (option_map (λ n. n.now) name.entry) (open_of self.old)) }
+            ≡ spec.without_first (option_map (λ n. string_bytes n.now.value) name.entry) (open_of self.old)) }
     {
         match (self.take_first(name), name) {
             (Some(over), _) => Ok(Some(over)),
@@ -119,15 +120,22 @@ impl<C: Drop> OpenSuites<C> {
     }
 
     /// Takes the first suite of this name out.
-    fn take_first(&mut self, name: Option<&str>) -> Option<Suite<C>>
+    fn take_first(&mut self, name: Option<&Rc<String>>) -> Option<Suite<C>>
         ensures over { option_map suite_of result
-            ≡ find (is_named (option_map (λ n. n.now) name.entry)) (open_of self.old) }
+            ≡ find (is_named (option_map (λ n. string_bytes n.now.value) name.entry)) (open_of self.old) }
         ensures rest { open_of self.new
-            ≡ spec.without_first (option_map (λ n. n.now) name.entry) (open_of self.old) }
+            ≡ spec.without_first (option_map (λ n. string_bytes n.now.value) name.entry) (open_of self.old) }
     {
         match self.place_of(name) {
             Some(at) => Some(self.list.remove(at)),
             None => None,
         }
     }
+}
+
+/// Returns a reference to the name of a suite.
+pub(crate) fn name_of(name: &Option<Rc<String>>) -> Option<&Rc<String>>
+    ensures { option_map (λ n. string_bytes n.now.value) result ≡ option_map (λ n. string_bytes n.value) name.now }
+{
+    name.as_ref()
 }

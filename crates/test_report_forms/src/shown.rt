@@ -1,12 +1,11 @@
 //! How text of the input is shown.
 
-ghost use Rattle.std.specs.Prelude.{◌≡◌, ◌≤◌, ◌++◌, IfOk, OnOk, length, nat_lt, replicate, string_bytes, if◌then◌else◌, true};
+ghost use Rattle.std.specs.Prelude.{◌≡◌, ◌≤◌, ◌++◌, IfOk, OnOk, length, nat_lt, option_map, replicate, string_bytes, if◌then◌else◌, true};
 ghost use Rattle.std.specs.Char.{encode_utf8};
 ghost use Rattle.std.specs.List.{list_all};
 ghost use Rattle.std.specs.Str.{chars};
 ghost use Rattle.template.specs.Shown.{escape};
 ghost use Rattle.test_report_forms.specs.Shown as spec;
-ghost use Rattle.test_report_run.specs.Note.{text_view};
 
 use crate::commands::begins_command;
 use crate::lines::without_returns;
@@ -102,16 +101,13 @@ pub(crate) fn push_line(text: &mut String, line: &str) -> Result<(), AllocError>
 
 /// Appends a name and a space. Appends nothing if there is no name.
 #[tactic(auto, unfolding(crate::specs::Shown::name_and_space))]
-pub(crate) fn push_name_and_space(
-    text: &mut String,
-    name: &Option<String>,
-) -> Result<(), AllocError>
+pub(crate) fn push_name_and_space(text: &mut String, name: Option<&str>) -> Result<(), AllocError>
     ensures { OnOk result (string_bytes text.new
-        ≡ string_bytes text.old ++ spec.name_and_space (text_view name.now)) }
+        ≡ string_bytes text.old ++ spec.name_and_space (option_map (λ n. n.now) name.entry)) }
 {
     match name {
         Some(name) => {
-            push_name(text, name.as_str())?;
+            push_name(text, name)?;
             text.push(' ')
         }
         None => Ok(()),

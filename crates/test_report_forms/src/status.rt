@@ -1,7 +1,7 @@
 //! The words for the results of tests, and their colours.
 
 ghost use Rattle.std.specs.Prelude.{◌≡◌, ◌++◌, IfOk, OnOk, string_bytes};
-ghost use Rattle.test_report_forms.specs.List.{passed_word};
+ghost use Rattle.test_report_forms.specs.List.{listed_word, passed_word};
 ghost use Rattle.test_report_forms.specs.Words as spec;
 ghost use Rattle.test_report_forms.specs.Words.{failed_word, status_text};
 ghost use Rattle.test_report_run.specs.Note.{kind_view};
@@ -30,6 +30,20 @@ pub(crate) fn passed_status(alloc: Global, attempts: usize) -> Result<String, Al
         return String::from_str(alloc, "PASS");
     }
     format!(in alloc; "FLAKY {attempts}/{attempts}")
+}
+
+/// Returns the word for a test that passed, in the list at the end.
+pub(crate) fn listed_status(
+    alloc: Global,
+    attempts: usize,
+    is_slow: bool,
+) -> Result<String, AllocError>
+    ensures { IfOk result (λ word. string_bytes word ≡ listed_word attempts is_slow) }
+{
+    if attempts <= 1 && is_slow {
+        return String::from_str(alloc, "SLOW");
+    }
+    passed_status(alloc, attempts)
 }
 
 /// Returns the colour of a word, as the parameters of an escape sequence.

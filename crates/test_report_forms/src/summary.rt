@@ -1,7 +1,7 @@
 //! The numbers of a run.
 
 ghost use Rattle.std.specs.Prelude.{◌≡◌, ◌++◌, OnOk, string_bytes};
-ghost use Rattle.test_report_forms.specs.Words.{failed_numbers, other_numbers, outcome_word, passed_numbers, run_numbers, summary_line};
+ghost use Rattle.test_report_forms.specs.Words.{failed_numbers, finished_numbers, other_numbers, outcome_word, passed_numbers, run_numbers, slow_number, summary_line};
 
 use crate::shown::push_bracket;
 use run_events_stats::outcome::RunOutcome;
@@ -45,12 +45,31 @@ fn push_numbers(text: &mut String, end: &RunEnd) -> Result<(), AllocError>
 fn push_passed(text: &mut String, end: &RunEnd) -> Result<(), AllocError>
     ensures { OnOk result (string_bytes text.new ≡ string_bytes text.old ++ passed_numbers end.now) }
 {
+    push_finished(text, end)?;
+    push_slow(text, end)?;
+    text.push_str("), ")
+}
+
+/// Appends how many tests were run, how many passed, and how many of these are flaky.
+#[tactic(auto, unfolding(crate::specs::Words::finished_numbers))]
+fn push_finished(text: &mut String, end: &RunEnd) -> Result<(), AllocError>
+    ensures { OnOk result (string_bytes text.new ≡ string_bytes text.old ++ finished_numbers end.now) }
+{
     let stats = &end.stats;
     let (finished, passed, flaky) = (stats.finished_count, stats.passed, stats.flaky);
-    write!(
-        text,
-        "{finished} tests run: {passed} passed ({flaky} flaky), "
-    )
+    write!(text, "{finished} tests run: {passed} passed ({flaky} flaky")
+}
+
+/// Appends how many tests that passed were slow, if some were.
+#[tactic(auto, unfolding(crate::specs::Words::slow_number))]
+fn push_slow(text: &mut String, end: &RunEnd) -> Result<(), AllocError>
+    ensures { OnOk result (string_bytes text.new ≡ string_bytes text.old ++ slow_number end.now) }
+{
+    let slow = end.stats.passed_slow;
+    if slow == 0 {
+        return Ok(());
+    }
+    write!(text, ", {slow} slow")
 }
 
 /// Appends how many tests failed.

@@ -137,7 +137,12 @@ fn push_failed(
     ensures { OnOk result (string_bytes text.new ≡ string_bytes text.old
         ++ spec.failed_text options (test_view test.now) (failure_view failure.now) (why_view why.now)) }
 {
-    let shows = finished_output(options, Finish::of_failure(&failure.kind), test.attempts);
+    let shows = finished_output(
+        options,
+        Finish::of_failure(&failure.kind),
+        test.attempts,
+        test.slow,
+    );
     if !has_line(shows) {
         return Ok(());
     }
@@ -160,7 +165,7 @@ fn push_passed(
     ensures { OnOk result (string_bytes text.new ≡ string_bytes text.old
         ++ spec.passed_text options (test_view test.now)) }
 {
-    if !has_line(finished_output(options, Finish::Passed, test.attempts)) {
+    if !has_line(finished_output(options, Finish::Passed, test.attempts, test.slow)) {
         return Ok(());
     }
     let status = passed_status(alloc, test.attempts)?;

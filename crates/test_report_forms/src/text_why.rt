@@ -13,8 +13,8 @@ use crate::why::{Why, parts_of};
 use std::alloc::{AllocError, Global};
 use test_report_run::note::{Failure, FailureKind, TestNote};
 
-/// Returns why a test failed, as the form for people shows it. Of several crashed tests of a suite with an explanation
-/// only the first has it.
+/// Returns why a test failed, as the form for people shows it. If several tests of a suite crashed, only the first has the
+/// explanation.
 pub(crate) fn text_why(
     alloc: Global,
     options: Options,
@@ -44,7 +44,7 @@ fn is_below_crash(kind: &FailureKind) -> bool
     }
 }
 
-/// Returns why a test crashed whose explanation is shown of the test before it.
+/// Returns why a test crashed, if the explanation is shown for the test before it.
 fn why_below(alloc: Global, test: &TestNote, failure: &Failure) -> Result<ShownWhy, AllocError>
     ensures { IfOk result (λ shown. shown_why_view shown
         ≡ spec.why_below (test_view test.now) (failure_view failure.now)) }

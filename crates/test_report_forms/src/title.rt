@@ -4,6 +4,7 @@ ghost use Rattle.std.specs.Prelude.{◌≡◌, ◌++◌, OnOk, string_bytes};
 ghost use Rattle.test_report_forms.specs.Title.{title, title_name};
 ghost use Rattle.test_report_run.specs.Note.{test_view};
 
+use crate::junit_case::shared_text;
 use crate::shown::{push_name, push_name_and_space};
 use std::alloc::AllocError;
 use test_report_run::note::TestNote;
@@ -28,6 +29,6 @@ pub(crate) fn push_title(text: &mut String, test: &TestNote) -> Result<(), Alloc
     ensures { OnOk result (string_bytes text.new
         ≡ string_bytes text.old ++ title (test_view test.now)) }
 {
-    push_name_and_space(text, &test.suite)?;
+    push_name_and_space(text, shared_text(&test.suite))?;
     push_name(text, shown_name(test))
 }

@@ -6,10 +6,11 @@
 //! |---|---|
 //! | `outcome` | the run: a word |
 //! | `finished`, `passed`, `flaky`, `failed`, `timed_out`, `crashed`, `skipped`, `not_run` | its tests, as numbers |
+//! | `slow` | the tests that passed and were slow, if there are some: a `count` |
 //! | `time` | the run, if its time is known |
 //! | `bar` | the run, unless no test is known: a `part` with a `class` and a `number` for each number that is not 0 |
 //! | `problems` | a `problem` with a `line` and, if anything explains it, `why` (its `text`) |
-//! | `failures` | a `failed` test with `status`, `suite` (its `name`), `name`, `note`, `short` and `why` |
+//! | `failures` | a `failed` test with `status`, `suite` (its `name`), `name`, `note`, `short`, `why` and, if `why` does not show all of its output, `output` (its `text`, and the number of its `lines`) |
 //! | `suites` | a `suite` with `name`, `words`, `bar` (as above) and `time` |
 //! | `slowest` | a `slow` test with `name`, `share` (of the longest time, in hundredths) and `seconds` |
 //! | `skips` | a `skip` with `name` and `reason`: a skipped test that has a reason |
@@ -18,13 +19,14 @@
 //! `short`, or the `name` of a failed test or of its suite has an `@`, there is an item without values beside it:
 //! `line_code`, `short_code` or `name_code`.
 
-ghost use Rattle.std.specs.Prelude.{◌≡◌, ◌==◌, ◌++◌, ◌∷◌, [], IfOk, OnOk, if◌then◌else◌, map, string_bytes};
+ghost use Rattle.std.specs.Prelude.{◌≡◌, ◌==◌, ◌++◌, ◌∷◌, [], IfOk, OnOk, if◌then◌else◌, map, option_map, string_bytes};
 ghost use Rattle.std.specs.List.{list_any};
 ghost use Rattle.template.specs.Template.{ItemValue, NoValues, value_view};
 ghost use Rattle.test_report_forms.specs.List.{slow_line_view};
 ghost use Rattle.test_report_forms.specs.Model.{all_problems, failed_view, no_tests_problem, problem_view, report_view, row_view};
 ghost use Rattle.test_report_forms.specs.Skipped.{skipped_view};
 ghost use Rattle.test_report_forms.specs.Values as spec;
+ghost use Rattle.test_report_forms.specs.WholeOutput.{output_view};
 ghost use Rattle.test_report_run.specs.Note.{text_view};
 
 use crate::cause::Problem;
@@ -35,6 +37,7 @@ use crate::shown::seconds_text;
 use crate::skipped_test::SkippedTest;
 use crate::slowest::SlowTest;
 use crate::summary::outcome_text;
+use crate::whole_output::WholeOutput;
 use run_events_stats::outcome::RunOutcome;
 use std::alloc::{AllocError, Global};
 use template::{Value, push_item, push_section, push_text};
@@ -51,6 +54,8 @@ pub fn report_values(
 {
     let ReportModel {
         options: _,
+        limits: _,
+        room: _,
         failed,
         problems,
         suites,
@@ -151,7 +156,19 @@ pub(crate) fn push_time(
     push_item(values, "time", seconds)
 }
 
-/// Returns the values of the run that are not lists, and its time.
+/// Adds how many tests were slow, if some were.
+fn push_slow(alloc: Global, values: &mut Vec<Value>, slow: usize) -> Result<(), AllocError>
+    ensures { OnOk result (map value_view values.new.items
+        ≡ map value_view values.old.items ++ spec.slow_item slow) }
+{
+    if slow == 0 {
+        return Ok(());
+    }
+    let count = one_text(alloc, "count", format!(in alloc; "{slow}")?)?;
+    push_item(values, "slow", count)
+}
+
+/// Returns the values of the run that are not lists, how many of its tests were slow, and its time.
 #[tactic(auto, unfolding(crate::specs::Values::run_values))]
 pub(crate) fn run_values(alloc: Global, end: &RunEnd) -> Result<Vec<Value>, AllocError>
     ensures { IfOk result (λ v. map value_view v.items ≡ spec.run_values end.now) }
@@ -172,6 +189,7 @@ pub(crate) fn run_values(alloc: Global, end: &RunEnd) -> Result<Vec<Value>, Allo
     push_number(alloc, &mut values, "crashed", end.crashed as u128)?;
     push_number(alloc, &mut values, "skipped", end.skipped)?;
     push_number(alloc, &mut values, "not_run", end.not_run)?;
+    push_slow(alloc, &mut values, stats.passed_slow)?;
     push_time(alloc, &mut values, end.time)?;
     Ok(values)
 }
@@ -303,6 +321,31 @@ fn push_suite(
     }
 }
 
+/// Returns the values of the whole output of a failed test.
+fn output_values(alloc: Global, output: WholeOutput) -> Result<Vec<Value>, AllocError>
+    ensures { IfOk result (λ v. map value_view v.items ≡ spec.output_values (output_view output)) }
+{
+    let WholeOutput { lines, text } = output;
+    let mut values = one_text(alloc, "lines", format!(in alloc; "{lines}")?)?;
+    push_text(&mut values, "text", text)?;
+    Ok(values)
+}
+
+/// Adds the whole output of a failed test, if it is shown.
+fn push_output(
+    alloc: Global,
+    values: &mut Vec<Value>,
+    output: Option<WholeOutput>,
+) -> Result<(), AllocError>
+    ensures { OnOk result (map value_view values.new.items
+        ≡ map value_view values.old.items ++ spec.output_item (option_map output_view output)) }
+{
+    match output {
+        Some(output) => push_item(values, "output", output_values(alloc, output)?),
+        None => Ok(()),
+    }
+}
+
 /// Returns the values of a failed test.
 pub(crate) fn failed_values(alloc: Global, test: FailedTest) -> Result<Vec<Value>, AllocError>
     ensures { IfOk result (λ v. map value_view v.items ≡ spec.failed_values (failed_view test)) }
@@ -315,6 +358,7 @@ pub(crate) fn failed_values(alloc: Global, test: FailedTest) -> Result<Vec<Value
         time,
         short,
         why,
+        output,
     } = test;
     let name_has_at = has_at(name.as_bytes());
     let short_has_at = has_at(short.as_bytes());
@@ -326,6 +370,7 @@ pub(crate) fn failed_values(alloc: Global, test: FailedTest) -> Result<Vec<Value
     push_text(&mut values, "why", why)?;
     push_code(alloc, &mut values, "name_code", name_has_at)?;
     push_code(alloc, &mut values, "short_code", short_has_at)?;
+    push_output(alloc, &mut values, output)?;
     Ok(values)
 }
 

@@ -65,7 +65,7 @@ pub(crate) fn output_of(failure: &Failure) -> &str
 }
 
 /// Returns the output of a test, or an empty text if there is none.
-fn stdout_of(failure: &Failure) -> &str
+pub(crate) fn stdout_of(failure: &Failure) -> &str
     ensures { result.now ≡ unwrap_or (failure_view failure.now).stdout [] }
 {
     match &failure.stdout {

@@ -7,7 +7,7 @@ use Rattle.test_report_forms.proofs.json_form.JsonForm.on_suite.Goals as goal
 
 pub returns-in_ok-push-clause-state : goal.returns-in_ok-push-clause-state
 returns-in_ok-push-clause-state c =
-    λ j is. suite_ended c.args.self.now _ j (suite_view c.args.suite.now) _ is c.text_of.ensures c.in_ok-over.ensures.rest refl
+    λ j is. suite_ended c.args.self.now _ j (suite_view c.args.suite.now) _ is c.name_of.ensures c.in_ok-over.ensures.rest refl
     (suite_of c.in-Some.over) (string_bytes c.in_ok-json.json)
     (ap (option_map suite_of) (sym c.in-Some.is) ∙ c.in_ok-over.ensures.over)
     (ap (map string_bytes) c.in_ok-push.ensures.items ∙ map-append string_bytes _ _)
@@ -15,5 +15,5 @@ returns-in_ok-push-clause-state c =
 
 pub returns-in_default-clause-state : goal.returns-in_default-clause-state
 returns-in_default-clause-state c =
-    λ j is. no_suite c.args.self.now _ j (suite_view c.args.suite.now) _ is c.text_of.ensures c.in_ok-over.ensures.rest refl
+    λ j is. no_suite c.args.self.now _ j (suite_view c.args.suite.now) _ is c.name_of.ensures c.in_ok-over.ensures.rest refl
     (ap (option_map suite_of) (sym c.in_default.is) ∙ c.in_ok-over.ensures.over) refl

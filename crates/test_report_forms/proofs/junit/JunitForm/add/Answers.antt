@@ -1,4 +1,4 @@
-use Rattle.std.proofs.Common.{◌∙◌, ap, map, option_map, sym}
+use Rattle.std.proofs.Common.{◌∙◌, ap, map, option_map, string_bytes, sym}
 use Rattle.std.proofs.lemmas.Result.{on_ok_weaker}
 use Rattle.test_report_forms.proofs.Suites.{map_added, viewed}
 use Rattle.test_report_forms.specs.Junit.{junit_view}
@@ -8,7 +8,7 @@ use Rattle.test_report_forms.proofs.junit.JunitForm.add.Goals as goal
 
 pub returns-clause-state : goal.returns-clause-state
 returns-clause-state c =
-    let name = option_map (λ n. n.now) c.args.suite in
+    let name = option_map (λ n. string_bytes n.now.value) c.args.suite in
     let kept = open_of c.args.self.now.suites in
     on_ok_weaker c.add.result
     (λ is. ap (λ suites. record (junit_view c.args.self.now) { suites = suites })

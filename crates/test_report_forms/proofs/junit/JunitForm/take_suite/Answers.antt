@@ -1,4 +1,4 @@
-use Rattle.std.proofs.Common.{◌∙◌, ap, map, option_map, sym}
+use Rattle.std.proofs.Common.{◌∙◌, ap, map, option_map, string_bytes, sym}
 use Rattle.std.proofs.lemmas.Result.{IfOk-weaker, on_ok_weaker}
 use Rattle.test_report_forms.proofs.Suites.{map_over, map_without, viewed, viewed_one}
 use Rattle.test_report_forms.specs.Junit.{junit_view}
@@ -8,7 +8,7 @@ use Rattle.test_report_forms.proofs.junit.JunitForm.take_suite.Goals as goal
 
 pub returns-clause-over : goal.returns-clause-over
 returns-clause-over c =
-    let name = option_map (λ n. n.now) c.args.name in
+    let name = option_map (λ n. string_bytes n.now.value) c.args.name in
     let kept = open_of c.args.self.now.suites in
     IfOk-weaker c.end_suite.result _ _
     (λ over is. viewed_one case_view over ∙ (ap (option_map (map_cases case_view)) is
@@ -17,7 +17,7 @@ returns-clause-over c =
 
 pub returns-clause-rest : goal.returns-clause-rest
 returns-clause-rest c =
-    let name = option_map (λ n. n.now) c.args.name in
+    let name = option_map (λ n. string_bytes n.now.value) c.args.name in
     let kept = open_of c.args.self.now.suites in
     on_ok_weaker c.end_suite.result
     (λ is. ap (λ suites. record (junit_view c.args.self.now) { suites = suites })

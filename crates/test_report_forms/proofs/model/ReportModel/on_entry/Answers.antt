@@ -4,19 +4,26 @@ use Rattle.std.proofs.lemmas.List.Sums.{fold-append}
 use Rattle.std.proofs.lemmas.Result.{on_ok_weaker}
 use Rattle.std.specs.List.{filter_map, fold}
 use Rattle.test_report_forms.proofs.Filtered.{filter_map-more, kept-more}
+use Rattle.test_report_forms.proofs.Outputs.{failed-more, room-more}
 use Rattle.test_report_forms.specs.Entry.{entry_view}
 use Rattle.test_report_forms.proofs.Both.{on_ok_both}
 use Rattle.test_report_forms.specs.List.{KeyedLine, put_falling, slow_line_view}
-use Rattle.test_report_forms.specs.Model.{failure_of_entry, problem_of_entry, row_of_entry, timed_entry}
+use Rattle.test_report_forms.specs.Model.{problem_of_entry, row_of_entry, timed_entry}
 use Rattle.test_report_forms.specs.Skipped.{skipped_of_entry}
+use Rattle.test_report_forms.specs.WholeOutput.{most_of}
 use Rattle.test_report_forms.proofs.model.ReportModel.on_entry.Goals as goal
 
 pub returns-clause-knows : goal.returns-clause-knows
 returns-clause-knows c =
     let add = λ (most : ℕ) (ts : List KeyedLine). fold (put_falling most) ts (option_to_list (timed_entry (entry_view c.args.entry.now))) in
     on_ok_weaker c.keep_time.result
-    (λ kept entries known. record {
-      failed = kept-more (failure_of_entry c.args.self.now.options) entries (entry_view c.args.entry.now) _ _ known.failed c.in_ok-keep_failure.ensures;
+    (λ kept limits entries known.
+    let most = c.most-most.ensures ∙ ap (λ l. most_of l c.args.self.now.room) known.limits_are in
+    record {
+      limits_are = known.limits_are;
+      failed = failed-more limits c.args.self.now.options entries (entry_view c.args.entry.now) _ _ known.room most _ _ known.failed
+          c.in_ok-room.ensures.keeps;
+      room = room-more limits c.args.self.now.options entries (entry_view c.args.entry.now) _ _ known.room most _ c.in_ok-room.ensures.leaves;
       problems = kept-more problem_of_entry entries (entry_view c.args.entry.now) _ _ known.problems c.in_ok-keep_problem.ensures;
       suites = kept-more row_of_entry entries (entry_view c.args.entry.now) _ _ known.suites c.in_ok-keep_suite.ensures;
       slowest = kept.0
