@@ -16,6 +16,9 @@ use test_report_engine::report::Report;
 use test_report_forms::options::{Options, OutputDisplay};
 use test_report_forms::text::TextForm;
 
+/// The time in microseconds from which on a test is slow.
+const SLOW: u64 = 60_000_000;
+
 const OPTIONS: Options = Options {
     limit: 4_096,
     output: OutputDisplay::Auto,
@@ -99,7 +102,7 @@ impl TestRun {
         let mut source = MemorySource::new(self.lines.as_bytes(), None);
         let mut sink = MemorySink::new(self.room.as_mut_slice(), None);
         let form = TextForm::new(self.alloc, OPTIONS);
-        let mut report = Report::new(self.alloc, form);
+        let mut report = Report::new(self.alloc, form, SLOW);
         report.read_file(self.alloc, &mut source, &mut sink, &mut Nowhere::new())?;
         report.finish(self.alloc, &mut sink)?;
         Ok(sink.written() == self.text.as_bytes())

@@ -1,6 +1,6 @@
 -- How far a run is.
 use Rattle.std.specs.Prelude.{◌+◌, ◌-◌, ◌^◌, ℕ, min, unwrap_or}
-use Rattle.test_report_events.specs.Event.{EventView, SuiteStarts, SuiteEnds, TestStarts, TestEnds, OtherLine, HeadingLine, CargoFails, Prints, DamagedLine, CommandStarts, CommandOver}
+use Rattle.test_report_events.specs.Event.{EventView, SuiteStarts, SuiteEnds, TestStarts, TestEnds, TestIsSlow, OtherLine, HeadingLine, CargoFails, Prints, DamagedLine, CommandStarts, CommandOver}
 
 -- a number of 64 bits that stops at the greatest
 abbrev pub counted : ℕ → ℕ → ℕ
@@ -12,6 +12,7 @@ ended_after n (SuiteStarts key count) = n
 ended_after n (SuiteEnds e) = n
 ended_after n (TestStarts name) = n
 ended_after n (TestEnds e) = counted n 1
+ended_after n (TestIsSlow name) = n
 ended_after n OtherLine = n
 ended_after n (HeadingLine suite path) = n
 ended_after n (CargoFails failure text plain) = n
@@ -26,6 +27,7 @@ announced_after n (SuiteStarts key count) = counted n (unwrap_or count 0)
 announced_after n (SuiteEnds e) = n
 announced_after n (TestStarts name) = n
 announced_after n (TestEnds e) = n
+announced_after n (TestIsSlow name) = n
 announced_after n OtherLine = n
 announced_after n (HeadingLine suite path) = n
 announced_after n (CargoFails failure text plain) = n

@@ -25,10 +25,10 @@ pub record FilesTake (old new : FileForms) (entries : List EntryView) : Type 0 w
   pub know : (known : List EntryView) → FilesKnow old known → FilesKnow new (known ++ entries)
   pub say : SaysAs new old
 
--- a report whose forms of files were these at first has read these inputs
-pub record FilesHaveRead {F : Type 0} (files : FileForms) (report : Report F) (inputs : List InputView) : Type 0 where
+-- a report whose forms of files were these at first has read these inputs. A test is slow from this time on
+pub record FilesHaveRead {F : Type 0} (slow : ℕ) (files : FileForms) (report : Report F) (inputs : List InputView) : Type 0 where
   pub entries : List EntryView
-  pub are : AreEntriesOf inputs entries (run_of report.run)
+  pub are : AreEntriesOf slow inputs entries (run_of report.run)
   pub know : FilesKnow report.files entries
   pub say : SaysAs report.files files
 
@@ -64,10 +64,10 @@ pub record TakesLine (old new : TestRun) (bytes : List ℕ) (notes : List NoteVi
   pub tells : notes ≡ line_notes (run_of old) events
 
 module _ {F : Type 0} (line : F → EntryView → List ℕ) (last : F → List EntryView → RunEnd → List ℕ) (Knows : F → List EntryView → Type 0) where
-  -- a report whose form was this at first has read these inputs, and written this
-  pub record HasRead (form : F) (report : Report F) (inputs : List InputView) (written : List ℕ) : Type 0 where
+  -- a report whose form was this at first has read these inputs, and written this. A test is slow from this time on
+  pub record HasRead (slow : ℕ) (form : F) (report : Report F) (inputs : List InputView) (written : List ℕ) : Type 0 where
     pub entries : List EntryView
-    pub are : AreEntriesOf inputs entries (run_of report.run)
+    pub are : AreEntriesOf slow inputs entries (run_of report.run)
     pub is : written ≡ flat_map (line form) entries
     pub knows : Knows report.form entries
     pub line_is : line report.form ≡ line form
@@ -123,14 +123,14 @@ module _ {F : Type 0} (line : F → EntryView → List ℕ) (last : F → List E
   -- a report that has read some inputs has then read this one too, and its lines were appended
   abbrev pub ReadsOneMore : Report F → Report F → InputView → Option (List ℕ) → Option (List ℕ) → Type 0
   ReadsOneMore old new input before behind =
-      (form : F) (inputs : List InputView) (written : List ℕ) → HasRead form old inputs written
-      → (more : List ℕ) × HasRead form new (inputs ++ input ∷ []) (written ++ more) × Appends before behind more
+      (slow : ℕ) (form : F) (inputs : List InputView) (written : List ℕ) → HasRead slow form old inputs written
+      → (more : List ℕ) × HasRead slow form new (inputs ++ input ∷ []) (written ++ more) × Appends before behind more
 
   -- a beginning of what is written of one more input was appended, whatever that is
   abbrev pub BreaksOff : Report F → InputView → Option (List ℕ) → Option (List ℕ) → Type 0
   BreaksOff old input before behind =
-      (form : F) (inputs : List InputView) (written more : List ℕ) → HasRead form old inputs written
-      → AreLinesOf (line form) (inputs ++ input ∷ []) (written ++ more) → AppendsStart before behind more
+      (slow : ℕ) (form : F) (inputs : List InputView) (written more : List ℕ) → HasRead slow form old inputs written
+      → AreLinesOf slow (line form) (inputs ++ input ∷ []) (written ++ more) → AppendsStart before behind more
 
   -- a report is ready for the output of a command: what it reads of it up to the end of the command is then one more input
   pub record StartsCommand (old new : Report F) : Type 0 where
@@ -138,18 +138,19 @@ module _ {F : Type 0} (line : F → EntryView → List ℕ) (last : F → List E
         → ReadsInput (Some end) new last bytes before behind → ReadsOneMore old last (output bytes end) before behind
     pub files : (bytes : List ℕ) (end : CommandView) (last : Report F) (before behind : Option (List ℕ))
         → ReadsInput (Some end) new last bytes before behind
-        → (files : FileForms) (inputs : List InputView) → FilesHaveRead files old inputs → FilesHaveRead files last (inputs ++ output bytes end ∷ [])
+        → (slow : ℕ) (files : FileForms) (inputs : List InputView) → FilesHaveRead slow files old inputs
+        → FilesHaveRead slow files last (inputs ++ output bytes end ∷ [])
     pub breaks_off : (bytes : List ℕ) (end : CommandView) (before behind : Option (List ℕ))
         → ReadsStart (Some end) line new bytes before behind → BreaksOff old (output bytes end) before behind
 
   -- the end of the report was appended, and this is the end of the run
   abbrev pub Finishes : Report F → RunEnd → Option (List ℕ) → Option (List ℕ) → Type 0
   Finishes report end before behind =
-      (form : F) (inputs : List InputView) (written : List ℕ) → HasRead form report inputs written
-      → (more : List ℕ) × IsReport (line form) (last form) inputs (written ++ more) end × Appends before behind more
+      (slow : ℕ) (form : F) (inputs : List InputView) (written : List ℕ) → HasRead slow form report inputs written
+      → (more : List ℕ) × IsReport slow (line form) (last form) inputs (written ++ more) end × Appends before behind more
 
   -- a beginning of the end of the report was appended, whatever that is
   abbrev pub BreaksOffEnd : Report F → Option (List ℕ) → Option (List ℕ) → Type 0
   BreaksOffEnd report before behind =
-      (form : F) (inputs : List InputView) (written more : List ℕ) (end : RunEnd) → HasRead form report inputs written
-      → IsReport (line form) (last form) inputs (written ++ more) end → AppendsStart before behind more
+      (slow : ℕ) (form : F) (inputs : List InputView) (written more : List ℕ) (end : RunEnd) → HasRead slow form report inputs written
+      → IsReport slow (line form) (last form) inputs (written ++ more) end → AppendsStart before behind more

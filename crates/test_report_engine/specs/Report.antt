@@ -59,32 +59,32 @@ abbrev pub notes_of_inputs : RunState → List (List (List EventView)) → List 
 notes_of_inputs run [] = []
 notes_of_inputs run (lines ∷ inputs) = notes_of_input run lines ++ notes_of_inputs (run_after_input run lines) inputs
 
--- these are the entries of the run that inputs describe, and the run after them
-pub record AreEntriesOf (inputs : List InputView) (entries : List EntryView) (run : RunState) : Type 0 where
+-- these are the entries of the run that inputs describe, and the run after them. A test is slow from this time on
+pub record AreEntriesOf (slow : ℕ) (inputs : List InputView) (entries : List EntryView) (run : RunState) : Type 0 where
   pub events : List (List (List EventView))
   pub say : AllZip AreEventsOf inputs events
-  pub are : AllZip IsEntryOf (notes_of_inputs run_start events) entries
-  pub run_is : run ≡ run_after_inputs run_start events
+  pub are : AllZip IsEntryOf (notes_of_inputs (run_start slow) events) entries
+  pub run_is : run ≡ run_after_inputs (run_start slow) events
 
 -- this is written of inputs before the end of the report: of each entry its line
-pub record AreLinesOf (line : EntryView → List ℕ) (inputs : List InputView) (text : List ℕ) : Type 0 where
+pub record AreLinesOf (slow : ℕ) (line : EntryView → List ℕ) (inputs : List InputView) (text : List ℕ) : Type 0 where
   pub entries : List EntryView
   pub run : RunState
-  pub are : AreEntriesOf inputs entries run
+  pub are : AreEntriesOf slow inputs entries run
   pub is : text ≡ flat_map line entries
 
 -- this is the report of inputs, and the end of the run: the line of each entry, and then the end of the report
-pub record IsReport (line : EntryView → List ℕ) (last : List EntryView → RunEnd → List ℕ) (inputs : List InputView) (text : List ℕ) (end : RunEnd)
-    : Type 0 where
+pub record IsReport (slow : ℕ) (line : EntryView → List ℕ) (last : List EntryView → RunEnd → List ℕ) (inputs : List InputView) (text : List ℕ)
+    (end : RunEnd) : Type 0 where
   pub entries : List EntryView
   pub run : RunState
-  pub are : AreEntriesOf inputs entries run
+  pub are : AreEntriesOf slow inputs entries run
   pub is : text ≡ flat_map line entries ++ last entries end
   pub end_is : end ≡ end_of run
 
 -- these are the texts of the files for inputs
-pub record AreTexts (files : FileForms) (inputs : List InputView) (texts : FileTexts) : Type 0 where
+pub record AreTexts (slow : ℕ) (files : FileForms) (inputs : List InputView) (texts : FileTexts) : Type 0 where
   pub entries : List EntryView
   pub run : RunState
-  pub are : AreEntriesOf inputs entries run
+  pub are : AreEntriesOf slow inputs entries run
   pub say : FilesSay files entries (end_of run) texts

@@ -13,7 +13,7 @@
 //! These calls report a run of one file, and return true if it succeeded:
 //!
 //! ```rust
-//! let mut report = Report::new(alloc, TextForm::new(alloc, options));
+//! let mut report = Report::new(alloc, TextForm::new(alloc, options), 60_000_000);
 //! report.read_file(alloc, source, sink, &mut Nowhere::new())?;
 //! let end = report.finish(alloc, sink)?;
 //! Ok(end.outcome == RunOutcome::Success)

@@ -44,21 +44,23 @@ impl<F: Form + Drop> Report<F> {
     ghost use Rattle.test_report_engine.specs.Others as second;
     ghost use Rattle.test_report_engine.specs.Reading as reading;
 
-    /// Returns a report that has read and written nothing.
-    pub fn new(alloc: Global, form: F) -> Report<F>
-        ensures reads { F.Knows form [] → reading.HasRead F.line F.last F.Knows form result [] [] }
+    /// Returns a report that has read and written nothing. A test whose time is at least `slow` microseconds is
+    /// slow.
+    pub fn new(alloc: Global, form: F, slow: u64) -> Report<F>
+        ensures reads { F.Knows form [] → reading.HasRead F.line F.last F.Knows slow form result [] [] }
     {
-        Report::with_files(alloc, form, FileForms::none())
+        Report::with_files(alloc, form, FileForms::none(), slow)
     }
 
     /// Returns a report that has read and written nothing. It keeps what the texts of these files need, and
-    /// `file_texts` returns them after the last file of the run.
-    pub fn with_files(alloc: Global, form: F, files: FileForms) -> Report<F>
-        ensures reads { F.Knows form [] → reading.HasRead F.line F.last F.Knows form result [] [] }
-        ensures files { FilesKnow files [] → reading.FilesHaveRead files result [] }
+    /// `file_texts` returns them after the last file of the run. A test whose time is at least `slow` microseconds
+    /// is slow.
+    pub fn with_files(alloc: Global, form: F, files: FileForms, slow: u64) -> Report<F>
+        ensures reads { F.Knows form [] → reading.HasRead F.line F.last F.Knows slow form result [] [] }
+        ensures files { FilesKnow files [] → reading.FilesHaveRead slow files result [] }
     {
         Report {
-            run: TestRun::new(alloc),
+            run: TestRun::new(alloc, slow),
             form,
             files,
         }
@@ -96,8 +98,9 @@ impl<F: Form + Drop> Report<F> {
             (λ input. reading.ReadsOneMore F.line F.last F.Knows self.old self.new (file input)
             (W.written sink.old) (W.written sink.new))) }
         ensures files { OnOk result (IfSome (R.left source.old)
-            (λ input. (files : FileForms) (inputs : List InputView) → reading.FilesHaveRead files self.old inputs
-            → reading.FilesHaveRead files self.new (inputs ++ file input ∷ []))) }
+            (λ input. (slow : ℕ) (files : FileForms) (inputs : List InputView)
+            → reading.FilesHaveRead slow files self.old inputs
+            → reading.FilesHaveRead slow files self.new (inputs ++ file input ∷ []))) }
         ensures breaks_off { OnErr result (IfSome (R.left source.old)
             (λ input. reading.BreaksOff F.line F.last F.Knows self.old (file input)
             (W.written sink.old) (W.written sink.new))) }
@@ -257,12 +260,12 @@ impl<F: Form + Drop> Report<F> {
 
     /// Returns the texts of the files. Call it after the last file of the run was read.
     pub fn file_texts(&mut self, alloc: Global) -> Result<FileTexts, Fault>
-        ensures texts { IfOk result (λ texts. (files : FileForms) (inputs : List InputView)
-            → reading.FilesHaveRead files self.old inputs → AreTexts files inputs texts) }
+        ensures texts { IfOk result (λ texts. (slow : ℕ) (files : FileForms) (inputs : List InputView)
+            → reading.FilesHaveRead slow files self.old inputs → AreTexts slow files inputs texts) }
         ensures errors { IfErr result (λ e. e ≡ faults.OutOfMemory) }
-        ensures same { (form : F) (inputs : List InputView) (written : List ℕ)
-            → reading.HasRead F.line F.last F.Knows form self.old inputs written
-            → reading.HasRead F.line F.last F.Knows form self.new inputs written }
+        ensures same { (slow : ℕ) (form : F) (inputs : List InputView) (written : List ℕ)
+            → reading.HasRead F.line F.last F.Knows slow form self.old inputs written
+            → reading.HasRead F.line F.last F.Knows slow form self.new inputs written }
     {
         let end = self.run.end();
         Ok(self.files.texts(alloc, &end)?)

@@ -15,10 +15,11 @@ use Rattle.test_report_laws.proofs.FileEnds.{end-parts, reported_run}
 use Rattle.test_report_laws.proofs.OverRuns.{over-run}
 use Rattle.test_report_laws.proofs.Tallies.{run-sums}
 use Rattle.test_report_laws.proofs.Weights.{keeps-line, ready-suites, weigh, weight_of}
+use Rattle.test_report_run.specs.Running.{RunningView}
 use Rattle.test_report_run.specs.Note.{NoteView}
 use Rattle.test_report_run.specs.Others.{OthersView}
 use Rattle.test_report_run.specs.Over.{early_notes, early_state, explained_of, last_notes, last_state, rest_of}
-use Rattle.test_report_run.specs.Run.{RunState, Step, after, ended_at, ended_early, file_notes, heard, learned, names_in, notes_at, open_suite, opened, run_start, settled_at, started_again, step, stray_suite_notes, suite_at, with_suite_at, without_tests}
+use Rattle.test_report_run.specs.Run.{RunState, Step, after, ended_at, ended_early, file_notes, heard, learned, tests_in, notes_at, open_suite, opened, run_start, settled_at, started_again, step, stray_suite_notes, suite_at, with_suite_at, without_tests}
 use Rattle.test_report_run.specs.Said.{sum_of}
 use Rattle.test_report_laws.specs.Status.{AnnouncedAreCounted, announced_by}
 use Rattle.test_report_run.specs.Suite.{SuiteState, has_key, joined_by, outside_start, suite_start, with_line}
@@ -40,23 +41,23 @@ covers : (count : Option ℕ) (skipped finished left : ℕ) → option_map_or (�
 covers None skipped finished left = omega arith
 covers (Some c) skipped finished left = omega arith
 
-early-covers : (others : OthersView) (s : SuiteState) (names : List (List ℕ)) → weigh announcing s ≤ sum_by reach (early_notes others s names)
-early-covers others s names =
-    let last = early_state s names in
+early-covers : (others : OthersView) (s : SuiteState) (tests : List RunningView) → weigh announcing s ≤ sum_by reach (early_notes others s tests)
+early-covers others s tests =
+    let last = early_state s tests in
     let rest = early_rest s in
     omega (
       arith,
-      early-suite (λ n. n.stats.finished_count + n.skipped + n.not_run) others s names,
+      early-suite (λ n. n.stats.finished_count + n.skipped + n.not_run) others s tests,
       covers s.test_count rest.skipped last.stats.finished_count rest.left,
     )
 
-last-covers : (s : SuiteState) (e : Explanation) (names : List (List ℕ)) → weigh announcing s ≤ sum_by reach (last_by s e names)
-last-covers s e names =
-    let last = last_state s e names in
-    let rest = rest_of s e names in
+last-covers : (s : SuiteState) (e : Explanation) (tests : List RunningView) → weigh announcing s ≤ sum_by reach (last_by s e tests)
+last-covers s e tests =
+    let last = last_state s e tests in
+    let rest = rest_of s e tests in
     omega (
       arith,
-      last-suite (λ n. n.stats.finished_count + n.skipped + n.not_run) s e names,
+      last-suite (λ n. n.stats.finished_count + n.skipped + n.not_run) s e tests,
       covers s.test_count rest.skipped last.stats.finished_count rest.left,
     )
 
@@ -87,31 +88,31 @@ covered-first n notes r (Some key) count (Some at) in' i =
     )
 covered-first n notes r None count (Some at) in' i =
     let s = suite_at r (Some at) in
-    let names = names_in r s in
+    let tests = tests_in r s in
     let start = suite_start (Some (r.suites_started + 1)) None r.heading count r.others in
     omega (
       arith,
       i,
-      early-covers r.others s names,
+      early-covers r.others s tests,
       sum_by_push (weigh announcing) (remove r.suites at) start,
       sum_by-remove (weigh announcing) r.suites at r.outside in',
-      sum_by-append reach notes (early_notes r.others s names),
+      sum_by-append reach notes (early_notes r.others s tests),
     )
 
 covered-over : (n : ℕ) (notes : List NoteView) (r : RunState) (e : SuiteEndView) (at : ℕ) (over : Bool) → at < length r.suites → Covered n notes r
     → let s = with_line (suite_at r (Some at)) e in
-    let t = if over then step (without_tests (record r { suites = remove r.suites at }) s) (last_notes s (names_in r s))
+    let t = if over then step (without_tests (record r { suites = remove r.suites at }) s) (last_notes s (tests_in r s))
     else step (with_suite_at r (Some at) s) [] in
     Covered (n + 0) (notes ++ t.notes) (learned t.run t.notes)
 covered-over n notes r e at true in' i =
     let s = with_line (suite_at r (Some at)) e in
-    let names = names_in r s in
+    let tests = tests_in r s in
     omega (
       arith,
       i,
-      last-covers s (explained_of s (length names)) names,
+      last-covers s (explained_of s (length tests)) tests,
       sum_by-remove (weigh announcing) r.suites at r.outside in',
-      sum_by-append reach notes (last_notes s names),
+      sum_by-append reach notes (last_notes s tests),
     )
 covered-over n notes r e at false in' i =
     let s = with_line (suite_at r (Some at)) e in
@@ -156,12 +157,12 @@ covered-ends : (t : Step) (suites : List SuiteState)
     → sum_by (weigh announcing) suites + sum_by reach t.notes ≤ sum_by reach (fold ended_early t suites).notes
 covered-ends t [] = omega arith
 covered-ends t (s ∷ suites) =
-    let names = names_in t.run s in
+    let tests = tests_in t.run s in
     omega (
       arith,
-      early-covers t.run.others s names,
+      early-covers t.run.others s tests,
       sum_by-cons (weigh announcing) s suites,
-      sum_by-append reach t.notes (early_notes t.run.others s names),
+      sum_by-append reach t.notes (early_notes t.run.others s tests),
       covered-ends (ended_early t s) suites,
     )
 
@@ -170,7 +171,7 @@ covered-end n notes r i =
     let now = reported_run r in
     let none = step (record now { suites = [] }) [] in
     let ended = fold ended_early none now.suites in
-    let last = early_notes ended.run.others now.outside (names_in (record (ended.run) { outside = outside_start }) now.outside) in
+    let last = early_notes ended.run.others now.outside (tests_in (record (ended.run) { outside = outside_start }) now.outside) in
     omega (
       arith,
       i,
@@ -190,13 +191,13 @@ ending-reached e true = refl
 ending-reached e false = refl
 
 pub announced-counted : AnnouncedAreCounted
-announced-counted files =
-    let notes = all_notes files in
-    let r = run_after_files run_start files in
+announced-counted slow files =
+    let notes = all_notes slow files in
+    let r = run_after_files (run_start slow) files in
     omega (
       arith,
-      over-run Covered (λ n notes r. n ≤ sum_by reach notes) announced_by (λ n notes r i. omega (arith, i)) covered-line covered-end (omega arith) files,
+      over-run Covered (λ n notes r. n ≤ sum_by reach notes) announced_by (λ n notes r i. omega (arith, i)) covered-line covered-end slow (omega arith) files,
       sum-of reached (λ s. s.stats.finished_count + s.skipped + s.not_run) (λ e s. omega arith) refl notes,
-      ap (λ s. reached s.0) (run-sums files),
+      ap (λ s. reached s.0) (run-sums slow files),
       ending-reached r.totals (nat_lt 0 r.disagreements),
     )

@@ -4,12 +4,12 @@ use Rattle.std.specs.List.{fold, position, remove}
 use Rattle.std.specs.Option.{option_map_or}
 use Rattle.std.specs.Prelude.{◌==◌}
 use Rattle.std.proofs.lemmas.Bool.{cond_both}
-use Rattle.test_report_events.specs.Event.{EventView, SuiteEndView, TestEndView, SuiteStarts, SuiteEnds, TestStarts, TestEnds, OtherLine, HeadingLine, CargoFails, Prints, DamagedLine, CommandStarts, CommandOver}
+use Rattle.test_report_events.specs.Event.{EventView, SuiteEndView, TestEndView, SuiteStarts, SuiteEnds, TestStarts, TestEnds, TestIsSlow, OtherLine, HeadingLine, CargoFails, Prints, DamagedLine, CommandStarts, CommandOver}
 use Rattle.test_report_events.specs.declared.event.TestResult.{TestResult}
 use Rattle.test_report_events.specs.declared.event.TestResult.TheVariants.{Ok, Failed, Ignored}
 use Rattle.test_report_run.specs.Events.{is_event}
 use Rattle.test_report_run.specs.Over.{last_notes}
-use Rattle.test_report_run.specs.Run.{RunState, Step, all_ended_early, ended_at, ended_early, names_in, open_suite, opened, running_ends, started_again, step, stray_ends, stray_suite_notes, suite_at, suite_place, told, with_suite_at, without_tests}
+use Rattle.test_report_run.specs.Run.{RunState, Step, all_ended_early, ended_at, ended_early, tests_in, open_suite, opened, place_of_number, running_ends, slow_at, started_again, step, stray_ends, stray_suite_notes, suite_at, suite_place, told, with_suite_at, without_tests}
 use Rattle.test_report_run.specs.Running.{is_same, place_of_end, running_at}
 use Rattle.test_report_run.specs.Suite.{SuiteState, outside_start, with_line}
 
@@ -31,7 +31,7 @@ aside-last : (r : RunState) (e : SuiteEndView) (at : Option ℕ) → aside (opti
 aside-last r e None = refl
 aside-last r e (Some at) =
     let s = with_line (suite_at r (Some at)) e in
-    cond_both (s.open_lines == 0) (step (without_tests (record r { suites = remove r.suites at }) s) (last_notes s (names_in r s)))
+    cond_both (s.open_lines == 0) (step (without_tests (record r { suites = remove r.suites at }) s) (last_notes s (tests_in r s)))
     (step (with_suite_at r (Some at) s) []) (λ (t : Step). aside t.run ≡ aside r) (λ _. refl) (λ _. refl)
 
 aside-stray : (r : RunState) (e : TestEndView) (how : TestResult) → aside (stray_ends r (record e { result = how })).run ≡ aside r
@@ -46,6 +46,10 @@ aside-test r e (Some p) =
     let test = running_at r.running p.0 in
     aside-at (record r { running = remove r.running p.0 }) (position (λ s. is_same s.number test.suite) r.suites) _
 
+aside-slow : (r : RunState) (place : Option (ℕ × ℕ)) → aside (option_map_or (λ p. slow_at r p.0) place r) ≡ aside r
+aside-slow r None = refl
+aside-slow r (Some p) = aside-at r (place_of_number r (running_at r.running p.0).suite) _
+
 -- a line that is an event of a harness
 pub aside-told : (r : RunState) (e : EventView) → is_event e ≡ true → aside (told r e).run ≡ aside r
 aside-told r (SuiteStarts key count) h = aside-first r key count (open_suite r key)
@@ -53,6 +57,7 @@ aside-told r (SuiteEnds e) h = aside-last r e (open_suite r e.key)
 aside-told r (TestStarts name) h =
     ap (λ (x : RunState). record x { running = []; tests_started = 0 }) (aside-at r (suite_place r name) _)
 aside-told r (TestEnds e) h = ap (λ (x : RunState). record x { ended = 0 }) (aside-test r e (place_of_end r.running e.name))
+aside-told r (TestIsSlow name) h = aside-slow r (place_of_end r.running name)
 aside-told r OtherLine h = refl
 aside-told r (HeadingLine name path) h = absurd (cc)
 aside-told r (CargoFails f line plain) h = absurd (cc)

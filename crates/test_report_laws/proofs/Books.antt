@@ -9,7 +9,7 @@ use Rattle.std.proofs.lemmas.List.Quantifiers.{position-Some}
 use Rattle.std.proofs.lemmas.List.Sums.{fold-append, sum_by-append, sum_by-cons, sum_by-remove, sum_by-set, sum_by_push}
 use Rattle.run_events_stats.specs.Counters.{counters_of, nothing_known}
 use Rattle.run_events_stats.specs.declared.stats.RunStats.{RunStats}
-use Rattle.test_report_events.specs.Event.{EventView, SuiteEndView, TestEndView, SuiteStarts, SuiteEnds, TestStarts, TestEnds, OtherLine, HeadingLine, CargoFails, Prints, DamagedLine, CommandStarts, CommandOver}
+use Rattle.test_report_events.specs.Event.{EventView, SuiteEndView, TestEndView, SuiteStarts, SuiteEnds, TestStarts, TestEnds, TestIsSlow, OtherLine, HeadingLine, CargoFails, Prints, DamagedLine, CommandStarts, CommandOver}
 use Rattle.test_report_events.specs.declared.event.TestResult.{TestResult}
 use Rattle.test_report_events.specs.declared.event.TestResult.TheVariants.{Ok, Failed, Ignored}
 use Rattle.test_report_laws.proofs.CargoReports.{OnlyReports, only-cargo, only-settled_at, only-told, reports-none}
@@ -22,8 +22,8 @@ use Rattle.test_report_run.specs.Note.{Disagrees, DisagreementView, IsDamaged, N
 use Rattle.test_report_run.specs.Others.{OthersView, after_failure}
 use Rattle.test_report_run.specs.Over.{early_notes, explained_of, last_notes}
 use Rattle.test_report_run.specs.Prints.{cut}
-use Rattle.test_report_run.specs.Run.{RunState, Step, after, after_file, cargo_fails, counts_tests, ended_at, ended_early, file_notes, heard, is_disagreement, learned, marked, names_in, notes_at, open_suite, opened, reports_told, run_start, running_ends, running_over, settled_at, started_again, step, stray_ends, stray_over, stray_suite_notes, stray_test, suite_at, suite_place, told, told_at, with_note, with_suite_at, without_tests}
-use Rattle.test_report_run.specs.Running.{is_same, place_of_end, running_at}
+use Rattle.test_report_run.specs.Run.{RunState, Step, after, after_file, cargo_fails, counts_tests, ended_at, ended_early, file_notes, heard, is_disagreement, learned, marked, tests_in, notes_at, open_suite, opened, place_of_number, reports_told, run_start, running_ends, running_over, settled_at, slow_at, started_again, step, stray_ends, stray_over, stray_suite_notes, stray_test, suite_at, suite_place, told, told_at, with_note, with_suite_at, without_tests}
+use Rattle.test_report_run.specs.Running.{RunningView, is_same, place_of_end, running_at, with_slow}
 use Rattle.test_report_run.specs.Name.{before_dollar}
 use Rattle.test_report_run.specs.Suite.{FlakyView, OverView, SuiteState, has_key, joined_by, named, outside_start, suite_start, with_line, with_start}
 use Rattle.test_report_laws.proofs.Types.{Explanation}
@@ -134,10 +134,10 @@ pub record Rules (loose : ℕ) (w v : NoteView → ℕ) (h : Kept → ℕ) (Fine
   pub of_end : (s : SuiteState) (t : OverView) (order : ℕ) (e : TestEndView) → Fine (kept s)
       → (sum_by w (end_notes s t e) + h (kept s) ≡ sum_by v (end_notes s t e) + h (kept (after_end s t order e)))
       × Fine (kept (after_end s t order e))
-  pub of_early : (others : OthersView) (s : SuiteState) (names : List (List ℕ)) → Fine (kept s)
-      → Within loose (sum_by w (early_notes others s names) + h (kept s)) (sum_by v (early_notes others s names))
-  pub of_last : (s : SuiteState) (e : Explanation) (names : List (List ℕ)) → Fine (kept s)
-      → Within loose (sum_by w (last_by s e names) + h (kept s)) (sum_by v (last_by s e names))
+  pub of_early : (others : OthersView) (s : SuiteState) (tests : List RunningView) → Fine (kept s)
+      → Within loose (sum_by w (early_notes others s tests) + h (kept s)) (sum_by v (early_notes others s tests))
+  pub of_last : (s : SuiteState) (e : Explanation) (tests : List RunningView) → Fine (kept s)
+      → Within loose (sum_by w (last_by s e tests) + h (kept s)) (sum_by v (last_by s e tests))
 
 module _ {loose : ℕ} {w v : NoteView → ℕ} {h : Kept → ℕ} {Fine : Kept → Type 0} (rules : Rules loose w v h Fine) where
   open rules use {w_disagree, v_disagree, empty, fine_empty, of_end, of_early, of_last}
@@ -198,7 +198,7 @@ module _ {loose : ℕ} {w v : NoteView → ℕ} {h : Kept → ℕ} {Fine : Kept 
       let start = suite_start (Some (r.suites_started + 1)) None r.heading count r.others in
       let same = held-push h (remove r.suites at) start empty in
       let less = held-remove h r at in' in
-      let over = of_early r.others s (names_in r s) (fine-at r (Some at) f in') in (
+      let over = of_early r.others s (tests_in r s) (fine-at r (Some at) f in') in (
         record { low = omega (arith, over.low); high = λ e. omega (arith, over.high e) },
         (f.0, All-push IsFine (remove r.suites at) start (fine-remove r at f) fine_empty),
         refl,
@@ -206,12 +206,12 @@ module _ {loose : ℕ} {w v : NoteView → ℕ} {h : Kept → ℕ} {Fine : Kept 
 
   -- a last line of a suite
   keeps-over : (r : RunState) (at : ℕ) (s : SuiteState) (over : Bool) → AreFine r → at < length r.suites → kept s ≡ kept (suite_at r (Some at))
-      → Keeps r (if over then step (without_tests (record r { suites = remove r.suites at }) s) (last_notes s (names_in r s))
+      → Keeps r (if over then step (without_tests (record r { suites = remove r.suites at }) s) (last_notes s (tests_in r s))
       else step (with_suite_at r (Some at) s) [])
   keeps-over r at s true f in' same =
       let less = held-remove h r at in' in
-      let names = names_in r s in
-      let over = of_last s (explained_of s (length names)) names (subst Fine (sym same) (fine-at r (Some at) f in')) in
+      let tests = tests_in r s in
+      let over = of_last s (explained_of s (length tests)) tests (subst Fine (sym same) (fine-at r (Some at) f in')) in
       let equal : held h s ≡ held h (suite_at r (Some at)) = ap h same in
       (record { low = omega (arith, over.low); high = λ e. omega (arith, over.high e) }, (f.0, fine-remove r at f), refl)
   keeps-over r at s false f in' same =
@@ -263,6 +263,19 @@ module _ {loose : ℕ} {w v : NoteView → ℕ} {h : Kept → ℕ} {Fine : Kept 
       same-at None = refl
       same-at (Some at) = refl
 
+  -- a test is slow
+  keeps-slow : (r : RunState) (place : Option (ℕ × ℕ)) → AreFine r → Keeps r (step (option_map_or (λ p. slow_at r p.0) place r) [])
+  keeps-slow r None f = keeps-same r [] f refl refl
+  keeps-slow r (Some p) f =
+      let test = running_at r.running p.0 in
+      let at = place_of_number r test.suite in
+      let in' = position-in (λ s. is_same s.number test.suite) r.suites at refl in
+      slow-keeps r (suite_at r at) at in' (keeps-set r at (suite_at r at) [] f in' (fine-at r at f in') (omega arith))
+    where
+      slow-keeps : (r : RunState) (s : SuiteState) (at : Option ℕ) → IsIn r.suites at → Keeps r (step (with_suite_at r at s) [])
+          → Keeps r (step (record (with_suite_at r at s) { running = with_slow r.running p.0 }) [])
+      slow-keeps r s at in' k = k
+
   -- failures of cargo become known
   keeps-reports : (r : RunState) (t : Step) → AreFine r → OnlyReports r t → Keeps r t
   keeps-reports r t f only =
@@ -278,6 +291,7 @@ module _ {loose : ℕ} {w v : NoteView → ℕ} {h : Kept → ℕ} {Fine : Kept 
       let at = suite_place r name in
       keeps-set r at (with_start (suite_at r at) name) [] f (place-in r name) (fine-at r at f (place-in r name)) (omega arith)
   keeps-line r (TestEnds e) f = keeps-test r e (place_of_end r.running e.name) f
+  keeps-line r (TestIsSlow name) f = keeps-slow r (place_of_end r.running name) f
   keeps-line r OtherLine f = keeps-same r [] f refl refl
   keeps-line r (HeadingLine name path) f = (record { low = omega arith; high = λ _. omega arith }, f, refl)
   keeps-line r (CargoFails k line plain) f =
@@ -341,12 +355,12 @@ module _ {loose : ℕ} {w v : NoteView → ℕ} {h : Kept → ℕ} {Fine : Kept 
       (sum_by v (fold ended_early t suites).notes + sum_by w t.notes)
   ends-early t [] f = record { low = omega arith; high = λ _. omega arith }
   ends-early t (s ∷ suites) f =
-      let names = names_in t.run s in
-      let now = of_early t.run.others s names (All-head IsFine s suites f) in
+      let tests = tests_in t.run s in
+      let now = of_early t.run.others s tests (All-head IsFine s suites f) in
       let rest = ends-early (ended_early t s) suites (All-tail IsFine s suites f) in
       let more = sum_by-cons (held h) s suites in
-      let x = sum_by-append w t.notes (early_notes t.run.others s names) in
-      let y = sum_by-append v t.notes (early_notes t.run.others s names) in
+      let x = sum_by-append w t.notes (early_notes t.run.others s tests) in
+      let y = sum_by-append v t.notes (early_notes t.run.others s tests) in
       record { low = omega (arith, now.low, rest.low); high = λ e. omega (arith, now.high e, rest.high e) }
 
   holds-file_end : (notes : List NoteView) (r : RunState) → Holds notes r → HoldsAll loose w v (notes ++ file_notes r) (after_file r)
@@ -389,25 +403,28 @@ module _ {loose : ℕ} {w v : NoteView → ℕ} {h : Kept → ℕ} {Fine : Kept 
         sums = i.all_sums;
       }
 
-  holds-none : HoldsAll loose w v [] run_start
-  holds-none = record { whole = record { low = omega arith; high = λ _. omega arith }; outside = refl; suites = refl; all_sums = refl }
+  holds-none : (slow : ℕ) → HoldsAll loose w v [] (run_start slow)
+  holds-none slow = record { whole = record { low = omega arith; high = λ _. omega arith }; outside = refl; suites = refl; all_sums = refl }
 
   -- the books are kept over a whole run, and up to any line
-  pub holds-whole : (files : List (List EventView)) → HoldsAll loose w v (all_notes files) (run_after_files run_start files)
-  holds-whole = over-run (λ n. Holds) (λ n. HoldsAll loose w v) (λ e. 0) (λ n. holds-start) (λ n. holds-line) (λ n. holds-file_end) holds-none
+  pub holds-whole : (slow : ℕ) (files : List (List EventView)) → HoldsAll loose w v (all_notes slow files) (run_after_files (run_start slow) files)
+  holds-whole slow = over-run (λ n. Holds) (λ n. HoldsAll loose w v) (λ e. 0) (λ n. holds-start) (λ n. holds-line) (λ n. holds-file_end) slow
+      (holds-none slow)
 
-  pub holds-after : (files : List (List EventView)) (events : List EventView)
-      → Holds (all_notes files ++ notes_of (run_after_files run_start files) events) (run_after (run_after_files run_start files) events)
-  holds-after = up-to-line (λ n. Holds) (λ n. HoldsAll loose w v) (λ e. 0) (λ n. holds-start) (λ n. holds-line) (λ n. holds-file_end) holds-none
+  pub holds-after : (slow : ℕ) (files : List (List EventView)) (events : List EventView)
+      → Holds (all_notes slow files ++ notes_of (run_after_files (run_start slow) files) events) (run_after (run_after_files (run_start slow) files) events)
+  holds-after slow = up-to-line (λ n. Holds) (λ n. HoldsAll loose w v) (λ e. 0) (λ n. holds-start) (λ n. holds-line) (λ n. holds-file_end) slow
+      (holds-none slow)
 
   -- and so is what each line and each end of a file keep with them
   pub with-books : (P : ℕ → List NoteView → RunState → Type 0) (c : EventView → ℕ)
       → ((n : ℕ) (notes : List NoteView) (r : RunState) (e : EventView) → Holds notes r → P n notes r → P (n + c e) (notes ++ notes_at r e) (after r e))
       → ((n : ℕ) (notes : List NoteView) (r : RunState) → Holds notes r → P n notes r → P n (notes ++ file_notes r) (after_file r))
-      → P 0 [] run_start → (files : List (List EventView)) → P (sum_by (λ file. sum_by c file) files) (all_notes files) (run_after_files run_start files)
-  with-books P c line end first files =
+      → (slow : ℕ) → P 0 [] (run_start slow) → (files : List (List EventView))
+      → P (sum_by (λ file. sum_by c file) files) (all_notes slow files) (run_after_files (run_start slow) files)
+  with-books P c line end slow first files =
       let inside = λ (n : ℕ) (notes : List NoteView) (r : RunState). Holds notes r × P n notes r in
       let between = λ (n : ℕ) (notes : List NoteView) (r : RunState). HoldsAll loose w v notes r × P n notes r in
       (over-run inside between c (λ n notes r i. (holds-start notes r i.0, i.1))
       (λ n notes r e i. (holds-line notes r e i.0, line n notes r e i.0 i.1))
-      (λ n notes r i. (holds-file_end notes r i.0, end n notes r i.0 i.1)) (holds-none, first) files).1
+      (λ n notes r i. (holds-file_end notes r i.0, end n notes r i.0 i.1)) slow (holds-none slow, first) files).1

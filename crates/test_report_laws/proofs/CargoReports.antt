@@ -9,10 +9,10 @@ use Rattle.std.proofs.lemmas.List.Sums.{sum_by-append}
 use Rattle.test_report_events.specs.Event.{EventView}
 use Rattle.test_report_events.specs.declared.event.CargoFailure.{CargoFailure}
 use Rattle.test_report_laws.proofs.Sums.{sum-map, sum-none, sum-ones}
-use Rattle.test_report_run.specs.Events.{is_event}
+use Rattle.test_report_run.specs.Events.{is_after_report, is_event}
 use Rattle.test_report_run.specs.Note.{CargoSays, CargoView, Disagrees, NoteView, ended_well}
 use Rattle.test_report_run.specs.Others.{after_failure, last_cause}
-use Rattle.test_report_run.specs.Run.{RunState, Step, cargo_fails, disagrees, held_told, is_after_report, notes_at, report_told, reports_told, settled, settled_at, step, told, with_report}
+use Rattle.test_report_run.specs.Run.{RunState, Step, cargo_fails, disagrees, held_told, notes_at, report_told, reports_told, settled, settled_at, step, told, with_report}
 
 -- the run with other failures of cargo that are not known yet, and another number of causes
 abbrev pub with_reports : RunState → Option CargoView → List CargoView → ℕ → RunState

@@ -12,8 +12,8 @@ use Rattle.test_report_laws.proofs.OverRuns.{up-to-line}
 use Rattle.test_report_laws.proofs.RunCauses.{weight}
 use Rattle.test_report_laws.proofs.Sums.{one-most}
 use Rattle.test_report_laws.specs.Whole.{all_notes, notes_of, run_after, run_after_files}
-use Rattle.test_report_run.specs.Note.{CargoView, Disagrees, NoteView, TestIs, ended_well}
-use Rattle.test_report_run.specs.Run.{RunState, Step, after, after_file, command_notes, file_notes, held_told, is_cause, is_new_cause, is_new_disagreement, no_event_notes, notes_at, reports_told, run_start, settled, settled_at, step, told}
+use Rattle.test_report_run.specs.Note.{CargoView, Disagrees, NoteView, TestIs, ended_well, is_new_disagreement}
+use Rattle.test_report_run.specs.Run.{RunState, Step, after, after_file, command_notes, file_notes, held_told, is_cause, is_new_cause, no_event_notes, notes_at, reports_told, run_start, settled, settled_at, step, told}
 
 -- a note that counts when it becomes known
 abbrev new : NoteView → ℕ
@@ -131,7 +131,7 @@ bound-end notes r i =
     )
 
 -- up to any line
-pub bound-after : (files : List (List EventView)) (events : List EventView)
-    → Bound (all_notes files ++ notes_of (run_after_files run_start files) events) (run_after (run_after_files run_start files) events)
-bound-after = up-to-line (λ n. Bound) (λ n. Bound) (λ e. 0) (λ n notes r i. i) (λ n notes r e i. bound-line notes r e i)
-    (λ n notes r i. bound-end notes r i) (omega arith)
+pub bound-after : (slow : ℕ) (files : List (List EventView)) (events : List EventView)
+    → Bound (all_notes slow files ++ notes_of (run_after_files (run_start slow) files) events) (run_after (run_after_files (run_start slow) files) events)
+bound-after slow = up-to-line (λ n. Bound) (λ n. Bound) (λ e. 0) (λ n notes r i. i) (λ n notes r e i. bound-line notes r e i)
+    (λ n notes r i. bound-end notes r i) slow (omega arith)

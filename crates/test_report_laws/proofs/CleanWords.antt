@@ -7,11 +7,11 @@ use Rattle.test_report_events.specs.Event.{BySignal, CommandView, NotStarted, Wi
 use Rattle.test_report_events.specs.declared.event.TestResult.{TestResult}
 use Rattle.test_report_events.specs.declared.event.TestResult.TheVariants as ended
 use Rattle.test_report_laws.proofs.CleanLines.{CleanLine, also, clean-decimal, clean-if, clean-line, clean-name, clean-option, clean-replicate, nothing, word}
-use Rattle.test_report_forms.specs.List.{flaky_word, passed_word}
+use Rattle.test_report_forms.specs.List.{flaky_word, listed_word, passed_word}
 use Rattle.test_report_forms.specs.Shown.{and_space, bracket, name_and_space, seconds, three_digits}
 use Rattle.test_report_forms.specs.Text.{attempts_note}
 use Rattle.test_report_forms.specs.Title.{title, title_name}
-use Rattle.test_report_forms.specs.Words.{command_words, disagreement_line, failed_numbers, failed_word, its_tests, key_and_verdict, not_run_line, other_numbers, outcome_word, passed_numbers, result_word, run_numbers, said_numbers, said_text, summary_line, verdict_word}
+use Rattle.test_report_forms.specs.Words.{command_words, disagreement_line, failed_numbers, failed_word, finished_numbers, its_tests, key_and_verdict, not_run_line, other_numbers, outcome_word, passed_numbers, result_word, run_numbers, said_numbers, said_text, slow_number, summary_line, verdict_word}
 use Rattle.test_report_run.specs.Note.{CargoSays, CommandFails, DisagreementView, EndsEarly, HasCrashed, HasFailed, HasNoEnd, HasNoEvent, HasTimedOut, IsDamaged, IsFlaky, KindView, SaysOther, StartsOutside, StrayEnds, StraySuiteEnds, TestNoteView}
 use Rattle.test_report_run.specs.declared.note.RunEnd.{RunEnd}
 use Rattle.test_report_run.specs.declared.note.SaidNumbers.{SaidNumbers}
@@ -69,6 +69,9 @@ clean-flaky_word attempts = also (word (codes "FLAKY ") refl) (also (clean-decim
 
 pub clean-passed_word : (attempts : ℕ) → CleanLine (passed_word attempts)
 clean-passed_word attempts = clean-if _ (clean-flaky_word attempts) (word (codes "PASS") refl)
+
+pub clean-listed_word : (attempts : ℕ) (slow : Bool) → CleanLine (listed_word attempts slow)
+clean-listed_word attempts slow = clean-if _ (word (codes "SLOW") refl) (clean-passed_word attempts)
 
 pub clean-attempts : (attempts : ℕ) → CleanLine (attempts_note attempts)
 unfolding attempts_note
@@ -128,12 +131,17 @@ clean-not_run suite n of =
     (also (clean-decimal of) (word (codes " tests were not run") refl)))))
 
 -- the numbers of a run
+clean-slow : (e : RunEnd) → CleanLine (slow_number e)
+unfolding slow_number
+clean-slow e = clean-if _ (also (word (codes ", ") refl) (also (clean-decimal e.stats.passed_slow) (word (codes " slow") refl))) nothing
+
 clean-numbers : (e : RunEnd) → CleanLine (run_numbers e)
-unfolding run_numbers passed_numbers failed_numbers other_numbers
+unfolding run_numbers passed_numbers finished_numbers failed_numbers other_numbers
 clean-numbers e =
-    let passed =
+    let finished =
     also (clean-decimal e.stats.finished_count) (also (word (codes " tests run: ") refl) (also (clean-decimal e.stats.passed)
-    (also (word (codes " passed (") refl) (also (clean-decimal e.stats.flaky) (word (codes " flaky), ") refl))))) in
+    (also (word (codes " passed (") refl) (also (clean-decimal e.stats.flaky) (word (codes " flaky") refl))))) in
+    let passed = also finished (also (clean-slow e) (word (codes "), ") refl)) in
     let failed =
     also (clean-decimal (e.stats.finished_count - e.stats.passed)) (also (word (codes " failed (") refl) (also (clean-decimal e.stats.failed_timed_out)
     (also (word (codes " timed out, ") refl) (also (clean-decimal e.crashed) (word (codes " crashed), ") refl))))) in

@@ -13,7 +13,7 @@ use Rattle.run_events_levels.specs.declared.levels.OutputStoreFinal.{OutputStore
 use Rattle.run_events_levels.specs.declared.levels.OutputStoreFinal.TheVariants as store
 use Rattle.test_report_forms.specs.Entry.{EntryView, LinesDisagree, SuiteNotRun, SuiteOver, TestFailed, TestPassed, TestSkipped}
 use Rattle.test_report_forms.specs.Levels.{finished_output, has_line, listed_text, skipped_output}
-use Rattle.test_report_forms.specs.List.{KeyedLine, ended_line, failed_line, final_level_of, item, item_at, list_line, part_at, passed_word, put_falling, short_list, slow_line, slow_lines, slow_of, text_of_lines, timed}
+use Rattle.test_report_forms.specs.List.{KeyedLine, ended_line, failed_line, final_level_of, item, item_at, list_line, part_at, listed_word, passed_word, put_falling, short_list, slow_line, slow_lines, slow_of, text_of_lines, timed}
 use Rattle.test_report_forms.specs.Shown.{front, indented, indented_line, more_bytes}
 use Rattle.test_report_forms.specs.Text.{advice, cargo_advice, ended_head, ended_text, failed_head, failed_text, outcome_line, passed_text, skipped_text, summary_lines, text_last, text_line}
 use Rattle.test_report_forms.specs.WhyLines.{hidden_line, more_line, why_lines}
@@ -21,7 +21,7 @@ use Rattle.test_report_forms.specs.Words.{color_of, failed_word, status_text}
 use Rattle.test_report_forms.specs.declared.options.Options.{Options}
 use Rattle.test_report_laws.proofs.CleanLines as own
 use Rattle.test_report_laws.proofs.CleanLines.{CleanLine, clean-text}
-use Rattle.test_report_laws.proofs.CleanWords.{clean-attempts, clean-bracket, clean-disagreement, clean-failed_word, clean-not_run, clean-outcome, clean-passed_word, clean-summary, clean-title}
+use Rattle.test_report_laws.proofs.CleanWords.{clean-attempts, clean-bracket, clean-disagreement, clean-failed_word, clean-not_run, clean-outcome, clean-listed_word, clean-passed_word, clean-summary, clean-title}
 use Rattle.test_report_laws.proofs.KeyedLines.{Alike, each-alike, falling-alike, fold-alike, text-alike}
 use Rattle.test_report_laws.specs.Colours.{AreParts, IsColoured, Other, Part, Sequence, TextIsColoured, kept, sequences, text_of_run, without_color, written}
 use Rattle.template.specs.Clean.{HasNoControls}
@@ -192,11 +192,11 @@ module _ (o : Options) (raw : o.raw ≡ false) where
   coloured-listed : (e : EntryView) → Coloured (item o e) (item plain e)
   unfolding finished_output skipped_output
   coloured-listed (TestFailed t f w) =
-      listed-coloured (finished_output o (finish_for f.kind) t.attempts).store_final
+      listed-coloured (finished_output o (finish_for f.kind) t.attempts t.slow).store_final
       (coloured-reason t (failed_word f.kind) w.short (clean-failed_word f.kind)) (coloured-why 13 (text_why o t f w))
   coloured-listed (TestPassed t) =
-      listed-coloured (finished_output o Passed t.attempts).store_final
-      (coloured-ended t (passed_word t.attempts) (clean-passed_word t.attempts)) none
+      listed-coloured (finished_output o Passed t.attempts t.slow).store_final
+      (coloured-ended t (listed_word t.attempts t.slow) (clean-listed_word t.attempts t.slow)) none
   coloured-listed (TestSkipped t) =
       listed-coloured (skipped_output o).store_final (coloured-ended t (codes "SKIP") (own.word (codes "SKIP") refl)) none
   coloured-listed (LinesDisagree d why) = none
@@ -218,8 +218,9 @@ module _ (o : Options) (raw : o.raw ≡ false) where
   coloured-list entries =
       let falling = each-alike Coloured (slow_of o) (slow_of plain) coloured-slow entries in
       let slow = fold-alike Coloured (put_falling o.slowest) (falling-alike Coloured o.slowest) [] [] _ _ tt falling in
-      also (coloured-part final.Pass entries) (also (coloured-part final.Skip entries) (also (coloured-part final.Flaky entries)
-      (also (coloured-part final.Fail entries) (lines-coloured (slow_lines o entries) (slow_lines plain entries) slow))))
+      also (coloured-part final.Pass entries) (also (coloured-part final.Skip entries) (also (coloured-part final.Slow entries)
+      (also (coloured-part final.Flaky entries) (also (coloured-part final.Fail entries)
+      (lines-coloured (slow_lines o entries) (slow_lines plain entries) slow)))))
 
   -- entries
   clean-reason : (why : Option (List ℕ)) → Clean (option_map_or (indented 4 o.raw) why [])
@@ -252,10 +253,10 @@ module _ (o : Options) (raw : o.raw ≡ false) where
   coloured-entry : (e : EntryView) → Coloured (text_line o e) (text_line plain e)
   unfolding failed_text passed_text skipped_text finished_output skipped_output advice cargo_advice
   coloured-entry (TestFailed t f w) =
-      coloured-text (finished_output o (finish_for f.kind) t.attempts) (coloured-head t (failed_word f.kind) (clean-failed_word f.kind))
+      coloured-text (finished_output o (finish_for f.kind) t.attempts t.slow) (coloured-head t (failed_word f.kind) (clean-failed_word f.kind))
       (coloured-why 4 (text_why o t f w))
   coloured-entry (TestPassed t) =
-      coloured-text (finished_output o Passed t.attempts) (coloured-end t (passed_word t.attempts) (clean-passed_word t.attempts)) none
+      coloured-text (finished_output o Passed t.attempts t.slow) (coloured-end t (passed_word t.attempts) (clean-passed_word t.attempts)) none
   coloured-entry (TestSkipped t) =
       coloured-text (skipped_output o) (coloured-end t (codes "SKIP") (own.word (codes "SKIP") refl)) none
   coloured-entry (LinesDisagree d why) =

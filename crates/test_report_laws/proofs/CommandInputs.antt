@@ -1,5 +1,5 @@
 -- The commands whose output was read, in a run in which nothing is wrong.
-use Rattle.std.proofs.Common.{◌≡◌, ◌∙◌, ◌++◌, List, [], ◌∷◌, Option, Some, None, IfSome, ap, append_assoc, refl, subst, sym}
+use Rattle.std.proofs.Common.{◌≡◌, ◌∙◌, ◌++◌, ℕ, List, [], ◌∷◌, Option, Some, None, IfSome, ap, append_assoc, refl, subst, sym}
 use Rattle.std.specs.List.{All, AllZip}
 use Rattle.std.proofs.lemmas.Grind.{flat_map-append}
 use Rattle.std.proofs.lemmas.List.Elements.{All-cons, All-nil}
@@ -31,7 +31,7 @@ command-of first input file end has is =
     ap (λ (f : List EventView). (run_after first f).command) (last-event input file end has is)
     ∙ ap (λ (x : RunState). x.command) (fold-append after first lines (CommandOver end ∷ []))
 
-module _ (files : List (List EventView)) (order : IsInOrder files) where
+module _ (slow : ℕ) (files : List (List EventView)) (order : IsInOrder slow files) where
   abbrev IsWell : CommandView → Type 0
   IsWell end = end ≡ WithStatus 0
 
@@ -42,8 +42,8 @@ module _ (files : List (List EventView)) (order : IsInOrder files) where
       by-command : (o : Option CommandView) → input.command ≡ o → IfSome o IsWell
       by-command None none = tt
       by-command (Some end) some =
-          let first = run_after_files run_start before in
-          let at : IsFileEndOf files (run_after first file) = record { before = before; file = file; after = after; are = is; run_is = refl } in
+          let first = run_after_files (run_start slow) before in
+          let at : IsFileEndOf slow files (run_after first file) = record { before = before; file = file; after = after; are = is; run_is = refl } in
           subst (λ (o : Option CommandView). IfSome o IsWell) (command-of first input file end has some) (order.commands (run_after first file) at)
 
   pub all-ended : (before : List (List EventView)) (inputs : List InputView) (rest : List (List EventView)) → files ≡ before ++ rest

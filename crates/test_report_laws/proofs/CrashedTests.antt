@@ -19,8 +19,8 @@ use Rattle.test_report_run.specs.Ended.{end_notes}
 use Rattle.test_report_run.specs.Note.{CrashView, Disagrees, HasCrashed, NoteView, StrayEnds, StraySuiteEnds}
 use Rattle.test_report_run.specs.Others.{OthersView}
 use Rattle.test_report_run.specs.Over.{crash_again, crash_of, early_disagreements, early_notes, early_state, explained_of, failed_notes, flaky_note, flaky_notes, last_notes, number_notes}
-use Rattle.test_report_run.specs.Run.{RunState, Step, command_notes, counts_tests, ended_at, ended_early, file_end, file_notes, names_in, no_event_notes, notes_at, open_suite, opened, reports_told, running_ends, running_over, settled_at, started_again, step, stray_ends, stray_over, stray_suite_notes, stray_test, suite_at, suite_place, told, with_suite_at, without_tests}
-use Rattle.test_report_run.specs.Running.{is_same, place_of_end, running_at}
+use Rattle.test_report_run.specs.Run.{RunState, Step, command_notes, counts_tests, ended_at, ended_early, file_end, file_notes, tests_in, no_event_notes, notes_at, open_suite, opened, reports_told, running_ends, running_over, settled_at, started_again, step, stray_ends, stray_over, stray_suite_notes, stray_test, suite_at, suite_place, told, with_suite_at, without_tests}
+use Rattle.test_report_run.specs.Running.{RunningView, is_same, place_of_end, running_at}
 use Rattle.test_report_run.specs.Suite.{FlakyView, OverView, SuiteState, named, outside_start, suite_name, with_line}
 
 -- a crashed test weighs 1
@@ -44,14 +44,14 @@ others-below before (n ∷ notes) h =
     rw none (tt, others-below None notes (omega (arith, parts, h)))
 
 -- what becomes known after the crashed tests
-abbrev rest_of : SuiteState → List (List ℕ) → List NoteView
-rest_of s names = flaky_notes s false ++ (early_disagreements s (length names) ++ number_notes (early_state s names) (early_rest s))
+abbrev rest_of : SuiteState → List RunningView → List NoteView
+rest_of s tests = flaky_notes s false ++ (early_disagreements s (length tests) ++ number_notes (early_state s tests) (early_rest s))
 
-no-rest : (s : SuiteState) (names : List (List ℕ)) → sum_by weight (rest_of s names) ≡ 0
-no-rest s names =
-    let disagreements = early_disagreements s (length names) in
-    let numbers = number_notes (early_state s names) (early_rest s) in
-    let suite : weight (suite_note (early_state s names) (early_rest s)) ≡ 0 = refl in
+no-rest : (s : SuiteState) (tests : List RunningView) → sum_by weight (rest_of s tests) ≡ 0
+no-rest s tests =
+    let disagreements = early_disagreements s (length tests) in
+    let numbers = number_notes (early_state s tests) (early_rest s) in
+    let suite : weight (suite_note (early_state s tests) (early_rest s)) ≡ 0 = refl in
     omega (
       arith,
       suite,
@@ -59,24 +59,24 @@ no-rest s names =
       sum_by-append weight disagreements numbers,
       sum-map weight (flaky_note s false) s.flaky,
       sum-none (λ f. weight (flaky_note s false f)) (λ f. refl) s.flaky,
-      ends.of-early_disagreements weight (λ d. refl) (λ suite n of. refl) s (length names),
-      ends.of-numbers weight (λ suite n of. refl) (early_state s names) (early_rest s),
+      ends.of-early_disagreements weight (λ d. refl) (λ suite n of. refl) s (length tests),
+      ends.of-numbers weight (λ suite n of. refl) (early_state s tests) (early_rest s),
     )
 
 -- the crashed tests after one that crashed together with them
-below : (s : SuiteState) (c : CrashView) (other : Crashed) (names : List (List ℕ)) (rest : List NoteView)
+below : (s : SuiteState) (c : CrashView) (other : Crashed) (tests : List RunningView) (rest : List NoteView)
     → CrashedTogether other (record { suite = suite_name s; crash = crash_again c }) → sum_by weight rest ≡ 0
-    → AreBelow (Some other) (failed_notes s (HasCrashed (crash_again c)) names ++ rest)
+    → AreBelow (Some other) (failed_notes s (HasCrashed (crash_again c)) tests ++ rest)
 below s c other [] rest same none = others-below (Some other) rest none
-below s c other (name ∷ names) rest same none =
-    ((λ above. (other, refl, same)), below s c (record { suite = suite_name s; crash = crash_again c }) names rest (refl, refl) none)
+below s c other (test ∷ tests) rest same none =
+    ((λ above. (other, refl, same)), below s c (record { suite = suite_name s; crash = crash_again c }) tests rest (refl, refl) none)
 
-early-below : (others : OthersView) (s : SuiteState) (names : List (List ℕ)) → AreBelow None (early_notes others s names)
+early-below : (others : OthersView) (s : SuiteState) (tests : List RunningView) → AreBelow None (early_notes others s tests)
 early-below others s [] = others-below None (rest_of s []) (no-rest s [])
-early-below others s (name ∷ names) =
-    let c = crash_of others s (length (name ∷ names)) in
+early-below others s (test ∷ tests) =
+    let c = crash_of others s (length (test ∷ tests)) in
     let first : Crashed = record { suite = suite_name s; crash = c } in
-    ((λ above. absurd (cc)), below s c first names (rest_of s (name ∷ names)) (refl, refl) (no-rest s (name ∷ names)))
+    ((λ above. absurd (cc)), below s c first tests (rest_of s (test ∷ tests)) (refl, refl) (no-rest s (test ∷ tests)))
 
 -- notes that come after other notes
 first-below : (before crashed : Option Crashed) → IfSome crashed (IsFirstOrBelow None) → IfSome crashed (IsFirstOrBelow before)
@@ -96,26 +96,26 @@ flaky-weight : (s : SuiteState) (failed : Bool) (f : FlakyView) → weight (flak
 flaky-weight s true f = refl
 flaky-weight s false f = refl
 
-last-weight : (s : SuiteState) (e : Explanation) (names : List (List ℕ)) → sum_by weight (last_by s e names) ≡ 0
-last-weight s e names = omega (
+last-weight : (s : SuiteState) (e : Explanation) (tests : List RunningView) → sum_by weight (last_by s e tests) ≡ 0
+last-weight s e tests = omega (
   arith,
-  by-last weight (λ d. refl) (λ suite n of. refl) false false s e names (λ name. refl) (flaky-weight s e.flaky_failed) (λ name. refl),
+  by-last weight (λ d. refl) (λ suite n of. refl) false false s e tests (λ name. refl) (flaky-weight s e.flaky_failed) (λ name. refl),
 )
 
 -- a line
 again-below : (r : RunState) (key : Option (List ℕ)) (count : Option ℕ) (at : Option ℕ)
     → AreBelow None (option_map_or (started_again r key count) at (step (opened r key count) [])).notes
 again-below r key count None = tt
-again-below r None count (Some at) = early-below r.others (suite_at r (Some at)) (names_in r (suite_at r (Some at)))
+again-below r None count (Some at) = early-below r.others (suite_at r (Some at)) (tests_in r (suite_at r (Some at)))
 again-below r (Some key) count (Some at) = tt
 
 over-below : (r : RunState) (e : SuiteEndView) (at : ℕ) (over : Bool) → let s = with_line (suite_at r (Some at)) e in
-    AreBelow None (if over then step (without_tests (record r { suites = remove r.suites at }) s) (last_notes s (names_in r s))
+    AreBelow None (if over then step (without_tests (record r { suites = remove r.suites at }) s) (last_notes s (tests_in r s))
     else step (with_suite_at r (Some at) s) []).notes
 over-below r e at true =
     let s = with_line (suite_at r (Some at)) e in
-    let names = names_in r s in
-    others-below None (last_by s (explained_of s (length names)) names) (last-weight s (explained_of s (length names)) names)
+    let tests = tests_in r s in
+    others-below None (last_by s (explained_of s (length tests)) tests) (last-weight s (explained_of s (length tests)) tests)
 over-below r e at false = tt
 
 ended-below : (r : RunState) (e : SuiteEndView) (at : Option ℕ)
@@ -161,9 +161,9 @@ line-below r e =
 suites-below : (t : Step) (suites : List SuiteState) → AreBelow None t.notes → AreBelow None (fold ended_early t suites).notes
 suites-below t [] h = h
 suites-below t (s ∷ suites) h =
-    let names = names_in t.run s in
+    let tests = tests_in t.run s in
     suites-below (ended_early t s) suites
-    (below-append None t.notes (early_notes t.run.others s names) h (early-below t.run.others s names))
+    (below-append None t.notes (early_notes t.run.others s tests) h (early-below t.run.others s tests))
 
 all-below : (r : RunState) → AreBelow None (suites_over r).notes
 all-below r =
@@ -186,6 +186,6 @@ abbrev Follow : ℕ → List NoteView → RunState → Type 0
 Follow n notes r = AreBelow None notes
 
 pub crashes-follow : CrashesFollow
-crashes-follow files =
+crashes-follow slow files =
     over-run Follow Follow (λ e. 0) (λ n notes r i. i) (λ n notes r e i. below-append None notes (notes_at r e) i (line-below r e))
-    (λ n notes r i. below-append None notes (file_notes r) i (file-below r)) tt files
+    (λ n notes r i. below-append None notes (file_notes r) i (file-below r)) slow tt files

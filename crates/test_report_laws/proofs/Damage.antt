@@ -23,14 +23,14 @@ shown-line : (n : ℕ) (notes : List NoteView) (r : RunState) (e : EventView) �
 shown-line n notes r (DamagedLine text) i = omega (arith, i, sum_by-append weight notes (notes_at r (DamagedLine text)))
 shown-line n notes r e i = omega (arith, i, sum_by-append weight notes (notes_at r e))
 
-pub lines-shown : (files : List (List EventView)) → damaged_lines_of files ≤ count_by is_cause (all_notes files)
-lines-shown = over-run AreShown AreShown damage (λ n notes r i. i) shown-line
-    (λ n notes r i. omega (arith, i, sum_by-append weight notes (file_notes r))) (omega arith)
+pub lines-shown : (slow : ℕ) (files : List (List EventView)) → damaged_lines_of files ≤ count_by is_cause (all_notes slow files)
+lines-shown slow = over-run AreShown AreShown damage (λ n notes r i. i) shown-line
+    (λ n notes r i. omega (arith, i, sum_by-append weight notes (file_notes r))) slow (omega arith)
 
-unclean : (files : List (List EventView)) → 0 < damaged_lines_of files → IsClean (all_notes files) → ⊥
-unclean files some clean = omega (arith, some, lines-shown files, causes-of (all_notes files), clean.none_failed, clean.none_disagree)
+unclean : (slow : ℕ) (files : List (List EventView)) → 0 < damaged_lines_of files → IsClean (all_notes slow files) → ⊥
+unclean slow files some clean = omega (arith, some, lines-shown slow files, causes-of (all_notes slow files), clean.none_failed, clean.none_disagree)
 
 pub damage-shows : DamagedLineShows
-damage-shows files some =
-    let means = outcome-means files in
-    ((λ h. unclean files some (means.success.0 h).0), (λ h. unclean files some (means.no_tests.0 h).0))
+damage-shows slow files some =
+    let means = outcome-means slow files in
+    ((λ h. unclean slow files some (means.success.0 h).0), (λ h. unclean slow files some (means.no_tests.0 h).0))

@@ -4,6 +4,7 @@ use Rattle.std.specs.List.{sum_by}
 use Rattle.std.specs.Prelude.{◌-◌}
 use Rattle.std.proofs.lemmas.List.Sums.{sum_by-append, sum_by-cons}
 use Rattle.test_report_laws.proofs.Sums.{sum-all, sum-map}
+use Rattle.test_report_run.specs.Running.{RunningView}
 use Rattle.test_report_run.specs.Note.{CrashView, Disagrees, DisagreementView, HasCrashed, HasNoEnd, IsNotRun, NoteView, SuiteIs}
 use Rattle.test_report_run.specs.Others.{OthersView}
 use Rattle.test_report_run.specs.Over.{crash_again, crash_of, crashed_notes, early_disagreements, early_notes, early_state, failed_note, failed_notes, flaky_note, flaky_notes, initial_of, last_disagreement, last_state, lost, number_notes, rest_of, skipped_note}
@@ -25,32 +26,32 @@ abbrev pub early_rest : SuiteState → Rest
 early_rest s = record { skipped = s.skipped; left = 0; time = s.time }
 
 -- what becomes known of a suite that ends by its last line, which explains this
-abbrev pub last_by : SuiteState → Explanation → List (List ℕ) → List NoteView
-last_by s e names =
-    map (skipped_note s) (take e.skipped names)
-    ++ (failed_notes s HasNoEnd (lost e names)
+abbrev pub last_by : SuiteState → Explanation → List RunningView → List NoteView
+last_by s e tests =
+    map (skipped_note s) (take e.skipped tests)
+    ++ (failed_notes s HasNoEnd (lost e tests)
     ++ (flaky_notes s e.flaky_failed
-    ++ (last_disagreement (last_state s e names)
-    ++ number_notes (last_state s e names) (rest_of s e names))))
+    ++ (last_disagreement (last_state s e tests)
+    ++ number_notes (last_state s e tests) (rest_of s e tests))))
 
 -- the notes of crashed tests, where each weighs 1, or each of them nothing
 pub sum-crashed : (w : NoteView → ℕ) (crashes : Bool) (s : SuiteState)
-    → ((c : CrashView) (name : List ℕ) → w (failed_note s (HasCrashed c) name) ≡ cond crashes 1 0) → (c : CrashView) (names : List (List ℕ))
-    → sum_by w (crashed_notes s c names) ≡ cond crashes (length names) 0
+    → ((c : CrashView) (test : RunningView) → w (failed_note s (HasCrashed c) test) ≡ cond crashes 1 0) → (c : CrashView) (tests : List RunningView)
+    → sum_by w (crashed_notes s c tests) ≡ cond crashes (length tests) 0
 sum-crashed w true s each c [] = refl
 sum-crashed w false s each c [] = refl
-sum-crashed w crashes s each c (name ∷ names) =
+sum-crashed w crashes s each c (test ∷ tests) =
     let again = HasCrashed (crash_again c) in
-    let rest = sum-all (λ n. w (failed_note s again n)) crashes (each (crash_again c)) names in
-    sum-cons crashes (each c name) (sum-map w (failed_note s again) names ∙ rest)
+    let rest = sum-all (λ n. w (failed_note s again n)) crashes (each (crash_again c)) tests in
+    sum-cons crashes (each c test) (sum-map w (failed_note s again) tests ∙ rest)
   where
-    sum-cons : (one : Bool) → w (failed_note s (HasCrashed c) name) ≡ cond one 1 0
-        → sum_by w (failed_notes s (HasCrashed (crash_again c)) names) ≡ cond one (length names) 0
-        → sum_by w (crashed_notes s c (name ∷ names)) ≡ cond one (length (name ∷ names)) 0
+    sum-cons : (one : Bool) → w (failed_note s (HasCrashed c) test) ≡ cond one 1 0
+        → sum_by w (failed_notes s (HasCrashed (crash_again c)) tests) ≡ cond one (length tests) 0
+        → sum_by w (crashed_notes s c (test ∷ tests)) ≡ cond one (length (test ∷ tests)) 0
     sum-cons true first rest =
-        omega (arith, first, rest, sum_by-cons w (failed_note s (HasCrashed c) name) (failed_notes s (HasCrashed (crash_again c)) names))
+        omega (arith, first, rest, sum_by-cons w (failed_note s (HasCrashed c) test) (failed_notes s (HasCrashed (crash_again c)) tests))
     sum-cons false first rest =
-        omega (arith, first, rest, sum_by-cons w (failed_note s (HasCrashed c) name) (failed_notes s (HasCrashed (crash_again c)) names))
+        omega (arith, first, rest, sum_by-cons w (failed_note s (HasCrashed c) test) (failed_notes s (HasCrashed (crash_again c)) tests))
 
 -- a weight of notes, in which those of tests that were not run weigh nothing
 module _ (w : NoteView → ℕ) (not_run : (suite : List ℕ) (n of : ℕ) → w (IsNotRun suite n of) ≡ 0) where
@@ -58,21 +59,21 @@ module _ (w : NoteView → ℕ) (not_run : (suite : List ℕ) (n of : ℕ) → w
   of-numbers s rest = grind (arith, not_run)
 
   -- what becomes known of a suite that ends early: its running tests, its flaky tests and its numbers
-  pub of-early-all : (others : OthersView) (s : SuiteState) (names : List (List ℕ)) → sum_by w (early_notes others s names)
-      ≡ sum_by w (crashed_notes s (crash_of others s (length names)) names)
+  pub of-early-all : (others : OthersView) (s : SuiteState) (tests : List RunningView) → sum_by w (early_notes others s tests)
+      ≡ sum_by w (crashed_notes s (crash_of others s (length tests)) tests)
       + (sum_by (λ f. w (flaky_note s false f)) s.flaky
-      + (sum_by w (early_disagreements s (length names)) + w (suite_note (early_state s names) (early_rest s))))
-  of-early-all others s names =
-      simp (sum_by-append, sum-map) (omega (arith, simp sum_by-append at (of-numbers (early_state s names) (early_rest s))))
+      + (sum_by w (early_disagreements s (length tests)) + w (suite_note (early_state s tests) (early_rest s))))
+  of-early-all others s tests =
+      simp (sum_by-append, sum-map) (omega (arith, simp sum_by-append at (of-numbers (early_state s tests) (early_rest s))))
 
   -- what becomes known of a suite that ends by its last line
-  pub of-last-all : (s : SuiteState) (e : Explanation) (names : List (List ℕ)) → sum_by w (last_by s e names)
-      ≡ sum_by (λ name. w (skipped_note s name)) (take e.skipped names)
-      + (sum_by (λ name. w (failed_note s HasNoEnd name)) (lost e names)
+  pub of-last-all : (s : SuiteState) (e : Explanation) (tests : List RunningView) → sum_by w (last_by s e tests)
+      ≡ sum_by (λ test. w (skipped_note s test)) (take e.skipped tests)
+      + (sum_by (λ test. w (failed_note s HasNoEnd test)) (lost e tests)
       + (sum_by (λ f. w (flaky_note s e.flaky_failed f)) s.flaky
-      + (sum_by w (last_disagreement (last_state s e names)) + w (suite_note (last_state s e names) (rest_of s e names)))))
-  of-last-all s e names =
-      simp (sum_by-append, sum-map) (omega (arith, simp sum_by-append at (of-numbers (last_state s e names) (rest_of s e names))))
+      + (sum_by w (last_disagreement (last_state s e tests)) + w (suite_note (last_state s e tests) (rest_of s e tests)))))
+  of-last-all s e tests =
+      simp (sum_by-append, sum-map) (omega (arith, simp sum_by-append at (of-numbers (last_state s e tests) (rest_of s e tests))))
 
 -- a weight of notes, in which those that name no test and no suite weigh nothing
 module _ (w : NoteView → ℕ) (disagree : (d : DisagreementView) → w (Disagrees d) ≡ 0)
@@ -83,39 +84,39 @@ module _ (w : NoteView → ℕ) (disagree : (d : DisagreementView) → w (Disagr
   of-last_disagreement : (s : SuiteState) → sum_by w (last_disagreement s) ≡ 0
   of-last_disagreement s = grind (arith, disagree)
 
-  pub of-early : (others : OthersView) (s : SuiteState) (names : List (List ℕ)) → sum_by w (early_notes others s names)
-      ≡ sum_by w (crashed_notes s (crash_of others s (length names)) names)
-      + (sum_by (λ f. w (flaky_note s false f)) s.flaky + w (suite_note (early_state s names) (early_rest s)))
-  of-early others s names = omega (arith, of-early-all w not_run others s names, of-early_disagreements s (length names))
+  pub of-early : (others : OthersView) (s : SuiteState) (tests : List RunningView) → sum_by w (early_notes others s tests)
+      ≡ sum_by w (crashed_notes s (crash_of others s (length tests)) tests)
+      + (sum_by (λ f. w (flaky_note s false f)) s.flaky + w (suite_note (early_state s tests) (early_rest s)))
+  of-early others s tests = omega (arith, of-early-all w not_run others s tests, of-early_disagreements s (length tests))
 
-  pub of-last : (s : SuiteState) (e : Explanation) (names : List (List ℕ)) → sum_by w (last_by s e names)
-      ≡ sum_by (λ name. w (failed_note s HasNoEnd name)) (lost e names)
+  pub of-last : (s : SuiteState) (e : Explanation) (tests : List RunningView) → sum_by w (last_by s e tests)
+      ≡ sum_by (λ test. w (failed_note s HasNoEnd test)) (lost e tests)
       + (sum_by (λ f. w (flaky_note s e.flaky_failed f)) s.flaky
-      + (sum_by (λ name. w (skipped_note s name)) (take e.skipped names) + w (suite_note (last_state s e names) (rest_of s e names))))
-  of-last s e names = omega (arith, of-last-all w not_run s e names, of-last_disagreement (last_state s e names))
+      + (sum_by (λ test. w (skipped_note s test)) (take e.skipped tests) + w (suite_note (last_state s e tests) (rest_of s e tests))))
+  of-last s e tests = omega (arith, of-last-all w not_run s e tests, of-last_disagreement (last_state s e tests))
 
   -- the same where each test of a kind weighs 1, or each of them nothing
-  pub by-early : (crashes : Bool) (others : OthersView) (s : SuiteState) (names : List (List ℕ))
-      → ((c : CrashView) (name : List ℕ) → w (failed_note s (HasCrashed c) name) ≡ cond crashes 1 0)
+  pub by-early : (crashes : Bool) (others : OthersView) (s : SuiteState) (tests : List RunningView)
+      → ((c : CrashView) (test : RunningView) → w (failed_note s (HasCrashed c) test) ≡ cond crashes 1 0)
       → ((f : FlakyView) → w (flaky_note s false f) ≡ 0)
-      → sum_by w (early_notes others s names) ≡ cond crashes (length names) 0 + w (suite_note (early_state s names) (early_rest s))
-  by-early crashes others s names crash flaky = omega (
+      → sum_by w (early_notes others s tests) ≡ cond crashes (length tests) 0 + w (suite_note (early_state s tests) (early_rest s))
+  by-early crashes others s tests crash flaky = omega (
     arith,
-    of-early others s names,
-    sum-crashed w crashes s crash (crash_of others s (length names)) names,
+    of-early others s tests,
+    sum-crashed w crashes s crash (crash_of others s (length tests)) tests,
     sum-all (λ f. w (flaky_note s false f)) false flaky s.flaky,
   )
 
-  pub by-last : (fails skips : Bool) (s : SuiteState) (e : Explanation) (names : List (List ℕ))
-      → ((name : List ℕ) → w (failed_note s HasNoEnd name) ≡ cond fails 1 0)
+  pub by-last : (fails skips : Bool) (s : SuiteState) (e : Explanation) (tests : List RunningView)
+      → ((test : RunningView) → w (failed_note s HasNoEnd test) ≡ cond fails 1 0)
       → ((f : FlakyView) → w (flaky_note s e.flaky_failed f) ≡ 0)
-      → ((name : List ℕ) → w (skipped_note s name) ≡ cond skips 1 0)
-      → sum_by w (last_by s e names)
-      ≡ cond fails (length (lost e names)) 0 + (cond skips (length (take e.skipped names)) 0 + w (suite_note (last_state s e names) (rest_of s e names)))
-  by-last fails skips s e names fail flaky skip = omega (
+      → ((test : RunningView) → w (skipped_note s test) ≡ cond skips 1 0)
+      → sum_by w (last_by s e tests)
+      ≡ cond fails (length (lost e tests)) 0 + (cond skips (length (take e.skipped tests)) 0 + w (suite_note (last_state s e tests) (rest_of s e tests)))
+  by-last fails skips s e tests fail flaky skip = omega (
     arith,
-    of-last s e names,
-    sum-all (λ name. w (failed_note s HasNoEnd name)) fails fail (lost e names),
+    of-last s e tests,
+    sum-all (λ test. w (failed_note s HasNoEnd test)) fails fail (lost e tests),
     sum-all (λ f. w (flaky_note s e.flaky_failed f)) false flaky s.flaky,
-    sum-all (λ name. w (skipped_note s name)) skips skip (take e.skipped names),
+    sum-all (λ test. w (skipped_note s test)) skips skip (take e.skipped tests),
   )

@@ -16,9 +16,9 @@ abbrev AreTold : ℕ → List NoteView → RunState → Type 0
 AreTold n notes r = told notes ≡ n
 
 pub lines-told : FailedLinesAreTold
-lines-told = over-run AreTold AreTold (λ e. cond (says_failed e) 1 0) (λ n notes r i. i)
+lines-told slow = over-run AreTold AreTold (λ e. cond (says_failed e) 1 0) (λ n notes r i. i)
     (λ n notes r e i. omega (arith, i, one-failure r e, sum_by-append (λ x. cond (is_told_failure x) 1 0) notes (notes_at r e)))
-    (λ n notes r i. omega (arith, i, no-failure r, sum_by-append (λ x. cond (is_told_failure x) 1 0) notes (file_notes r))) refl
+    (λ n notes r i. omega (arith, i, no-failure r, sum_by-append (λ x. cond (is_told_failure x) 1 0) notes (file_notes r))) slow refl
 
 -- such a test failed
 told-outcome : (o : OutcomeView) → cond (fails_as_told o) 1 0 ≤ cond (has_failed o) 1 0
@@ -32,10 +32,10 @@ told-note note = omega arith
 pub told-failed : (notes : List NoteView) → told notes ≤ failed_in notes
 told-failed notes = sum_by-le-sum_by (λ x. cond (is_told_failure x) 1 0) (λ x. cond (is_test (λ t. has_failed t.outcome) x) 1 0) notes told-note
 
-unclean : (files : List (List EventView)) → 0 < failed_lines_of files → IsClean (all_notes files) → ⊥
-unclean files some clean = omega (arith, clean.none_failed, told-failed (all_notes files), lines-told files)
+unclean : (slow : ℕ) (files : List (List EventView)) → 0 < failed_lines_of files → IsClean (all_notes slow files) → ⊥
+unclean slow files some clean = omega (arith, clean.none_failed, told-failed (all_notes slow files), lines-told slow files)
 
 pub line-shows : FailedLineShows
-line-shows files some =
-    let means = outcome-means files in
-    ((λ h. unclean files some (means.success.0 h).0), (λ h. unclean files some (means.no_tests.0 h).0))
+line-shows slow files some =
+    let means = outcome-means slow files in
+    ((λ h. unclean slow files some (means.success.0 h).0), (λ h. unclean slow files some (means.no_tests.0 h).0))

@@ -6,7 +6,7 @@ use Rattle.std.specs.Prelude.{◌==◌, ◌&&◌, ◌||◌, if◌then◌else◌,
 use Rattle.std.proofs.lemmas.Bool.{cases_lt, eqb-true}
 use Rattle.std.proofs.lemmas.Bool.Decides.{nat_tests}
 use Rattle.std.proofs.lemmas.List.Sums.{sum_by-append, sum_by-cons}
-use Rattle.test_report_events.specs.Event.{BySignal, CargoFails, CommandOver, CommandStarts, CommandView, DamagedLine, EventView, HeadingLine, NotStarted, OtherLine, Prints, SuiteEnds, SuiteStarts, TestEnds, TestStarts, WithStatus}
+use Rattle.test_report_events.specs.Event.{BySignal, CargoFails, CommandOver, CommandStarts, CommandView, DamagedLine, EventView, HeadingLine, NotStarted, OtherLine, Prints, SuiteEnds, SuiteStarts, TestEnds, TestIsSlow, TestStarts, WithStatus}
 use Rattle.test_report_laws.proofs.Aside.{aside-early}
 use Rattle.test_report_laws.proofs.CargoReports.{only-cargo, only-settled_at, only-told, ready}
 use Rattle.test_report_laws.proofs.CauseCounts.{Bound, bound-after, bound-told, none-waits, quiet-causes}
@@ -26,6 +26,7 @@ none-told r (SuiteStarts key count) other = absurd (cc)
 none-told r (SuiteEnds e) other = absurd (cc)
 none-told r (TestStarts name) other = absurd (cc)
 none-told r (TestEnds e) other = absurd (cc)
+none-told r (TestIsSlow name) other = absurd (cc)
 none-told r OtherLine other = absurd (cc)
 none-told r (HeadingLine name path) other = refl
 none-told r (CargoFails f line plain) other = ap (λ (x : RunState). x.has_event) (only-cargo r f plain).run_is
@@ -39,6 +40,7 @@ none-after r (SuiteStarts key count) other = absurd (cc)
 none-after r (SuiteEnds e) other = absurd (cc)
 none-after r (TestStarts name) other = absurd (cc)
 none-after r (TestEnds e) other = absurd (cc)
+none-after r (TestIsSlow name) other = absurd (cc)
 none-after r OtherLine other = absurd (cc)
 none-after r e other = refl
 
@@ -114,14 +116,14 @@ command-cause r end is other zero = elim (cases_lt 0 (count_by is_cause (file_no
       omega (arith, one, end-parts weight r)
 ]
 
-module _ (files : List (List EventView)) (clean : IsClean (all_notes files)) where
+module _ (slow : ℕ) (files : List (List EventView)) (clean : IsClean (all_notes slow files)) where
   -- nothing is known, so there are no causes
-  no-causes : (r : RunState) (end : IsFileEndOf files r) → ((reported_run r).causes ≡ 0) × (count_by is_cause (file_notes r) ≡ 0)
+  no-causes : (r : RunState) (end : IsFileEndOf slow files r) → ((reported_run r).causes ≡ 0) × (count_by is_cause (file_notes r) ≡ 0)
   no-causes r end =
-      let known = all_notes end.before ++ notes_of (run_after_files run_start end.before) end.file in
-      let bound : Bound known r = subst (Bound known) (sym end.run_is) (bound-after end.before end.file) in
-      let weighs = file-weighs weight files r end in
-      let none = causes-of (all_notes files) in (
+      let known = all_notes slow end.before ++ notes_of (run_after_files (run_start slow) end.before) end.file in
+      let bound : Bound known r = subst (Bound known) (sym end.run_is) (bound-after slow end.before end.file) in
+      let weighs = file-weighs weight slow files r end in
+      let none = causes-of (all_notes slow files) in (
         omega (
           arith,
           bound-told known r bound,
@@ -136,18 +138,18 @@ module _ (files : List (List EventView)) (clean : IsClean (all_notes files)) whe
         omega (arith, weighs, none, clean.none_failed, clean.none_disagree),
       )
 
-  pub file-event : (r : RunState) (end : IsFileEndOf files r) → r.command ≡ None → 0 < events_in end.file
+  pub file-event : (r : RunState) (end : IsFileEndOf slow files r) → r.command ≡ None → 0 < events_in end.file
   file-event r end alone = elim (cases_lt 0 (events_in end.file)) [
     | inl some ↦ some
     | inr few ↦
-        let first = run_after_files run_start end.before in
+        let first = run_after_files (run_start slow) end.before in
         let none : r.has_event ≡ false = ap (λ (x : RunState). x.has_event) end.run_is
-        ∙ none-in first end.file (omega (arith, few)) (none-between run_start end.before refl) in
+        ∙ none-in first end.file (omega (arith, few)) (none-between (run_start slow) end.before refl) in
         let quiet = no-causes r end in
         absurd (omega (arith, silent-cause r none alone quiet.0, quiet.1))
   ]
 
-  pub no-command-fails : (r : RunState) → IsFileEndOf files r → (end : CommandView) → r.command ≡ Some end → end ≢ WithStatus 0 → ⊥
+  pub no-command-fails : (r : RunState) → IsFileEndOf slow files r → (end : CommandView) → r.command ≡ Some end → end ≢ WithStatus 0 → ⊥
   no-command-fails r at end is other = let quiet = no-causes r at in omega (arith, command-cause r end is other quiet.0, quiet.1)
 
   ended-as : (end : CommandView) → (end ≢ WithStatus 0 → ⊥) → end ≡ WithStatus 0
@@ -158,7 +160,7 @@ module _ (files : List (List EventView)) (clean : IsClean (all_notes files)) whe
     | inr none ↦ ap WithStatus (omega (arith, none))
   ]
 
-  pub ended-well : (r : RunState) → IsFileEndOf files r → IfSome r.command (λ end. end ≡ WithStatus 0)
+  pub ended-well : (r : RunState) → IsFileEndOf slow files r → IfSome r.command (λ end. end ≡ WithStatus 0)
   ended-well r at = by-end r.command refl
     where
       by-end : (o : Option CommandView) → r.command ≡ o → IfSome o (λ end. end ≡ WithStatus 0)
@@ -166,14 +168,14 @@ module _ (files : List (List EventView)) (clean : IsClean (all_notes files)) whe
       by-end (Some end) is = ended-as end (λ other. no-command-fails r at end is other)
 
 pub no-event-shows : NoEventShows
-no-event-shows files r end none alone =
-    let means = outcome-means files in
-    let never : IsClean (all_notes files) → ⊥ = λ clean. omega (arith, file-event files clean r end alone, none) in
+no-event-shows slow files r end none alone =
+    let means = outcome-means slow files in
+    let never : IsClean (all_notes slow files) → ⊥ = λ clean. omega (arith, file-event slow files clean r end alone, none) in
     ((λ h. never (means.success.0 h).0), (λ h. never (means.no_tests.0 h).0))
 
 pub command-shows : CommandEndShows
-command-shows files r at end is other =
-    let means = outcome-means files in (
-      (λ h. no-command-fails files (means.success.0 h).0 r at end is other),
-      (λ h. no-command-fails files (means.no_tests.0 h).0 r at end is other),
+command-shows slow files r at end is other =
+    let means = outcome-means slow files in (
+      (λ h. no-command-fails slow files (means.success.0 h).0 r at end is other),
+      (λ h. no-command-fails slow files (means.no_tests.0 h).0 r at end is other),
     )

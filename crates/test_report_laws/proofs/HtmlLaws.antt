@@ -2,7 +2,7 @@
 use Rattle.std.proofs.Common.{◌≡◌, ◌∙◌, ◌++◌, refl, sym, ap, subst, arith, ℕ, List, [], ◌∷◌, codes}
 use Rattle.std.proofs.lemmas.List.Elements.{All-head, All-weaker}
 use Rattle.std.specs.Char.{encode_utf8}
-use Rattle.std.specs.List.{All}
+use Rattle.std.specs.List.{All, flat_map}
 use Rattle.std.specs.Prelude.{Contains}
 use Rattle.std.specs.Str.{chars}
 use Rattle.template.proofs.Controls.{Clean, also, word}
@@ -11,16 +11,17 @@ use Rattle.template.specs.Hole.{hole_text}
 use Rattle.template.specs.Laws.{RendersNoControls, RendersOneTree, ShowsPhrases, ShowsSections, ShowsValues}
 use Rattle.template.specs.Parse.{parse, template_parts}
 use Rattle.template.specs.Shows.{HasPart, items_at}
-use Rattle.template.specs.Template.{Parts, Values, part_text, parts_text, text_of, values_of}
+use Rattle.template.specs.Template.{Parts, Values, items_of, part_text, parts_text, text_of, values_of}
 use Rattle.template.specs.declared.hole.Hole.TheVariants as hole
 use Rattle.test_report_laws.proofs.Parts.{in-left, in-right}
-use Rattle.test_report_laws.proofs.Phrases.{numbers-written, numbers_before, phrase-of, shown-phrases, values-of}
-use Rattle.test_report_laws.proofs.ReportValues.{failed-at, problems-at, skips-at, suites-at}
+use Rattle.test_report_laws.proofs.Phrases.{numbers-written, numbers_before, phrase-of, shown-phrases, slow-written, slow_text, values-of}
+use Rattle.test_report_laws.proofs.ReportValues.{failed-at, problems-at, skips-at, slow-at, suites-at}
 use Rattle.test_report_laws.proofs.ShownValues.{names-causes, shown-holes, unmapped}
 use Rattle.test_report_forms.specs.Html.{PageIsSound, failed_parts, heading_phrase, html_of, page_heading, page_holes, page_parts, page_phrases, page_text, problem_parts, skip_phrase, suite_phrase, summary_phrase, time_phrase, title_phrase}
 use Rattle.test_report_forms.specs.Model.{ReportView, report_of}
 use Rattle.test_report_forms.specs.Values.{failed_values, problem_values, report_values, run_values, skip_values, suite_values, values_of_run}
-use Rattle.test_report_forms.specs.Words.{outcome_word, run_numbers}
+use Rattle.test_report_forms.specs.WholeOutput.{page_limits}
+use Rattle.test_report_forms.specs.Words.{outcome_word, run_numbers, slow_number}
 use Rattle.test_report_laws.specs.Forms.{HasPhrase, HasValues, HtmlHasNoControls, HtmlNamesCauses, HtmlReadsBack, HtmlSaysEnd, HtmlShowsItems, HtmlShowsPhrases, HtmlShowsValues}
 
 -- what is in the body is in the page
@@ -75,21 +76,28 @@ module _ (r : ReportView) where
   heading = refl
 
   numbers : parts_text (template_parts summary_phrase) vs
-      ≡ codes "<p class=\"summary\">" ++ numbers_before hole.Text r.end (parts_text (template_parts time_phrase) vs)
+      ≡ codes "<p class=\"summary\">"
+      ++ numbers_before hole.Text r.end (flat_map (slow_text hole.Text) (items_of (codes "slow") vs)) (parts_text (template_parts time_phrase) vs)
   unfolding parse chars encode_utf8 part_text parts_text report_values run_values
   numbers = refl
+
+  slow : flat_map (slow_text hole.Text) (items_of (codes "slow") vs) ≡ slow_number r.end
+  slow = ap (flat_map (slow_text hole.Text)) (slow-at r) ∙ slow-written hole.Text r.end
 
   has-numbers : HasPart (parts_text (template_parts summary_phrase) vs) (run_numbers r.end)
   has-numbers = record {
     before = codes "<p class=\"summary\">";
     after = parts_text (template_parts time_phrase) vs;
-    is = numbers ∙ ap (λ l. codes "<p class=\"summary\">" ++ l) (numbers-written hole.Text r.end (parts_text (template_parts time_phrase) vs));
+    is =
+        numbers
+        ∙ ap (λ s. codes "<p class=\"summary\">" ++ numbers_before hole.Text r.end s (parts_text (template_parts time_phrase) vs)) slow
+        ∙ ap (λ l. codes "<p class=\"summary\">" ++ l) (numbers-written hole.Text r.end (parts_text (template_parts time_phrase) vs));
   }
 
 pub html-says-end : PageIsSound → ShowsPhrases → HtmlSaysEnd
 html-says-end sound shows o entries end =
     let page = html_of o entries end in
-    let report = report_of o entries end in
+    let report = report_of page_limits o entries end in
     let vs = values_of_run o entries end in
     let all = html-shows-phrases sound shows o entries end in
     let first = λ (words : List ℕ). All-head (λ i. HasPart page (parts_text (template_parts words) i)) vs [] in
@@ -104,7 +112,7 @@ unfolding html_of
 html-shows-items sound in_sections in_phrases o entries end =
     let vs = values_of_run o entries end in
     let page = page_text vs in
-    let report = report_of o entries end in
+    let report = report_of page_limits o entries end in
     let all = html-shows-phrases sound in_phrases o entries end in
     let part = λ (b : Parts) (i : Values). HasPart page (parts_text b i) in
     let at_failed = codes "failures" ∷ codes "failed" ∷ [] in

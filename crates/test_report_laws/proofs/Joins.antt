@@ -16,8 +16,9 @@ four-parts l c n s e = simp append_assoc
 pub end-parts : (x s l a w e : List ℕ) → x ++ (s ++ (l ++ (a ++ (w ++ e)))) ≡ (x ++ (s ++ l)) ++ ((a ++ w) ++ e)
 end-parts x s l a w e = simp append_assoc
 
-pub list-parts : (x s p k f l t o : List ℕ) → x ++ (s ++ ((p ++ (k ++ (f ++ (l ++ t)))) ++ o)) ≡ (x ++ (s ++ (p ++ (k ++ f)))) ++ (l ++ (t ++ o))
-list-parts x s p k f l t o = simp append_assoc
+pub list-parts : (x s p k w f l t o : List ℕ) → x ++ (s ++ ((p ++ (k ++ (w ++ (f ++ (l ++ t))))) ++ o))
+    ≡ (x ++ (s ++ (p ++ (k ++ (w ++ f))))) ++ (l ++ (t ++ o))
+list-parts x s p k w f l t o = simp append_assoc
 
 pub rule-parts : (x a e p s l o : List ℕ) → x ++ ((a ++ (e ++ (p ++ (s ++ e)))) ++ (l ++ o)) ≡ x ++ (a ++ (e ++ ((p ++ s) ++ (e ++ (l ++ o)))))
 rule-parts x a e p s l o = simp append_assoc

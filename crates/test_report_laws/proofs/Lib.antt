@@ -39,6 +39,7 @@ pub mod Phrases
 pub mod Quiet
 pub mod QuietShown
 pub mod QuietText
+pub mod QuietWords
 pub mod ReportReasons
 pub mod ReportValues
 pub mod RunCauses
@@ -48,6 +49,7 @@ pub mod ShortLines
 pub mod Shown
 pub mod ShownValues
 pub mod Sound
+pub mod StatusLines
 pub mod Sums
 pub mod Tallies
 pub mod TextLines

@@ -15,13 +15,14 @@ use Rattle.template.specs.Hole.{hole_text}
 use Rattle.template.specs.Shows.{HasPart, items_at}
 use Rattle.template.specs.Template.{ItemValue, Parts, ValueView, Values, items_of, part_text, parts_text, section, text_of, values_of}
 use Rattle.template.specs.declared.hole.Hole.TheVariants as hole
-use Rattle.test_report_laws.proofs.Phrases.{numbers-written, numbers_before, phrase-of, shown-phrases, values-of}
-use Rattle.test_report_laws.proofs.ReportValues.{no-run}
+use Rattle.test_report_laws.proofs.Phrases.{numbers-written, numbers_before, phrase-of, shown-phrases, slow-written, slow_text, values-of}
+use Rattle.test_report_laws.proofs.ReportValues.{no-run, slow-run, slow_items}
 use Rattle.test_report_laws.proofs.ShownValues.{lines-of, names-of, shown-holes, unmapped}
 use Rattle.test_report_forms.specs.Markdown.{MarkdownIsSound, details_parts, failed_sections, heading_phrase, markdown_heading, markdown_holes, markdown_of, markdown_parts, markdown_phrases, more_item, more_phrase, more_tests, more_text, row_parts, shown_tests, summary_of_run, summary_phrase, summary_values, time_phrase}
 use Rattle.test_report_forms.specs.Model.{ReportView, failures_of, report_of}
 use Rattle.test_report_forms.specs.Values.{failed_items, failed_values, one_text, problem_items, problem_values, run_values}
-use Rattle.test_report_forms.specs.Words.{outcome_word, run_numbers}
+use Rattle.test_report_forms.specs.WholeOutput.{summary_limits}
+use Rattle.test_report_forms.specs.Words.{outcome_word, run_numbers, slow_number}
 use Rattle.test_report_laws.specs.Forms.{MarkdownHasNoControls, MarkdownKeepsMarks, MarkdownNamesCauses, MarkdownSaysEnd, MarkdownSaysMore, MarkdownShowsPhrases, MarkdownShowsTests, MarkdownShowsValues}
 
 pub markdown-has-no-controls : MarkdownIsSound → RendersNoControls → MarkdownHasNoControls
@@ -55,20 +56,27 @@ module _ (r : ReportView) where
   abbrev first_three : List ValueView
   first_three = first_two ++ failure_values
 
+  slow-at : items_of (codes "slow") (values_of (summary_values r)) ≡ slow_items r.end
+  slow-at =
+      let key = codes "slow" in
+      items_first key first_three more_values (other-more key (more_tests r.failed) refl)
+      ∙ (items_first key first_two failure_values (other_section key (codes "failures") _ refl)
+      ∙ (items_first key (run_values r.end) problem_lists (other_section key (codes "problems") _ refl) ∙ slow-run r.end))
+
   problems-at : items_at (codes "problems" ∷ codes "problem" ∷ []) (values_of (summary_values r)) ≡ map (λ p. values_of (problem_values p)) r.problems
   problems-at =
       let key = codes "problems" in
       ap (flat_map (items_at (codes "problem" ∷ [])))
       (items_first key first_three more_values (other-more key (more_tests r.failed) refl)
       ∙ (items_first key first_two failure_values (other_section key (codes "failures") _ refl)
-      ∙ items_last key (run_values r.end) problem_lists (no-run key r.end refl)))
+      ∙ items_last key (run_values r.end) problem_lists (no-run key r.end refl refl)))
       ∙ section_items key (codes "problem") (λ p. values_of (problem_values p)) r.problems
 
   failed-at : items_at (codes "failures" ∷ codes "failed" ∷ []) (values_of (summary_values r))
       ≡ map (λ t. values_of (failed_values t)) (shown_tests r.failed)
   failed-at =
       let key = codes "failures" in
-      let before = items_last key (run_values r.end) problem_lists (no-run key r.end refl) ∙ other_section key (codes "problems") _ refl in
+      let before = items_last key (run_values r.end) problem_lists (no-run key r.end refl refl) ∙ other_section key (codes "problems") _ refl in
       ap (flat_map (items_at (codes "failed" ∷ [])))
       (items_first key first_three more_values (other-more key (more_tests r.failed) refl) ∙ items_last key first_two failure_values before)
       ∙ section_items key (codes "failed") (λ t. values_of (failed_values t)) (shown_tests r.failed)
@@ -77,7 +85,7 @@ module _ (r : ReportView) where
       ≡ values_of (one_text (codes "count") (decimal (more_tests r.failed))) ∷ []
   more-at some =
       let key = codes "more" in
-      let two = items_last key (run_values r.end) problem_lists (no-run key r.end refl) ∙ other_section key (codes "problems") _ refl in
+      let two = items_last key (run_values r.end) problem_lists (no-run key r.end refl refl) ∙ other_section key (codes "problems") _ refl in
       let before = items_last key first_two failure_values two ∙ other_section key (codes "failures") _ refl in
       items_alone key (values_of (summary_values r)) ∙ (items_last key first_three more_values before
       ∙ ap (λ b. items_of key (values_of (if b then [] else ItemValue key (values_of (one_text (codes "count") (decimal (more_tests r.failed)))) ∷ []))) some)
@@ -92,7 +100,7 @@ unfolding run_values
 markdown-names-causes shows o entries end =
     let text = markdown_of o entries end in
     let vs = summary_of_run o entries end in
-    let report = report_of o entries end in
+    let report = report_of summary_limits o entries end in
     let all = shows o entries end in
     let written = λ (name : List ℕ) (i : Values). HasPart text (hole_text hole.Plain (text_of name i)) in
     record {
@@ -119,21 +127,28 @@ module _ (r : ReportView) where
   unfolding parse chars encode_utf8 part_text parts_text run_values
   heading = refl
 
-  numbers : parts_text (template_parts summary_phrase) vs ≡ numbers_before hole.Plain r.end (parts_text (template_parts time_phrase) vs)
+  numbers : parts_text (template_parts summary_phrase) vs
+      ≡ numbers_before hole.Plain r.end (flat_map (slow_text hole.Plain) (items_of (codes "slow") vs)) (parts_text (template_parts time_phrase) vs)
   unfolding parse chars encode_utf8 part_text parts_text run_values
   numbers = refl
+
+  slow : flat_map (slow_text hole.Plain) (items_of (codes "slow") vs) ≡ slow_number r.end
+  slow = ap (flat_map (slow_text hole.Plain)) (slow-at r) ∙ slow-written hole.Plain r.end
 
   has-numbers : HasPart (parts_text (template_parts summary_phrase) vs) (run_numbers r.end)
   has-numbers = record {
     before = [];
     after = parts_text (template_parts time_phrase) vs;
-    is = numbers ∙ numbers-written hole.Plain r.end (parts_text (template_parts time_phrase) vs);
+    is =
+        numbers
+        ∙ ap (λ s. numbers_before hole.Plain r.end s (parts_text (template_parts time_phrase) vs)) slow
+        ∙ numbers-written hole.Plain r.end (parts_text (template_parts time_phrase) vs);
   }
 
 pub markdown-says-end : MarkdownIsSound → ShowsPhrases → MarkdownSaysEnd
 markdown-says-end sound shows o entries end =
     let text = markdown_of o entries end in
-    let report = report_of o entries end in
+    let report = report_of summary_limits o entries end in
     let vs = summary_of_run o entries end in
     let all = markdown-shows-phrases sound shows o entries end in
     let first = λ (words : List ℕ). All-head (λ i. HasPart text (parts_text (template_parts words) i)) vs [] in
@@ -150,7 +165,7 @@ more-is n = ap (λ l. codes "(" ++ (l ++ codes " more failed tests: a summary on
 pub markdown-says-more : MarkdownIsSound → ShowsPhrases → MarkdownSaysMore
 markdown-says-more sound shows o entries end some =
     let text = markdown_of o entries end in
-    let report = report_of o entries end in
+    let report = report_of summary_limits o entries end in
     let vs = summary_of_run o entries end in
     let all = markdown-shows-phrases sound shows o entries end in
     let part = λ (i : Values). HasPart text (parts_text (template_parts more_phrase) i) in
@@ -163,8 +178,9 @@ unfolding markdown_of
 markdown-shows-tests sound shows o entries end =
     let vs = summary_of_run o entries end in
     let tests = λ (b : Parts) (is : Contains failed_sections b).
-    unmapped (λ i. HasPart (parts_text markdown_parts vs) (parts_text b i)) (λ t. values_of (failed_values t)) (shown_tests (failures_of o entries))
-    (subst (All (λ i. HasPart (parts_text markdown_parts vs) (parts_text b i))) (failed-at (report_of o entries end))
+    unmapped (λ i. HasPart (parts_text markdown_parts vs) (parts_text b i)) (λ t. values_of (failed_values t))
+    (shown_tests (failures_of summary_limits o entries))
+    (subst (All (λ i. HasPart (parts_text markdown_parts vs) (parts_text b i))) (failed-at (report_of summary_limits o entries end))
     (shows markdown_parts vs (codes "failures" ∷ codes "failed" ∷ []) b is)) in
     record {
       rows = tests row_parts (subst (λ l. Contains l row_parts) (sym sound.failed) (0, omega arith, refl));

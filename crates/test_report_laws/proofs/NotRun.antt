@@ -5,7 +5,7 @@ use Rattle.std.specs.Option.{option_map_or}
 use Rattle.std.specs.Prelude.{◌-◌, ◌==◌, if◌then◌else◌, max, nat_lt}
 use Rattle.std.proofs.lemmas.Bool.Decides.{nat_tests}
 use Rattle.std.proofs.lemmas.List.Sums.{sum_by-append, sum_by-cons}
-use Rattle.test_report_events.specs.Event.{EventView, SuiteEndView, TestEndView, SuiteStarts, SuiteEnds, TestStarts, TestEnds, CargoFails, Prints}
+use Rattle.test_report_events.specs.Event.{EventView, SuiteEndView, TestEndView, SuiteStarts, SuiteEnds, TestStarts, TestEnds, TestIsSlow, CargoFails, Prints}
 use Rattle.test_report_events.specs.declared.event.TestResult.{TestResult}
 use Rattle.test_report_events.specs.declared.event.TestResult.TheVariants.{Ok, Failed, Ignored}
 use Rattle.test_report_laws.proofs.Books.{IsIn, position-in}
@@ -20,8 +20,8 @@ use Rattle.test_report_laws.specs.Run.{not_run_of}
 use Rattle.test_report_run.specs.Note.{Disagrees, DisagreementView, HasNoEnd, IsNotRun, NoteView, StrayEnds, StraySuiteEnds, SuiteIs, SuiteNoteView, TestIs, TestNoteView}
 use Rattle.test_report_run.specs.Others.{OthersView}
 use Rattle.test_report_run.specs.Over.{crash_of, crashed_notes, early_disagreements, early_notes, early_state, explained_of, failed_note, failed_notes, flaky_note, flaky_notes, initial_of, last_disagreement, last_notes, last_state, lost, number_notes, rest_of, skipped_note}
-use Rattle.test_report_run.specs.Run.{RunState, Step, after, counts_tests, ended_at, ended_early, file_notes, names_in, notes_at, open_suite, opened, place_of_number, running_ends, running_over, settled_at, started_again, step, stray_ends, stray_over, stray_suite_notes, stray_test, suite_at, suite_place, told, with_suite_at, without_tests}
-use Rattle.test_report_run.specs.Running.{place_of_end, running_at}
+use Rattle.test_report_run.specs.Run.{RunState, Step, after, counts_tests, ended_at, ended_early, file_notes, tests_in, notes_at, open_suite, opened, place_of_number, running_ends, running_over, settled_at, slow_at, started_again, step, stray_ends, stray_over, stray_suite_notes, stray_test, suite_at, suite_place, told, with_suite_at, without_tests}
+use Rattle.test_report_run.specs.Running.{RunningView, place_of_end, running_at}
 use Rattle.test_report_laws.specs.Status.{NotRunIsNamed, named_not_run}
 use Rattle.test_report_run.specs.Name.{given_by, name_of}
 use Rattle.test_report_run.specs.Suite.{OverView, SuiteState, has_key, named, outside_start, suite_name, with_line, with_start}
@@ -30,13 +30,13 @@ use Rattle.test_report_laws.proofs.Types.{Explanation, Rest}
 -- a weight of notes, in which those of tests and of disagreements weigh nothing
 module _ (w : NoteView → ℕ) (test : (t : TestNoteView) → w (TestIs t) ≡ 0) (disagree : (d : DisagreementView) → w (Disagrees d) ≡ 0) where
   -- of a suite that ends, only its numbers weigh
-  of-early : (others : OthersView) (s : SuiteState) (names : List (List ℕ))
-      → sum_by w (early_notes others s names) ≡ sum_by w (number_notes (early_state s names) (early_rest s))
-  of-early others s names =
-      let crashed = crashed_notes s (crash_of others s (length names)) names in
+  of-early : (others : OthersView) (s : SuiteState) (tests : List RunningView)
+      → sum_by w (early_notes others s tests) ≡ sum_by w (number_notes (early_state s tests) (early_rest s))
+  of-early others s tests =
+      let crashed = crashed_notes s (crash_of others s (length tests)) tests in
       let flaky = flaky_notes s false in
-      let disagreements = early_disagreements s (length names) in
-      let numbers = number_notes (early_state s names) (early_rest s) in
+      let disagreements = early_disagreements s (length tests) in
+      let numbers = number_notes (early_state s tests) (early_rest s) in
       let none : sum_by w disagreements ≡ 0 = grind (arith, disagree) in
       omega (
         arith,
@@ -44,19 +44,19 @@ module _ (w : NoteView → ℕ) (test : (t : TestNoteView) → w (TestIs t) ≡ 
         sum_by-append w crashed (flaky ++ (disagreements ++ numbers)),
         sum_by-append w flaky (disagreements ++ numbers),
         sum_by-append w disagreements numbers,
-        sum-crashed w false s (λ c name. test _) (crash_of others s (length names)) names,
+        sum-crashed w false s (λ c name. test _) (crash_of others s (length tests)) tests,
         sum-map w (flaky_note s false) s.flaky,
         sum-none (λ f. w (flaky_note s false f)) (λ f. test _) s.flaky,
       )
 
-  of-last : (s : SuiteState) (e : Explanation) (names : List (List ℕ))
-      → sum_by w (last_by s e names) ≡ sum_by w (number_notes (last_state s e names) (rest_of s e names))
-  of-last s e names =
-      let skipped = map (skipped_note s) (take e.skipped names) in
-      let failed = failed_notes s HasNoEnd (lost e names) in
+  of-last : (s : SuiteState) (e : Explanation) (tests : List RunningView)
+      → sum_by w (last_by s e tests) ≡ sum_by w (number_notes (last_state s e tests) (rest_of s e tests))
+  of-last s e tests =
+      let skipped = map (skipped_note s) (take e.skipped tests) in
+      let failed = failed_notes s HasNoEnd (lost e tests) in
       let flaky = flaky_notes s e.flaky_failed in
-      let disagreements = last_disagreement (last_state s e names) in
-      let numbers = number_notes (last_state s e names) (rest_of s e names) in
+      let disagreements = last_disagreement (last_state s e tests) in
+      let numbers = number_notes (last_state s e tests) (rest_of s e tests) in
       let none : sum_by w disagreements ≡ 0 = grind (arith, disagree) in
       omega (
         arith,
@@ -65,10 +65,10 @@ module _ (w : NoteView → ℕ) (test : (t : TestNoteView) → w (TestIs t) ≡ 
         sum_by-append w failed (flaky ++ (disagreements ++ numbers)),
         sum_by-append w flaky (disagreements ++ numbers),
         sum_by-append w disagreements numbers,
-        sum-map w (skipped_note s) (take e.skipped names),
-        sum-none (λ name. w (skipped_note s name)) (λ name. test _) (take e.skipped names),
-        sum-map w (failed_note s HasNoEnd) (lost e names),
-        sum-none (λ name. w (failed_note s HasNoEnd name)) (λ name. test _) (lost e names),
+        sum-map w (skipped_note s) (take e.skipped tests),
+        sum-none (λ test. w (skipped_note s test)) (λ name. test _) (take e.skipped tests),
+        sum-map w (failed_note s HasNoEnd) (lost e tests),
+        sum-none (λ test. w (failed_note s HasNoEnd test)) (λ name. test _) (lost e tests),
         sum-map w (flaky_note s e.flaky_failed) s.flaky,
         sum-none (λ f. w (flaky_note s e.flaky_failed f)) (λ f. test _) s.flaky,
       )
@@ -130,25 +130,25 @@ same-numbers s rest none =
     same-named (suite_name s) n (initial_of s rest) note refl none
 
 -- a suite that has a number, or tests outside of a suite, of which none is announced
-same-early : (others : OthersView) (s : SuiteState) (names : List (List ℕ)) → (s.number ≡ None → s.test_count ≡ None) → Same (early_notes others s names)
-same-early others s names fine =
-    let last = early_state s names in
+same-early : (others : OthersView) (s : SuiteState) (tests : List RunningView) → (s.number ≡ None → s.test_count ≡ None) → Same (early_notes others s tests)
+same-early others s tests fine =
+    let last = early_state s tests in
     let rest = early_rest s in
     omega (
       arith,
-      of-early named_not_run (λ t. refl) (λ d. refl) others s names,
-      of-early not_run_of (λ t. refl) (λ d. refl) others s names,
+      of-early named_not_run (λ t. refl) (λ d. refl) others s tests,
+      of-early not_run_of (λ t. refl) (λ d. refl) others s tests,
       same-numbers last rest (λ h. none-announced s.test_count rest.skipped last.stats.finished_count (fine (no-name last h))),
     )
 
-same-last : (s : SuiteState) (e : Explanation) (names : List (List ℕ)) → s.number ≢ None → Same (last_by s e names)
-same-last s e names some =
-    let last = last_state s e names in
-    let rest = rest_of s e names in
+same-last : (s : SuiteState) (e : Explanation) (tests : List RunningView) → s.number ≢ None → Same (last_by s e tests)
+same-last s e tests some =
+    let last = last_state s e tests in
+    let rest = rest_of s e tests in
     omega (
       arith,
-      of-last named_not_run (λ t. refl) (λ d. refl) s e names,
-      of-last not_run_of (λ t. refl) (λ d. refl) s e names,
+      of-last named_not_run (λ t. refl) (λ d. refl) s e tests,
+      of-last not_run_of (λ t. refl) (λ d. refl) s e tests,
       same-numbers last rest (λ h. absurd (some (no-name last h))),
     )
 
@@ -158,16 +158,16 @@ same-first : (r : RunState) (key : Option (List ℕ)) (count : Option ℕ) (at :
 same-first r key count None in' numbered = refl
 same-first r (Some key) count (Some at) in' numbered = refl
 same-first r None count (Some at) in' numbered =
-    let s = suite_at r (Some at) in same-early r.others s (names_in r s) (λ zero. absurd (has-number r at numbered in' zero))
+    let s = suite_at r (Some at) in same-early r.others s (tests_in r s) (λ zero. absurd (has-number r at numbered in' zero))
 
 same-over : (r : RunState) (e : SuiteEndView) (at : ℕ) (over : Bool) → at < length r.suites → weight_of unnumbered r ≡ 0
     → let s = with_line (suite_at r (Some at)) e in
-    Same (if over then step (without_tests (record r { suites = remove r.suites at }) s) (last_notes s (names_in r s))
+    Same (if over then step (without_tests (record r { suites = remove r.suites at }) s) (last_notes s (tests_in r s))
     else step (with_suite_at r (Some at) s) []).notes
 same-over r e at true in' numbered =
     let s = with_line (suite_at r (Some at)) e in
-    let names = names_in r s in
-    same-last s (explained_of s (length names)) names (has-number r at numbered in')
+    let tests = tests_in r s in
+    same-last s (explained_of s (length tests)) tests (has-number r at numbered in')
 same-over r e at false in' numbered = refl
 
 same-ended : (r : RunState) (e : SuiteEndView) (at : Option ℕ) → IsIn r.suites at → weight_of unnumbered r ≡ 0
@@ -225,6 +225,11 @@ outside-test r e (Some p) none =
     let at = place_of_number r' test.suite in
     outside-at r' at _ (end-count (suite_at r' at) (running_over r' e test p.1) test.order e e.result) none
 
+outside-slow : (r : RunState) (place : Option (ℕ × ℕ)) → IsUnannounced r → IsUnannounced (option_map_or (λ p. slow_at r p.0) place r)
+outside-slow r None none = none
+outside-slow r (Some p) none =
+    let at = place_of_number r (running_at r.running p.0).suite in outside-at r at (suite_at r at) refl none
+
 outside-first : (r : RunState) (key : Option (List ℕ)) (count : Option ℕ) (at : Option ℕ) → IsUnannounced r
     → IsUnannounced (option_map_or (started_again r key count) at (step (opened r key count) [])).run
 outside-first r key count None none = none
@@ -242,6 +247,7 @@ outside-told r (SuiteEnds e) none = outside-ended r e (open_suite r e.key) none
 outside-told r (TestStarts name) none =
     let at = suite_place r name in outside-at r at (with_start (suite_at r at) name) refl none
 outside-told r (TestEnds e) none = outside-test r e (place_of_end r.running e.name) none
+outside-told r (TestIsSlow name) none = outside-slow r (place_of_end r.running name) none
 outside-told r (CargoFails f line plain) none = ap (λ (x : RunState). x.outside.test_count) (only-cargo r f plain).run_is ∙ none
 outside-told r e none = none
 
@@ -257,22 +263,22 @@ outside-line r e none =
 same-ends : (t : Step) (suites : List SuiteState) → sum_by (weigh unnumbered) suites ≡ 0 → Same t.notes → Same (fold ended_early t suites).notes
 same-ends t [] numbered same = same
 same-ends t (s ∷ suites) numbered same =
-    let names = names_in t.run s in
+    let tests = tests_in t.run s in
     let parts = sum_by-cons (weigh unnumbered) s suites in
     same-ends (ended_early t s) suites (omega arith)
-    (same-append t.notes (early_notes t.run.others s names) same
-    (same-early t.run.others s names (λ zero. absurd (omega (arith, ap (λ n. unnumbered n s.said s.test_count) zero)))))
+    (same-append t.notes (early_notes t.run.others s tests) same
+    (same-early t.run.others s tests (λ zero. absurd (omega (arith, ap (λ n. unnumbered n s.said s.test_count) zero)))))
 
 same-end : (r : RunState) → weight_of unnumbered r ≡ 0 → IsUnannounced r → Same (file_notes r)
 same-end r numbered none =
     let now = reported_run r in
     let start = step (record now { suites = [] }) [] in
     let ended = fold ended_early start now.suites in
-    let names = names_in (record (ended.run) { outside = outside_start }) now.outside in
+    let tests = tests_in (record (ended.run) { outside = outside_start }) now.outside in
     let unannounced = ap (λ (x : RunState). x.outside.test_count) (only-told r).run_is ∙ none in
-    let same : Same (ended.notes ++ early_notes ended.run.others now.outside names) = same-append ended.notes (early_notes ended.run.others now.outside names)
+    let same : Same (ended.notes ++ early_notes ended.run.others now.outside tests) = same-append ended.notes (early_notes ended.run.others now.outside tests)
     (same-ends start now.suites (numbered-reported r numbered) refl)
-    (same-early ended.run.others now.outside names (λ zero. unannounced)) in
+    (same-early ended.run.others now.outside tests (λ zero. unannounced)) in
     omega (arith, same, suites-alone named_not_run (λ d. refl) r, suites-alone not_run_of (λ d. refl) r)
 
 -- what holds at each line and at each end of a file
@@ -280,7 +286,7 @@ abbrev Named : ℕ → List NoteView → RunState → Type 0
 Named n notes r = (weight_of unnumbered r ≡ 0) × IsUnannounced r × Same notes
 
 pub not-run-named : NotRunIsNamed
-not-run-named files =
+not-run-named slow files =
     (over-run Named Named (λ e. 0) (λ n notes r i. i)
     (λ n notes r e i. (numbered-line r e i.0, outside-line r e i.1, same-append notes (notes_at r e) i.2 (same-line r e i.0)))
-    (λ n notes r i. (numbered-end r, refl, same-append notes (file_notes r) i.2 (same-end r i.0 i.1))) (refl, refl, refl) files).2
+    (λ n notes r i. (numbered-end r, refl, same-append notes (file_notes r) i.2 (same-end r i.0 i.1))) slow (refl, refl, refl) files).2

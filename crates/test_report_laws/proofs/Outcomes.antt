@@ -39,19 +39,19 @@ scripts_of s =
     s.setup_scripts_failed + s.setup_scripts_exec_failed + s.setup_scripts_timed_out + s.setup_scripts_initial_count + is_cancelled s.cancel_reason
 
 -- suites have none
-scripts-counts : (stats : RunStats) (o : OutcomeView) (n : ℕ) → fits o n ≡ true → scripts_of (with_outcome stats o n) ≡ scripts_of stats + 0
-scripts-counts stats Passes n fit = omega arith
-scripts-counts stats (IsSkipped reason) n fit = omega arith
-scripts-counts stats (Fails f) n fit = omega arith
+scripts-counts : (stats : RunStats) (o : OutcomeView) (n : ℕ) (slow : Bool) → fits o n ≡ true → scripts_of (with_outcome stats o n slow) ≡ scripts_of stats + 0
+scripts-counts stats Passes n slow fit = omega arith
+scripts-counts stats (IsSkipped reason) n slow fit = omega arith
+scripts-counts stats (Fails f) n slow fit = omega arith
 
-none-of : (note : NoteView) → of_test (λ o n. 0) note ≡ 0
+none-of : (note : NoteView) → of_test (λ o n slow. 0) note ≡ 0
 none-of (TestIs t) = refl
 none-of note = refl
 
-no-scripts : (files : List (List EventView)) → sum_by (of_suite (λ s. scripts_of s.stats)) (all_notes files) ≡ 0
-no-scripts files =
-    let sums = sums-up scripts_of (λ o n. 0) refl scripts-counts (λ n h. refl) (λ reason n. refl) files in
-    omega (arith, sum-none (of_test (λ o n. 0)) none-of (all_notes files))
+no-scripts : (slow : ℕ) (files : List (List EventView)) → sum_by (of_suite (λ s. scripts_of s.stats)) (all_notes slow files) ≡ 0
+no-scripts slow files =
+    let sums = sums-up scripts_of (λ o n slow. 0) refl scripts-counts (λ n slow h. refl) (λ reason n slow. refl) slow files in
+    omega (arith, sum-none (of_test (λ o n slow. 0)) none-of (all_notes slow files))
 
 -- the outcome of one suite
 not-cancelled : (why : Option CancelReason) → is_cancelled why ≡ 0 → why ≡ None
@@ -81,8 +81,8 @@ outcome-fold e (note ∷ notes) none is =
     each (SuiteIs s) h = outcome-step e s h is
     each note h = is
 
-outcome-of-sums : (files : List (List EventView)) → IsOf (fold with_note no_suites (all_notes files))
-outcome-of-sums files = outcome-fold no_suites (all_notes files) (no-scripts files) refl
+outcome-of-sums : (slow : ℕ) (files : List (List EventView)) → IsOf (fold with_note no_suites (all_notes slow files))
+outcome-of-sums slow files = outcome-fold no_suites (all_notes slow files) (no-scripts slow files) refl
 
 -- what an outcome says
 abbrev end_outcome : (disagree failed not_run none : Bool) → RunOutcome
@@ -131,11 +131,11 @@ ending-outcome e true = refl
 ending-outcome e false = refl
 
 pub outcome-means : OutcomeMeans
-outcome-means files =
-    let notes = all_notes files in
-    let r = run_after_files run_start files in
+outcome-means slow files =
+    let notes = all_notes slow files in
+    let r = run_after_files (run_start slow) files in
     let e = fold with_note no_suites notes in
     let is = ending-outcome r.totals (nat_lt 0 r.disagreements)
-    ∙ (ap (λ s. if nat_lt 0 s.1 then outcome.Failed step.Test else s.0.outcome) (run-sums files)
-    ∙ ap (λ o. if nat_lt 0 (disagreements_in notes) then outcome.Failed step.Test else o) (outcome-of-sums files)) in
-    subst (Means notes) (sym is) (means notes e _ _ _ _ (counted files e.outcome) (failed-total files) refl refl refl refl)
+    ∙ (ap (λ s. if nat_lt 0 s.1 then outcome.Failed step.Test else s.0.outcome) (run-sums slow files)
+    ∙ ap (λ o. if nat_lt 0 (disagreements_in notes) then outcome.Failed step.Test else o) (outcome-of-sums slow files)) in
+    subst (Means notes) (sym is) (means notes e _ _ _ _ (counted slow files e.outcome) (failed-total slow files) refl refl refl refl)

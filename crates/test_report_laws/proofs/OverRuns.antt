@@ -37,17 +37,17 @@ module _ (Inside Between : ℕ → List NoteView → RunState → Type 0) (c : E
       (end (n + all file) (notes ++ notes_of r file) last (over-lines n notes r file (start n notes r i))))
 
   -- of a whole run, and of one in which a file is read up to a line
-  pub over-run : Between 0 [] run_start → (files : List (List EventView))
-      → Between (sum_by (λ file. sum_by c file) files) (all_notes files) (run_after_files run_start files)
-  over-run i files =
+  pub over-run : (slow : ℕ) → Between 0 [] (run_start slow) → (files : List (List EventView))
+      → Between (sum_by (λ file. sum_by c file) files) (all_notes slow files) (run_after_files (run_start slow) files)
+  over-run slow i files =
       let all = sum_by (λ (file : List EventView). sum_by c file) files in
       let same : all ≡ 0 + all = omega arith in
-      rw same (over-files 0 [] run_start files i)
+      rw same (over-files 0 [] (run_start slow) files i)
 
-  pub up-to-line : Between 0 [] run_start → (files : List (List EventView)) (events : List EventView)
-      → Inside (sum_by (λ file. sum_by c file) files + sum_by c events) (all_notes files ++ notes_of (run_after_files run_start files) events)
-      (run_after (run_after_files run_start files) events)
-  up-to-line i files events =
-      let r = run_after_files run_start files in
+  pub up-to-line : (slow : ℕ) → Between 0 [] (run_start slow) → (files : List (List EventView)) (events : List EventView)
+      → Inside (sum_by (λ file. sum_by c file) files + sum_by c events) (all_notes slow files ++ notes_of (run_after_files (run_start slow) files) events)
+      (run_after (run_after_files (run_start slow) files) events)
+  up-to-line slow i files events =
+      let r = run_after_files (run_start slow) files in
       let n = sum_by (λ (file : List EventView). sum_by c file) files in
-      over-lines n (all_notes files) r events (start n (all_notes files) r (over-run i files))
+      over-lines n (all_notes slow files) r events (start n (all_notes slow files) r (over-run slow i files))

@@ -1,10 +1,11 @@
 -- The holes and the phrases of a template, by their names, and what phrases render of a run.
-use Rattle.std.proofs.Common.{◌≡◌, ◌∙◌, ◌&&◌, refl, ap, subst, ℕ, Bool, true, false, List, [], ◌∷◌, ◌++◌, append_assoc, codes, Option, Some, None, unwrap_or}
+use Rattle.std.proofs.Common.{◌≡◌, ◌∙◌, ◌&&◌, refl, ap, subst, ℕ, Bool, true, false, List, [], ◌∷◌, ◌++◌, append-nil, append_assoc, codes, Option, Some, None, unwrap_or}
 use Rattle.std.proofs.lemmas.Bool.{and_parts, false≢true}
 use Rattle.std.proofs.lemmas.List.Elements.{All-cons, All-head, All-nil, All-tail}
 use Rattle.std.proofs.lemmas.Slice.Eq.{bytes_eq-Decides}
 use Rattle.std.specs.Fmt.{decimal}
-use Rattle.std.specs.List.{All, list_all, list_any}
+use Rattle.std.specs.List.{All, flat_map, list_all, list_any}
+use Rattle.std.specs.Prelude.{if◌then◌else◌, nat_lt}
 use Rattle.std.specs.Option.{option_map_or}
 use Rattle.std.specs.Str.{bytes_eq}
 use Rattle.template.proofs.Escapes.{written_decimal}
@@ -14,10 +15,12 @@ use Rattle.template.specs.Laws.{ShowsPhrases}
 use Rattle.template.specs.Parse.{parse, template_parts}
 use Rattle.template.specs.Phrases.{has_phrase}
 use Rattle.template.specs.Shows.{HasPart, items_at, same_kind}
-use Rattle.template.specs.Template.{NoParts, Parts, Values, parts_text, text_of}
+use Rattle.template.specs.Template.{NoParts, Parts, Values, parts_text, text_of, values_of}
 use Rattle.template.specs.declared.hole.Hole.{Hole}
 use Rattle.test_report_forms.specs.Holes.{HoleView, PhraseView, shows_phrase}
-use Rattle.test_report_forms.specs.Words.{failed_numbers, other_numbers, passed_numbers, run_numbers}
+use Rattle.test_report_forms.specs.Values.{one_text}
+use Rattle.test_report_forms.specs.Words.{failed_numbers, finished_numbers, other_numbers, passed_numbers, run_numbers, slow_number}
+use Rattle.test_report_laws.proofs.ReportValues.{slow_items}
 use Rattle.test_report_laws.specs.Forms.{HasPhrase, HasValues}
 use Rattle.test_report_run.specs.Suite.{failed_of}
 use Rattle.test_report_run.specs.declared.note.RunEnd.{RunEnd}
@@ -93,15 +96,15 @@ module _ (kind : Hole) (e : RunEnd) where
   abbrev written : ℕ → List ℕ
   written n = hole_text kind (decimal n)
 
-  abbrev pub numbers_before : List ℕ → List ℕ
-  numbers_before after =
+  abbrev pub numbers_before : List ℕ → List ℕ → List ℕ
+  numbers_before slow after =
       written e.stats.finished_count ++ (codes " tests run: " ++ (written e.stats.passed ++ (codes " passed (" ++ (written e.stats.flaky
-      ++ (codes " flaky), " ++ (written (failed_of e.stats) ++ (codes " failed (" ++ (written e.stats.failed_timed_out ++ (codes " timed out, "
-      ++ (written e.crashed ++ (codes " crashed), " ++ (written e.skipped ++ (codes " skipped, " ++ (written e.not_run
-      ++ (codes " not run" ++ after)))))))))))))))
+      ++ (codes " flaky" ++ (slow ++ (codes "), " ++ (written (failed_of e.stats) ++ (codes " failed (" ++ (written e.stats.failed_timed_out
+      ++ (codes " timed out, " ++ (written e.crashed ++ (codes " crashed), " ++ (written e.skipped ++ (codes " skipped, " ++ (written e.not_run
+      ++ (codes " not run" ++ after)))))))))))))))))
 
-  pub numbers-written : (after : List ℕ) → numbers_before after ≡ run_numbers e ++ after
-  unfolding run_numbers passed_numbers failed_numbers other_numbers
+  pub numbers-written : (after : List ℕ) → numbers_before (slow_number e) after ≡ run_numbers e ++ after
+  unfolding run_numbers passed_numbers finished_numbers failed_numbers other_numbers
   numbers-written after =
       rw (
         written_decimal kind e.stats.finished_count,
@@ -113,3 +116,17 @@ module _ (kind : Hole) (e : RunEnd) where
         written_decimal kind e.skipped,
         written_decimal kind e.not_run,
       ) (simp append_assoc)
+
+-- how many tests were slow, as the item of their list renders it
+abbrev pub slow_text : Hole → Values → List ℕ
+slow_text kind i = codes ", " ++ (hole_text kind (text_of (codes "count") i) ++ codes " slow")
+
+pub slow-written : (kind : Hole) (e : RunEnd) → flat_map (slow_text kind) (slow_items e) ≡ slow_number e
+unfolding slow_number
+slow-written kind e =
+    let n = e.stats.passed_slow in
+    let count : Values = values_of (one_text (codes "count") (decimal n)) in
+    elim (nat_lt 0 n) as (λ b. flat_map (slow_text kind) (if b then count ∷ [] else []) ≡ (if b then codes ", " ++ (decimal n ++ codes " slow") else [])) [
+      | true ↦ append-nil (slow_text kind count) ∙ ap (λ l. codes ", " ++ (l ++ codes " slow")) (written_decimal kind n)
+      | false ↦ refl
+    ]

@@ -1,16 +1,12 @@
 -- The forms for people and of names have no commands of CI systems.
-use Rattle.std.proofs.Common.{◌≡◌, ◌-◌, ◌/◌, ◌%◌, ◌||◌, not, refl, sym, subst, ap, ℕ, zero, suc, Bool, true, false, List, [], ◌∷◌, ◌++◌, append_assoc, append-nil, codes, if◌then◌else◌, length, replicate, ◌==◌, Option, Some, None, nat_lt}
+use Rattle.std.proofs.Common.{◌≡◌, ◌-◌, ◌&&◌, ◌||◌, not, refl, sym, subst, ap, ℕ, zero, suc, Bool, true, false, List, [], ◌∷◌, ◌++◌, append_assoc, append-nil, codes, if◌then◌else◌, length, replicate, ◌==◌, Option, Some, None, nat_lt}
 use Rattle.std.proofs.lemmas.Bool.{and_parts}
 use Rattle.std.specs.Fmt.{decimal}
 use Rattle.std.specs.List.{AllZip, flat_map}
 use Rattle.std.specs.Char.{is_whitespace}
 use Rattle.std.specs.Option.{option_map_or}
 use Rattle.std.specs.Str.{bytes_eq}
-use Rattle.run_events_stats.specs.declared.outcome.run_outcome.RunOutcome.{RunOutcome}
-use Rattle.run_events_stats.specs.declared.outcome.run_outcome.RunOutcome.TheVariants as outcome
 use Rattle.test_report_events.specs.Event.{BySignal, CommandView, NotStarted, WithStatus}
-use Rattle.test_report_events.specs.declared.event.TestResult.{TestResult}
-use Rattle.test_report_events.specs.declared.event.TestResult.TheVariants as ended
 use Rattle.run_events_levels.specs.LevelRanks.{final_level_rank}
 use Rattle.run_events_levels.specs.declared.levels.FinalStatusLevel.{FinalStatusLevel}
 use Rattle.run_events_levels.specs.declared.levels.FinalStatusLevel.TheVariants as final
@@ -19,83 +15,25 @@ use Rattle.run_events_levels.specs.declared.levels.OutputStoreFinal.{OutputStore
 use Rattle.run_events_levels.specs.declared.levels.OutputStoreFinal.TheVariants as store
 use Rattle.test_report_forms.specs.Entry.{EntryView, LinesDisagree, SuiteNotRun, SuiteOver, TestFailed, TestPassed, TestSkipped}
 use Rattle.test_report_forms.specs.Levels.{finished_output, has_line, listed_text, skipped_output}
-use Rattle.test_report_forms.specs.List.{KeyedLine, ended_line, failed_line, final_level_of, flaky_word, item, item_at, list_line, part_at, passed_word, put_falling, short_list, slow_line, slow_lines, slow_of, text_of_lines, timed}
+use Rattle.test_report_forms.specs.List.{KeyedLine, ended_line, failed_line, final_level_of, flaky_word, item, item_at, list_line, part_at, listed_word, passed_word, put_falling, short_list, slow_line, slow_lines, slow_of, text_of_lines, timed}
 use Rattle.test_report_forms.specs.Names.{names_line}
-use Rattle.test_report_forms.specs.Shown.{bracket, front, indented, indented_line, more_bytes, name_and_space, shown_line, shown_name, shown_text, three_digits}
+use Rattle.test_report_forms.specs.Shown.{bracket, front, indented, indented_line, more_bytes, name_and_space, shown_line, shown_name, shown_text}
 use Rattle.test_report_forms.specs.ShownWhy.{ShownWhyView, text_why}
 use Rattle.test_report_forms.specs.Text.{advice, attempts_note, cargo_advice, ended_head, ended_text, failed_head, failed_text, outcome_line, passed_text, skipped_text, summary_lines, text_last, text_line}
 use Rattle.test_report_forms.specs.Title.{title, title_name}
 use Rattle.test_report_forms.specs.WhyLines.{hidden_line, more_line, why_lines}
-use Rattle.test_report_forms.specs.Words.{color_of, command_words, disagreement_line, failed_numbers, failed_word, its_tests, key_and_verdict, not_run_line, other_numbers, outcome_word, passed_numbers, result_word, run_numbers, said_numbers, said_text, status_text, summary_line, verdict_word}
+use Rattle.test_report_forms.specs.Words.{color_of, command_words, disagreement_line, failed_word, key_and_verdict, not_run_line, outcome_word, said_text, status_text, summary_line, verdict_word}
 use Rattle.test_report_forms.specs.declared.options.Options.{Options}
 use Rattle.test_report_laws.proofs.Joins.{note-parts, title-end}
 use Rattle.test_report_laws.proofs.KeyedLines.{Alike, each-alike, falling-alike, fold-alike, text-alike}
 use Rattle.test_report_laws.proofs.Quiet.{Inner, Quiet, also, dark-decimal, inner-decimal, inner-if, inner-more, is_dark, is_inner, no-commands, quiet-byte, quiet-colon, quiet-dark, quiet-dark-all, quiet-feed, quiet-inner, quiet-nothing, quiet-space, word}
+use Rattle.test_report_laws.proofs.QuietWords.{inner-bracket, inner-its_tests, inner-outcome, inner-result, inner-said_numbers, inner-summary, inner-verdict}
 use Rattle.test_report_laws.proofs.QuietShown.{After, quiet-line, quiet-name, quiet-text}
 use Rattle.test_report_laws.specs.Commands.{NamesHasNoCommands, TextHasNoCommands}
 use Rattle.test_report_run.specs.Counted.{finish_for}
 use Rattle.test_report_run.specs.Note.{CargoSays, CommandFails, DisagreementView, EndsEarly, HasCrashed, HasFailed, HasNoEnd, HasNoEvent, HasTimedOut, IsDamaged, IsFlaky, KindView, SaysOther, StartsOutside, StrayEnds, StraySuiteEnds, TestNoteView}
 use Rattle.test_report_run.specs.declared.counted.Finish.TheVariants.{Passed}
 use Rattle.test_report_run.specs.declared.note.RunEnd.{RunEnd}
-
--- the program's own words, numbers and times
-inner-replicate : (b n : ℕ) → is_inner b ≡ true → Inner (replicate n b)
-inner-replicate b zero e = word [] refl
-inner-replicate b (suc n) e = inner-more b e (inner-replicate b n e)
-
-inner-three : (n : ℕ) → Inner (three_digits n)
-inner-three n = also (inner-replicate 48 (3 - length (decimal n)) refl) (inner-decimal n)
-
-inner-bracket : (time : Option ℕ) → Inner (bracket time)
-unfolding bracket
-inner-bracket None = word [] refl
-inner-bracket (Some micros) =
-    let whole = decimal (micros / 1000000) in
-    let padding = also (inner-replicate 32 (4 - length whole) refl) (inner-decimal (micros / 1000000)) in
-    also (word (codes "[") refl) (also padding (also (word (codes ".") refl) (also (inner-three (micros / 1000 % 1000)) (word (codes "s] ") refl))))
-
-inner-verdict : (failed : Bool) → Inner (verdict_word failed)
-inner-verdict failed = inner-if failed (word (codes "failed") refl) (word (codes "ok") refl)
-
-inner-result : (how : TestResult) → Inner (result_word how)
-inner-result ended.Ok = word (codes "ok") refl
-inner-result ended.Failed = word (codes "failed") refl
-inner-result ended.Ignored = word (codes "ignored") refl
-
-inner-outcome : (o : RunOutcome) → Inner (outcome_word o)
-inner-outcome outcome.Success = word (codes "success") refl
-inner-outcome outcome.NoTestsRun = word (codes "no-tests-run") refl
-inner-outcome (outcome.Cancelled step) = word (codes "cancelled") refl
-inner-outcome (outcome.Failed step) = word (codes "failed") refl
-
-inner-said_numbers : (passed failed : Option ℕ) (verdict : List ℕ) → Inner verdict → Inner (said_numbers passed failed verdict)
-unfolding said_numbers
-inner-said_numbers (Some p) (Some f) verdict h =
-    also (word (codes "counts ") refl) (also (inner-decimal p) (also (word (codes " passed and ") refl)
-    (also (inner-decimal f) (also (word (codes " failed (") refl) (also h (word (codes ")") refl))))))
-inner-said_numbers (Some p) None verdict h =
-    also (word (codes "counts ") refl) (also (inner-decimal p) (also (word (codes " passed (") refl) (also h (word (codes ")") refl))))
-inner-said_numbers None (Some f) verdict h =
-    also (word (codes "counts ") refl) (also (inner-decimal f) (also (word (codes " failed (") refl) (also h (word (codes ")") refl))))
-inner-said_numbers None None verdict h = also (word (codes "says ") refl) h
-
-inner-its_tests : (passed failed : ℕ) → Inner (its_tests passed failed)
-unfolding its_tests
-inner-its_tests passed failed =
-    also (word (codes ", but ") refl) (also (inner-decimal passed) (also (word (codes " of its tests passed and ") refl)
-    (also (inner-decimal failed) (word (codes " failed") refl))))
-
-inner-summary : (e : RunEnd) → Inner (summary_line e)
-unfolding summary_line run_numbers passed_numbers failed_numbers other_numbers
-inner-summary e =
-    let passed =
-    also (inner-decimal e.stats.finished_count) (also (word (codes " tests run: ") refl) (also (inner-decimal e.stats.passed)
-    (also (word (codes " passed (") refl) (also (inner-decimal e.stats.flaky) (word (codes " flaky), ") refl))))) in
-    let failed =
-    also (inner-decimal (e.stats.finished_count - e.stats.passed)) (also (word (codes " failed (") refl) (also (inner-decimal e.stats.failed_timed_out)
-    (also (word (codes " timed out, ") refl) (also (inner-decimal e.crashed) (word (codes " crashed), ") refl))))) in
-    let others = also (inner-decimal e.skipped) (also (word (codes " skipped, ") refl) (also (inner-decimal e.not_run) (word (codes " not run") refl))) in
-    also (inner-bracket e.time) (also passed (also failed others))
 
 -- a part of a line that is quiet after another one, at the front of the line, and after a name
 record Within (text : List ℕ) : Type 0 where
@@ -255,6 +193,11 @@ passed-status attempts =
     elim (nat_lt 1 attempts) as (λ b. Status (if b then flaky_word attempts else codes "PASS"))
     [ true ↦ flaky-status attempts | false ↦ status 80 (codes "ASS") refl (word (codes "ASS") refl) ]
 
+listed-status : (attempts : ℕ) (slow : Bool) → Status (listed_word attempts slow)
+listed-status attempts slow =
+    elim (not (nat_lt 1 attempts) && slow) as (λ b. Status (if b then codes "SLOW" else passed_word attempts))
+    [ true ↦ status 83 (codes "LOW") refl (word (codes "LOW") refl) | false ↦ passed-status attempts ]
+
 skipped-status : Status (codes "SKIP")
 skipped-status = status 83 (codes "KIP") refl (word (codes "KIP") refl)
 
@@ -410,7 +353,7 @@ module _ (o : Options) (raw : o.raw ≡ false) where
   item-lines : (e : EntryView) → Lines (item o e)
   item-lines (TestFailed t f w) =
       listed-lines _ (failed-line t (failed_word f.kind) w.short (failed-status f.kind)) (why-lines 13 (text_why o t f w))
-  item-lines (TestPassed t) = listed-lines _ (ended-line t (passed_word t.attempts) (passed-status t.attempts)) no-lines
+  item-lines (TestPassed t) = listed-lines _ (ended-line t (listed_word t.attempts t.slow) (listed-status t.attempts t.slow)) no-lines
   item-lines (TestSkipped t) = listed-lines _ (ended-line t (codes "SKIP") skipped-status) no-lines
   item-lines (LinesDisagree d why) = no-lines
   item-lines (SuiteNotRun suite n of) = no-lines
@@ -426,8 +369,8 @@ module _ (o : Options) (raw : o.raw ≡ false) where
   list-lines : (entries : List EntryView) → Lines (short_list o entries)
   unfolding short_list
   list-lines entries =
-      both (part-lines final.Pass entries) (both (part-lines final.Skip entries) (both (part-lines final.Flaky entries)
-      (both (part-lines final.Fail entries) (slow-text entries))))
+      both (part-lines final.Pass entries) (both (part-lines final.Skip entries) (both (part-lines final.Slow entries)
+      (both (part-lines final.Flaky entries) (both (part-lines final.Fail entries) (slow-text entries)))))
 
   -- entries
   reason-lines : (why : Option (List ℕ)) → Lines (option_map_or (indented 4 o.raw) why [])
@@ -463,10 +406,10 @@ module _ (o : Options) (raw : o.raw ≡ false) where
   text-entry : (e : EntryView) → Lines (text_line o e)
   unfolding failed_text passed_text skipped_text advice cargo_advice
   text-entry (TestFailed t f w) =
-      ended-text (finished_output o (finish_for f.kind) t.attempts) (failed_head o t (failed_word f.kind)) (why_lines 4 o (text_why o t f w))
+      ended-text (finished_output o (finish_for f.kind) t.attempts t.slow) (failed_head o t (failed_word f.kind)) (why_lines 4 o (text_why o t f w))
       (head-line t (failed_word f.kind) (failed-status f.kind)) (why-lines 4 (text_why o t f w))
   text-entry (TestPassed t) =
-      ended-text (finished_output o Passed t.attempts) (ended_head o t (passed_word t.attempts)) []
+      ended-text (finished_output o Passed t.attempts t.slow) (ended_head o t (passed_word t.attempts)) []
       (ended-head t (passed_word t.attempts) (passed-status t.attempts)) no-lines
   text-entry (TestSkipped t) =
       ended-text (skipped_output o) (ended_head o t (codes "SKIP")) [] (ended-head t (codes "SKIP") skipped-status) no-lines

@@ -5,7 +5,9 @@ use Rattle.std.specs.Prelude.{◌||◌, ◌⊎◌, Bool, Contains, IsTrue, max, 
 use Rattle.std.proofs.lemmas.Bool.Decides.{nat_tests}
 use Rattle.std.proofs.lemmas.Bool.{false_from_ne_true}
 use Rattle.std.proofs.lemmas.List.Elements.{All-cons, All-head, All-nil, Contains-append_right}
-use Rattle.test_report_forms.specs.Model.{FailedView, cause_line, failure_of_entry, failures_of, no_tests_ran, shown_failure_of}
+use Rattle.test_report_forms.specs.Model.{FailedView, all_failures, cause_line, failure_of_entry, failures_of, no_tests_ran, shown_failure_of, with_room}
+use Rattle.run_events_results.specs.declared.results.ExecutionResultDescription.TheVariants as result
+use Rattle.run_events_levels.specs.Level.{final_success_level}
 use Rattle.run_events_levels.specs.LevelRanks.{level_rank, final_level_rank}
 use Rattle.run_events_levels.specs.declared.levels.FinalStatusLevel.TheVariants as final
 use Rattle.run_events_levels.specs.declared.levels.OutputOnTestFinished.{OutputOnTestFinished}
@@ -34,6 +36,7 @@ use Rattle.test_report_forms.specs.Text.{text_last, text_line, attempts_note}
 use Rattle.test_report_forms.specs.Title.{title_name}
 use Rattle.test_report_forms.specs.Words.{disagreement_line, not_run_line, outcome_word, failed_word}
 use Rattle.test_report_forms.specs.ShownWhy.{text_why}
+use Rattle.test_report_forms.specs.WholeOutput.{summary_limits}
 use Rattle.test_report_forms.specs.Why.{WhyView}
 use Rattle.test_report_forms.specs.WhyLines.{why_lines}
 use Rattle.test_report_forms.specs.declared.html.HtmlForm.{HtmlForm}
@@ -55,19 +58,19 @@ use Rattle.test_report_engine.specs.Report.{IsReport}
 
 -- what status 0 means
 pub success-means : status.SuccessIsInOrder → SuccessMeans
-success-means in-order inputs entries run are =
-    let same = one-run inputs entries run are in
+success-means in-order slow inputs entries run are =
+    let same = one-run slow inputs entries run are in
     let files = same.0 in
     let end = same.1.end_is in
-    let means = in-order files in (
+    let means = in-order slow files in (
       files,
       same.1,
       (λ is.
           let found = means.0 (sym (ap (λ (e : RunEnd). e.outcome) end) ∙ is) in
-          (found.0, all-ended files found.1 [] inputs files refl same.1.say, found.1)),
+          (found.0, all-ended slow files found.1 [] inputs files refl same.1.say, found.1)),
       (λ is.
           let found = means.1 (sym (ap (λ (e : RunEnd). e.outcome) end) ∙ is) in
-          (found.0, all-ended files found.1 [] inputs files refl same.1.say, found.1)),
+          (found.0, all-ended slow files found.1 [] inputs files refl same.1.say, found.1)),
     )
 
 -- an element of a list, and the one beside it
@@ -99,14 +102,14 @@ entry-reason (IsNotRun suite n of) e is reason = subst (λ x. IsTrue (is_reason 
 entry-reason (SuiteIs s) e is reason = absurd (cc)
 
 pub has-reason : status.FailureHasReason → FailureHasReason
-has-reason reasons inputs entries run are fails =
-    let same = one-run inputs entries run are in
+has-reason reasons slow inputs entries run are fails =
+    let same = one-run slow inputs entries run are in
     let files = same.0 in
     let end = ap (λ (e : RunEnd). e.outcome) same.1.end_is in
-    elim (reasons files (λ is. fails (end ∙ is))) [
+    elim (reasons slow files (λ is. fails (end ∙ is))) [
       | inl found ↦
           let place = found.1 in
-          let beside = beside-at IsEntryOf (all_notes files) entries found.0 place.0 same.1.are place.1 place.2 in
+          let beside = beside-at IsEntryOf (all_notes slow files) entries found.0 place.0 same.1.are place.1 place.2 in
           inl (beside.other, beside.is_one, entry-reason found.0 beside.other beside.related found.2)
       | inr none ↦ inr (end ∙ none.0)
     ]
@@ -147,6 +150,13 @@ module _ (name line : List ℕ → List ℕ) (entries : List EntryView) (end : R
   names-reason (inl found) = names-entry found.0 found.1 found.2
   names-reason (inr none) = inr (inr record { is = none; said = subst (λ o. HasPart text (line (outcome_word o))) none causes.outcome })
 
+-- the failed test of an entry, and those of entries, in a summary
+abbrev test_of : Options → EntryView → Option FailedView
+test_of o e = failure_of_entry o summary_limits.each e
+
+abbrev tests_of : Options → List EntryView → List FailedView
+tests_of o entries = all_failures o summary_limits.each entries
+
 -- the first failed test among entries, if there is one
 record FirstFailed (o : Options) (entries : List EntryView) : Type 0 where
   pub test : TestNoteView
@@ -154,27 +164,27 @@ record FirstFailed (o : Options) (entries : List EntryView) : Type 0 where
   pub why : WhyView
   pub others : List FailedView
   pub is_one : Contains entries (TestFailed test failure why)
-  pub is_first : failures_of o entries ≡ shown_failure_of test failure why o ∷ others
+  pub is_first : tests_of o entries ≡ shown_failure_of test failure why o summary_limits.each ∷ others
 
-later : (o : Options) (e : EntryView) (entries : List EntryView) → failure_of_entry o e ≡ None → FirstFailed o entries → FirstFailed o (e ∷ entries)
+later : (o : Options) (e : EntryView) (entries : List EntryView) → test_of o e ≡ None → FirstFailed o entries → FirstFailed o (e ∷ entries)
 later o e entries none first = record {
   test = first.test;
   failure = first.failure;
   why = first.why;
   others = first.others;
   is_one = (suc first.is_one.0, omega (arith, first.is_one.1), first.is_one.2);
-  is_first = ap (λ f. cons_option f (failures_of o entries)) none ∙ first.is_first;
+  is_first = ap (λ f. cons_option f (tests_of o entries)) none ∙ first.is_first;
 }
 
-other-first : (o : Options) (e : EntryView) (entries : List EntryView) → failure_of_entry o e ≡ None
-    → (failures_of o entries ≡ []) ⊎ FirstFailed o entries → (failures_of o (e ∷ entries) ≡ []) ⊎ FirstFailed o (e ∷ entries)
-other-first o e entries none (inl nothing) = inl (ap (λ f. cons_option f (failures_of o entries)) none ∙ nothing)
+other-first : (o : Options) (e : EntryView) (entries : List EntryView) → test_of o e ≡ None
+    → (tests_of o entries ≡ []) ⊎ FirstFailed o entries → (tests_of o (e ∷ entries) ≡ []) ⊎ FirstFailed o (e ∷ entries)
+other-first o e entries none (inl nothing) = inl (ap (λ f. cons_option f (tests_of o entries)) none ∙ nothing)
 other-first o e entries none (inr first) = inr (later o e entries none first)
 
-first-failed : (o : Options) (entries : List EntryView) → (failures_of o entries ≡ []) ⊎ FirstFailed o entries
+first-failed : (o : Options) (entries : List EntryView) → (tests_of o entries ≡ []) ⊎ FirstFailed o entries
 first-failed o [] = inl refl
 first-failed o (TestFailed t f w ∷ entries) =
-    inr record { test = t; failure = f; why = w; others = failures_of o entries; is_one = (0, omega arith, refl); is_first = refl }
+    inr record { test = t; failure = f; why = w; others = tests_of o entries; is_one = (0, omega arith, refl); is_first = refl }
 first-failed o (TestPassed t ∷ entries) = other-first o (TestPassed t) entries refl (first-failed o entries)
 first-failed o (TestSkipped t ∷ entries) = other-first o (TestSkipped t) entries refl (first-failed o entries)
 first-failed o (LinesDisagree d why ∷ entries) = other-first o (LinesDisagree d why) entries refl (first-failed o entries)
@@ -188,22 +198,22 @@ shows-first P t ts all = All-head P t _ all
 
 -- a summary names a reason
 module _ (o : Options) (entries : List EntryView) (end : RunEnd) (text : List ℕ)
-    (causes : SummaryNames (shown_tests (failures_of o entries)) entries end text) where
+    (causes : SummaryNames (shown_tests (failures_of summary_limits o entries)) entries end text) where
   abbrev in_markdown : List ℕ → List ℕ
   in_markdown = hole_text hole.Plain
 
   names-test : (t : TestNoteView) (f : FailureView) (w : WhyView) → Contains entries (TestFailed t f w)
-      → (failures_of o entries ≡ []) ⊎ FirstFailed o entries → NamesReason in_markdown in_markdown entries end text
+      → (tests_of o entries ≡ []) ⊎ FirstFailed o entries → NamesReason in_markdown in_markdown entries end text
   names-test t f w is_one (inl nothing) =
-      let none = unfiltered (λ x. ⊥) (failure_of_entry o) entries (subst (All (λ x. ⊥)) (sym nothing) (All-nil (λ x. ⊥))) in
-      absurd (at-entry entries (λ e. IfSome (failure_of_entry o e) (λ x. ⊥)) (TestFailed t f w) is_one none)
+      let none = unfiltered (λ x. ⊥) (test_of o) entries (subst (All (λ x. ⊥)) (sym nothing) (All-nil (λ x. ⊥))) in
+      absurd (at-entry entries (λ e. IfSome (test_of o e) (λ x. ⊥)) (TestFailed t f w) is_one none)
   names-test t f w is_one (inr first) = inl record {
     entry = TestFailed first.test first.failure first.why;
     own = shown_name (title_name first.test);
     is_one = first.is_one;
     has_name = refl;
-    is_named = shows-first (λ t. HasPart text (in_markdown t.name)) _ first.others
-        (subst (λ ts. All (λ t. HasPart text (in_markdown t.name)) (shown_tests ts)) first.is_first causes.tests);
+    is_named = shows-first (λ t. HasPart text (in_markdown t.name)) _ _
+        (subst (λ ts. All (λ t. HasPart text (in_markdown t.name)) (shown_tests (with_room summary_limits.all ts))) first.is_first causes.tests);
   }
 
   summary-entry : (e : EntryView) → Contains entries e → IsTrue (is_reason e) → NamesReason in_markdown in_markdown entries end text
@@ -259,40 +269,41 @@ shown-own shows line below has =
     (_, ap (λ t. if t then Some (record { line = line; below = if shows.show_immediate then below else [] }) else None) has)
 
 -- a failed test has a line if the levels and displays show failed tests
-failed-shown : (o : Options) (kind : KindView) (attempts : ℕ) → shows_failures o ≡ true → has_line (finished_output o (finish_for kind) attempts) ≡ true
+failed-shown : (o : Options) (kind : KindView) (attempts : ℕ) (slow : Bool) → shows_failures o ≡ true
+    → has_line (finished_output o (finish_for kind) attempts slow) ≡ true
 unfolding finished_output
-failed-shown o HasFailed attempts h = h
-failed-shown o HasTimedOut attempts h = h
-failed-shown o HasNoEnd attempts h = h
-failed-shown o IsFlaky attempts h =
+failed-shown o HasFailed attempts slow h = h
+failed-shown o HasTimedOut attempts slow h = h
+failed-shown o HasNoEnd attempts slow h = h
+failed-shown o IsFlaky attempts slow h =
     let several : nat_lt 1 (max attempts 2) ≡ true = grind (arith, nat_tests) in
     let own = λ (t : Bool). nat_le (level_rank (unwrap_or (if t then Some level.Fail else Some level.Pass) level.Fail)) (level_rank o.status_level) in
     ap (λ t. own t || is_immediate_display o.failure_output) several ∙ h
-failed-shown o (HasCrashed crash) attempts h = h
+failed-shown o (HasCrashed crash) attempts slow h = h
 
 text-own : (o : Options) → shows_failures o ≡ true → (e : EntryView) → IsTrue (is_reason e) → (b : Block) × (text_block o e ≡ Some b)
 text-own o shows (TestPassed t) reason = absurd (cc)
 text-own o shows (TestSkipped t) reason = absurd (cc)
 text-own o shows (TestFailed t f w) reason =
-    shown-own (finished_output o (finish_for f.kind) t.attempts) (ended_words o (failed_word f.kind) t (attempts_note t.attempts))
-    (why_lines 4 o (text_why o t f w)) (failed-shown o f.kind t.attempts shows)
+    shown-own (finished_output o (finish_for f.kind) t.attempts t.slow) (ended_words o (failed_word f.kind) t (attempts_note t.attempts))
+    (why_lines 4 o (text_why o t f w)) (failed-shown o f.kind t.attempts t.slow shows)
 text-own o shows (LinesDisagree d why) reason = (_, refl)
 text-own o shows (SuiteNotRun suite n of) reason = (_, refl)
 text-own o shows (SuiteOver s) reason = absurd (cc)
 
 -- a failed test is in the list if the levels and displays list failed tests
-failed-stored : (o : Options) (kind : KindView) (attempts : ℕ) → lists_failures o ≡ true
-    → (finished_output o (finish_for kind) attempts).store_final ≡ store.Yes (is_final_display o.failure_output)
+failed-stored : (o : Options) (kind : KindView) (attempts : ℕ) (slow : Bool) → lists_failures o ≡ true
+    → (finished_output o (finish_for kind) attempts slow).store_final ≡ store.Yes (is_final_display o.failure_output)
 unfolding finished_output
-failed-stored o HasFailed attempts h = ap (λ s. if s then store.Yes (is_final_display o.failure_output) else store.No) h
-failed-stored o HasTimedOut attempts h = ap (λ s. if s then store.Yes (is_final_display o.failure_output) else store.No) h
-failed-stored o HasNoEnd attempts h = ap (λ s. if s then store.Yes (is_final_display o.failure_output) else store.No) h
-failed-stored o IsFlaky attempts h =
+failed-stored o HasFailed attempts slow h = ap (λ s. if s then store.Yes (is_final_display o.failure_output) else store.No) h
+failed-stored o HasTimedOut attempts slow h = ap (λ s. if s then store.Yes (is_final_display o.failure_output) else store.No) h
+failed-stored o HasNoEnd attempts slow h = ap (λ s. if s then store.Yes (is_final_display o.failure_output) else store.No) h
+failed-stored o IsFlaky attempts slow h =
     let several : nat_lt 1 (max attempts 2) ≡ true = grind (arith, nat_tests) in
-    let level = λ (t : Bool). unwrap_or (if t then Some final.Fail else Some final.Pass) final.Fail in
+    let level = λ (t : Bool). unwrap_or (if t then Some final.Fail else final_success_level result.Pass slow) final.Fail in
     let own = λ (t : Bool). is_final_display o.failure_output || nat_le (final_level_rank (level t)) (final_level_rank o.final_status_level) in
     ap (λ s. if s then store.Yes (is_final_display o.failure_output) else store.No) (ap own several ∙ h)
-failed-stored o (HasCrashed crash) attempts h = ap (λ s. if s then store.Yes (is_final_display o.failure_output) else store.No) h
+failed-stored o (HasCrashed crash) attempts slow h = ap (λ s. if s then store.Yes (is_final_display o.failure_output) else store.No) h
 
 -- what the list and the other lines of a report for people say of a reason, if its levels and displays list failed tests
 module _ (o : Options) (entries : List EntryView) (end : RunEnd) (text : List ℕ) (says : TextSays o entries end text) (lists : lists_failures o ≡ true)
@@ -306,7 +317,7 @@ module _ (o : Options) (entries : List EntryView) (end : RunEnd) (text : List �
   list-entry (TestSkipped t) is_one reason = absurd (cc)
   list-entry (TestFailed t f w) is_one reason =
       let line = list_line o (failed_word f.kind) t ++ (codes ": " ++ shown_text o.raw (front w.short o.limit)) in
-      let own = ap (λ s. listed_block s line (why_lines 13 o (text_why o t f w))) (failed-stored o f.kind t.attempts lists) in
+      let own = ap (λ s. listed_block s line (why_lines 13 o (text_why o t f w))) (failed-stored o f.kind t.attempts t.slow lists) in
       inr (cause-at (list_block o) entries text (says.listed short) (TestFailed t f w) is_one reason (_, own))
   list-entry (LinesDisagree d why) is_one reason = inl (inl (cause-at (text_block o) entries text says.causes (LinesDisagree d why) is_one reason (_, refl)))
   list-entry (SuiteNotRun suite n of) is_one reason =
@@ -386,66 +397,66 @@ if-junit P last Q (Some f) text is each = λ q. subst (λ t. IfSome t (P f)) (sy
 
 -- a report, and the texts of files
 module _ (has_reason : FailureHasReason) where
-  reason-of : (line : EntryView → List ℕ) (last : List EntryView → RunEnd → List ℕ) (inputs : List InputView) (text : List ℕ) (end : RunEnd)
-      (report : IsReport line last inputs text end) → ¬ (Succeeds end)
+  reason-of : (slow : ℕ) (line : EntryView → List ℕ) (last : List EntryView → RunEnd → List ℕ) (inputs : List InputView) (text : List ℕ) (end : RunEnd)
+      (report : IsReport slow line last inputs text end) → ¬ (Succeeds end)
       → ((e : EntryView) × Contains report.entries e × IsTrue (is_reason e)) ⊎ RanNoTests end
-  reason-of line last inputs text end report fails =
+  reason-of slow line last inputs text end report fails =
       let same = ap (λ (e : RunEnd). e.outcome) report.end_is in
-      elim (has_reason inputs report.entries report.run report.are (λ is. fails (same ∙ is))) [
+      elim (has_reason slow inputs report.entries report.run report.are (λ is. fails (same ∙ is))) [
         | inl found ↦ inl found
         | inr none ↦ inr (same ∙ none)
       ]
 
-  report-names : (name written : List ℕ → List ℕ) (line : EntryView → List ℕ) (last : List EntryView → RunEnd → List ℕ) (inputs : List InputView)
-      (text : List ℕ) (end : RunEnd) (report : IsReport line last inputs text end) → NamesCauses name written report.entries end text
+  report-names : (slow : ℕ) (name written : List ℕ → List ℕ) (line : EntryView → List ℕ) (last : List EntryView → RunEnd → List ℕ) (inputs : List InputView)
+      (text : List ℕ) (end : RunEnd) (report : IsReport slow line last inputs text end) → NamesCauses name written report.entries end text
       → ¬ (Succeeds end) → NamesReason name written report.entries end text
-  report-names name written line last inputs text end report causes fails =
-      names-reason name written report.entries end text causes (reason-of line last inputs text end report fails)
+  report-names slow name written line last inputs text end report causes fails =
+      names-reason name written report.entries end text causes (reason-of slow line last inputs text end report fails)
 
   pub text-names : TextNamesCauses → TextNamesReason
-  text-names causes o inputs text end report fails (inl shows) =
+  text-names causes slow o inputs text end report fails (inl shows) =
       let says = subst (TextSays o report.entries end) (sym report.is) (causes o report.entries end) in
       inl (says-reason (text_block o) (codes "outcome no-tests-run") report.entries end text (text-own o shows) says.causes
       (λ none. subst (λ out. EndsWith text (codes "outcome " ++ outcome_word out)) none says.outcome)
-      (reason-of (text_line o) (text_last o) inputs text end report fails))
-  text-names causes o inputs text end report fails (inr lists) =
+      (reason-of slow (text_line o) (text_last o) inputs text end report fails))
+  text-names causes slow o inputs text end report fails (inr lists) =
       let says = subst (TextSays o report.entries end) (sym report.is) (causes o report.entries end) in
-      list-says o report.entries end text says lists.0 lists.1 (reason-of (text_line o) (text_last o) inputs text end report fails)
+      list-says o report.entries end text says lists.0 lists.1 (reason-of slow (text_line o) (text_last o) inputs text end report fails)
 
   pub github-names : GithubNamesCauses → GithubNamesReason
-  github-names causes o inputs text end report fails =
-      let files = one-run inputs report.entries report.run report.are in
-      let notes = of-notes (all_notes files.0) report.entries files.1.are in
+  github-names causes slow o inputs text end report fails =
+      let files = one-run slow inputs report.entries report.run report.are in
+      let notes = of-notes (all_notes slow files.0) report.entries files.1.are in
       let says = subst (GithubSays o report.entries end) (sym report.is) (causes o report.entries end notes) in
       says-reason (github_block o) (notice end) report.entries end text (github-own o) says.causes (λ none. says.outcome)
-      (reason-of (github_line o) (λ entries end. github_last end) inputs text end report fails)
+      (reason-of slow (github_line o) (λ entries end. github_last end) inputs text end report fails)
 
   pub html-names : HtmlNamesCauses → HtmlNamesReason
-  html-names causes o inputs text end report =
+  html-names causes slow o inputs text end report =
       let is = report.is ∙ ap (λ x. x ++ html_of o report.entries end) (none-first report.entries) in
-      report-names (hole_text hole.Text) (hole_text hole.Text) (λ e. []) (html_of o) inputs text end report
+      report-names slow (hole_text hole.Text) (hole_text hole.Text) (λ e. []) (html_of o) inputs text end report
       (subst (NamesCauses (hole_text hole.Text) (hole_text hole.Text) report.entries end) (sym is) (causes o report.entries end))
 
   pub junit-names : JunitNamesCauses → JunitNamesReason
-  junit-names causes o inputs text end report fails to_pass =
+  junit-names causes slow o inputs text end report fails to_pass =
       let is = report.is ∙ ap (λ x. x ++ junit_of o report.entries end) (none-first report.entries) in
       let own = causes o report.entries end in
       has-case o report.entries end text own.0 (subst (λ x. IsXml x own.0) (sym is) own.1) own.2 to_pass
-      (reason-of nothing (junit_of o) inputs text end report fails)
+      (reason-of slow nothing (junit_of o) inputs text end report fails)
 
   pub markdown-names : MarkdownNamesCauses → MarkdownNamesReason
-  markdown-names causes o inputs text end report fails =
+  markdown-names causes slow o inputs text end report fails =
       let is = report.is ∙ ap (λ x. x ++ markdown_of o report.entries end) (none-first report.entries) in
       summary-reason o report.entries end text
-      (subst (SummaryNames (shown_tests (failures_of o report.entries)) report.entries end) (sym is) (causes o report.entries end))
-      (reason-of nothing (markdown_of o) inputs text end report fails)
+      (subst (SummaryNames (shown_tests (failures_of summary_limits o report.entries)) report.entries end) (sym is) (causes o report.entries end))
+      (reason-of slow nothing (markdown_of o) inputs text end report fails)
 
   pub files-name : JunitNamesCauses → HtmlNamesCauses → MarkdownNamesCauses → FilesNameReason
-  files-name junit html markdown files inputs texts are fails =
+  files-name junit html markdown slow files inputs texts are fails =
       let end = end_of are.run in
       let between-tags = hole_text hole.Text in
       let in-markdown = hole_text hole.Plain in
-      let found = has_reason inputs are.entries are.run are.are fails in (
+      let found = has_reason slow inputs are.entries are.run are.are fails in (
         if-junit (λ f. HasReasonCase f.options are.entries end) (λ f. junit_last f are.entries end)
             (λ f. ¬ (RanNoTests end × IsTrue f.options.no_tests_pass)) files.junit (text_view texts.junit) are.say.junit
             (λ f to_pass. let own = junit f.options are.entries end in has-case f.options are.entries end _ own.0 own.1 own.2 to_pass found),

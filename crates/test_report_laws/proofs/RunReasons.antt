@@ -51,4 +51,4 @@ by-outcome notes o named means fails = inl (reason-in notes (omega (
 )))
 
 pub failure-reason : FailureHasReason
-failure-reason files = by-outcome (all_notes files) (whole_end files).outcome (not-run-named files) (outcome-means files)
+failure-reason slow files = by-outcome (all_notes slow files) (whole_end slow files).outcome (not-run-named slow files) (outcome-means slow files)

@@ -77,11 +77,11 @@ have-events (input ∷ inputs) [] say = absurd say
 have-events (input ∷ inputs) (lines ∷ events) say = (record { lines = lines; say = say.0; are = refl }, have-events inputs events say.1)
 
 pub one-run : OneRun
-one-run inputs entries run are = (
+one-run slow inputs entries run are = (
   map in-order are.events,
   record {
     say = have-events inputs are.events are.say;
-    are = subst (λ ns. AllZip IsEntryOf ns entries) (inputs-notes run_start are.events) are.are;
-    end_is = ap end_of (are.run_is ∙ inputs-run run_start are.events);
+    are = subst (λ ns. AllZip IsEntryOf ns entries) (inputs-notes (run_start slow) are.events) are.are;
+    end_is = ap end_of (are.run_is ∙ inputs-run (run_start slow) are.events);
   },
 )

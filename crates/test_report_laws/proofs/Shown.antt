@@ -11,6 +11,7 @@ use Rattle.test_report_laws.proofs.EndSums as ends
 use Rattle.test_report_laws.proofs.EndSums.{last_by}
 use Rattle.test_report_laws.proofs.Sums.{sum-none}
 use Rattle.test_report_laws.proofs.Tallies.{count-of, crashed_weight, finished-counts, finished-of, finished_weight, passed-counts, passed_weight}
+use Rattle.test_report_run.specs.Running.{RunningView}
 use Rattle.test_report_run.specs.LastLine.{is_contradicted}
 use Rattle.test_report_laws.specs.Run.{Agrees, EarlyEndShows, LastLineAgrees, StrayEndShows, crashed_in, disagreements_in, failed_in, fails_by, has_passed, is_crash, passed_in}
 use Rattle.test_report_run.specs.Note.{Disagrees, HasNoEnd, NoteView, StraySuiteEnds}
@@ -33,16 +34,16 @@ one-disagreement : (s : SuiteState) → s.number ≢ None
     → sum_by weight (last_disagreement s) ≡ cond (is_contradicted (numbers_of s.said) s.stats.passed (failed_of s.stats)) 1 0
 one-disagreement s some = grind (arith, nat_tests)
 
-of-last : (s : SuiteState) (e : Explanation) (names : List (List ℕ)) → s.number ≢ None
-    → disagreements_in (last_by s e names)
-    ≡ cond (is_contradicted (numbers_of s.said) (last_state s e names).stats.passed (failed_of (last_state s e names).stats)) 1 0
-of-last s e names some = omega (
+of-last : (s : SuiteState) (e : Explanation) (tests : List RunningView) → s.number ≢ None
+    → disagreements_in (last_by s e tests)
+    ≡ cond (is_contradicted (numbers_of s.said) (last_state s e tests).stats.passed (failed_of (last_state s e tests).stats)) 1 0
+of-last s e tests some = omega (
   arith,
-  ends.of-last-all weight (λ suite n of. refl) s e names,
-  sum-none (λ n. weight (failed_note s HasNoEnd n)) (λ n. refl) (lost e names),
+  ends.of-last-all weight (λ suite n of. refl) s e tests,
+  sum-none (λ n. weight (failed_note s HasNoEnd n)) (λ n. refl) (lost e tests),
   sum-none (λ f. weight (flaky_note s e.flaky_failed f)) (λ f. grind arith) s.flaky,
-  sum-none (λ n. weight (skipped_note s n)) (λ n. refl) (take e.skipped names),
-  one-disagreement (last_state s e names) some,
+  sum-none (λ n. weight (skipped_note s n)) (λ n. refl) (take e.skipped tests),
+  one-disagreement (last_state s e tests) some,
 )
 
 -- a last line agrees with the tests where it does not contradict them
@@ -70,23 +71,23 @@ one-false : (b : Bool) → (◌≡◌ {A = ℕ} (cond b 1 0) 0) ↔ (b ≡ false
 one-false b = ((λ h. grind arith), (λ h. grind arith))
 
 pub last-agrees : LastLineAgrees
-last-agrees s names some sound =
-    let e = explained_of s (length names) in
-    let t = last_state s e names in
+last-agrees s tests some sound =
+    let e = explained_of s (length tests) in
+    let t = last_state s e tests in
     let said = numbers_of s.said in
-    let notes = last_by s e names in
+    let notes = last_by s e tests in
     let passed : t.stats.passed ≡ s.stats.passed + passed_in notes = omega (
       arith,
-      after-last (λ x. x.passed) passed_weight refl passed-counts (λ n h. refl) (λ reason n. refl) s e names sound.retried,
+      after-last (λ x. x.passed) passed_weight refl passed-counts (λ n slow h. refl) (λ reason n slow. refl) s e tests sound.retried,
       count-of (λ x. has_passed x.outcome) passed_weight (λ x. refl) notes,
     ) in
     let finished : t.stats.finished_count ≡ s.stats.finished_count + (passed_in notes + failed_in notes) = omega (
       arith,
-      after-last (λ x. x.finished_count) finished_weight refl finished-counts (λ n h. refl) (λ reason n. refl) s e names sound.retried,
+      after-last (λ x. x.finished_count) finished_weight refl finished-counts (λ n slow h. refl) (λ reason n slow. refl) s e tests sound.retried,
       finished-of notes,
     ) in
     let failed : failed_of t.stats ≡ failed_of s.stats + failed_in notes = omega (arith, sound.passed) in
-    let count = of-last s e names some in
+    let count = of-last s e tests some in
     let agree = agrees said t.stats.passed (failed_of t.stats) in (
       (λ none. rw (← passed, ← failed) (agree.0 ((one-false _).0 (sym count ∙ none)))),
       (λ h. count ∙ (one-false _).1 (agree.1
@@ -94,20 +95,20 @@ last-agrees s names some sound =
     )
 
 -- the disagreements of a suite that ends early
-of-early : (others : OthersView) (s : SuiteState) (names : List (List ℕ))
-    → disagreements_in (early_notes others s names) ≡ sum_by weight (early_disagreements s (length names))
-of-early others s names = omega (
+of-early : (others : OthersView) (s : SuiteState) (tests : List RunningView)
+    → disagreements_in (early_notes others s tests) ≡ sum_by weight (early_disagreements s (length tests))
+of-early others s tests = omega (
   arith,
-  ends.of-early-all weight (λ suite n of. refl) others s names,
-  ends.sum-crashed weight false s (λ c n. refl) (crash_of others s (length names)) names,
+  ends.of-early-all weight (λ suite n of. refl) others s tests,
+  ends.sum-crashed weight false s (λ c n. refl) (crash_of others s (length tests)) tests,
   sum-none (λ f. weight (flaky_note s false f)) (λ f. refl) s.flaky,
 )
 
-crashes : (others : OthersView) (s : SuiteState) (names : List (List ℕ)) → crashed_in (early_notes others s names) ≡ length names
-crashes others s names = omega (
+crashes : (others : OthersView) (s : SuiteState) (tests : List RunningView) → crashed_in (early_notes others s tests) ≡ length tests
+crashes others s tests = omega (
   arith,
-  count-of (λ t. fails_by is_crash t.outcome) crashed_weight (λ t. refl) (early_notes others s names),
-  ends.by-early (of_test crashed_weight) (λ d. refl) (λ suite n of. refl) true others s names (λ c name. refl) (λ f. refl),
+  count-of (λ t. fails_by is_crash t.outcome) crashed_weight (λ t. refl) (early_notes others s tests),
+  ends.by-early (of_test crashed_weight) (λ d. refl) (λ suite n of. refl) true others s tests (λ c name. refl) (λ f. refl),
 )
 
 -- no test runs: the end of a suite with a number disagrees, and tests outside of a suite do
@@ -116,7 +117,7 @@ shows s some = grind (arith, nat_tests)
 
 pub early-shows : EarlyEndShows
 early-shows others s [] some = omega (arith, of-early others s [], shows s some)
-early-shows others s (name ∷ names) some = omega (arith, crashes others s (name ∷ names))
+early-shows others s (test ∷ tests) some = omega (arith, crashes others s (test ∷ tests))
 
 -- a last line of a suite that is not open
 pub stray-one : (r : RunState) (e : SuiteEndView) (at : Option ℕ) → at ≡ None

@@ -1,5 +1,5 @@
 -- What a form that renders a template shows of the values of a run.
-use Rattle.std.proofs.Common.{◌≡◌, ℕ, true, false, List, [], ◌∷◌, codes, if◌then◌else◌, map, Option, Some, None, option_map, subst}
+use Rattle.std.proofs.Common.{◌≡◌, ◌==◌, ℕ, true, false, List, [], ◌∷◌, codes, if◌then◌else◌, map, Option, Some, None, option_map, subst}
 use Rattle.std.proofs.lemmas.Bool.{and_parts}
 use Rattle.std.proofs.lemmas.List.Elements.{All-cons, All-head, All-nil, All-tail, All-weaker}
 use Rattle.std.specs.List.{All, cons_option, filter_map, list_all}
@@ -13,8 +13,9 @@ use Rattle.template.specs.declared.hole.Hole.{Hole}
 use Rattle.test_report_laws.proofs.ReportValues.{failed-at, name-of, problems-at}
 use Rattle.test_report_forms.specs.Entry.{EntryView, LinesDisagree, SuiteNotRun, SuiteOver, TestFailed, TestPassed, TestSkipped}
 use Rattle.test_report_forms.specs.Holes.{HoleView, has_hole}
-use Rattle.test_report_forms.specs.Model.{CauseView, FailedView, ProblemView, all_problems, cause_line, cause_of_entry, failure_of_entry, failures_of, no_tests_problem, no_tests_ran, problem_of, problem_of_entry, problems_of, report_of}
+use Rattle.test_report_forms.specs.Model.{CauseView, FailedView, ProblemView, all_failures, all_problems, cause_line, cause_of_entry, failure_of_entry, failures_of, no_tests_problem, no_tests_ran, output_if_room, problem_of, problem_of_entry, problems_of, report_of, room_after_test, with_room}
 use Rattle.test_report_forms.specs.Values.{failed_values, problem_values, report_values, run_values, values_of_run}
+use Rattle.test_report_forms.specs.WholeOutput.{page_limits}
 use Rattle.test_report_forms.specs.Words.{outcome_word}
 use Rattle.test_report_laws.specs.Forms.{HasValues, NamesCauses, failed_name}
 use Rattle.test_report_run.specs.declared.note.RunEnd.{RunEnd}
@@ -47,6 +48,17 @@ other-problems P o problems h =
     elim (no_tests_ran o) as (λ b. All P (if b then no_tests_problem ∷ problems else problems) → All P problems)
     [ true ↦ λ all. All-tail P _ _ all | false ↦ λ all. all ] h
 
+-- failed tests have their names with or without their outputs
+own-or-not : (P : List ℕ → Type 0) (room : ℕ) (t : FailedView) → P (output_if_room room t).name → P t.name
+own-or-not P room t =
+    elim (room == 0) as (λ b. P (if b then record t { output = None } else t).name → P t.name) [ true ↦ λ h. h | false ↦ λ h. h ]
+
+all-names : (P : List ℕ → Type 0) (room : ℕ) (ts : List FailedView) → All (λ t. P t.name) (with_room room ts) → All (λ t. P t.name) ts
+all-names P room [] h = All-nil (λ t. P t.name)
+all-names P room (t ∷ ts) h =
+    All-cons (λ t. P t.name) t ts (own-or-not P room t (All-head (λ t. P t.name) _ _ h))
+    (all-names P (room_after_test room t) ts (All-tail (λ t. P t.name) _ _ h))
+
 -- a text that has the values of three holes names each cause
 module _ (text : List ℕ) (kind : Hole) (o : Options) (entries : List EntryView) (end : RunEnd) where
   abbrev Written : List ℕ → Type 0
@@ -61,11 +73,12 @@ module _ (text : List ℕ) (kind : Hole) (o : Options) (entries : List EntryView
       let tests = unmapped (λ i. Written (text_of (codes "name") i)) (λ t. values_of (failed_values t)) ts items in
       All-weaker (λ t. Written (text_of (codes "name") (values_of (failed_values t)))) (λ t. Written t.name) (λ t. subst Written (name-of t)) ts tests
 
-  failed-names : AreWritten (codes "failures" ∷ codes "failed" ∷ []) (codes "name") → All (λ t. Written t.name) (failures_of o entries)
+  failed-names : AreWritten (codes "failures" ∷ codes "failed" ∷ []) (codes "name") → All (λ t. Written t.name) (all_failures o page_limits.each entries)
   failed-names items =
-      names-of (failures_of o entries) (subst (All (λ i. Written (text_of (codes "name") i))) (failed-at (report_of o entries end)) items)
+      all-names Written page_limits.all (all_failures o page_limits.each entries) (names-of (failures_of page_limits o entries)
+      (subst (All (λ i. Written (text_of (codes "name") i))) (failed-at (report_of page_limits o entries end)) items))
 
-  own-name : (e : EntryView) → IfSome (failure_of_entry o e) (λ t. Written t.name) → IfSome (failed_name e) Written
+  own-name : (e : EntryView) → IfSome (failure_of_entry o page_limits.each e) (λ t. Written t.name) → IfSome (failed_name e) Written
   own-name (TestFailed t f w) h = h
   own-name (LinesDisagree d why) h = tt
   own-name (SuiteNotRun suite n of) h = tt
@@ -92,8 +105,8 @@ module _ (text : List ℕ) (kind : Hole) (o : Options) (entries : List EntryView
       → AreWritten [] (codes "outcome") → NamesCauses (hole_text kind) (hole_text kind) entries end text
   names-causes names lines word = record {
     tests =
-        All-weaker (λ e. IfSome (failure_of_entry o e) (λ t. Written t.name)) (λ e. IfSome (failed_name e) Written) own-name entries
-        (unfiltered (λ t. Written t.name) (failure_of_entry o) entries (failed-names names));
-    lines = lines-of (subst (All (λ i. Written (text_of (codes "line") i))) (problems-at (report_of o entries end)) lines);
+        All-weaker (λ e. IfSome (failure_of_entry o page_limits.each e) (λ t. Written t.name)) (λ e. IfSome (failed_name e) Written) own-name entries
+        (unfiltered (λ t. Written t.name) (failure_of_entry o page_limits.each) entries (failed-names names));
+    lines = lines-of (subst (All (λ i. Written (text_of (codes "line") i))) (problems-at (report_of page_limits o entries end)) lines);
     outcome = own-outcome word;
   }

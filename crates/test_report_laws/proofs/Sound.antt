@@ -18,7 +18,7 @@ as-record s sound = record { retried = sound.late; passed = sound.passed }
 
 -- the rules for failed tests
 abbrev pub failed-rules : Rules 0 (of_test failed_weight) (of_suite (λ s. failed_tests s.stats)) (λ k. failed_tests k.stats) Sound
-failed-rules = counter-rules failed_tests failed_weight refl failed-counts (λ n h. refl) (λ reason n. refl)
+failed-rules = counter-rules failed_tests failed_weight refl failed-counts (λ n slow h. refl) (λ reason n slow. refl)
 
 pub all-sound : (notes : List NoteView) (r : RunState) → Holds failed-rules notes r → IsSound r.outside × All IsSound r.suites
 all-sound notes r holds = (as-record r.outside holds.fine.0, All-weaker (λ s. Sound (kept s)) IsSound as-record r.suites holds.fine.1)
@@ -35,9 +35,10 @@ all-known notes r holds k d low =
     )
 
 pub suites-sound : SuitesAreSound
-suites-sound files events r is = subst (λ x. IsSound x.outside × All IsSound x.suites) (sym is) (all-sound _ _ (holds-after failed-rules files events))
+suites-sound slow files events r is =
+    subst (λ x. IsSound x.outside × All IsSound x.suites) (sym is) (all-sound _ _ (holds-after failed-rules slow files events))
 
 pub failures-known : FailuresAreKnown
-failures-known files events r is =
-    let notes = all_notes files ++ notes_of (run_after_files run_start files) events in
-    subst (λ (x : RunState). All (λ s. failed_of s.stats ≤ failed_in notes) x.suites) (sym is) (all-known _ _ (holds-after failed-rules files events))
+failures-known slow files events r is =
+    let notes = all_notes slow files ++ notes_of (run_after_files (run_start slow) files) events in
+    subst (λ (x : RunState). All (λ s. failed_of s.stats ≤ failed_in notes) x.suites) (sym is) (all-known _ _ (holds-after failed-rules slow files events))

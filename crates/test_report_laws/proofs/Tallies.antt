@@ -13,6 +13,7 @@ use Rattle.test_report_laws.proofs.Counters.{early-suite, exactly, fits, fits_ki
 use Rattle.test_report_laws.proofs.EndSums as ends
 use Rattle.test_report_laws.proofs.EndSums.{last_by}
 use Rattle.test_report_laws.proofs.Sums.{sum-both, sum-same}
+use Rattle.test_report_run.specs.Running.{RunningView}
 use Rattle.test_report_run.specs.Counted.{finish_for, view_of_finish}
 use Rattle.test_report_laws.specs.Run.{Counts, TotalsAreCounts, failed_in, fails_by, has_passed, is_crash, is_test, is_timed_out, not_run_in, not_run_of, passed_in, was_skipped}
 use Rattle.test_report_run.specs.Note.{Fails, HasTimedOut, IsFlaky, IsSkipped, KindView, NoteView, OutcomeView, Passes, TestIs, TestNoteView}
@@ -31,77 +32,92 @@ abbrev one : Bool → ℕ
 one b = cond b 1 0
 
 -- `passed`
-passed-kind : (stats : RunStats) (kind : KindView) (n : ℕ) → fits_kind kind n ≡ true
-    → (with_test stats (view_of_finish (finish_for kind) n)).passed ≡ stats.passed + 0
-passed-kind stats IsFlaky n fit = grind (arith, fit)
-passed-kind stats kind n fit = refl
+passed-kind : (stats : RunStats) (kind : KindView) (n : ℕ) (slow : Bool) → fits_kind kind n ≡ true
+    → (with_test stats (view_of_finish (finish_for kind) n slow)).passed ≡ stats.passed + 0
+passed-kind stats IsFlaky n slow fit = grind (arith, fit)
+passed-kind stats kind n slow fit = refl
 
-abbrev pub passed_weight : OutcomeView → ℕ → ℕ
-passed_weight outcome n = one (has_passed outcome)
+abbrev pub passed_weight : OutcomeView → ℕ → Bool → ℕ
+passed_weight outcome n slow = one (has_passed outcome)
 
-pub passed-counts : (stats : RunStats) (outcome : OutcomeView) (n : ℕ) → fits outcome n ≡ true
-    → (with_outcome stats outcome n).passed ≡ stats.passed + passed_weight outcome n
-passed-counts stats Passes n fit = grind arith
-passed-counts stats (IsSkipped reason) n fit = omega arith
-passed-counts stats (Fails f) n fit = passed-kind stats f.kind n fit
+pub passed-counts : (stats : RunStats) (outcome : OutcomeView) (n : ℕ) (slow : Bool) → fits outcome n ≡ true
+    → (with_outcome stats outcome n slow).passed ≡ stats.passed + passed_weight outcome n slow
+passed-counts stats Passes n slow fit = grind arith
+passed-counts stats (IsSkipped reason) n slow fit = omega arith
+passed-counts stats (Fails f) n slow fit = passed-kind stats f.kind n slow fit
 
 -- `finished_count`
-abbrev pub finished_weight : OutcomeView → ℕ → ℕ
-finished_weight outcome n = one (has_passed outcome) + one (has_failed outcome)
+abbrev pub finished_weight : OutcomeView → ℕ → Bool → ℕ
+finished_weight outcome n slow = one (has_passed outcome) + one (has_failed outcome)
 
-pub finished-counts : (stats : RunStats) (outcome : OutcomeView) (n : ℕ) → fits outcome n ≡ true
-    → (with_outcome stats outcome n).finished_count ≡ stats.finished_count + finished_weight outcome n
-finished-counts stats Passes n fit = refl
-finished-counts stats (IsSkipped reason) n fit = omega arith
-finished-counts stats (Fails f) n fit = refl
+pub finished-counts : (stats : RunStats) (outcome : OutcomeView) (n : ℕ) (slow : Bool) → fits outcome n ≡ true
+    → (with_outcome stats outcome n slow).finished_count ≡ stats.finished_count + finished_weight outcome n slow
+finished-counts stats Passes n slow fit = refl
+finished-counts stats (IsSkipped reason) n slow fit = omega arith
+finished-counts stats (Fails f) n slow fit = refl
 
 -- `flaky`
-abbrev flaky_weight : OutcomeView → ℕ → ℕ
-flaky_weight outcome n = one (has_passed outcome && nat_lt 1 n)
+abbrev flaky_weight : OutcomeView → ℕ → Bool → ℕ
+flaky_weight outcome n slow = one (has_passed outcome && nat_lt 1 n)
 
-flaky-kind : (stats : RunStats) (kind : KindView) (n : ℕ) → (with_test stats (view_of_finish (finish_for kind) n)).flaky ≡ stats.flaky + 0
-flaky-kind stats IsFlaky n = grind arith
-flaky-kind stats kind n = refl
+flaky-kind : (stats : RunStats) (kind : KindView) (n : ℕ) (slow : Bool) → (with_test stats (view_of_finish (finish_for kind) n slow)).flaky ≡ stats.flaky + 0
+flaky-kind stats IsFlaky n slow = grind arith
+flaky-kind stats kind n slow = refl
 
-flaky-counts : (stats : RunStats) (outcome : OutcomeView) (n : ℕ) → fits outcome n ≡ true
-    → (with_outcome stats outcome n).flaky ≡ stats.flaky + flaky_weight outcome n
-flaky-counts stats Passes n fit = grind arith
-flaky-counts stats (IsSkipped reason) n fit = omega arith
-flaky-counts stats (Fails f) n fit = flaky-kind stats f.kind n
+flaky-counts : (stats : RunStats) (outcome : OutcomeView) (n : ℕ) (slow : Bool) → fits outcome n ≡ true
+    → (with_outcome stats outcome n slow).flaky ≡ stats.flaky + flaky_weight outcome n slow
+flaky-counts stats Passes n slow fit = grind arith
+flaky-counts stats (IsSkipped reason) n slow fit = omega arith
+flaky-counts stats (Fails f) n slow fit = flaky-kind stats f.kind n slow
+
+-- `passed_slow`
+abbrev slow_weight : OutcomeView → ℕ → Bool → ℕ
+slow_weight outcome n slow = one (has_passed outcome && slow)
+
+slow-kind : (stats : RunStats) (kind : KindView) (n : ℕ) (slow : Bool) → fits_kind kind n ≡ true
+    → (with_test stats (view_of_finish (finish_for kind) n slow)).passed_slow ≡ stats.passed_slow + 0
+slow-kind stats IsFlaky n slow fit = grind (arith, fit)
+slow-kind stats kind n slow fit = refl
+
+slow-counts : (stats : RunStats) (outcome : OutcomeView) (n : ℕ) (slow : Bool) → fits outcome n ≡ true
+    → (with_outcome stats outcome n slow).passed_slow ≡ stats.passed_slow + slow_weight outcome n slow
+slow-counts stats Passes n slow fit = grind arith
+slow-counts stats (IsSkipped reason) n slow fit = omega arith
+slow-counts stats (Fails f) n slow fit = slow-kind stats f.kind n slow fit
 
 -- `failed_timed_out`
-abbrev timed_out_weight : OutcomeView → ℕ → ℕ
-timed_out_weight outcome n = one (fails_by is_timed_out outcome)
+abbrev timed_out_weight : OutcomeView → ℕ → Bool → ℕ
+timed_out_weight outcome n slow = one (fails_by is_timed_out outcome)
 
-timed_out-kind : (stats : RunStats) (kind : KindView) (n : ℕ)
-    → (with_test stats (view_of_finish (finish_for kind) n)).failed_timed_out ≡ stats.failed_timed_out + one (is_timed_out kind)
-timed_out-kind stats HasTimedOut n = refl
-timed_out-kind stats kind n = refl
+timed_out-kind : (stats : RunStats) (kind : KindView) (n : ℕ) (slow : Bool)
+    → (with_test stats (view_of_finish (finish_for kind) n slow)).failed_timed_out ≡ stats.failed_timed_out + one (is_timed_out kind)
+timed_out-kind stats HasTimedOut n slow = refl
+timed_out-kind stats kind n slow = refl
 
-timed_out-counts : (stats : RunStats) (outcome : OutcomeView) (n : ℕ) → fits outcome n ≡ true
-    → (with_outcome stats outcome n).failed_timed_out ≡ stats.failed_timed_out + timed_out_weight outcome n
-timed_out-counts stats Passes n fit = refl
-timed_out-counts stats (IsSkipped reason) n fit = omega arith
-timed_out-counts stats (Fails f) n fit = timed_out-kind stats f.kind n
+timed_out-counts : (stats : RunStats) (outcome : OutcomeView) (n : ℕ) (slow : Bool) → fits outcome n ≡ true
+    → (with_outcome stats outcome n slow).failed_timed_out ≡ stats.failed_timed_out + timed_out_weight outcome n slow
+timed_out-counts stats Passes n slow fit = refl
+timed_out-counts stats (IsSkipped reason) n slow fit = omega arith
+timed_out-counts stats (Fails f) n slow fit = timed_out-kind stats f.kind n slow
 
 -- the three counters of failed tests together
-abbrev pub failed_weight : OutcomeView → ℕ → ℕ
-failed_weight outcome n = one (has_failed outcome)
+abbrev pub failed_weight : OutcomeView → ℕ → Bool → ℕ
+failed_weight outcome n slow = one (has_failed outcome)
 
-failed-kind : (stats : RunStats) (kind : KindView) (n : ℕ) → fits_kind kind n ≡ true
-    → failed_tests (with_test stats (view_of_finish (finish_for kind) n)) ≡ failed_tests stats + 1
-failed-kind stats IsFlaky n fit = grind (arith, fit)
-failed-kind stats kind n fit = omega arith
+failed-kind : (stats : RunStats) (kind : KindView) (n : ℕ) (slow : Bool) → fits_kind kind n ≡ true
+    → failed_tests (with_test stats (view_of_finish (finish_for kind) n slow)) ≡ failed_tests stats + 1
+failed-kind stats IsFlaky n slow fit = grind (arith, fit)
+failed-kind stats kind n slow fit = omega arith
 
-pub failed-counts : (stats : RunStats) (outcome : OutcomeView) (n : ℕ) → fits outcome n ≡ true
-    → failed_tests (with_outcome stats outcome n) ≡ failed_tests stats + failed_weight outcome n
-failed-counts stats Passes n fit = grind arith
-failed-counts stats (IsSkipped reason) n fit = omega arith
-failed-counts stats (Fails f) n fit = failed-kind stats f.kind n fit
+pub failed-counts : (stats : RunStats) (outcome : OutcomeView) (n : ℕ) (slow : Bool) → fits outcome n ≡ true
+    → failed_tests (with_outcome stats outcome n slow) ≡ failed_tests stats + failed_weight outcome n slow
+failed-counts stats Passes n slow fit = grind arith
+failed-counts stats (IsSkipped reason) n slow fit = omega arith
+failed-counts stats (Fails f) n slow fit = failed-kind stats f.kind n slow fit
 
 -- the tests that crashed
-abbrev pub crashed_weight : OutcomeView → ℕ → ℕ
-crashed_weight outcome n = one (fails_by is_crash outcome)
+abbrev pub crashed_weight : OutcomeView → ℕ → Bool → ℕ
+crashed_weight outcome n slow = one (fails_by is_crash outcome)
 
 abbrev crashed_said : NoteView → ℕ
 crashed_said note = of_suite (λ s. s.crashed) note
@@ -113,28 +129,29 @@ end-crash s t order e Ok = grind arith
 end-crash s t order e Failed = grind arith
 end-crash s t order e Ignored = refl
 
-crashed-sums : (files : List (List EventView)) → HoldsAll 0 (of_test crashed_weight) crashed_said (all_notes files) (run_after_files run_start files)
+crashed-sums : (slow : ℕ) (files : List (List EventView))
+    → HoldsAll 0 (of_test crashed_weight) crashed_said (all_notes slow files) (run_after_files (run_start slow) files)
 crashed-sums = holds-whole {h = λ k. k.crashed} {Fine = λ k. Unit {0}} record {
   w_disagree = λ d. refl;
   v_disagree = λ d. refl;
   empty = refl;
   fine_empty = tt;
   of_end = λ s t order e f. (end-crash s t order e e.result, tt);
-  of_early = λ others s names f. exactly (omega (
+  of_early = λ others s tests f. exactly (omega (
     arith,
-    ends.by-early (of_test crashed_weight) (λ d. refl) (λ suite n of. refl) true others s names (λ c name. refl) (λ x. refl),
-    early-suite (λ n. n.crashed) others s names,
+    ends.by-early (of_test crashed_weight) (λ d. refl) (λ suite n of. refl) true others s tests (λ c name. refl) (λ x. refl),
+    early-suite (λ n. n.crashed) others s tests,
   ));
-  of_last = λ s e names f. exactly (omega (
+  of_last = λ s e tests f. exactly (omega (
     arith,
-    ends.by-last (of_test crashed_weight) (λ d. refl) (λ suite n of. refl) false false s e names (λ name. refl) (λ x. grind arith) (λ name. refl),
-    last-suite (λ n. n.crashed) s e names,
+    ends.by-last (of_test crashed_weight) (λ d. refl) (λ suite n of. refl) false false s e tests (λ name. refl) (λ x. grind arith) (λ name. refl),
+    last-suite (λ n. n.crashed) s e tests,
   ));
 }
 
 -- the tests that were skipped
-abbrev pub skipped_weight : OutcomeView → ℕ → ℕ
-skipped_weight outcome n = one (was_skipped outcome)
+abbrev pub skipped_weight : OutcomeView → ℕ → Bool → ℕ
+skipped_weight outcome n slow = one (was_skipped outcome)
 
 abbrev skipped_said : NoteView → ℕ
 skipped_said note = of_suite (λ s. s.skipped) note
@@ -146,30 +163,31 @@ end-skip s t order e Ok = grind arith
 end-skip s t order e Failed = refl
 end-skip s t order e Ignored = omega arith
 
-pub skipped-last : (s : SuiteState) (e : Explanation) (names : List (List ℕ))
-    → sum_by (of_test skipped_weight) (last_by s e names) ≡ length (take e.skipped names)
-skipped-last s e names =
+pub skipped-last : (s : SuiteState) (e : Explanation) (tests : List RunningView)
+    → sum_by (of_test skipped_weight) (last_by s e tests) ≡ length (take e.skipped tests)
+skipped-last s e tests =
     let w = of_test skipped_weight in
-    omega (arith, ends.by-last w (λ d. refl) (λ suite n of. refl) false true s e names (λ name. refl) (λ x. grind arith) (λ name. refl))
+    omega (arith, ends.by-last w (λ d. refl) (λ suite n of. refl) false true s e tests (λ name. refl) (λ x. grind arith) (λ name. refl))
 
-skipped-sums : (files : List (List EventView)) → HoldsAll 1 (of_test skipped_weight) skipped_said (all_notes files) (run_after_files run_start files)
+skipped-sums : (slow : ℕ) (files : List (List EventView))
+    → HoldsAll 1 (of_test skipped_weight) skipped_said (all_notes slow files) (run_after_files (run_start slow) files)
 skipped-sums = holds-whole {h = λ k. k.skipped} {Fine = λ k. Unit {0}} record {
   w_disagree = λ d. refl;
   v_disagree = λ d. refl;
   empty = refl;
   fine_empty = tt;
   of_end = λ s t order e f. (end-skip s t order e e.result, tt);
-  of_early = λ others s names f.
-      let early = ends.by-early (of_test skipped_weight) (λ d. refl) (λ suite n of. refl) false others s names (λ c name. refl) (λ x. refl) in
-      exactly (omega (arith, early, early-suite (λ n. n.skipped) others s names));
-  of_last = λ s e names f. record {
-    low = omega (arith, skipped-last s e names, last-suite (λ n. n.skipped) s e names, length-take e.skipped names);
+  of_early = λ others s tests f.
+      let early = ends.by-early (of_test skipped_weight) (λ d. refl) (λ suite n of. refl) false others s tests (λ c name. refl) (λ x. refl) in
+      exactly (omega (arith, early, early-suite (λ n. n.skipped) others s tests));
+  of_last = λ s e tests f. record {
+    low = omega (arith, skipped-last s e tests, last-suite (λ n. n.skipped) s e tests, length-take e.skipped tests);
     high = λ never. absurd (omega arith);
   };
 }
 
 -- a count is the sum of a weight
-pub count-of : (rule : TestNoteView → Bool) (weight : OutcomeView → ℕ → ℕ) → ((t : TestNoteView) → one (rule t) ≡ weight t.outcome t.attempts)
+pub count-of : (rule : TestNoteView → Bool) (weight : OutcomeView → ℕ → Bool → ℕ) → ((t : TestNoteView) → one (rule t) ≡ weight t.outcome t.attempts t.slow)
     → (notes : List NoteView) → count_by (is_test rule) notes ≡ sum_by (of_test weight) notes
 count-of rule weight h notes = sum-same (λ x. one (is_test rule x)) (of_test weight) each notes
   where
@@ -193,24 +211,25 @@ same-not_run notes = sum-same (of_suite (λ s. s.not_run)) not_run_of each notes
     each (TestIs t) = refl
     each note = refl
 
-pub failed-total : (files : List (List EventView)) → failed_tests (fold with_note no_suites (all_notes files)).stats ≡ failed_in (all_notes files)
-failed-total files = omega (
+pub failed-total : (slow : ℕ) (files : List (List EventView))
+    → failed_tests (fold with_note no_suites (all_notes slow files)).stats ≡ failed_in (all_notes slow files)
+failed-total slow files = omega (
   arith,
-  total failed_tests failed_weight refl failed-counts (λ n h. refl) (λ reason n. refl) (λ a b. omega arith) files,
-  count-of (λ t. has_failed t.outcome) failed_weight (λ t. refl) (all_notes files),
+  total failed_tests failed_weight refl failed-counts (λ n slow h. refl) (λ reason n slow. refl) (λ a b. omega arith) slow files,
+  count-of (λ t. has_failed t.outcome) failed_weight (λ t. refl) (all_notes slow files),
 )
 
 -- the sums over the notes of a whole run, whatever the outcome
-pub counted : (files : List (List EventView)) (o : RunOutcome)
-    → Counts (all_notes files) record (fold with_note no_suites (all_notes files)) { outcome = o }
-counted files o =
-    let notes = all_notes files in
-    let crashed = (crashed-sums files).whole in
-    let skipped = (skipped-sums files).whole in
+pub counted : (slow : ℕ) (files : List (List EventView)) (o : RunOutcome)
+    → Counts (all_notes slow files) record (fold with_note no_suites (all_notes slow files)) { outcome = o }
+counted slow files o =
+    let notes = all_notes slow files in
+    let crashed = (crashed-sums slow files).whole in
+    let skipped = (skipped-sums slow files).whole in
     let sum_crashed = sum-of (λ e. e.crashed) (λ s. s.crashed) (λ e s. refl) refl notes in
     let sum_skipped = sum-of (λ e. e.skipped) (λ s. s.skipped) (λ e s. refl) refl notes in
-    let finished = total (λ s. s.finished_count) finished_weight refl finished-counts (λ n h. refl) (λ reason n. refl) (λ a b. refl) files in
-    let passed = total (λ s. s.passed) passed_weight refl passed-counts (λ n h. refl) (λ reason n. refl) (λ a b. refl) files in
+    let finished = total (λ s. s.finished_count) finished_weight refl finished-counts (λ n slow h. refl) (λ reason n slow. refl) (λ a b. refl) slow files in
+    let passed = total (λ s. s.passed) passed_weight refl passed-counts (λ n slow h. refl) (λ reason n slow. refl) (λ a b. refl) slow files in
     let passed_count = count-of (λ t. has_passed t.outcome) passed_weight (λ t. refl) notes in
     let finished_count = finished-of notes in
     record {
@@ -219,12 +238,17 @@ counted files o =
       failed = omega arith;
       flaky = omega (
         arith,
-        total (λ s. s.flaky) flaky_weight refl flaky-counts (λ n h. ap one h) (λ reason n. refl) (λ a b. refl) files,
+        total (λ s. s.flaky) flaky_weight refl flaky-counts (λ n slow h. ap one h) (λ reason n slow. refl) (λ a b. refl) slow files,
         count-of (λ t. has_passed t.outcome && nat_lt 1 t.attempts) flaky_weight (λ t. refl) notes,
+      );
+      slow = omega (
+        arith,
+        total (λ s. s.passed_slow) slow_weight refl slow-counts (λ n slow h. refl) (λ reason n slow. refl) (λ a b. refl) slow files,
+        count-of (λ t. has_passed t.outcome && t.slow) slow_weight (λ t. refl) notes,
       );
       timed_out = omega (
         arith,
-        total (λ s. s.failed_timed_out) timed_out_weight refl timed_out-counts (λ n h. refl) (λ reason n. refl) (λ a b. refl) files,
+        total (λ s. s.failed_timed_out) timed_out_weight refl timed_out-counts (λ n slow h. refl) (λ reason n slow. refl) (λ a b. refl) slow files,
         count-of (λ t. fails_by is_timed_out t.outcome) timed_out_weight (λ t. refl) notes,
       );
       crashed = omega (arith, crashed.high refl, count-of (λ t. fails_by is_crash t.outcome) crashed_weight (λ t. refl) notes);
@@ -232,17 +256,17 @@ counted files o =
       not_run = sum-of (λ e. e.not_run) (λ s. s.not_run) (λ e s. refl) refl notes ∙ same-not_run notes;
     }
 
-pub run-sums : (files : List (List EventView)) → sums_of (run_after_files run_start files) ≡ sums_in (all_notes files)
-run-sums files = (crashed-sums files).all_sums
+pub run-sums : (slow : ℕ) (files : List (List EventView)) → sums_of (run_after_files (run_start slow) files) ≡ sums_in (all_notes slow files)
+run-sums slow files = (crashed-sums slow files).all_sums
 
-counted-end : (files : List (List EventView)) (disagree : Bool)
-    → let e = fold with_note no_suites (all_notes files) in
-    Counts (all_notes files) (if disagree then record e { outcome = outcome.Failed step.Test } else e)
-counted-end files true = counted files (outcome.Failed step.Test)
-counted-end files false = counted files (fold with_note no_suites (all_notes files)).outcome
+counted-end : (slow : ℕ) (files : List (List EventView)) (disagree : Bool)
+    → let e = fold with_note no_suites (all_notes slow files) in
+    Counts (all_notes slow files) (if disagree then record e { outcome = outcome.Failed step.Test } else e)
+counted-end slow files true = counted slow files (outcome.Failed step.Test)
+counted-end slow files false = counted slow files (fold with_note no_suites (all_notes slow files)).outcome
 
 pub totals-count : TotalsAreCounts
-totals-count files =
-    let r = run_after_files run_start files in
-    subst (λ e. Counts (all_notes files) (ending e r.disagreements)) (sym (ap (λ s. s.0) (run-sums files)))
-    (counted-end files (nat_lt 0 r.disagreements))
+totals-count slow files =
+    let r = run_after_files (run_start slow) files in
+    subst (λ e. Counts (all_notes slow files) (ending e r.disagreements)) (sym (ap (λ s. s.0) (run-sums slow files)))
+    (counted-end slow files (nat_lt 0 r.disagreements))

@@ -1,18 +1,20 @@
 -- The lines of the form for people, and of the form of names.
 use Rattle.std.proofs.Common.{◌≡◌, ◌∙◌, ◌-◌, ◌==◌, refl, sym, subst, ap, ℕ, Bool, true, false, List, [], ◌∷◌, ◌++◌, append-nil, append_assoc, codes, if◌then◌else◌, inl, inr, length, replicate, Option, Some, None, arith, nat_lt}
-use Rattle.std.proofs.lemmas.List.Elements.{All-cons, All-head, All-nil, All-tail}
+use Rattle.std.proofs.lemmas.List.Elements.{All-head, All-tail}
 use Rattle.std.proofs.lemmas.Bool.Decides.{nat_tests}
 use Rattle.std.specs.Prelude.{max, unwrap_or}
 use Rattle.std.specs.Fmt.{decimal}
 use Rattle.std.specs.List.{All, AllZip, filter_map, flat_map, slice_split}
 use Rattle.std.specs.Option.{option_map_or}
-use Rattle.std.specs.Str.{bytes_eq}
 use Rattle.test_report_laws.proofs.CleanLines as clean
 use Rattle.test_report_laws.proofs.CleanLines.{CleanLine, clean-line, clean-replicate, word}
-use Rattle.test_report_laws.proofs.CleanWords.{clean-attempts, clean-bracket, clean-disagreement, clean-failed_word, clean-not_run, clean-outcome, clean-passed_word, clean-summary, clean-title}
+use Rattle.test_report_laws.proofs.CleanWords.{clean-attempts, clean-bracket, clean-disagreement, clean-failed_word, clean-not_run, clean-outcome, clean-listed_word, clean-passed_word, clean-summary, clean-title}
 use Rattle.test_report_laws.proofs.Joins.{end-parts, four-parts, item-parts, list-parts, rule-parts, three-parts, words-end}
 use Rattle.test_report_laws.proofs.KeyedLines.{Alike, each-alike, falling-alike, fold-alike, text-alike}
+use Rattle.test_report_laws.proofs.StatusLines.{in-status}
 use Rattle.test_report_laws.proofs.Lines.{AddsNoRule, HasNoRule, IsWritten, also, blocks-lines, has-blocks, in-line, line-end, lines-both, lines-each, no-rule-both, no-rule-line, no-rules, none-after, later-blocks}
+use Rattle.run_events_results.specs.declared.results.ExecutionResultDescription.TheVariants as result
+use Rattle.run_events_levels.specs.Level.{final_success_level}
 use Rattle.run_events_levels.specs.LevelRanks.{final_level_rank}
 use Rattle.run_events_levels.specs.declared.levels.FinalStatusLevel.{FinalStatusLevel}
 use Rattle.run_events_levels.specs.declared.levels.FinalStatusLevel.TheVariants as final
@@ -22,13 +24,13 @@ use Rattle.run_events_levels.specs.declared.levels.OutputStoreFinal.TheVariants 
 use Rattle.run_events_settings.specs.Config.{is_final_display}
 use Rattle.test_report_forms.specs.Entry.{EntryView, LinesDisagree, SuiteNotRun, SuiteOver, TestFailed, TestPassed, TestSkipped}
 use Rattle.test_report_forms.specs.Levels.{finished_output, has_line, listed_text, skipped_output, own_final_level}
-use Rattle.test_report_forms.specs.List.{KeyedLine, ended_line, failed_line, final_level_of, item, item_at, list_line, part_at, passed_word, put_falling, short_list, slow_line, slow_lines, slow_of, text_of_lines, timed, line_at}
+use Rattle.test_report_forms.specs.List.{KeyedLine, ended_line, failed_line, final_level_of, item, item_at, list_line, part_at, listed_word, passed_word, put_falling, short_list, slow_line, slow_lines, slow_of, text_of_lines, timed, line_at}
 use Rattle.test_report_forms.specs.Names.{names_line}
 use Rattle.test_report_forms.specs.Shown.{bracket, front, indented, indented_line, more_bytes, shown_text}
 use Rattle.test_report_forms.specs.Model.{lacks_events}
 use Rattle.test_report_forms.specs.Text.{advice, attempts_note, cargo_advice, ended_head, ended_text, failed_head, failed_text, outcome_line, passed_text, skipped_text, summary_lines, text_last, text_line}
 use Rattle.test_report_forms.specs.Title.{title}
-use Rattle.test_report_forms.specs.Words.{color_of, failed_word, outcome_word, status_text, summary_line}
+use Rattle.test_report_forms.specs.Words.{failed_word, outcome_word, status_text, summary_line}
 use Rattle.test_report_forms.specs.declared.options.Options.{Options}
 use Rattle.test_report_laws.specs.Lines.{AreInLines, EndsWith, HasAfterRule, HasBlocks, IsInLine, IsLines, IsShortInLine, IsWhyInLines, NamesNamesTests, TextNamesCauses, TextSays, ended_block, ended_words, names_block, rule, text_block, list_block, listed_block}
 use Rattle.test_report_forms.specs.Why.{WhyView}
@@ -38,28 +40,6 @@ use Rattle.test_report_run.specs.Note.{FailureView, HasCrashed, HasFailed, HasNo
 use Rattle.test_report_run.specs.declared.counted.Finish.TheVariants.{Passed}
 use Rattle.test_report_run.specs.declared.note.RunEnd.{RunEnd}
 use Rattle.test_report_forms.specs.ShownWhy.{ShownWhyView, text_why}
-
--- words for results
-in-if : (b : Bool) {xs ys : List ℕ} → IsInLine xs → IsInLine ys → IsInLine (if b then xs else ys)
-in-if true p q = p
-in-if false p q = q
-
-in-color : (w : List ℕ) → IsInLine (color_of w)
-in-color w =
-    let red = in-line (word (codes "1;31") refl) in
-    let passed = in-if (bytes_eq w (codes "PASS")) (in-line (word (codes "1;32") refl)) (in-line (word (codes "1;33") refl)) in
-    let other = in-if (bytes_eq w (codes "CRASH")) red passed in
-    in-if (bytes_eq w (codes "FAIL")) red (in-if (bytes_eq w (codes "TIMEOUT")) red other)
-
-escape-byte : IsInLine (27 ∷ [])
-escape-byte = record { has_no_feed = All-cons (λ b. (b == 10) ≡ false) 27 [] refl (All-nil (λ b. (b == 10) ≡ false)) }
-
-in-status : (color : Bool) (w : List ℕ) → CleanLine w → IsInLine (status_text color w)
-unfolding status_text
-in-status true w h =
-    also (also {xs = 27 ∷ []} escape-byte (in-line (word (codes "[") refl))) (also (in-color w) (also (in-line (word (codes "m") refl))
-    (also (in-line h) (also {xs = 27 ∷ []} escape-byte (in-line (word (codes "[0m") refl))))))
-in-status false w h = in-line h
 
 -- the lines of why a test failed
 module _ (o : Options) where
@@ -113,7 +93,7 @@ module _ (o : Options) where
   failed-written t f w =
       let note = attempts_note t.attempts in
       let status = status_text o.color (failed_word f.kind) in
-      ended-written (finished_output o (finish_for f.kind) t.attempts) (ended_words o (failed_word f.kind) t note) (failed_head o t (failed_word f.kind))
+      ended-written (finished_output o (finish_for f.kind) t.attempts t.slow) (ended_words o (failed_word f.kind) t note) (failed_head o t (failed_word f.kind))
       (why_lines 4 o (text_why o t f w)) (words-end status (codes " ") (bracket t.time) (title t) note (codes "\n"))
       (in-words (failed_word f.kind) t note (clean-failed_word f.kind) (clean-attempts t.attempts)) (lines-why 4 (text_why o t f w))
 
@@ -143,7 +123,7 @@ module _ (o : Options) where
   entry-written (LinesDisagree d why) =
       (refl, in-line (clean-disagreement d), lines-both _ (advice (lacks_events d)) (lines-reason why) (lines-advice (lacks_events d)))
   entry-written (SuiteNotRun suite n of) = (refl, in-line (clean-not_run suite n of), inl refl)
-  entry-written (TestPassed t) = other-written (finished_output o Passed t.attempts) t (passed_word t.attempts) (clean-passed_word t.attempts)
+  entry-written (TestPassed t) = other-written (finished_output o Passed t.attempts t.slow) t (passed_word t.attempts) (clean-passed_word t.attempts)
   entry-written (TestSkipped t) = other-written (skipped_output o) t (codes "SKIP") (word (codes "SKIP") refl)
   entry-written (SuiteOver s) = refl
 
@@ -276,14 +256,15 @@ module _ (o : Options) where
   rule-own (store.Yes output) line h = no-rule-both line (if output then [] else []) h (rule-under output [] (λ e. no-rules))
 
   -- why a failed test failed is shown in the list if the options say so
-  failed-stored : (kind : KindView) (attempts : ℕ) → (stored : Bool)
-      × ((finished_output o (finish_for kind) attempts).store_final ≡ (if stored then store.Yes (is_final_display o.failure_output) else store.No))
+  failed-stored : (kind : KindView) (attempts : ℕ) (slow : Bool) → (stored : Bool)
+      × ((finished_output o (finish_for kind) attempts slow).store_final
+      ≡ (if stored then store.Yes (is_final_display o.failure_output) else store.No))
   unfolding finished_output
-  failed-stored HasFailed attempts = (_, refl)
-  failed-stored HasTimedOut attempts = (_, refl)
-  failed-stored HasNoEnd attempts = (_, refl)
-  failed-stored IsFlaky attempts = (_, refl)
-  failed-stored (HasCrashed crash) attempts = (_, refl)
+  failed-stored HasFailed attempts slow = (_, refl)
+  failed-stored HasTimedOut attempts slow = (_, refl)
+  failed-stored HasNoEnd attempts slow = (_, refl)
+  failed-stored IsFlaky attempts slow = (_, refl)
+  failed-stored (HasCrashed crash) attempts slow = (_, refl)
 
   -- each line of the entry is shown in one line
   pub record IsEntryInLines (e : EntryView) : Type 0 where
@@ -310,7 +291,8 @@ module _ (o : Options) where
 
   item-lines : (e : EntryView) → IsLines (item o e)
   item-lines (TestFailed t f w) = lines-listed _ _ _ (failed-lines t (failed_word f.kind) w.short) (lines-why 13 (text_why o t f w))
-  item-lines (TestPassed t) = lines-listed _ _ _ (ended-item t (passed_word t.attempts) (clean-passed_word t.attempts)).lines (inl refl)
+  item-lines (TestPassed t) =
+      lines-listed _ _ _ (ended-item t (listed_word t.attempts t.slow) (clean-listed_word t.attempts t.slow)).lines (inl refl)
   item-lines (TestSkipped t) = lines-listed _ _ _ (ended-item t (codes "SKIP") (word (codes "SKIP") refl)).lines (inl refl)
   item-lines (LinesDisagree d why) = inl refl
   item-lines (SuiteNotRun suite n of) = inl refl
@@ -318,14 +300,14 @@ module _ (o : Options) where
 
   item-no-rule : (e : EntryView) → IsEntryInLines e → AddsNoRule (item o e)
   item-no-rule (TestFailed t f w) h =
-      let stored = failed-stored f.kind t.attempts in
+      let stored = failed-stored f.kind t.attempts t.slow in
       let line = failed_line o t (failed_word f.kind) w.short in
       let why = why_lines 13 o (text_why o t f w) in
       subst (λ s. AddsNoRule (listed_text s line why)) (sym stored.1)
       (rule-listed stored.0 (is_final_display o.failure_output) line why
       (failed-no-rule t (failed_word f.kind) w.short (clean-failed_word f.kind) h.short)
       (λ shown. why-no-rule (text_why o t f w) (h.why shown)))
-  item-no-rule (TestPassed t) h = rule-own _ _ (ended-item t (passed_word t.attempts) (clean-passed_word t.attempts)).no_rule
+  item-no-rule (TestPassed t) h = rule-own _ _ (ended-item t (listed_word t.attempts t.slow) (clean-listed_word t.attempts t.slow)).no_rule
   item-no-rule (TestSkipped t) h = rule-own _ _ (ended-item t (codes "SKIP") (word (codes "SKIP") refl)).no_rule
   item-no-rule (LinesDisagree d why) h = no-rules
   item-no-rule (SuiteNotRun suite n of) h = no-rules
@@ -344,30 +326,34 @@ module _ (o : Options) where
   failed-listed t f w h =
       let status = failed_word f.kind in
       let shown = shown_text o.raw (front w.short o.limit) in
-      let kept = (finished_output o (finish_for f.kind) t.attempts).store_final in
+      let kept = (finished_output o (finish_for f.kind) t.attempts t.slow).store_final in
       let line = list_line o status t ++ (codes ": " ++ shown) in
       let why = why_lines 13 o (text_why o t f w) in
       let one = also (in-list_line status t (clean-failed_word f.kind)) (also (in-line (word (codes ": ") refl)) h) in
       subst (λ l. IsWritten (listed_text kept l why) (listed_block kept line why))
       (sym (three-parts (list_line o status t) (codes ": ") shown (codes "\n"))) (listed-written kept line why one (lines-why 13 (text_why o t f w)))
 
-  failed-level : (kind : KindView) (attempts : ℕ) → own_final_level (finish_for kind) attempts ≡ final.Fail
-  failed-level HasFailed attempts = refl
-  failed-level HasTimedOut attempts = refl
-  failed-level HasNoEnd attempts = refl
-  failed-level IsFlaky attempts =
+  failed-level : (kind : KindView) (attempts : ℕ) (slow : Bool) → own_final_level (finish_for kind) attempts slow ≡ final.Fail
+  failed-level HasFailed attempts slow = refl
+  failed-level HasTimedOut attempts slow = refl
+  failed-level HasNoEnd attempts slow = refl
+  failed-level IsFlaky attempts slow =
       let several : nat_lt 1 (max attempts 2) ≡ true = grind (arith, nat_tests) in
-      ap (λ (t : Bool). unwrap_or (if t then Some final.Fail else Some final.Pass) final.Fail) several
-  failed-level (HasCrashed crash) attempts = refl
+      ap (λ (t : Bool). unwrap_or (if t then Some final.Fail else final_success_level result.Pass slow) final.Fail) several
+  failed-level (HasCrashed crash) attempts slow = refl
 
   at-written : (e : EntryView) → IsShortInLine o e → IsWritten (item_at o final.Fail e) (list_block o e)
   unfolding item_at
   at-written (TestFailed t f w) h =
       subst (λ own. IsWritten (line_at final.Fail own (item o (TestFailed t f w))) (list_block o (TestFailed t f w)))
-      (sym (failed-level f.kind t.attempts)) (failed-listed t f w h)
+      (sym (failed-level f.kind t.attempts t.slow)) (failed-listed t f w h)
   at-written (TestPassed t) h =
-      let level = λ (b : Bool). unwrap_or (if b then Some final.Flaky else Some final.Pass) final.Fail in
-      elim (nat_lt 1 t.attempts) as (λ b. line_at final.Fail (level b) (item o (TestPassed t)) ≡ []) [ true ↦ refl | false ↦ refl ]
+      let one = λ (slow : Bool). final_success_level result.Pass slow in
+      let level = λ (b : Bool). unwrap_or (if b then Some final.Flaky else one t.slow) final.Fail in
+      elim (nat_lt 1 t.attempts) as (λ b. line_at final.Fail (level b) (item o (TestPassed t)) ≡ []) [
+        | true ↦ refl
+        | false ↦ elim t.slow as (λ s. line_at final.Fail (unwrap_or (one s) final.Fail) (item o (TestPassed t)) ≡ []) [ true ↦ refl | false ↦ refl ]
+      ]
   at-written (TestSkipped t) h = refl
   at-written (LinesDisagree d why) h = refl
   at-written (SuiteNotRun suite n of) h = refl
@@ -401,16 +387,18 @@ module _ (o : Options) where
   list-lines entries =
       lines-both (part_at o final.Pass entries) _ (part-lines final.Pass entries)
       (lines-both (part_at o final.Skip entries) _ (part-lines final.Skip entries)
+      (lines-both (part_at o final.Slow entries) _ (part-lines final.Slow entries)
       (lines-both (part_at o final.Flaky entries) _ (part-lines final.Flaky entries)
-      (lines-both (part_at o final.Fail entries) _ (part-lines final.Fail entries) (slow-text entries).lines)))
+      (lines-both (part_at o final.Fail entries) _ (part-lines final.Fail entries) (slow-text entries).lines))))
 
   list-no-rule : (entries : List EntryView) → AreInLines o entries → AddsNoRule (short_list o entries)
   unfolding short_list
   list-no-rule entries h =
       no-rule-both (part_at o final.Pass entries) _ (part-no-rule final.Pass entries h)
       (no-rule-both (part_at o final.Skip entries) _ (part-no-rule final.Skip entries h)
+      (no-rule-both (part_at o final.Slow entries) _ (part-no-rule final.Slow entries h)
       (no-rule-both (part_at o final.Flaky entries) _ (part-no-rule final.Flaky entries h)
-      (no-rule-both (part_at o final.Fail entries) _ (part-no-rule final.Fail entries h) (slow-text entries).no_rule)))
+      (no-rule-both (part_at o final.Fail entries) _ (part-no-rule final.Fail entries h) (slow-text entries).no_rule))))
 
 -- the end
 in-outcome : (end : RunEnd) → IsInLine (codes "outcome " ++ outcome_word end.outcome)
@@ -451,16 +439,18 @@ module _ (o : Options) (entries : List EntryView) (end : RunEnd) where
   text-listed h =
       let passed = part_at o final.Pass entries in
       let skipped = part_at o final.Skip entries in
+      let slow = part_at o final.Slow entries in
       let flaky = part_at o final.Flaky entries in
-      let slow = text_of_lines (slow_lines o entries) in
-      let front = Lines ++ (summary_lines end ++ (passed ++ (skipped ++ flaky))) in
+      let slowest = text_of_lines (slow_lines o entries) in
+      let front = Lines ++ (summary_lines end ++ (passed ++ (skipped ++ (slow ++ flaky)))) in
       let lines = lines-both Lines _ lines-entries (lines-both (summary_lines end) _ (lines-summary end)
       (lines-both passed _ (part-lines o final.Pass entries)
-      (lines-both skipped flaky (part-lines o final.Skip entries) (part-lines o final.Flaky entries)))) in
+      (lines-both skipped _ (part-lines o final.Skip entries)
+      (lines-both slow flaky (part-lines o final.Slow entries) (part-lines o final.Flaky entries))))) in
       subst (λ t. HasBlocks t (filter_map (list_block o) entries))
-      (sym (list-parts Lines (summary_lines end) passed skipped flaky (part_at o final.Fail entries) slow (outcome_line end)))
+      (sym (list-parts Lines (summary_lines end) passed skipped slow flaky (part_at o final.Fail entries) slowest (outcome_line end)))
       (later-blocks front _ (filter_map (list_block o) entries) lines
-      (has-blocks (item_at o final.Fail) (list_block o) entries (slow ++ outcome_line end) (λ k d low. at-written o _ (h k d low))))
+      (has-blocks (item_at o final.Fail) (list_block o) entries (slowest ++ outcome_line end) (λ k d low. at-written o _ (h k d low))))
 
   text-summary : AreInLines o entries → HasAfterRule Text (codes "     Summary " ++ summary_line end)
   unfolding text_last summary_lines

@@ -19,7 +19,7 @@ use Rattle.test_report_laws.specs.Run.{FailureIsTold, NoFailureOfFileEnd, OneFai
 use Rattle.test_report_run.specs.Note.{Disagrees, Fails, NoteView, StrayEnds, StraySuiteEnds, TestIs, TestNoteView}
 use Rattle.test_report_run.specs.Others.{OthersView}
 use Rattle.test_report_run.specs.Over.{early_notes, explained_of}
-use Rattle.test_report_run.specs.Run.{RunState, Step, counts_tests, ended_at, ended_early, names_in, open_suite, opened, running_ends, running_over, settled_at, started_again, step, stray_ends, stray_over, stray_suite_notes, stray_test, suite_at, suite_place}
+use Rattle.test_report_run.specs.Run.{RunState, Step, counts_tests, ended_at, ended_early, tests_in, open_suite, opened, running_ends, running_over, settled_at, started_again, step, stray_ends, stray_over, stray_suite_notes, stray_test, suite_at, suite_place}
 use Rattle.test_report_run.specs.Run as run
 use Rattle.test_report_run.specs.Running.{RunningView, attempts_of, ends_in_number, has_name, is_same, no_test, place_by_attempts, place_of_end, running_at, split_at, without_number}
 use Rattle.test_report_run.specs.Suite.{OverView, SuiteState, named, outside_start, suite_name, with_line}
@@ -32,29 +32,29 @@ abbrev weight : NoteView → ℕ
 weight note = cond (is_told_failure note) 1 0
 
 -- the end of a suite tells of none
-none-early : (others : OthersView) (s : SuiteState) (names : List (List ℕ)) → told (early_notes others s names) ≡ 0
-none-early others s names =
-    omega (arith, by-early weight (λ d. refl) (λ suite n of. refl) false others s names (λ c name. refl) (λ f. refl))
+none-early : (others : OthersView) (s : SuiteState) (tests : List RunningView) → told (early_notes others s tests) ≡ 0
+none-early others s tests =
+    omega (arith, by-early weight (λ d. refl) (λ suite n of. refl) false others s tests (λ c name. refl) (λ f. refl))
 
-none-last : (s : SuiteState) (e : Explanation) (names : List (List ℕ)) → told (last_by s e names) ≡ 0
-none-last s e names = omega (
+none-last : (s : SuiteState) (e : Explanation) (tests : List RunningView) → told (last_by s e tests) ≡ 0
+none-last s e tests = omega (
   arith,
-  by-last weight (λ d. refl) (λ suite n of. refl) false false s e names (λ name. refl) (λ x. grind arith) (λ name. refl),
+  by-last weight (λ d. refl) (λ suite n of. refl) false false s e tests (λ name. refl) (λ x. grind arith) (λ name. refl),
 )
 
 -- a line of a suite tells of none
 none-again : (r : RunState) (key : Option (List ℕ)) (count : Option ℕ) (at : Option ℕ)
     → told (option_map_or (started_again r key count) at (step (opened r key count) [])).notes ≡ 0
 none-again r key count None = refl
-none-again r None count (Some at) = none-early r.others (suite_at r (Some at)) (names_in r (suite_at r (Some at)))
+none-again r None count (Some at) = none-early r.others (suite_at r (Some at)) (tests_in r (suite_at r (Some at)))
 none-again r (Some key) count (Some at) = refl
 
 none-ended : (r : RunState) (e : SuiteEndView) (at : Option ℕ) → told (option_map_or (ended_at r e) at (step r (stray_suite_notes e))).notes ≡ 0
 none-ended r e None = sum-if-none weight (counts_tests e) (Disagrees (StraySuiteEnds e.key e.failed_verdict)) refl
 none-ended r e (Some at) =
     let s = with_line (suite_at r (Some at)) e in
-    let names = names_in r s in
-    grind (arith, none-last s (explained_of s (length names)) names)
+    let tests = tests_in r s in
+    grind (arith, none-last s (explained_of s (length tests)) tests)
 
 -- the end of a test tells of one failed test if it says that the test failed
 abbrev ends_as : TestEndView → TestResult → TestEndView
@@ -103,8 +103,8 @@ one-failure r e =
 none-early-all : (t : Step) (suites : List SuiteState) → told t.notes ≡ 0 → told (fold ended_early t suites).notes ≡ 0
 none-early-all t [] h = h
 none-early-all t (s ∷ suites) h =
-    let names = names_in t.run s in
-    none-early-all (ended_early t s) suites (omega (arith, h, sum_by-append weight t.notes (early_notes t.run.others s names), none-early t.run.others s names))
+    let tests = tests_in t.run s in
+    none-early-all (ended_early t s) suites (omega (arith, h, sum_by-append weight t.notes (early_notes t.run.others s tests), none-early t.run.others s tests))
 
 pub no-failure : NoFailureOfFileEnd
 no-failure r =
@@ -122,6 +122,7 @@ note_of s t e = record {
   attempts = t.attempts;
   time = t.time;
   ended = t.ended;
+  slow = t.slow;
   outcome = Fails (failure_of e);
 }
 

@@ -20,7 +20,8 @@ use Rattle.test_report_laws.specs.Run.{FailedVerdictShows, IsClean, IsSound, cra
 use Rattle.test_report_run.specs.Note.{Fails, NoteView, OutcomeView, TestIs}
 use Rattle.test_report_run.specs.Others.{OthersView}
 use Rattle.test_report_run.specs.Over.{early_notes, last_notes}
-use Rattle.test_report_run.specs.Run.{RunState, Step, after, after_file, ended_at, ended_early, file_notes, has_failed, heard, is_cause, learned, names_in, notes_at, open_suite, opened, settled_at, started_again, step, stray_suite_notes, suite_at, with_suite_at, without_tests}
+use Rattle.test_report_run.specs.Running.{RunningView}
+use Rattle.test_report_run.specs.Run.{RunState, Step, after, after_file, ended_at, ended_early, file_notes, has_failed, heard, is_cause, learned, tests_in, notes_at, open_suite, opened, settled_at, started_again, step, stray_suite_notes, suite_at, with_suite_at, without_tests}
 use Rattle.test_report_run.specs.Said.{no_lines}
 use Rattle.test_report_run.specs.Suite.{SuiteState, failed_of, has_key, joined_by, outside_start, suite_start, with_line}
 use Rattle.test_report_laws.specs.Whole.{all_notes}
@@ -53,19 +54,19 @@ crashes-fail notes =
     each (TestIs t) = crash-fails t.outcome
     each note = omega arith
 
-pub early-cause : (others : OthersView) (s : SuiteState) (names : List (List ℕ)) → s.number ≢ None → 0 < count_by is_cause (early_notes others s names)
-early-cause others s names some =
-    let notes = early_notes others s names in
-    omega (arith, early-shows others s names (λ zero. absurd (some zero)), causes-of notes, crashes-fail notes)
+pub early-cause : (others : OthersView) (s : SuiteState) (tests : List RunningView) → s.number ≢ None → 0 < count_by is_cause (early_notes others s tests)
+early-cause others s tests some =
+    let notes = early_notes others s tests in
+    omega (arith, early-shows others s tests (λ zero. absurd (some zero)), causes-of notes, crashes-fail notes)
 
 -- and so does one with a failed verdict that ends by its last line, unless a test of it failed before
-last-cause : (s : SuiteState) (names : List (List ℕ)) (known : ℕ) → s.number ≢ None → IsSound s → failed_of s.stats ≤ known → s.said.failed_verdict ≡ true
-    → 0 < known + count_by is_cause (last_notes s names)
-last-cause s names known some sound low failed =
-    let notes = last_notes s names in
+last-cause : (s : SuiteState) (tests : List RunningView) (known : ℕ) → s.number ≢ None → IsSound s → failed_of s.stats ≤ known → s.said.failed_verdict ≡ true
+    → 0 < known + count_by is_cause (last_notes s tests)
+last-cause s tests known some sound low failed =
+    let notes = last_notes s tests in
     elim (cases_lt 0 (disagreements_in notes)) [
       | inl more ↦ omega (arith, causes-of notes)
-      | inr none ↦ let agrees = (last-agrees s names some sound).0 (omega arith) in omega (arith, agrees.verdict.0 failed, causes-of notes)
+      | inr none ↦ let agrees = (last-agrees s tests some sound).0 (omega arith) in omega (arith, agrees.verdict.0 failed, causes-of notes)
     ]
 
 -- the first line of a suite
@@ -80,8 +81,8 @@ seen-first n notes r (Some key) count (Some at) numbered i in' some =
     omega (arith, i (omega arith), sum_by-set (weigh failing) r.suites at s r.outside in', sum_by-append weight notes [])
 seen-first n notes r None count (Some at) numbered i in' some =
     let s = suite_at r (Some at) in
-    let names = names_in r s in
-    omega (arith, early-cause r.others s names (has-number r at numbered in'), sum_by-append weight notes (early_notes r.others s names))
+    let tests = tests_in r s in
+    omega (arith, early-cause r.others s tests (has-number r at numbered in'), sum_by-append weight notes (early_notes r.others s tests))
 
 -- a last line of a suite
 still-shown : (n known left rest more : ℕ) (old e : Bool) → (0 < n → 0 < known + left) → rest + cond old 1 0 ≡ left
@@ -109,21 +110,21 @@ seen-ready n notes r e i some = omega (
 seen-over : (n : ℕ) (notes : List NoteView) (r : RunState) (e : SuiteEndView) (at : ℕ) (over : Bool) → AreKnown notes r
     → weight_of unnumbered r ≡ 0 → Seen n notes r → at < length r.suites
     → let s = with_line (suite_at r (Some at)) e in
-    let t = if over then step (without_tests (record r { suites = remove r.suites at }) s) (last_notes s (names_in r s))
+    let t = if over then step (without_tests (record r { suites = remove r.suites at }) s) (last_notes s (tests_in r s))
     else step (with_suite_at r (Some at) s) [] in
     Seen (n + cond e.failed_verdict 1 0) (notes ++ t.notes) (learned t.run t.notes)
 seen-over n notes r e at true holds numbered i in' some =
     let old = suite_at r (Some at) in
     let s = with_line old e in
-    let names = names_in r s in
+    let tests = tests_in r s in
     let sound = All-get_or IsSound r.suites at r.outside in' holds.0 in
     let known : failed_of old.stats ≤ count_by is_cause notes = omega (arith, holds.1 at r.outside in', causes-of notes) in
-    let last = last-cause s names (count_by is_cause notes) (has-number r at numbered in') record { retried = sound.retried; passed = sound.passed }
+    let last = last-cause s tests (count_by is_cause notes) (has-number r at numbered in') record { retried = sound.retried; passed = sound.passed }
     known in
     omega (
       arith,
       still-shown n _ _ _ _ old.said.failed_verdict e.failed_verdict i (sum_by-remove (weigh failing) r.suites at r.outside in') last some,
-      sum_by-append weight notes (last_notes s names),
+      sum_by-append weight notes (last_notes s tests),
     )
 seen-over n notes r e at false holds numbered i in' some =
     let s = with_line (suite_at r (Some at)) e in
@@ -172,12 +173,12 @@ early-causes : (t : Step) (suites : List SuiteState) → sum_by (weigh unnumbere
     → count_by is_cause t.notes + length suites ≤ count_by is_cause (fold ended_early t suites).notes
 early-causes t [] none = omega arith
 early-causes t (s ∷ suites) none =
-    let names = names_in t.run s in
+    let tests = tests_in t.run s in
     let parts = sum_by-cons (weigh unnumbered) s suites in
     omega (
       arith,
-      early-cause t.run.others s names (λ zero. absurd (omega (arith, ap (λ n. unnumbered n no_lines None) zero))),
-      sum_by-append weight t.notes (early_notes t.run.others s names),
+      early-cause t.run.others s tests (λ zero. absurd (omega (arith, ap (λ n. unnumbered n no_lines None) zero))),
+      sum_by-append weight t.notes (early_notes t.run.others s tests),
       early-causes (ended_early t s) suites (omega arith),
     )
 
@@ -187,7 +188,7 @@ end-causes r numbered =
     let now = reported_run r in
     let none = step (record now { suites = [] }) [] in
     let ended = fold ended_early none now.suites in
-    let last = early_notes ended.run.others now.outside (names_in (record (ended.run) { outside = outside_start }) now.outside) in
+    let last = early_notes ended.run.others now.outside (tests_in (record (ended.run) { outside = outside_start }) now.outside) in
     omega (
       arith,
       early-causes none now.suites (numbered-reported r numbered),
@@ -201,12 +202,12 @@ pub outside-cause : (r : RunState) → 0 < r.outside.started → 0 < count_by is
 outside-cause r some =
     let now = reported_run r in
     let ended = fold ended_early (step (record now { suites = [] }) []) now.suites in
-    let names = names_in (record (ended.run) { outside = outside_start }) now.outside in
-    let last = early_notes ended.run.others now.outside names in
+    let tests = tests_in (record (ended.run) { outside = outside_start }) now.outside in
+    let last = early_notes ended.run.others now.outside tests in
     let started : 0 < now.outside.started = subst (λ (x : RunState). 0 < x.outside.started) (sym (only-told r).run_is) some in
     omega (
       arith,
-      early-shows ended.run.others now.outside names (λ zero. started),
+      early-shows ended.run.others now.outside tests (λ zero. started),
       causes-of last,
       crashes-fail last,
       sum_by-append weight ended.notes last,
@@ -225,20 +226,20 @@ seen-end n notes r numbered i some = omega (
 abbrev SeenNumbered : ℕ → List NoteView → RunState → Type 0
 SeenNumbered n notes r = (weight_of unnumbered r ≡ 0) × Seen n notes r
 
-pub unclean : (files : List (List EventView)) → 0 < failed_verdicts_of files → IsClean (all_notes files) → ⊥
-unclean files some clean =
+pub unclean : (slow : ℕ) (files : List (List EventView)) → 0 < failed_verdicts_of files → IsClean (all_notes slow files) → ⊥
+unclean slow files some clean =
     let seen = with-books failed-rules SeenNumbered verdict (λ n notes r e holds i. (numbered-line r e i.0, seen-line n notes r e holds i.0 i.1))
-    (λ n notes r holds i. (numbered-end r, seen-end n notes r i.0 i.1)) (refl, λ some. absurd (omega arith)) files in
+    (λ n notes r holds i. (numbered-end r, seen-end n notes r i.0 i.1)) slow (refl, λ some. absurd (omega arith)) files in
     omega (
       arith,
       seen.1 some,
       clean.none_failed,
       clean.none_disagree,
-      causes-of (all_notes files),
-      ap (λ (suites : List SuiteState). sum_by (weigh failing) suites) (holds-whole failed-rules files).suites,
+      causes-of (all_notes slow files),
+      ap (λ (suites : List SuiteState). sum_by (weigh failing) suites) (holds-whole failed-rules slow files).suites,
     )
 
 pub verdict-shows : FailedVerdictShows
-verdict-shows files some =
-    let means = outcome-means files in
-    ((λ h. unclean files some (means.success.0 h).0), (λ h. unclean files some (means.no_tests.0 h).0))
+verdict-shows slow files some =
+    let means = outcome-means slow files in
+    ((λ h. unclean slow files some (means.success.0 h).0), (λ h. unclean slow files some (means.no_tests.0 h).0))

@@ -4,7 +4,7 @@ use Rattle.std.specs.List.{position, remove, sum_by}
 use Rattle.std.specs.Option.{option_map_or}
 use Rattle.std.specs.Prelude.{◌==◌, if◌then◌else◌, is_none}
 use Rattle.std.proofs.lemmas.List.Sums.{get_or-le-sum_by, sum_by-remove, sum_by-set, sum_by_push}
-use Rattle.test_report_events.specs.Event.{EventView, SuiteEndView, TestEndView, SuiteStarts, SuiteEnds, TestStarts, TestEnds, OtherLine, HeadingLine, CargoFails, Prints, DamagedLine, CommandStarts, CommandOver}
+use Rattle.test_report_events.specs.Event.{EventView, SuiteEndView, TestEndView, SuiteStarts, SuiteEnds, TestStarts, TestEnds, TestIsSlow, OtherLine, HeadingLine, CargoFails, Prints, DamagedLine, CommandStarts, CommandOver}
 use Rattle.test_report_events.specs.declared.event.TestResult.{TestResult}
 use Rattle.test_report_events.specs.declared.event.TestResult.TheVariants.{Ok, Failed, Ignored}
 use Rattle.test_report_laws.proofs.Books.{IsIn, ends-keep, place-in, position-in}
@@ -13,8 +13,8 @@ use Rattle.test_report_laws.proofs.FileEnds.{reported_run}
 use Rattle.test_report_laws.proofs.OverRuns.{up-to-line}
 use Rattle.test_report_run.specs.Ended.{after_end}
 use Rattle.test_report_run.specs.Over.{last_notes}
-use Rattle.test_report_run.specs.Run.{RunState, after, after_file, ended_at, heard, names_in, open_suite, opened, run_start, running_ends, running_over, started_again, step, stray_ends, stray_over, stray_suite_notes, suite_at, suite_place, told, with_suite_at, without_tests}
-use Rattle.test_report_run.specs.Running.{RunningView, is_same, place_of_end, running_at}
+use Rattle.test_report_run.specs.Run.{RunState, after, after_file, ended_at, heard, heard_at, tests_in, open_suite, opened, place_of_number, run_start, running_ends, running_over, slow_at, started_again, step, stray_ends, stray_over, stray_suite_notes, suite_at, suite_place, told, with_suite_at, without_tests}
+use Rattle.test_report_run.specs.Running.{RunningView, is_same, place_of_end, running_at, with_slow}
 use Rattle.test_report_run.specs.Said.{no_lines}
 use Rattle.test_report_run.specs.Suite.{OverView, SuiteState, has_key, joined_by, named, suite_start, with_line, with_start}
 use Rattle.test_report_laws.specs.Whole.{run_after, run_after_files}
@@ -65,12 +65,23 @@ keeps-test r e (Some p) =
     keeps-set r (remove r.running p.0) at _ (position-in (λ s. is_same s.number test.suite) r.suites at refl)
     (end-alike (suite_at r at) (running_over r e test p.1) test.order e e.result)
 
+slow-kept : (r : RunState) (running : List RunningView) (at : Option ℕ) → IsIn r.suites at → Keeps r (record (heard_at r at) { running = running })
+slow-kept r running None in' g = refl
+slow-kept r running (Some at) in' g = omega (arith, sum_by-set (weigh g) r.suites at (heard r (suite_at r (Some at))) r.outside in')
+
+keeps-slow : (r : RunState) (place : Option (ℕ × ℕ)) → Keeps r (option_map_or (λ p. slow_at r p.0) place r)
+keeps-slow r None = λ g. refl
+keeps-slow r (Some p) =
+    let at = place_of_number r (running_at r.running p.0).suite in
+    slow-kept r (with_slow r.running p.0) at (position-in (λ s. is_same s.number (running_at r.running p.0).suite) r.suites at refl)
+
 -- the line is the first or a last one of a suite
 abbrev pub is_of_suite : EventView → Bool
 is_of_suite (SuiteStarts key count) = true
 is_of_suite (SuiteEnds e) = true
 is_of_suite (TestStarts name) = false
 is_of_suite (TestEnds e) = false
+is_of_suite (TestIsSlow name) = false
 is_of_suite OtherLine = false
 is_of_suite (HeadingLine name path) = false
 is_of_suite (CargoFails f line plain) = false
@@ -90,6 +101,7 @@ keeps-told r (SuiteEnds e) never = absurd (cc)
 keeps-told r (TestStarts name) other =
     let at = suite_place r name in keeps-set r r.running at (with_start (suite_at r at) name) (place-in r name) (λ g. refl)
 keeps-told r (TestEnds e) other = keeps-test r e (place_of_end r.running e.name)
+keeps-told r (TestIsSlow name) other = keeps-slow r (place_of_end r.running name)
 keeps-told r OtherLine other = λ g. refl
 keeps-told r (HeadingLine name path) other = λ g. refl
 keeps-told r (CargoFails f line plain) other = λ g. ap (weight_of g) (only-cargo r f plain).run_is
@@ -136,7 +148,7 @@ numbered-first r None count (Some at) in' none =
 -- and after a last line
 numbered-over : (r : RunState) (e : SuiteEndView) (at : ℕ) (over : Bool) → at < length r.suites → weight_of unnumbered r ≡ 0
     → let s = with_line (suite_at r (Some at)) e in
-    weight_of unnumbered (if over then step (without_tests (record r { suites = remove r.suites at }) s) (last_notes s (names_in r s))
+    weight_of unnumbered (if over then step (without_tests (record r { suites = remove r.suites at }) s) (last_notes s (tests_in r s))
     else step (with_suite_at r (Some at) s) []).run ≡ 0
 numbered-over r e at true in' none = omega (arith, none, sum_by-remove (weigh unnumbered) r.suites at r.outside in')
 numbered-over r e at false in' none =
@@ -172,7 +184,7 @@ pub numbered-end : (r : RunState) → weight_of unnumbered (after_file r) ≡ 0
 numbered-end r = ap (λ (suites : List SuiteState). sum_by (weigh unnumbered) suites) (none-open r)
 
 -- and so at every line of a run
-pub all-numbered : (files : List (List EventView)) (events : List EventView)
-    → weight_of unnumbered (run_after (run_after_files run_start files) events) ≡ 0
-all-numbered = up-to-line (λ n notes r. weight_of unnumbered r ≡ 0) (λ n notes r. weight_of unnumbered r ≡ 0) (λ e. 0) (λ n notes r none. none)
-    (λ n notes r e none. numbered-line r e none) (λ n notes r none. numbered-end r) refl
+pub all-numbered : (slow : ℕ) (files : List (List EventView)) (events : List EventView)
+    → weight_of unnumbered (run_after (run_after_files (run_start slow) files) events) ≡ 0
+all-numbered slow = up-to-line (λ n notes r. weight_of unnumbered r ≡ 0) (λ n notes r. weight_of unnumbered r ≡ 0) (λ e. 0) (λ n notes r none. none)
+    (λ n notes r e none. numbered-line r e none) (λ n notes r none. numbered-end r) slow refl

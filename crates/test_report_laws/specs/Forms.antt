@@ -25,6 +25,7 @@ use Rattle.template.specs.Shown.{is_escaped, turns_writing}
 use Rattle.test_report_forms.specs.Text.{text_last, text_line}
 use Rattle.test_report_forms.specs.Title.{title_name}
 use Rattle.test_report_forms.specs.Values.{values_of_run}
+use Rattle.test_report_forms.specs.WholeOutput.{page_limits, summary_limits}
 use Rattle.test_report_forms.specs.Words.{outcome_word, run_numbers}
 use Rattle.test_report_forms.specs.declared.options.Options.{Options}
 use Rattle.test_report_run.specs.Note.{NoteView}
@@ -124,7 +125,7 @@ pub record HasItems (report : ReportView) (page : List ℕ) : Type 0 where
 -- What the form for a browser writes has the values of each failed test together, each problem in the list of problems, and each suite and each
 -- skipped test that has a reason in a row.
 abbrev pub HtmlShowsItems : Type 0
-HtmlShowsItems = (o : Options) (entries : List EntryView) (end : RunEnd) → HasItems (report_of o entries end) (html_of o entries end)
+HtmlShowsItems = (o : Options) (entries : List EntryView) (end : RunEnd) → HasItems (report_of page_limits o entries end) (html_of o entries end)
 
 -- a summary has the name of each of these failed tests, the line of each disagreement and of each suite whose tests were not all run, and the outcome
 pub record SummaryNames (shown : List FailedView) (entries : List EntryView) (end : RunEnd) (text : List ℕ) : Type 0 where
@@ -135,12 +136,12 @@ pub record SummaryNames (shown : List FailedView) (entries : List EntryView) (en
 -- What the form for a summary writes names each such cause, of the failed tests those that it shows.
 abbrev pub MarkdownNamesCauses : Type 0
 MarkdownNamesCauses = (o : Options) (entries : List EntryView) (end : RunEnd)
-    → SummaryNames (shown_tests (failures_of o entries)) entries end (markdown_of o entries end)
+    → SummaryNames (shown_tests (failures_of summary_limits o entries)) entries end (markdown_of o entries end)
 
 -- What the form for a summary writes has the number of the other failed tests, if there are any.
 abbrev pub MarkdownSaysMore : Type 0
-MarkdownSaysMore = (o : Options) (entries : List EntryView) (end : RunEnd) → (more_tests (failures_of o entries) == 0) ≡ false
-    → HasPart (markdown_of o entries end) (more_text (more_tests (failures_of o entries)))
+MarkdownSaysMore = (o : Options) (entries : List EntryView) (end : RunEnd) → (more_tests (failures_of summary_limits o entries) == 0) ≡ false
+    → HasPart (markdown_of o entries end) (more_text (more_tests (failures_of summary_limits o entries)))
 
 -- What the form for a summary writes has every value that its template has a hole for, written as the hole says.
 abbrev pub MarkdownShowsValues : Type 0
@@ -164,7 +165,7 @@ pub record HasRows (shown : List FailedView) (summary : List ℕ) : Type 0 where
 -- What the form for a summary writes has a row and details for each failed test before which there are fewer than 900,000 bytes of rows and details.
 abbrev pub MarkdownShowsTests : Type 0
 MarkdownShowsTests = (o : Options) (entries : List EntryView) (end : RunEnd)
-    → HasRows (shown_tests (failures_of o entries)) (markdown_of o entries end)
+    → HasRows (shown_tests (failures_of summary_limits o entries)) (markdown_of o entries end)
 
 -- What the form for a summary writes has the marks of its template and no others: lines, cells and each `<pre>` end where the template ends them.
 abbrev pub MarkdownKeepsMarks : Type 0

@@ -85,9 +85,9 @@ ended_words o word t note = status_text o.color word ++ (codes " " ++ (bracket t
 -- status, the time and the name of another test; or the line of a cause, and under it what explains the cause
 abbrev pub text_block : Options → EntryView → Option Block
 text_block o (TestFailed t f w) =
-    ended_block (finished_output o (finish_for f.kind) t.attempts) (ended_words o (failed_word f.kind) t (attempts_note t.attempts))
+    ended_block (finished_output o (finish_for f.kind) t.attempts t.slow) (ended_words o (failed_word f.kind) t (attempts_note t.attempts))
     (why_lines 4 o (text_why o t f w))
-text_block o (TestPassed t) = ended_block (finished_output o Passed t.attempts) (ended_words o (passed_word t.attempts) t []) []
+text_block o (TestPassed t) = ended_block (finished_output o Passed t.attempts t.slow) (ended_words o (passed_word t.attempts) t []) []
 text_block o (TestSkipped t) = ended_block (skipped_output o) (ended_words o (codes "SKIP") t []) []
 text_block o (LinesDisagree d why) =
     Some (record { line = disagreement_line d; below = option_map_or (indented 4 o.raw) why [] ++ advice (lacks_events d) })
@@ -103,7 +103,7 @@ listed_block (store.Yes output) line below = Some (record { line = line; below =
 -- failed
 abbrev pub list_block : Options → EntryView → Option Block
 list_block o (TestFailed t f w) =
-    listed_block (finished_output o (finish_for f.kind) t.attempts).store_final
+    listed_block (finished_output o (finish_for f.kind) t.attempts t.slow).store_final
     (list_line o (failed_word f.kind) t ++ (codes ": " ++ shown_text o.raw (front w.short o.limit))) (why_lines 13 o (text_why o t f w))
 list_block o _ = None
 

@@ -34,9 +34,9 @@ use Rattle.test_report_engine.specs.Report.{AreEntriesOf, AreTexts, IsReport}
 
 -- Inputs have at most one report in a form, and one end of the run.
 abbrev pub OneReport : Type 0
-OneReport = (line : EntryView → List ℕ) → (last : List EntryView → RunEnd → List ℕ) → (inputs : List InputView)
+OneReport = (slow : ℕ) → (line : EntryView → List ℕ) → (last : List EntryView → RunEnd → List ℕ) → (inputs : List InputView)
     → (a : List ℕ) → (b : List ℕ) → (d : RunEnd) → (e : RunEnd)
-    → IsReport line last inputs a d → IsReport line last inputs b e → (a ≡ b) × (d ≡ e)
+    → IsReport slow line last inputs a d → IsReport slow line last inputs b e → (a ≡ b) × (d ≡ e)
 
 -- The run of a report is a run of which the laws of the module `run` speak.
 
@@ -47,15 +47,15 @@ pub record HasEvents (input : InputView) (events : List EventView) : Type 0 wher
   pub are : events ≡ flat_map (λ line. line) lines
 
 -- these files have the events of inputs, these entries are of what they make known, and this is their end
-pub record AreFilesOf (inputs : List InputView) (entries : List EntryView) (end : RunEnd) (files : List (List EventView)) : Type 0 where
+pub record AreFilesOf (slow : ℕ) (inputs : List InputView) (entries : List EntryView) (end : RunEnd) (files : List (List EventView)) : Type 0 where
   pub say : AllZip HasEvents inputs files
-  pub are : AllZip IsEntryOf (all_notes files) entries
-  pub end_is : end ≡ whole_end files
+  pub are : AllZip IsEntryOf (all_notes slow files) entries
+  pub end_is : end ≡ whole_end slow files
 
 -- The entries and the end of a report are those of files to which these laws apply.
 abbrev pub OneRun : Type 0
-OneRun = (inputs : List InputView) → (entries : List EntryView) → (run : RunState) → AreEntriesOf inputs entries run
-    → (files : List (List EventView)) × AreFilesOf inputs entries (end_of run) files
+OneRun = (slow : ℕ) → (inputs : List InputView) → (entries : List EntryView) → (run : RunState) → AreEntriesOf slow inputs entries run
+    → (files : List (List EventView)) × AreFilesOf slow inputs entries (end_of run) files
 
 -- What the outcomes `Success` and `NoTestsRun` mean.
 
@@ -66,16 +66,16 @@ HasEndedWell input = IfSome input.command (λ end. end ≡ WithStatus 0)
 -- If the outcome in a report is `Success`, a test passed, each command ended with status 0, and nothing is wrong with the lines of the inputs. If it is
 -- `NoTestsRun`, no test passed, and nothing is wrong either.
 abbrev pub SuccessMeans : Type 0
-SuccessMeans = (inputs : List InputView) → (entries : List EntryView) → (run : RunState) → AreEntriesOf inputs entries run
-    → (files : List (List EventView)) × AreFilesOf inputs entries (end_of run) files
-    × (Succeeds (end_of run) → (0 < passed_in (all_notes files)) × All HasEndedWell inputs × IsInOrder files)
-    × (RanNoTests (end_of run) → (passed_in (all_notes files) ≡ 0) × All HasEndedWell inputs × IsInOrder files)
+SuccessMeans = (slow : ℕ) → (inputs : List InputView) → (entries : List EntryView) → (run : RunState) → AreEntriesOf slow inputs entries run
+    → (files : List (List EventView)) × AreFilesOf slow inputs entries (end_of run) files
+    × (Succeeds (end_of run) → (0 < passed_in (all_notes slow files)) × All HasEndedWell inputs × IsInOrder slow files)
+    × (RanNoTests (end_of run) → (passed_in (all_notes slow files) ≡ 0) × All HasEndedWell inputs × IsInOrder slow files)
 
 -- What every outcome except `Success` means.
 
 -- If the outcome in a report is not `Success`, an entry says why, or no test ran.
 abbrev pub FailureHasReason : Type 0
-FailureHasReason = (inputs : List InputView) → (entries : List EntryView) → (run : RunState) → AreEntriesOf inputs entries run
+FailureHasReason = (slow : ℕ) → (inputs : List InputView) → (entries : List EntryView) → (run : RunState) → AreEntriesOf slow inputs entries run
     → ¬ (Succeeds (end_of run))
     → ((e : EntryView) × Contains entries e × IsTrue (is_reason e)) ⊎ RanNoTests (end_of run)
 
@@ -118,14 +118,14 @@ ShowsFailures o entries = IsTrue (shows_failures o) ⊎ (IsTrue (lists_failures 
 
 -- The report for people of a run that does not succeed names a reason in whole lines, if its levels and displays show or list failed tests.
 abbrev pub TextNamesReason : Type 0
-TextNamesReason = (o : Options) → (inputs : List InputView) → (text : List ℕ) → (end : RunEnd)
-    → (report : IsReport (text_line o) (text_last o) inputs text end) → ¬ (Succeeds end) → ShowsFailures o report.entries
+TextNamesReason = (slow : ℕ) → (o : Options) → (inputs : List InputView) → (text : List ℕ) → (end : RunEnd)
+    → (report : IsReport slow (text_line o) (text_last o) inputs text end) → ¬ (Succeeds end) → ShowsFailures o report.entries
     → SaysReason (text_block o) (codes "outcome no-tests-run") report.entries end text ⊎ HasCause (list_block o) report.entries text
 
 -- The report for GitHub of such a run names a reason.
 abbrev pub GithubNamesReason : Type 0
-GithubNamesReason = (o : Options) → (inputs : List InputView) → (text : List ℕ) → (end : RunEnd)
-    → (report : IsReport (github_line o) (λ entries end. github_last end) inputs text end) → ¬ (Succeeds end)
+GithubNamesReason = (slow : ℕ) → (o : Options) → (inputs : List InputView) → (text : List ℕ) → (end : RunEnd)
+    → (report : IsReport slow (github_line o) (λ entries end. github_last end) inputs text end) → ¬ (Succeeds end)
     → SaysReason (github_block o) (notice end) report.entries end text
 
 -- JUnit's XML reads back as a tree that has the test case of a reason why a run does not succeed: the cause of an entry, or that no test ran
@@ -138,25 +138,25 @@ pub record HasReasonCase (o : Options) (entries : List EntryView) (end : RunEnd)
 
 -- JUnit's XML of such a run has the test case of a reason, unless no test ran and a run without tests is to pass.
 abbrev pub JunitNamesReason : Type 0
-JunitNamesReason = (o : Options) → (inputs : List InputView) → (text : List ℕ) → (end : RunEnd)
-    → (report : IsReport (λ entry. []) (junit_of o) inputs text end)
+JunitNamesReason = (slow : ℕ) → (o : Options) → (inputs : List InputView) → (text : List ℕ) → (end : RunEnd)
+    → (report : IsReport slow (λ entry. []) (junit_of o) inputs text end)
     → ¬ (Succeeds end) → ¬ (RanNoTests end × IsTrue o.no_tests_pass) → HasReasonCase o report.entries end text
 
 -- The page of such a run names a reason.
 abbrev pub HtmlNamesReason : Type 0
-HtmlNamesReason = (o : Options) → (inputs : List InputView) → (text : List ℕ) → (end : RunEnd)
-    → (report : IsReport (λ entry. []) (html_of o) inputs text end) → ¬ (Succeeds end)
+HtmlNamesReason = (slow : ℕ) → (o : Options) → (inputs : List InputView) → (text : List ℕ) → (end : RunEnd)
+    → (report : IsReport slow (λ entry. []) (html_of o) inputs text end) → ¬ (Succeeds end)
     → NamesReason (hole_text hole.Text) (hole_text hole.Text) report.entries end text
 
 -- The summary of such a run names a reason.
 abbrev pub MarkdownNamesReason : Type 0
-MarkdownNamesReason = (o : Options) → (inputs : List InputView) → (text : List ℕ) → (end : RunEnd)
-    → (report : IsReport (λ entry. []) (markdown_of o) inputs text end) → ¬ (Succeeds end)
+MarkdownNamesReason = (slow : ℕ) → (o : Options) → (inputs : List InputView) → (text : List ℕ) → (end : RunEnd)
+    → (report : IsReport slow (λ entry. []) (markdown_of o) inputs text end) → ¬ (Succeeds end)
     → NamesReason (hole_text hole.Plain) (hole_text hole.Plain) report.entries end text
 
 -- The texts of the files name a reason, too.
 abbrev pub FilesNameReason : Type 0
-FilesNameReason = (files : FileForms) → (inputs : List InputView) → (texts : FileTexts) → (are : AreTexts files inputs texts)
+FilesNameReason = (slow : ℕ) → (files : FileForms) → (inputs : List InputView) → (texts : FileTexts) → (are : AreTexts slow files inputs texts)
     → ¬ (Succeeds (end_of are.run))
     → IfSome files.junit (λ form. ¬ (RanNoTests (end_of are.run) × IsTrue form.options.no_tests_pass)
     → IfSome (text_view texts.junit) (HasReasonCase form.options are.entries (end_of are.run)))

@@ -3,7 +3,7 @@ use Rattle.std.specs.Prelude.{◌++◌, ◌≡◌, ◌≢◌, All, IfSome, None,
 use Rattle.std.specs.List.{count_by, sum_by}
 use Rattle.run_events_stats.specs.declared.outcome.run_outcome.RunOutcome.{RunOutcome}
 use Rattle.run_events_stats.specs.declared.outcome.run_outcome.RunOutcome.TheVariants as outcome
-use Rattle.test_report_events.specs.Event.{EventView, SuiteEndView, TestEndView, SuiteStarts, SuiteEnds, TestStarts, TestEnds, OtherLine, HeadingLine, CargoFails, Prints, DamagedLine, CommandStarts, CommandOver, CommandView, WithStatus}
+use Rattle.test_report_events.specs.Event.{EventView, SuiteEndView, TestEndView, SuiteStarts, SuiteEnds, TestStarts, TestEnds, TestIsSlow, OtherLine, HeadingLine, CargoFails, Prints, DamagedLine, CommandStarts, CommandOver, CommandView, WithStatus}
 use Rattle.test_report_events.specs.declared.event.CargoFailure.{CargoFailure}
 use Rattle.test_report_events.specs.declared.event.TestResult.{TestResult}
 use Rattle.test_report_events.specs.declared.event.TestResult.TheVariants.{Ok, Failed, Ignored}
@@ -13,7 +13,7 @@ use Rattle.test_report_run.specs.Note.{CrashView, Disagrees, Fails, HasCrashed, 
 use Rattle.test_report_run.specs.Others.{OthersView}
 use Rattle.test_report_run.specs.Over.{crash_again, early_notes, last_notes}
 use Rattle.test_report_run.specs.Run.{RunState, counts_tests, file_notes, has_failed, is_disagreement, notes_at, open_suite, run_start, told}
-use Rattle.test_report_run.specs.Running.{ends_in_number, without_number}
+use Rattle.test_report_run.specs.Running.{RunningView, ends_in_number, without_number}
 use Rattle.test_report_run.specs.Said.{numbers_of}
 use Rattle.test_report_run.specs.Suite.{SuiteState, failed_of}
 use Rattle.test_report_laws.specs.Whole.{IsFileEndOf, IsLineOf, all_notes, notes_of, run_after, run_after_files, run_at_end, whole_end}
@@ -34,6 +34,7 @@ says_failed (TestEnds e) = is_failure e.result
 says_failed (SuiteStarts key count) = false
 says_failed (SuiteEnds e) = false
 says_failed (TestStarts name) = false
+says_failed (TestIsSlow name) = false
 says_failed OtherLine = false
 says_failed (HeadingLine name path) = false
 says_failed (CargoFails f line plain) = false
@@ -137,6 +138,10 @@ passed_in notes = count_by (is_test (λ t. has_passed t.outcome)) notes
 abbrev pub flaky_in : List NoteView → ℕ
 flaky_in notes = count_by (is_test (λ t. has_passed t.outcome && nat_lt 1 t.attempts)) notes
 
+-- how many tests passed and were slow
+abbrev pub slow_in : List NoteView → ℕ
+slow_in notes = count_by (is_test (λ t. has_passed t.outcome && t.slow)) notes
+
 -- how many tests were skipped
 abbrev pub skipped_in : List NoteView → ℕ
 skipped_in notes = count_by (is_test (λ t. was_skipped t.outcome)) notes
@@ -171,6 +176,7 @@ pub record Counts (notes : List NoteView) (end : RunEnd) : Type 0 where
   pub passed : end.stats.passed ≡ passed_in notes
   pub failed : failed_of end.stats ≡ failed_in notes
   pub flaky : end.stats.flaky ≡ flaky_in notes
+  pub slow : end.stats.passed_slow ≡ slow_in notes
   pub timed_out : end.stats.failed_timed_out ≡ timed_out_in notes
   pub crashed : end.crashed ≡ crashed_in notes
   pub skipped : skipped_in notes ≤ end.skipped
@@ -178,7 +184,7 @@ pub record Counts (notes : List NoteView) (end : RunEnd) : Type 0 where
 
 -- The sums at the end of every run are such counts.
 abbrev pub TotalsAreCounts : Type 0
-TotalsAreCounts = (files : List (List EventView)) → Counts (all_notes files) (whole_end files)
+TotalsAreCounts = (slow : ℕ) → (files : List (List EventView)) → Counts (all_notes slow files) (whole_end slow files)
 
 -- What the outcome means.
 
@@ -201,7 +207,7 @@ pub record Means (notes : List NoteView) (o : RunOutcome) : Type 0 where
 
 -- This is what the outcome of every run means.
 abbrev pub OutcomeMeans : Type 0
-OutcomeMeans = (files : List (List EventView)) → Means (all_notes files) (whole_end files).outcome
+OutcomeMeans = (slow : ℕ) → (files : List (List EventView)) → Means (all_notes slow files) (whole_end slow files).outcome
 
 -- Nothing is hidden.
 
@@ -219,9 +225,9 @@ pub record IsSound (s : SuiteState) : Type 0 where
 -- A suite that ends by its last line makes no disagreement known if and only if the line agrees with the tests: those that became known before, and
 -- those that become known now.
 abbrev pub LastLineAgrees : Type 0
-LastLineAgrees = (s : SuiteState) → (names : List (List ℕ)) → s.number ≢ None → IsSound s
-    → (disagreements_in (last_notes s names) ≡ 0)
-    ↔ Agrees (numbers_of s.said) (s.stats.passed + passed_in (last_notes s names)) (failed_of s.stats + failed_in (last_notes s names))
+LastLineAgrees = (s : SuiteState) → (tests : List RunningView) → s.number ≢ None → IsSound s
+    → (disagreements_in (last_notes s tests) ≡ 0)
+    ↔ Agrees (numbers_of s.said) (s.stats.passed + passed_in (last_notes s tests)) (failed_of s.stats + failed_in (last_notes s tests))
 
 -- a crashed test: its suite, and how it crashed
 pub record Crashed : Type 0 where
@@ -265,12 +271,12 @@ AreBelow before (n ∷ notes) = IfSome (crashed_test n) (IsFirstOrBelow before) 
 -- In every run the note of each crashed test that is not the first of its suite comes right after that of a test of the suite that crashed in the same
 -- way.
 abbrev pub CrashesFollow : Type 0
-CrashesFollow = (files : List (List EventView)) → AreBelow None (all_notes files)
+CrashesFollow = (slow : ℕ) → (files : List (List EventView)) → AreBelow None (all_notes slow files)
 
 -- A suite that ends early makes a crashed test or a disagreement known, and so does a file with tests outside of a suite.
 abbrev pub EarlyEndShows : Type 0
-EarlyEndShows = (others : OthersView) → (s : SuiteState) → (names : List (List ℕ)) → (s.number ≡ None → 0 < s.started)
-    → 0 < crashed_in (early_notes others s names) + disagreements_in (early_notes others s names)
+EarlyEndShows = (others : OthersView) → (s : SuiteState) → (tests : List RunningView) → (s.number ≡ None → 0 < s.started)
+    → 0 < crashed_in (early_notes others s tests) + disagreements_in (early_notes others s tests)
 
 -- A last line of a suite that is not open makes by itself a disagreement known if and only if it has a failed verdict or counts tests that ran.
 abbrev pub StrayEndShows : Type 0
@@ -287,24 +293,24 @@ failed_lines_of files = sum_by failed_lines_in files
 
 -- A whole run has as many failed tests whose lines say so as it has such lines.
 abbrev pub FailedLinesAreTold : Type 0
-FailedLinesAreTold = (files : List (List EventView)) → count_by is_told_failure (all_notes files) ≡ failed_lines_of files
+FailedLinesAreTold = (slow : ℕ) → (files : List (List EventView)) → count_by is_told_failure (all_notes slow files) ≡ failed_lines_of files
 
 -- If a line of a run says that a test failed, the outcome is neither `Success` nor `NoTestsRun`.
 abbrev pub FailedLineShows : Type 0
-FailedLineShows = (files : List (List EventView)) → 0 < failed_lines_of files
-    → ((whole_end files).outcome ≢ outcome.Success) × ((whole_end files).outcome ≢ outcome.NoTestsRun)
+FailedLineShows = (slow : ℕ) → (files : List (List EventView)) → 0 < failed_lines_of files
+    → ((whole_end slow files).outcome ≢ outcome.Success) × ((whole_end slow files).outcome ≢ outcome.NoTestsRun)
 
 -- When these files, and these lines of the next file, are read, each open suite is sound. So are the tests outside of suites.
 abbrev pub SuitesAreSound : Type 0
-SuitesAreSound = (files : List (List EventView)) → (events : List EventView) → (r : RunState)
-    → r ≡ run_after (run_after_files run_start files) events
+SuitesAreSound = (slow : ℕ) → (files : List (List EventView)) → (events : List EventView) → (r : RunState)
+    → r ≡ run_after (run_after_files (run_start slow) files) events
     → IsSound r.outside × All IsSound r.suites
 
 -- The failed tests that an open suite counts are among those that became known so far.
 abbrev pub FailuresAreKnown : Type 0
-FailuresAreKnown = (files : List (List EventView)) → (events : List EventView) → (r : RunState)
-    → r ≡ run_after (run_after_files run_start files) events
-    → All (λ s. failed_of s.stats ≤ failed_in (all_notes files ++ notes_of (run_after_files run_start files) events)) r.suites
+FailuresAreKnown = (slow : ℕ) → (files : List (List EventView)) → (events : List EventView) → (r : RunState)
+    → r ≡ run_after (run_after_files (run_start slow) files) events
+    → All (λ s. failed_of s.stats ≤ failed_in (all_notes slow files ++ notes_of (run_after_files (run_start slow) files) events)) r.suites
 
 -- What `Success` means for the last lines of suites, for what was announced, and for failures of cargo.
 
@@ -314,6 +320,7 @@ says_failed_verdict (SuiteEnds e) = e.failed_verdict
 says_failed_verdict (TestEnds e) = false
 says_failed_verdict (SuiteStarts key count) = false
 says_failed_verdict (TestStarts name) = false
+says_failed_verdict (TestIsSlow name) = false
 says_failed_verdict OtherLine = false
 says_failed_verdict (HeadingLine name path) = false
 says_failed_verdict (CargoFails f line plain) = false
@@ -332,8 +339,8 @@ failed_verdicts_of files = sum_by failed_verdicts_in files
 
 -- If the last line of a suite has a failed verdict, the outcome is neither `Success` nor `NoTestsRun`.
 abbrev pub FailedVerdictShows : Type 0
-FailedVerdictShows = (files : List (List EventView)) → 0 < failed_verdicts_of files
-    → ((whole_end files).outcome ≢ outcome.Success) × ((whole_end files).outcome ≢ outcome.NoTestsRun)
+FailedVerdictShows = (slow : ℕ) → (files : List (List EventView)) → 0 < failed_verdicts_of files
+    → ((whole_end slow files).outcome ≢ outcome.Success) × ((whole_end slow files).outcome ≢ outcome.NoTestsRun)
 
 -- the line is damaged, and says that a test or a suite failed
 abbrev pub is_damaged : EventView → Bool
@@ -342,6 +349,7 @@ is_damaged (SuiteStarts key count) = false
 is_damaged (SuiteEnds e) = false
 is_damaged (TestStarts name) = false
 is_damaged (TestEnds e) = false
+is_damaged (TestIsSlow name) = false
 is_damaged OtherLine = false
 is_damaged (HeadingLine name path) = false
 is_damaged (CargoFails f line plain) = false
@@ -359,8 +367,8 @@ damaged_lines_of files = sum_by damaged_lines_in files
 
 -- If a damaged line says that a test or a suite failed, the outcome is neither `Success` nor `NoTestsRun`.
 abbrev pub DamagedLineShows : Type 0
-DamagedLineShows = (files : List (List EventView)) → 0 < damaged_lines_of files
-    → ((whole_end files).outcome ≢ outcome.Success) × ((whole_end files).outcome ≢ outcome.NoTestsRun)
+DamagedLineShows = (slow : ℕ) → (files : List (List EventView)) → 0 < damaged_lines_of files
+    → ((whole_end slow files).outcome ≢ outcome.Success) × ((whole_end slow files).outcome ≢ outcome.NoTestsRun)
 
 -- how many lines of a file are events of a harness
 abbrev pub events_in : List EventView → ℕ
@@ -368,26 +376,27 @@ events_in file = count_by is_event file
 
 -- If a file has no event of a harness, and is not the output of a command that has ended, the outcome is neither `Success` nor `NoTestsRun`.
 abbrev pub NoEventShows : Type 0
-NoEventShows = (files : List (List EventView)) → (r : RunState) → (end : IsFileEndOf files r) → events_in end.file ≡ 0 → r.command ≡ None
-    → ((whole_end files).outcome ≢ outcome.Success) × ((whole_end files).outcome ≢ outcome.NoTestsRun)
+NoEventShows = (slow : ℕ) → (files : List (List EventView)) → (r : RunState) → (end : IsFileEndOf slow files r) → events_in end.file ≡ 0 → r.command ≡ None
+    → ((whole_end slow files).outcome ≢ outcome.Success) × ((whole_end slow files).outcome ≢ outcome.NoTestsRun)
 
 -- If a command could not be started, was ended by a signal, or ended with a status above 0, the outcome is neither `Success` nor `NoTestsRun`.
 abbrev pub CommandEndShows : Type 0
-CommandEndShows = (files : List (List EventView)) → (r : RunState) → IsFileEndOf files r → (end : CommandView) → r.command ≡ Some end → end ≢ WithStatus 0
-    → ((whole_end files).outcome ≢ outcome.Success) × ((whole_end files).outcome ≢ outcome.NoTestsRun)
+CommandEndShows = (slow : ℕ) → (files : List (List EventView)) → (r : RunState) → IsFileEndOf slow files r → (end : CommandView)
+    → r.command ≡ Some end → end ≢ WithStatus 0
+    → ((whole_end slow files).outcome ≢ outcome.Success) × ((whole_end slow files).outcome ≢ outcome.NoTestsRun)
 
 -- each test without end was skipped, and at least as many tests finished or were skipped as were announced
-pub record IsWhole (s : SuiteState) (names : List (List ℕ)) : Type 0 where
-  pub no_test_lost : skipped_in (last_notes s names) ≡ length names
-  pub all_announced : (n : SuiteNoteView) → Contains (last_notes s names) (SuiteIs n)
+pub record IsWhole (s : SuiteState) (tests : List RunningView) : Type 0 where
+  pub no_test_lost : skipped_in (last_notes s tests) ≡ length tests
+  pub all_announced : (n : SuiteNoteView) → Contains (last_notes s tests) (SuiteIs n)
       → IfSome s.test_count (λ count. count ≤ n.stats.finished_count + n.skipped)
 
 -- If a suite that ends by its last line makes no failed test, no disagreement and no test that was not run known, it is whole.
 abbrev pub CleanEndIsWhole : Type 0
-CleanEndIsWhole = (s : SuiteState) → (names : List (List ℕ)) → IsClean (last_notes s names) → IsWhole s names
+CleanEndIsWhole = (s : SuiteState) → (tests : List RunningView) → IsClean (last_notes s tests) → IsWhole s tests
 
 -- If cargo reports a failure while no suite is open, in a file that is not the output of a command, a test failed or a disagreement becomes known.
 abbrev pub CargoFailureShows : Type 0
-CargoFailureShows = (files : List (List EventView)) → (r : RunState) → (f : CargoFailure) → (line plain : List ℕ)
-    → (at : IsLineOf files r (CargoFails f line plain)) → r.suites ≡ [] → (run_at_end at).of_command ≡ false
-    → 0 < failed_in (all_notes files) + disagreements_in (all_notes files)
+CargoFailureShows = (slow : ℕ) → (files : List (List EventView)) → (r : RunState) → (f : CargoFailure) → (line plain : List ℕ)
+    → (at : IsLineOf slow files r (CargoFails f line plain)) → r.suites ≡ [] → (run_at_end at).of_command ≡ false
+    → 0 < failed_in (all_notes slow files) + disagreements_in (all_notes slow files)

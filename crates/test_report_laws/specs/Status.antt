@@ -3,12 +3,13 @@ use Rattle.std.specs.Prelude.{◌+◌, [], ◌≡◌, ◌≢◌, ◌≤◌, ◌<
 use Rattle.std.specs.List.{sum_by}
 use Rattle.std.specs.Option.{option_map_or}
 use Rattle.run_events_stats.specs.declared.outcome.run_outcome.RunOutcome.TheVariants as outcome
-use Rattle.test_report_events.specs.Event.{EventView, SuiteEndView, SuiteStarts, SuiteEnds, TestStarts, TestEnds, OtherLine, HeadingLine, CargoFails, Prints, DamagedLine, CommandStarts, CommandOver, WithStatus}
+use Rattle.test_report_events.specs.Event.{EventView, SuiteEndView, SuiteStarts, SuiteEnds, TestStarts, TestEnds, TestIsSlow, OtherLine, HeadingLine, CargoFails, Prints, DamagedLine, CommandStarts, CommandOver, WithStatus}
 use Rattle.test_report_events.specs.declared.event.CargoFailure.{CargoFailure}
 use Rattle.test_report_laws.specs.Run.{Agrees, IsClean, damaged_lines_of, events_in, failed_lines_of, failed_verdicts_of, not_run_in, passed_in, skipped_in}
+use Rattle.test_report_run.specs.Running.{RunningView}
 use Rattle.test_report_run.specs.Note.{Disagrees, IsNotRun, NoteView, SuiteIs, TestIs}
 use Rattle.test_report_run.specs.Over.{last_notes}
-use Rattle.test_report_run.specs.Run.{RunState, counts_tests, is_cause, names_in, open_suite, suite_at}
+use Rattle.test_report_run.specs.Run.{RunState, counts_tests, is_cause, tests_in, open_suite, suite_at}
 use Rattle.test_report_run.specs.Said.{numbers_of}
 use Rattle.test_report_run.specs.Suite.{SuiteState, with_line}
 use Rattle.test_report_laws.specs.Whole.{IsFileEndOf, IsLineOf, all_notes, run_at_end, whole_end}
@@ -33,7 +34,7 @@ named_not_run (SuiteIs s) = 0
 
 -- Each test that was not run is in a note that names its suite.
 abbrev pub NotRunIsNamed : Type 0
-NotRunIsNamed = (files : List (List EventView)) → sum_by named_not_run (all_notes files) ≡ not_run_in (all_notes files)
+NotRunIsNamed = (slow : ℕ) → (files : List (List EventView)) → sum_by named_not_run (all_notes slow files) ≡ not_run_in (all_notes slow files)
 
 -- the note is of a suite whose tests were not all run
 abbrev pub is_not_run : NoteView → Bool
@@ -48,9 +49,9 @@ is_reason note = is_cause note || is_not_run note
 
 -- A run that does not succeed has such a note, or no test of it ran.
 abbrev pub FailureHasReason : Type 0
-FailureHasReason = (files : List (List EventView)) → ¬ (Succeeds (whole_end files))
-    → ((note : NoteView) × Contains (all_notes files) note × IsTrue (is_reason note))
-    ⊎ (RanNoTests (whole_end files) × (passed_in (all_notes files) ≡ 0))
+FailureHasReason = (slow : ℕ) → (files : List (List EventView)) → ¬ (Succeeds (whole_end slow files))
+    → ((note : NoteView) × Contains (all_notes slow files) note × IsTrue (is_reason note))
+    ⊎ (RanNoTests (whole_end slow files) × (passed_in (all_notes slow files) ≡ 0))
 
 -- What a run that succeeds has no line of.
 
@@ -60,6 +61,7 @@ announced_by (SuiteStarts key count) = option_map_or (λ n. n) count 0
 announced_by (SuiteEnds e) = 0
 announced_by (TestStarts name) = 0
 announced_by (TestEnds e) = 0
+announced_by (TestIsSlow name) = 0
 announced_by OtherLine = 0
 announced_by (HeadingLine name path) = 0
 announced_by (CargoFails f line plain) = 0
@@ -74,46 +76,46 @@ announced_of files = sum_by (λ file. sum_by announced_by file) files
 
 -- At least as many tests finished, were skipped or were counted as not run as were announced.
 abbrev pub AnnouncedAreCounted : Type 0
-AnnouncedAreCounted = (files : List (List EventView))
-    → announced_of files ≤ (whole_end files).stats.finished_count + (whole_end files).skipped + (whole_end files).not_run
+AnnouncedAreCounted = (slow : ℕ) → (files : List (List EventView))
+    → announced_of files ≤ (whole_end slow files).stats.finished_count + (whole_end slow files).skipped + (whole_end slow files).not_run
 
--- the last line of a suite is in order, while tests with these names run: it has no failed verdict, counts no failed test, and counts the passed tests
+-- the last line of a suite is in order, while these tests run: it has no failed verdict, counts no failed test, and counts the passed tests
 -- as they are; and each of the running tests was skipped
-pub record EndsInOrder (s : SuiteState) (names : List (List ℕ)) : Type 0 where
-  pub numbers : Agrees (numbers_of s.said) (s.stats.passed + passed_in (last_notes s names)) 0
-  pub no_test_lost : skipped_in (last_notes s names) ≡ length names
+pub record EndsInOrder (s : SuiteState) (tests : List RunningView) : Type 0 where
+  pub numbers : Agrees (numbers_of s.said) (s.stats.passed + passed_in (last_notes s tests)) 0
+  pub no_test_lost : skipped_in (last_notes s tests) ≡ length tests
 
 -- nothing is wrong with the lines of a run
-pub record IsInOrder (files : List (List EventView)) : Type 0 where
+pub record IsInOrder (slow : ℕ) (files : List (List EventView)) : Type 0 where
   -- no test failed, no lines disagree, and no suite has tests that were not run
-  pub clean : IsClean (all_notes files)
+  pub clean : IsClean (all_notes slow files)
   -- no line says that a test failed, and no last line of a suite has a failed verdict
   pub no_failed_line : failed_lines_of files ≡ 0
   pub no_failed_verdict : failed_verdicts_of files ≡ 0
   -- no damaged line says that a test or a suite failed
   pub no_damaged_line : damaged_lines_of files ≡ 0
   -- each command ended with status 0
-  pub commands : (r : RunState) → IsFileEndOf files r → IfSome r.command (λ end. end ≡ WithStatus 0)
+  pub commands : (r : RunState) → IsFileEndOf slow files r → IfSome r.command (λ end. end ≡ WithStatus 0)
   -- each file has an event of a harness, other than the output of a command
-  pub events : (r : RunState) → (end : IsFileEndOf files r) → r.command ≡ None → 0 < events_in end.file
+  pub events : (r : RunState) → (end : IsFileEndOf slow files r) → r.command ≡ None → 0 < events_in end.file
   -- each last line that ends a suite says what the tests of the suite are
-  pub last_lines : (r : RunState) → (e : SuiteEndView) → (at : ℕ) → IsLineOf files r (SuiteEnds e) → open_suite r e.key ≡ Some at
-      → let s = with_line (suite_at r (Some at)) e in s.open_lines ≡ 0 → EndsInOrder s (names_in r s)
+  pub last_lines : (r : RunState) → (e : SuiteEndView) → (at : ℕ) → IsLineOf slow files r (SuiteEnds e) → open_suite r e.key ≡ Some at
+      → let s = with_line (suite_at r (Some at)) e in s.open_lines ≡ 0 → EndsInOrder s (tests_in r s)
   -- a last line while its suite is not open counts no test that ran
-  pub stray_lines : (r : RunState) → (e : SuiteEndView) → IsLineOf files r (SuiteEnds e) → open_suite r e.key ≡ None → counts_tests e ≡ false
+  pub stray_lines : (r : RunState) → (e : SuiteEndView) → IsLineOf slow files r (SuiteEnds e) → open_suite r e.key ≡ None → counts_tests e ≡ false
   -- each suite ends by its last line: none is open when another one without key starts in its place, or at the end of a file
-  pub one_without_key : (r : RunState) → (count : Option ℕ) → IsLineOf files r (SuiteStarts None count) → open_suite r None ≡ None
-  pub none_open : (r : RunState) → IsFileEndOf files r → r.suites ≡ []
+  pub one_without_key : (r : RunState) → (count : Option ℕ) → IsLineOf slow files r (SuiteStarts None count) → open_suite r None ≡ None
+  pub none_open : (r : RunState) → IsFileEndOf slow files r → r.suites ≡ []
   -- no test starts outside of a suite
-  pub none_outside : (r : RunState) → IsFileEndOf files r → r.outside.started ≡ 0
+  pub none_outside : (r : RunState) → IsFileEndOf slow files r → r.outside.started ≡ 0
   -- at least as many tests finished or were skipped as were announced
-  pub announced : announced_of files ≤ (whole_end files).stats.finished_count + (whole_end files).skipped
+  pub announced : announced_of files ≤ (whole_end slow files).stats.finished_count + (whole_end slow files).skipped
   -- a failure of cargo is read only while a suite is open, when it is a print of a test, or in the output of a command
-  pub cargo : (r : RunState) → (f : CargoFailure) → (line plain : List ℕ) → (at : IsLineOf files r (CargoFails f line plain))
+  pub cargo : (r : RunState) → (f : CargoFailure) → (line plain : List ℕ) → (at : IsLineOf slow files r (CargoFails f line plain))
       → (run_at_end at).of_command ≡ false → r.suites ≢ []
 
 -- If a run succeeds, a test passed and nothing is wrong with its lines. If no test ran, no test passed, and nothing is wrong either.
 abbrev pub SuccessIsInOrder : Type 0
-SuccessIsInOrder = (files : List (List EventView))
-    → (Succeeds (whole_end files) → (0 < passed_in (all_notes files)) × IsInOrder files)
-    × (RanNoTests (whole_end files) → (passed_in (all_notes files) ≡ 0) × IsInOrder files)
+SuccessIsInOrder = (slow : ℕ) → (files : List (List EventView))
+    → (Succeeds (whole_end slow files) → (0 < passed_in (all_notes slow files)) × IsInOrder slow files)
+    × (RanNoTests (whole_end slow files) → (passed_in (all_notes slow files) ≡ 0) × IsInOrder slow files)

@@ -1,5 +1,5 @@
 -- A run of several files, one after the other.
-use Rattle.std.specs.Prelude.{◌≡◌, ◌++◌, ◌∷◌, [], List}
+use Rattle.std.specs.Prelude.{◌≡◌, ◌++◌, ◌∷◌, [], ℕ, List}
 use Rattle.std.specs.List.{fold}
 use Rattle.test_report_events.specs.Event.{EventView}
 use Rattle.test_report_run.specs.Note.{NoteView}
@@ -24,31 +24,31 @@ notes_of_files r (file ∷ files) = notes_of_file r file ++ notes_of_files (run_
 abbrev pub run_after_files : RunState → List (List EventView) → RunState
 run_after_files r files = fold run_after_file r files
 
--- what the files of a whole run make known
-abbrev pub all_notes : List (List EventView) → List NoteView
-all_notes files = notes_of_files run_start files
+-- what the files of a whole run make known. A test is slow from this time on
+abbrev pub all_notes : ℕ → List (List EventView) → List NoteView
+all_notes slow files = notes_of_files (run_start slow) files
 
 -- the sums and the outcome of a whole run
-abbrev pub whole_end : List (List EventView) → RunEnd
-whole_end files = end_of (run_after_files run_start files)
+abbrev pub whole_end : ℕ → List (List EventView) → RunEnd
+whole_end slow files = end_of (run_after_files (run_start slow) files)
 
 -- a line of a run, and the run when the line is read: after files, and after lines of its own file
-pub record IsLineOf (files : List (List EventView)) (r : RunState) (e : EventView) : Type 0 where
+pub record IsLineOf (slow : ℕ) (files : List (List EventView)) (r : RunState) (e : EventView) : Type 0 where
   pub before : List (List EventView)
   pub lines : List EventView
   pub rest : List EventView
   pub after : List (List EventView)
   pub are : files ≡ before ++ (lines ++ e ∷ rest) ∷ after
-  pub run_is : r ≡ run_after (run_after_files run_start before) lines
+  pub run_is : r ≡ run_after (run_after_files (run_start slow) before) lines
 
 -- the run when the end of the file of a line is read
-abbrev pub run_at_end : {files : List (List EventView)} {r : RunState} {e : EventView} → IsLineOf files r e → RunState
-run_at_end {files} {r} {e} line = run_after (after r e) line.rest
+abbrev pub run_at_end : {slow : ℕ} {files : List (List EventView)} {r : RunState} {e : EventView} → IsLineOf slow files r e → RunState
+run_at_end {slow} {files} {r} {e} line = run_after (after r e) line.rest
 
 -- the run when the end of a file is read
-pub record IsFileEndOf (files : List (List EventView)) (r : RunState) : Type 0 where
+pub record IsFileEndOf (slow : ℕ) (files : List (List EventView)) (r : RunState) : Type 0 where
   pub before : List (List EventView)
   pub file : List EventView
   pub after : List (List EventView)
   pub are : files ≡ before ++ file ∷ after
-  pub run_is : r ≡ run_after (run_after_files run_start before) file
+  pub run_is : r ≡ run_after (run_after_files (run_start slow) before) file

@@ -82,9 +82,9 @@ pub fn names_causes()
 /// The page of `html` has a heading with the outcome, and the numbers of the run with the word for each, such as
 /// `15 tests run: 5 passed (1 flaky), ..` (`end`). It has each phrase of its template (`page_phrases`): what is next to
 /// each other there is next to each other in the page, with the values in their places. It has the status, the suite and
-/// the name of each failed test one after another, and with the reason as its section of failed tests renders them. It
-/// has each problem as its list of problems renders it, a row with the name, the numbers and the time of each suite, and
-/// a row with the name and the reason of each skipped test that has a reason.
+/// the name of each failed test one after another, and with the reason and the output as its section of failed tests
+/// renders them. It has each problem as its list of problems renders it, a row with the name, the numbers and the time of
+/// each suite, and a row with the name and the reason of each skipped test that has a reason.
 ///
 /// It also has, somewhere in its text, every value of the report that its template has a place for (`page_holes`),
 /// escaped as for this place.

@@ -12,10 +12,10 @@
 //! ```rust
 //!     ensures in_order { IfOk result (λ success. IfSome (R.left source.old) (λ input.
 //!         (files : List (List EventView)) × AllZip HasEvents (file input ∷ []) files
-//!         × (IsTrue success ↔ Succeeds (whole_end files)) × (IsTrue success → IsInOrder files))) }
+//!         × (IsTrue success ↔ Succeeds (whole_end 60000000 files)) × (IsTrue success → IsInOrder 60000000 files))) }
 //! {
 //!     success_means();
-//!     let mut report = Report::new(alloc, TextForm::new(alloc, options));
+//!     let mut report = Report::new(alloc, TextForm::new(alloc, options), 60_000_000);
 //!     report.read_file(alloc, source, sink, &mut Nowhere::new())?;
 //!     let end = report.finish(alloc, sink)?;
 //!     Ok(end.outcome == RunOutcome::Success)

@@ -16,14 +16,14 @@ if_known (Some bytes) f p = f bytes p
 
 module _ {F : Type 0} (line : F → EntryView → List ℕ) (last : F → List EntryView → RunEnd → List ℕ) (Knows : F → List EntryView → Type 0) where
   -- the report of one input was written
-  abbrev pub IsWritten : F → InputView → RunEnd → Option (List ℕ) → Option (List ℕ) → Type 0
-  IsWritten form input end before behind = (text : List ℕ) × IsReport (line form) (last form) (input ∷ []) text end × Appends before behind text
+  abbrev pub IsWritten : ℕ → F → InputView → RunEnd → Option (List ℕ) → Option (List ℕ) → Type 0
+  IsWritten slow form input end before behind = (text : List ℕ) × IsReport slow (line form) (last form) (input ∷ []) text end × Appends before behind text
 
   -- the report of one input was written, if only that input was read and the report was then finished
-  pub is-written : (form : F) (old new : Report F) (input : InputView) (end : RunEnd) (a b c : Option (List ℕ))
-      → HasRead line last Knows form old [] [] → ReadsOneMore line last Knows old new input a b → Finishes line last Knows new end b c
-      → IsWritten form input end a c
-  is-written form old new input end a b c none reads finishes =
-      let read = reads form [] [] none in
-      let finished = finishes form (input ∷ []) read.0 read.1 in
+  pub is-written : (slow : ℕ) (form : F) (old new : Report F) (input : InputView) (end : RunEnd) (a b c : Option (List ℕ))
+      → HasRead line last Knows slow form old [] [] → ReadsOneMore line last Knows old new input a b → Finishes line last Knows new end b c
+      → IsWritten slow form input end a c
+  is-written slow form old new input end a b c none reads finishes =
+      let read = reads slow form [] [] none in
+      let finished = finishes slow form (input ∷ []) read.0 read.1 in
       (read.0 ++ finished.0, finished.1, Appends-trans a b c read.0 finished.0 read.2 finished.2)

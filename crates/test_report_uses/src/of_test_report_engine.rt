@@ -18,7 +18,8 @@ use test_report_engine::report::Report;
 use test_report_forms::options::Options;
 use test_report_forms::text::TextForm;
 
-/// Reads the run of a source, writes its report to a sink, and returns true if the run succeeded.
+/// Reads the run of a source, writes its report to a sink, and returns true if the run succeeded. A test is slow
+/// from 60 seconds on.
 pub fn succeeds<R: Source, W: Sink>(
     alloc: Global,
     source: &mut R,
@@ -28,13 +29,13 @@ pub fn succeeds<R: Source, W: Sink>(
     requires source_works { R.failed source.old ≡ false }
     requires sink_works { W.failed sink.old ≡ false }
     ensures reports { IfOk result (λ success. IfSome (R.left source.old) (λ input.
-        (text : List ℕ) × (end : RunEnd) × IsReport (text_line options) (text_last options) (file input ∷ []) text end
+        (text : List ℕ) × (end : RunEnd) × IsReport 60000000 (text_line options) (text_last options) (file input ∷ []) text end
         × Appends (W.written sink.old) (W.written sink.new) text
         × (IsTrue success ↔ (end.outcome ≡ outcomes.Success)))) }
     ensures read { IsErrOf result faults.Read ↔ (R.failed source.new ≡ true) }
     ensures write { IsErrOf result faults.Write ↔ (W.failed sink.new ≡ true) }
 {
-    let mut report = Report::new(alloc, TextForm::new(alloc, options));
+    let mut report = Report::new(alloc, TextForm::new(alloc, options), 60_000_000);
     report.read_file(alloc, source, sink, &mut Nowhere::new())?;
     let end = report.finish(alloc, sink)?;
     Ok(end.outcome == RunOutcome::Success)

@@ -10,12 +10,12 @@ returns-clause-reports g c =
     if_known (g.R.Source.left c.args.source.now)
     (λ input reads.
     let written =
-    is-written _ _ _ c.new.result c.new-report.result c.read_file.new.self (file input) c.in_ok-end.end (g.W.Sink.written c.args.sink.now)
+    is-written _ _ _ 60000000 c.new.result c.new-report.result c.read_file.new.self (file input) c.in_ok-end.end (g.W.Sink.written c.args.sink.now)
     (g.W.Sink.written c.read_file.new.sink) (g.W.Sink.written c.finish.new.sink)
     (c.new-report.ensures.reads c.new.ensures.nothing) reads c.in_ok-end.ensures.finishes in (
       written.0,
       c.in_ok-end.end,
-      subst (λ o. IsReport (text_line o) (text_last o) (file input ∷ []) written.0 c.in_ok-end.end) c.new.ensures.options written.1,
+      subst (λ o. IsReport 60000000 (text_line o) (text_last o) (file input ∷ []) written.0 c.in_ok-end.end) c.new.ensures.options written.1,
       written.2,
       search (rules, c.eq.ensures),
     ))

@@ -12,11 +12,11 @@ returns g c = record {
       if_known (g.R.Source.left c.args.source.now)
       (λ input reads.
       let written =
-      is-written _ _ _ c.new.result c.new-report.result c.read_file.new.self (file input) c.in_ok-end.end (g.W.Sink.written c.args.sink.now)
+      is-written _ _ _ 60000000 c.new.result c.new-report.result c.read_file.new.self (file input) c.in_ok-end.end (g.W.Sink.written c.args.sink.now)
       (g.W.Sink.written c.read_file.new.sink) (g.W.Sink.written c.finish.new.sink) (c.new-report.ensures.reads c.new.ensures.nothing) reads
       c.in_ok-end.ensures.finishes in
       let report = written.1 in
-      let means = c.success_means.ensures (file input ∷ []) report.entries report.run report.are in
+      let means = c.success_means.ensures 60000000 (file input ∷ []) report.entries report.run report.are in
       let success : IsTrue c.eq.result ↔ (c.in_ok-end.end.outcome ≡ outcomes.Success) = search (rules, c.eq.ensures) in (
         means.0,
         means.1.say,

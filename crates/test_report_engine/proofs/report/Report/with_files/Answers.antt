@@ -2,7 +2,7 @@ use Rattle.test_report_engine.proofs.Reports.{files-read-none, read-none}
 use Rattle.test_report_engine.proofs.report.Report.with_files.Goals as goal
 
 pub returns-clause-reads : goal.returns-clause-reads
-returns-clause-reads g c = read-none g.F.Form.line g.F.Form.last g.F.Form.Knows _ c.new.ensures
+returns-clause-reads g c = read-none g.F.Form.line g.F.Form.last g.F.Form.Knows c.args.slow _ c.new.ensures
 
 pub returns-clause-files : goal.returns-clause-files
-returns-clause-files g c = files-read-none g.F.Form.line g.F.Form.last g.F.Form.Knows _ c.new.ensures
+returns-clause-files g c = files-read-none g.F.Form.line g.F.Form.last g.F.Form.Knows c.args.slow _ c.new.ensures
