@@ -4,10 +4,15 @@ use clap::{Arg, ArgAction, ArgMatches, Command, value_parser};
 use run_events_levels::levels::{FinalStatusLevel, StatusLevel};
 use run_events_settings::config::TestOutputDisplay;
 use std::alloc::{AllocError, Global};
+use std::fmt;
+use test_report_events::time::microseconds;
 use test_report_forms::options::{Options, OutputDisplay};
 
 /// How many bytes of the reason of a failure are shown if `--limit` is absent.
 const LIMIT: usize = 4_096;
+
+/// The time in microseconds from which on a test is slow if `--slow` is absent.
+const SLOW: u64 = 60_000_000;
 
 /// The values of `--output`.
 const DISPLAYS: &[&str] = &["auto", "short", "whole"];
@@ -30,11 +35,36 @@ const FORMS: &[&str] = &[
     "text", "github", "names", "junit", "html", "markdown", "json",
 ];
 
+/// The values of `--annotations`.
+const ANNOTATIONS: &[&str] = &["auto", "github", "never"];
+
 /// The values of `--no-tests`.
 const ACTIONS: &[&str] = &["fail", "pass"];
 
 /// The values of `--color`, `--progress` and `--others`.
 const TIMES: &[&str] = &["auto", "always", "never"];
+
+/// A value that an option does not take.
+#[derive(Clone, Copy, Debug)]
+pub(crate) enum BadValue<'a> {
+    /// The value of `--limit`, which is neither a number nor `none`.
+    Limit(&'a str),
+
+    /// The value of `--slow`, which is not a number of seconds.
+    Seconds(&'a str),
+}
+
+impl fmt::Display for BadValue<'_> {
+    fn fmt<W: fmt::Write>(&self, f: &mut fmt::Formatter<W>) -> fmt::Result {
+        match self {
+            BadValue::Limit(text) => write!(
+                f,
+                "--limit {text}: neither a number of bytes nor `none`"
+            ),
+            BadValue::Seconds(text) => write!(f, "--slow {text}: not a number of seconds"),
+        }
+    }
+}
 
 /// The text of `--help` after the options.
 const AFTER_HELP: &str = "\
@@ -94,13 +124,20 @@ fn with_display<'a>(alloc: Global, command: Command<'a>) -> Result<Command<'a>, 
     let limit = Arg::new(alloc, "limit")
         .long("limit")
         .value_name("BYTES")
-        .value_parser(value_parser!(usize))
-        .help("Show at most BYTES bytes of the reason of each failed test [default: 4096]");
+        .help(
+            "Show at most BYTES bytes of the reason of each failed test, or all if it is `none` [default: 4096]",
+        );
     let slowest = Arg::new(alloc, "slowest")
         .long("slowest")
         .value_name("N")
         .value_parser(value_parser!(usize))
         .help("List the N slowest tests, too, at the end of the form `text` [default: 0]");
+    let slow = Arg::new(alloc, "slow")
+        .long("slow")
+        .value_name("SECONDS")
+        .help(
+            "Take a test for slow if its time is at least SECONDS, a decimal number [default: 60]",
+        );
     let raw = Arg::new(alloc, "raw")
         .long("raw")
         .action(ArgAction::SetTrue)
@@ -124,6 +161,10 @@ fn with_display<'a>(alloc: Global, command: Command<'a>) -> Result<Command<'a>, 
         .arg(choice(alloc, "failure-output", "WHEN", OUTPUT_DISPLAYS).help(
             "When the form `text` shows why tests failed: when they end, in the list at the end, both, or never",
         ))?
+        .arg(choice(alloc, "annotations", "WHEN", ANNOTATIONS).help(
+            "Write annotations for GitHub between the lines of the form `text`; `auto` does so if GITHUB_ACTIONS is `true`",
+        ))?
+        .arg(slow)?
         .arg(slowest)?
         .arg(limit)?
         .arg(choice(alloc, "output", "HOW", DISPLAYS).help(
@@ -214,19 +255,45 @@ fn default_limit(output: OutputDisplay) -> usize {
 /// Returns the options of annotations: if `--limit` is absent, they have the default limit even if outputs are shown
 /// as a whole.
 pub(crate) fn annotation_options(matches: &ArgMatches<'_>, options: Options) -> Options {
-    Options {
-        limit: matches.get_one::<usize>("limit").unwrap_or(LIMIT),
-        ..options
+    if matches.contains_id("limit") {
+        options
+    } else {
+        Options {
+            limit: LIMIT,
+            ..options
+        }
+    }
+}
+
+/// Returns true if the form `text` has annotations between its lines. `is_github` is true in a workflow on GitHub.
+pub(crate) fn wants_annotations(matches: &ArgMatches<'_>, is_github: bool) -> bool {
+    match matches.get_str("annotations") {
+        Some("github") => true,
+        Some("never") => false,
+        _ => is_github,
+    }
+}
+
+/// Returns the limit that the arguments give, or `None` if `--limit` is absent.
+fn limit_of<'a>(matches: &ArgMatches<'a>) -> Result<Option<usize>, BadValue<'a>> {
+    match matches.get_str("limit") {
+        None => Ok(None),
+        Some("none") => Ok(Some(usize::MAX)),
+        Some(bytes) => match bytes.parse::<usize>() {
+            Ok(limit) => Ok(Some(limit)),
+            Err(_) => Err(BadValue::Limit(bytes)),
+        },
     }
 }
 
 /// Returns the options of the report. `colors` is true if standard output is coloured by default.
-pub(crate) fn options_of(matches: &ArgMatches<'_>, colors: bool) -> Options {
+pub(crate) fn options_of<'a>(
+    matches: &ArgMatches<'a>,
+    colors: bool,
+) -> Result<Options, BadValue<'a>> {
     let output = output_of(matches);
-    Options {
-        limit: matches
-            .get_one::<usize>("limit")
-            .unwrap_or(default_limit(output)),
+    Ok(Options {
+        limit: limit_of(matches)?.unwrap_or(default_limit(output)),
         output,
         raw: matches.get_flag("raw"),
         color: match matches.get_str("color") {
@@ -239,6 +306,14 @@ pub(crate) fn options_of(matches: &ArgMatches<'_>, colors: bool) -> Options {
         failure_output: failure_output_of(matches),
         slowest: matches.get_one::<usize>("slowest").unwrap_or(0),
         no_tests_pass: matches.get_str("no-tests") == Some("pass"),
+    })
+}
+
+/// Returns the time in microseconds from which on a test is slow.
+pub(crate) fn slow_of<'a>(matches: &ArgMatches<'a>) -> Result<u64, BadValue<'a>> {
+    match matches.get_str("slow") {
+        Some(seconds) => microseconds(seconds.as_bytes()).ok_or(BadValue::Seconds(seconds)),
+        None => Ok(SLOW),
     }
 }
 

@@ -1,5 +1,6 @@
 //! The failures of the program.
 
+use crate::arguments::BadValue;
 use crate::output_files::Conflict;
 use std::alloc::AllocError;
 use std::fmt;
@@ -24,6 +25,9 @@ pub(crate) enum Failure<'a> {
     /// This file cannot be written.
     Write(&'a str),
 
+    /// An option does not take its value.
+    BadValue(BadValue<'a>),
+
     /// The arguments name files that are not written.
     Refused(Conflict<'a>),
 }
@@ -41,9 +45,15 @@ impl<'a> Failure<'a> {
     /// Returns the exit status.
     pub(crate) fn status(&self) -> u8 {
         match self {
-            Failure::Refused(_) => BAD_ARGUMENT,
+            Failure::BadValue(_) | Failure::Refused(_) => BAD_ARGUMENT,
             _ => FAILED,
         }
+    }
+}
+
+impl<'a> From<BadValue<'a>> for Failure<'a> {
+    fn from(value: BadValue<'a>) -> Self {
+        Failure::BadValue(value)
     }
 }
 
@@ -65,6 +75,7 @@ impl fmt::Display for Failure<'_> {
             Failure::Fault(fault) => write!(f, "{fault}"),
             Failure::Open(path) => write!(f, "{path} cannot be opened"),
             Failure::Write(path) => write!(f, "{path} cannot be written"),
+            Failure::BadValue(value) => write!(f, "{value}"),
             Failure::Refused(conflict) => write!(f, "{conflict}"),
         }
     }

@@ -11,7 +11,10 @@ mod output_files;
 mod progress;
 mod same_file;
 
-use crate::arguments::{annotation_options, command, options_of, shows_progress, wants_others};
+use crate::arguments::{
+    annotation_options, command, options_of, shows_progress, slow_of, wants_annotations,
+    wants_others,
+};
 use crate::failure::{BAD_ARGUMENT, FAILED, Failure};
 use crate::files::{append, replace};
 use crate::others::Others;
@@ -33,6 +36,7 @@ use test_report_engine::fault::Fault;
 use test_report_engine::pieces::Pieces;
 use test_report_engine::report::Report;
 use test_report_engine::status::exit_status;
+use test_report_forms::annotated::AnnotatedForm;
 use test_report_forms::files::{FileForms, FileTexts};
 use test_report_forms::form::Form;
 use test_report_forms::github::GithubForm;
@@ -49,6 +53,12 @@ use test_report_run::note::RunEnd;
 #[derive(Clone, Copy)]
 struct Settings {
     options: Options,
+
+    /// True if the form `text` has annotations for GitHub between its lines.
+    has_annotations: bool,
+
+    /// The time in microseconds from which on a test is slow.
+    slow: u64,
 
     /// True if a line on standard error shows the progress of the run.
     shows_progress: bool,
@@ -208,7 +218,7 @@ fn report_in<'a, R: Files + AllocGlobal + Input + Print, F: Form + Drop>(
     form: F,
 ) -> Result<u8, Failure<'a>> {
     let files = file_forms(rt.alloc(), matches, settings.options)?;
-    let report = Report::with_files(rt.alloc(), form, files);
+    let report = Report::with_files(rt.alloc(), form, files, settings.slow);
     let pieces = pieces_of(rt.alloc(), settings);
     let mut output = Output::new(io::writer(rt), line);
     let written = report_to(rt, matches, report, pieces, &mut output, &mut others);
@@ -277,6 +287,14 @@ fn report_of<'a, R: Files + AllocGlobal + Input + Print>(
             others,
             JsonForm::new(alloc, options),
         ),
+        _ if settings.has_annotations => report_in(
+            rt,
+            matches,
+            settings,
+            line,
+            others,
+            AnnotatedForm::new(alloc, options, annotation_options(matches, options)),
+        ),
         _ => report_in(
             rt,
             matches,
@@ -301,6 +319,15 @@ fn has_colors(rt: &HostRuntime) -> Result<bool, Fault> {
     }
 }
 
+/// Returns true in a workflow on GitHub.
+fn is_github(rt: &HostRuntime) -> Result<bool, Fault> {
+    match env::var(rt, "GITHUB_ACTIONS") {
+        Ok(value) => Ok(value.as_str() == "true"),
+        Err(env::VarError::OutOfMemory) => Err(Fault::OutOfMemory),
+        Err(_) => Ok(false),
+    }
+}
+
 /// Makes sure, before anything is read, that the report can be written to standard output, that it does not mix with
 /// the files, and that no old file is taken for a new one.
 fn prepare<'a>(rt: &HostRuntime, matches: &ArgMatches<'a>) -> Result<(), Failure<'a>> {
@@ -317,11 +344,13 @@ fn prepare<'a>(rt: &HostRuntime, matches: &ArgMatches<'a>) -> Result<(), Failure
 
 /// Writes the report that parsed arguments ask for, and returns the exit status.
 fn run_parsed<'a>(rt: &HostRuntime, matches: &ArgMatches<'a>) -> Result<u8, Failure<'a>> {
-    prepare(rt, matches)?;
     let settings = Settings {
-        options: options_of(matches, has_colors(rt)?),
+        options: options_of(matches, has_colors(rt)?)?,
+        has_annotations: wants_annotations(matches, is_github(rt)?),
+        slow: slow_of(matches)?,
         shows_progress: shows_progress(matches, rt.stderr().is_terminal()),
     };
+    prepare(rt, matches)?;
     let line = Rc::new(rt.alloc(), ProgressLine::new(rt.stderr()));
     let line = line.map_err(AllocError::from)?;
     let others = Others::new(Output::new(rt.stderr(), line.clone()?));
