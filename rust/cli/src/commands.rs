@@ -171,6 +171,17 @@ fn with_options(command: Command) -> Command {
                 .help("When the form `text` shows why tests failed: when they end, in the list at the end, both, or never"),
         )
         .arg(
+            choice("annotations", "WHEN", "auto", ["auto", "github", "never"])
+                .help("Write annotations for GitHub between the lines of the form `text`; `auto` does so if GITHUB_ACTIONS is `true`"),
+        )
+        .arg(
+            Arg::new("slow")
+                .long("slow")
+                .value_name("SECONDS")
+                .value_hint(ValueHint::Other)
+                .help("Take a test for slow if its time is at least SECONDS, a decimal number [default: 60]"),
+        )
+        .arg(
             Arg::new("slowest")
                 .long("slowest")
                 .value_name("N")
@@ -182,9 +193,8 @@ fn with_options(command: Command) -> Command {
             Arg::new("limit")
                 .long("limit")
                 .value_name("BYTES")
-                .value_parser(value_parser!(usize))
                 .value_hint(ValueHint::Other)
-                .help("Show at most BYTES bytes of the reason of each failed test [default: 4096]"),
+                .help("Show at most BYTES bytes of the reason of each failed test, or all if it is `none` [default: 4096]"),
         )
         .arg(
             choice("output", "HOW", "auto", ["auto", "short", "whole"])

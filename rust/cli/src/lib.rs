@@ -46,7 +46,7 @@ pub mod test_report_forms;
 #[doc(hidden)]
 #[allow(
     clippy::new_without_default,
-    reason = "`TestRun::new` takes an allocator in the proved text, where there is no `Default` for it"
+    reason = "`Running::new` takes an allocator in the proved text, where there is no `Default` for it"
 )]
 #[allow(
     clippy::vec_box,

@@ -13,6 +13,8 @@ use crate::test_report_engine::fault::Fault;
 use crate::test_report_engine::pieces::Pieces;
 use crate::test_report_engine::report::Report;
 use crate::test_report_engine::status::exit_status;
+use crate::test_report_events::time::microseconds;
+use crate::test_report_forms::annotated::AnnotatedForm;
 use crate::test_report_forms::files::{FileForms, FileTexts};
 use crate::test_report_forms::form::Form;
 use crate::test_report_forms::github::GithubForm;
@@ -47,18 +49,41 @@ fn is_set(variable: &str) -> bool {
 /// The default of `--limit`: how many bytes of the reason of a failure are shown.
 const LIMIT: usize = 4_096;
 
+/// The default of `--slow` in microseconds.
+const SLOW: u64 = 60_000_000;
+
+/// The settings of a report.
+#[derive(Clone, Copy)]
+struct Settings {
+    options: Options,
+
+    /// The time in microseconds from which on a test is slow.
+    slow: u64,
+}
+
+/// Returns the limit that the arguments give, or `None` if `--limit` is absent.
+fn limit_of(matches: &ArgMatches) -> Result<Option<usize>, Failure> {
+    let Some(bytes) = matches.get_one::<String>("limit") else {
+        return Ok(None);
+    };
+    if bytes == "none" {
+        return Ok(Some(usize::MAX));
+    }
+    bytes.parse().map(Some).map_err(|_| {
+        let message = format!("--limit {bytes}: neither a number of bytes nor `none`");
+        Failure::new(BAD_ARGUMENT, message)
+    })
+}
+
 /// Returns the options of the report.
-fn options_of(matches: &ArgMatches) -> Options {
+fn options_of(matches: &ArgMatches) -> Result<Options, Failure> {
     let output = match value(matches, "output") {
         "short" => OutputDisplay::Short,
         "whole" => OutputDisplay::Whole,
         _ => OutputDisplay::Auto,
     };
-    Options {
-        limit: matches
-            .get_one("limit")
-            .copied()
-            .unwrap_or_else(|| default_limit(output)),
+    Ok(Options {
+        limit: limit_of(matches)?.unwrap_or_else(|| default_limit(output)),
         output,
         raw: matches.get_flag("raw"),
         color: match value(matches, "color") {
@@ -71,7 +96,7 @@ fn options_of(matches: &ArgMatches) -> Options {
         failure_output: failure_output_of(matches),
         slowest: matches.get_one("slowest").copied().unwrap_or(0),
         no_tests_pass: value(matches, "no-tests") == "pass",
-    }
+    })
 }
 
 /// Returns the level of the tests that have a line when they end.
@@ -120,6 +145,17 @@ fn default_limit(output: OutputDisplay) -> usize {
     }
 }
 
+/// Returns the time in microseconds from which on a test is slow.
+fn slow_of(matches: &ArgMatches) -> Result<u64, Failure> {
+    let Some(seconds) = matches.get_one::<String>("slow") else {
+        return Ok(SLOW);
+    };
+    microseconds(seconds.as_bytes()).ok_or_else(|| {
+        let message = format!("--slow {seconds}: not a number of seconds");
+        Failure::new(BAD_ARGUMENT, message)
+    })
+}
+
 /// Returns the options of annotations: if `--limit` is absent, they have the default limit even if outputs are shown
 /// as a whole.
 fn annotation_options(matches: &ArgMatches, options: Options) -> Options {
@@ -130,6 +166,15 @@ fn annotation_options(matches: &ArgMatches, options: Options) -> Options {
             limit: LIMIT,
             ..options
         }
+    }
+}
+
+/// Returns true if the form `text` has annotations for GitHub between its lines.
+fn has_annotations(matches: &ArgMatches) -> bool {
+    match value(matches, "annotations") {
+        "github" => true,
+        "never" => false,
+        _ => env::var_os("GITHUB_ACTIONS").is_some_and(|value| value == "true"),
     }
 }
 
@@ -205,10 +250,11 @@ fn catch_first_interrupt() -> Result<Interrupt, Failure> {
 fn report_in<F: Form>(
     matches: &ArgMatches,
     input: &Input,
-    options: Options,
+    settings: Settings,
     form: F,
 ) -> Result<ExitCode, Failure> {
-    let report = Report::with_files(form, file_forms(matches, options));
+    let Settings { options, slow } = settings;
+    let report = Report::with_files(form, file_forms(matches, options), slow);
     let pieces = pieces(matches);
     let interrupt = catch_first_interrupt()?;
     let has_reader = pieces.progress().is_some() || io::stderr().is_terminal();
@@ -247,19 +293,28 @@ fn prepare(matches: &ArgMatches, input: &Input) -> Result<(), Failure> {
 
 /// Writes the report that the arguments ask for, and returns the exit status.
 fn report_of(matches: &ArgMatches, input: &Input) -> Result<ExitCode, Failure> {
+    let options = options_of(matches)?;
+    let settings = Settings {
+        options,
+        slow: slow_of(matches)?,
+    };
     prepare(matches, input)?;
-    let options = options_of(matches);
     match value(matches, "format") {
         "github" => {
             let form = GithubForm::new(annotation_options(matches, options));
-            report_in(matches, input, options, form)
+            report_in(matches, input, settings, form)
         }
-        "names" => report_in(matches, input, options, NamesForm),
-        "junit" => report_in(matches, input, options, JunitForm::new(options)),
-        "html" => report_in(matches, input, options, HtmlForm::new(options)),
-        "markdown" => report_in(matches, input, options, MarkdownForm::new(options)),
-        "json" => report_in(matches, input, options, JsonForm::new(options)),
-        _ => report_in(matches, input, options, TextForm::new(options)),
+        "names" => report_in(matches, input, settings, NamesForm),
+        "junit" => report_in(matches, input, settings, JunitForm::new(options)),
+        "html" => report_in(matches, input, settings, HtmlForm::new(options)),
+        "markdown" => report_in(matches, input, settings, MarkdownForm::new(options)),
+        "json" => report_in(matches, input, settings, JsonForm::new(options)),
+        _ if has_annotations(matches) => {
+            let annotations = annotation_options(matches, options);
+            let form = AnnotatedForm::new(options, annotations);
+            report_in(matches, input, settings, form)
+        }
+        _ => report_in(matches, input, settings, TextForm::new(options)),
     }
 }
 

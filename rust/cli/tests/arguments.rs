@@ -38,7 +38,7 @@ fn not_utf8() -> std::ffi::OsString {
 
 #[test]
 fn test_report_refuses_arguments() {
-    let refused: [&[&str]; 16] = [
+    let refused: [&[&str]; 15] = [
         &["--nothing"],
         &["-x"],
         &["--format", "xml"],
@@ -51,9 +51,8 @@ fn test_report_refuses_arguments() {
         &["--html", "a", "--html", "b"],
         &["--markdown=a", "--markdown=b"],
         &["--limit"],
-        &["--limit", "many"],
         &["--limit", "-1"],
-        &["--limit", "18446744073709551616"],
+        &["--slowest", "many"],
         &["--raw=yes"],
     ];
     for arguments in refused {
@@ -65,8 +64,25 @@ fn test_report_refuses_arguments() {
 }
 
 #[test]
+fn test_report_refuses_numbers() {
+    let refused = [
+        (["--limit", "many"], "neither a number of bytes nor `none`"),
+        (
+            ["--limit", "18446744073709551616"],
+            "neither a number of bytes nor `none`",
+        ),
+        (["--slow", "1e3"], "not a number of seconds"),
+    ];
+    for ([option, value], what) in refused {
+        let output = run("test-report", &[option, value], PASSED.as_bytes());
+        let message = format!("test-report: {option} {value}: {what}\n");
+        assert_output(&output, b"", message.as_bytes(), 2, &message);
+    }
+}
+
+#[test]
 fn test_report_takes_arguments() {
-    let taken: [&[&str]; 13] = [
+    let taken: [&[&str]; 15] = [
         &[],
         &["--format", "text"],
         &["--format=text", "--color=never", "--no-tests=fail"],
@@ -80,6 +96,8 @@ fn test_report_takes_arguments() {
         &["--limit", "0"],
         &["--limit=18446744073709551615", "-"],
         &["--raw", "--limit", "7", "-"],
+        &["--limit", "none"],
+        &["--slow", "0.5"],
     ];
     for arguments in taken {
         let output = run("test-report", arguments, PASSED.as_bytes());

@@ -4,6 +4,9 @@ use deodarsieve_cli::test_report_events::line::Line;
 use deodarsieve_cli::test_report_run::note::{CargoReport, CommandEnd, Disagreement, Note};
 use deodarsieve_cli::test_report_run::run::TestRun;
 
+/// The time in microseconds from which on a test is slow.
+const SLOW: u64 = 60_000_000;
+
 /// What `cargo test` writes if a test program refuses an option.
 const REFUSED: &str = "   Compiling a v0.1.0
      Running unittests src/lib.rs (target/debug/deps/a-0123456789abcdef)
@@ -36,7 +39,7 @@ fn pass_lines(run: &mut TestRun, text: &str) -> Vec<Disagreement> {
 
 /// Returns the disagreements that become known at the end of a command with this output.
 fn command_ends(output: &str, end: &CommandEnd) -> Vec<Disagreement> {
-    let mut run = TestRun::new();
+    let mut run = TestRun::new(SLOW);
     run.on_command_started();
     pass_lines(&mut run, output);
     run.on_command_ended(end);
@@ -66,7 +69,7 @@ fn assert_refused(disagreements: &[Disagreement]) {
 
 #[test]
 fn a_failure_of_cargo_waits_for_the_end_of_the_command() {
-    let mut run = TestRun::new();
+    let mut run = TestRun::new(SLOW);
     run.on_command_started();
     assert!(pass_lines(&mut run, REFUSED).is_empty());
     assert!(pass_lines(&mut run, "   Doc-tests a\n").is_empty());
@@ -82,7 +85,7 @@ fn a_failure_of_cargo_was_a_print_if_the_command_ended_with_0() {
 
 #[test]
 fn a_failure_of_cargo_becomes_known_at_the_next_heading() {
-    let mut run = TestRun::new();
+    let mut run = TestRun::new(SLOW);
     assert!(pass_lines(&mut run, REFUSED).is_empty());
     assert_refused(&pass_lines(&mut run, "   Doc-tests a\n"));
     assert!(disagreements(run.end_file().unwrap()).is_empty());

@@ -130,6 +130,64 @@ fn markdown() {
     );
 }
 
+/// Returns a run in which tests fail, each with this output.
+fn run_with_output(tests: usize, output: &str) -> String {
+    let start = r#"{ "type": "test", "event": "started", "name": "a" }"#;
+    let end = format!(
+        r#"{{ "type": "test", "event": "failed", "name": "a", "stdout": "{}" }}"#,
+        output.replace('\n', "\\n")
+    );
+    format!(
+        r#"{{ "type": "suite", "event": "started", "test_count": {tests} }}
+{}{{ "type": "suite", "event": "failed", "passed": 0, "failed": {tests} }}
+"#,
+        format!("{start}\n{end}\n").repeat(tests)
+    )
+}
+
+#[test]
+fn whole_outputs_have_a_limit() {
+    // 110,000 lines of 11 bytes. The last line feed is left out.
+    let lines = run_with_output(1, &"<234567890\n".repeat(110_000));
+    for (form, before) in [("html", 161_425), ("markdown", 1_193_621)] {
+        let text = report(&["--format", form], &lines, 1);
+        let expected = format!("({before} bytes before this)\n&lt;234567890\n");
+        assert!(text.contains("<summary>output, 110000 lines</summary>"));
+        assert!(text.contains(&expected), "{form}");
+    }
+    // A character has two bytes, and the last byte is one of its own.
+    let line = run_with_output(1, &format!("{}x", "é".repeat(600_000)));
+    for (form, before) in [("html", 151_426), ("markdown", 1_183_618)] {
+        let text = report(&["--format", form], &line, 1);
+        let expected = format!("({before} bytes before this)\né");
+        assert!(text.contains("<summary>output, 1 lines</summary>"));
+        assert!(text.contains(&expected), "{form}");
+    }
+}
+
+#[test]
+fn whole_outputs_of_a_page_have_a_limit_together() {
+    // Each is shown as 1,048,601 bytes, and as 1,334,576 bytes between tags.
+    let lines = run_with_output(18, &"<234567890\n".repeat(110_000));
+    let page = report(&["--format", "html"], &lines, 1);
+    assert_eq!(page.matches("<summary>output, ").count(), 13);
+    assert_eq!(page.matches("<span>a</span>").count(), 18);
+}
+
+#[test]
+fn an_output_that_the_reason_shows_is_shown_once() {
+    for form in ["html", "markdown"] {
+        let text = report(&["--format", form], &run_with_output(1, "said\n"), 1);
+        assert!(!text.contains("<summary>output"), "{form}");
+        let cut = run_with_output(1, "first\nError: x\n");
+        let text = report(&["--format", form, "--output", "short"], &cut, 1);
+        assert!(
+            text.contains("<summary>output, 2 lines</summary>"),
+            "{form}"
+        );
+    }
+}
+
 #[test]
 fn html_loads_nothing() {
     let page = report(&["--format", "html"], RUN, 1);

@@ -44,8 +44,12 @@ fn summary(report: &Value) -> String {
         Some(seconds) => format!("[{seconds:>8.3}s] "),
         None => String::new(),
     };
+    let slow = match of("slow") {
+        0 => String::new(),
+        slow => format!(", {slow} slow"),
+    };
     format!(
-        "     Summary {time}{} tests run: {} passed ({} flaky), {} failed ({} timed out, {} crashed), {} skipped, {} not run",
+        "     Summary {time}{} tests run: {} passed ({} flaky{slow}), {} failed ({} timed out, {} crashed), {} skipped, {} not run",
         of("finished"),
         of("passed"),
         of("flaky"),

@@ -27,16 +27,18 @@ pub struct Report<F: Form> {
 }
 
 impl<F: Form> Report<F> {
-    /// Returns a report that has read and written nothing.
-    pub fn new(form: F) -> Report<F> {
-        Report::with_files(form, FileForms::none())
+    /// Returns a report that has read and written nothing. A test whose time is at least `slow` microseconds is
+    /// slow.
+    pub fn new(form: F, slow: u64) -> Report<F> {
+        Report::with_files(form, FileForms::none(), slow)
     }
 
     /// Returns a report that has read and written nothing. It keeps what the texts of these files need, and
-    /// `file_texts` returns them after the last file of the run.
-    pub fn with_files(form: F, files: FileForms) -> Report<F> {
+    /// `file_texts` returns them after the last file of the run. A test whose time is at least `slow` microseconds
+    /// is slow.
+    pub fn with_files(form: F, files: FileForms, slow: u64) -> Report<F> {
         Report {
-            run: TestRun::new(),
+            run: TestRun::new(slow),
             form,
             files,
         }

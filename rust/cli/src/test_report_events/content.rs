@@ -24,6 +24,9 @@ pub(crate) enum Content {
     /// A test ends.
     TestEnded(TestEnd),
 
+    /// A test is slow.
+    TestSlow { name: String },
+
     /// Another line of a test harness.
     Other,
 
@@ -92,6 +95,9 @@ impl Content {
                 result: outcome,
                 details,
             } => Content::TestEnded(TestEnd::of(name, outcome, details)),
+            Event::TestSlow { name } => Content::TestSlow {
+                name: String::from(name),
+            },
             Event::Other => Content::Other,
             Event::Heading { suite, path } => Content::Heading {
                 suite: String::from(suite),
@@ -149,6 +155,9 @@ impl Content {
                 name: name.as_str(),
             },
             Content::TestEnded(end) => end.event(),
+            Content::TestSlow { name } => Event::TestSlow {
+                name: name.as_str(),
+            },
             Content::Other => Event::Other,
             Content::Heading { suite, path } => Event::Heading {
                 suite: suite.as_str(),

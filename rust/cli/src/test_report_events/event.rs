@@ -114,7 +114,13 @@ pub enum Event<'a> {
         details: TestDetails<'a>,
     },
 
-    /// Another line of a test harness, for example that a test is slow. It changes nothing in the run.
+    /// A test is slow: it has been running for a while.
+    TestSlow {
+        /// The name in the line.
+        name: &'a str,
+    },
+
+    /// Another line of a test harness. It changes nothing in the run.
     Other,
 
     /// A line of cargo that names the test binary that runs next.

@@ -141,6 +141,7 @@ impl<'a> Members<'a> {
             "ok" => Some(self.test_end(time, name, TestResult::Ok)),
             "failed" => Some(self.test_end(time, name, TestResult::Failed)),
             "ignored" => Some(self.test_end(time, name, TestResult::Ignored)),
+            "timeout" => Some(Event::TestSlow { name }),
             _ => Some(Event::Other),
         }
     }

@@ -35,4 +35,4 @@ mod members;
 mod plain;
 mod started;
 mod text;
-mod time;
+pub mod time;

@@ -75,8 +75,10 @@ pub(crate) fn are_digits(bytes: &[u8]) -> bool {
     bytes.iter().all(|byte| byte.is_ascii_digit())
 }
 
-/// Parses a number of seconds, and returns microseconds.
-fn microseconds(number: &[u8]) -> Option<u64> {
+/// Parses a number of seconds, and returns whole microseconds, rounded down. Returns `None` if the text is not a
+/// decimal number with digits on both sides of its point, if it has one, or if it has more than nine digits before
+/// the point.
+pub fn microseconds(number: &[u8]) -> Option<u64> {
     let (whole, fraction) = parts_of(number);
     if whole.is_empty() || whole.len() > MOST_DIGITS || !are_digits(whole) {
         return None;

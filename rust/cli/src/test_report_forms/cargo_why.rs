@@ -7,7 +7,7 @@ use crate::test_report_forms::written::ten_written;
 use crate::test_report_run::note::{CargoReport, Disagreement};
 
 /// Returns what explains a disagreement. `None` if it is no failure of cargo, or if nothing explains it.
-pub(crate) fn reason_of(disagreement: &Disagreement) -> Option<String> {
+pub(crate) fn disagreement_why(disagreement: &Disagreement) -> Option<String> {
     match disagreement {
         Disagreement::Cargo(report) => cargo_why(report),
         Disagreement::EndedEarly { .. }

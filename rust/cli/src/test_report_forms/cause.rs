@@ -6,12 +6,13 @@ use crate::test_report_forms::entry::Entry;
 use crate::test_report_forms::junit_case::text_of;
 use crate::test_report_forms::shown::{push_line, push_name, push_name_and_space, push_text};
 use crate::test_report_run::note::{CommandEnd, Disagreement, NotRun, SaidNumbers};
+use std::rc::Rc;
 
 /// A disagreement, or a suite whose tests were not all run.
 #[derive(Clone)]
 pub(crate) struct Cause<'a> {
     /// The name of the suite, or `None` if the cause names no suite.
-    pub(crate) suite: Option<&'a str>,
+    pub(crate) suite: Option<&'a Rc<String>>,
 
     /// The kind: `disagreement` or `not run`.
     pub(crate) kind: &'static str,
@@ -75,7 +76,7 @@ pub(crate) fn cause_of<'a>(entry: &'a Entry<'_>) -> Option<Cause<'a>> {
         Entry::NotRun(not_run) => {
             push_not_run(&mut line, not_run);
             Some(Cause {
-                suite: Some(not_run.suite.as_str()),
+                suite: Some(&not_run.suite),
                 kind: "not run",
                 line,
                 why: None,
@@ -87,10 +88,10 @@ pub(crate) fn cause_of<'a>(entry: &'a Entry<'_>) -> Option<Cause<'a>> {
 }
 
 /// Returns the suite that a disagreement names, or `None`.
-fn suite_of(disagreement: &Disagreement) -> Option<&str> {
+fn suite_of(disagreement: &Disagreement) -> Option<&Rc<String>> {
     match disagreement {
-        Disagreement::EndedEarly { suite } => Some(suite.as_str()),
-        Disagreement::LastLine { suite, .. } => Some(suite.as_str()),
+        Disagreement::EndedEarly { suite } => Some(suite),
+        Disagreement::LastLine { suite, .. } => Some(suite),
         Disagreement::StrayEnd { .. }
         | Disagreement::StraySuiteEnd { .. }
         | Disagreement::OutsideSuite { .. }
@@ -222,7 +223,7 @@ fn push_its_tests(text: &mut String, passed: usize, failed: usize) {
 
 /// Appends the key of a suite and its verdict.
 fn push_key_and_verdict(text: &mut String, key: &Option<String>, failed_verdict: bool) {
-    push_name_and_space(text, key);
+    push_name_and_space(text, text_of(key));
     text.push_str(verdict(failed_verdict));
 }
 

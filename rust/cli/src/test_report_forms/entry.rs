@@ -1,7 +1,7 @@
 // Made by tools/erase from crates/test_report_forms/src/entry.rt. Do not edit.
 //! Entries: what the forms take.
 
-use crate::test_report_forms::cargo_why::reason_of;
+use crate::test_report_forms::cargo_why::disagreement_why;
 use crate::test_report_forms::why::Why;
 use crate::test_report_run::note::{
     Disagreement, Failure, NotRun, Note, SuiteNote, TestNote, TestOutcome,
@@ -60,7 +60,7 @@ impl<'a> Entry<'a> {
             },
             Note::Disagreement(disagreement) => Entry::Disagreement {
                 disagreement,
-                why: reason_of(disagreement),
+                why: disagreement_why(disagreement),
             },
             Note::NotRun(not_run) => Entry::NotRun(not_run),
             Note::Suite(suite) => Entry::Suite(suite),

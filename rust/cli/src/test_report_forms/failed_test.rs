@@ -6,8 +6,10 @@ use crate::test_report_forms::shown::{front, push_name, push_text};
 use crate::test_report_forms::shown_why::{ShownWhy, push_why, shown_why};
 use crate::test_report_forms::status::failed_status;
 use crate::test_report_forms::title::shown_name;
+use crate::test_report_forms::whole_output::{WholeOutput, whole_output};
 use crate::test_report_forms::why::Why;
 use crate::test_report_run::note::{Failure, TestNote};
+use std::rc::Rc;
 
 /// A failed test. In its texts control characters are already escapes.
 #[derive(Clone)]
@@ -32,14 +34,18 @@ pub(crate) struct FailedTest {
 
     /// Why it failed.
     pub(crate) why: String,
+
+    /// The whole output, if `why` does not show all of it.
+    pub(crate) output: Option<WholeOutput>,
 }
 
-/// Returns a failed test as it is shown.
+/// Returns a failed test as it is shown, with at most `most` bytes of its whole output. If `most` is 0, it has none.
 pub(crate) fn shown_failure(
     test: &TestNote,
     failure: &Failure,
     why: &Why<'_>,
     options: Options,
+    most: usize,
 ) -> FailedTest {
     let shown = shown_why(options, test, failure, why);
     FailedTest {
@@ -50,6 +56,7 @@ pub(crate) fn shown_failure(
         time: test.time,
         short: short_text(why.short.as_str(), options.limit),
         why: why_text(&shown, options.limit),
+        output: whole_output(failure, &shown, options.limit, most),
     }
 }
 
@@ -76,7 +83,7 @@ fn why_text(why: &ShownWhy, limit: usize) -> String {
 }
 
 /// Returns the name of a suite as it is shown.
-fn shown_suite(suite: &Option<String>) -> Option<String> {
+fn shown_suite(suite: &Option<Rc<String>>) -> Option<String> {
     match suite {
         Some(suite) => {
             let mut name = String::new();

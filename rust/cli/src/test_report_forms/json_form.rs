@@ -8,11 +8,11 @@ use crate::test_report_forms::form::Form;
 use crate::test_report_forms::json_values::{
     failed_json, no_tests_json, open_suite_json, problem_json, report_json, suite_json, test_json,
 };
-use crate::test_report_forms::junit_case::text_of;
 use crate::test_report_forms::model::no_tests_ran;
-use crate::test_report_forms::open_suites::OpenSuites;
+use crate::test_report_forms::open_suites::{OpenSuites, name_of};
 use crate::test_report_forms::options::Options;
 use crate::test_report_run::note::{RunEnd, SuiteNote};
+use std::rc::Rc;
 
 /// The form for other programs: one object of JSON, written at the end. It keeps each test, suite and problem as
 /// its text.
@@ -39,14 +39,14 @@ impl JsonForm {
     fn take(&mut self, entry: &Entry<'_>) {
         match entry {
             Entry::Passed(test) => {
-                self.add(&test.suite, test_json(test, "passed"));
+                self.add(name_of(&test.suite), test_json(test, "passed"));
             }
             Entry::Skipped(test) => {
-                self.add(&test.suite, test_json(test, "skipped"));
+                self.add(name_of(&test.suite), test_json(test, "skipped"));
             }
             Entry::Failed { test, failure, why } => {
                 let json = failed_json(test, failure, why, self.options);
-                self.add(&test.suite, json);
+                self.add(name_of(&test.suite), json);
             }
             Entry::Disagreement { .. } | Entry::NotRun(_) => self.on_cause(entry),
             Entry::Suite(suite) => self.on_suite(suite),
@@ -54,8 +54,8 @@ impl JsonForm {
     }
 
     /// Adds a test to its suite.
-    fn add(&mut self, suite: &Option<String>, test: String) {
-        self.suites.add(text_of(suite), test);
+    fn add(&mut self, suite: Option<&Rc<String>>, test: String) {
+        self.suites.add(suite, test);
     }
 
     /// Takes a disagreement, or a suite whose tests were not all run.
@@ -67,7 +67,7 @@ impl JsonForm {
 
     /// Takes the end of a suite. The tests outside of a suite are left out if there are none.
     fn on_suite(&mut self, suite: &SuiteNote) {
-        if let Some(over) = self.suites.end_suite(text_of(&suite.name)) {
+        if let Some(over) = self.suites.end_suite(name_of(&suite.name)) {
             let json = suite_json(suite, over.cases.as_slice());
             self.over.push(json);
         }

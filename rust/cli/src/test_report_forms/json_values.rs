@@ -3,7 +3,7 @@
 
 use crate::test_report_forms::cause::Cause;
 use crate::test_report_forms::json_object::JsonObject;
-use crate::test_report_forms::junit_case::text_of;
+use crate::test_report_forms::junit_case::{shared_text, text_of};
 use crate::test_report_forms::open_suites::Suite;
 use crate::test_report_forms::options::Options;
 use crate::test_report_forms::place::Place;
@@ -93,6 +93,7 @@ fn numbers_json(stats: &RunStats, crashed: usize, skipped: u128, not_run: u128) 
     object.number("finished", stats.finished_count as u128);
     object.number("passed", stats.passed as u128);
     object.number("flaky", stats.flaky as u128);
+    object.number("slow", stats.passed_slow as u128);
     object.number("failed", failed_count(stats) as u128);
     object.number("timed_out", stats.failed_timed_out as u128);
     object.number("crashed", crashed as u128);
@@ -105,7 +106,7 @@ fn numbers_json(stats: &RunStats, crashed: usize, skipped: u128, not_run: u128) 
 pub(crate) fn suite_json(suite: &SuiteNote, tests: &[String]) -> String {
     let numbers = numbers_json(&suite.stats, suite.crashed, suite.skipped, suite.not_run);
     let mut object = JsonObject::new();
-    object.option("name", text_of(&suite.name));
+    object.option("name", shared_text(&suite.name));
     object.value("numbers", numbers.as_str());
     object.time(suite.time);
     object.list("tests", tests);
@@ -115,7 +116,7 @@ pub(crate) fn suite_json(suite: &SuiteNote, tests: &[String]) -> String {
 /// Returns a suite that no entry has ended.
 pub(crate) fn open_suite_json(suite: &Suite<String>) -> String {
     let mut object = JsonObject::new();
-    object.option("name", text_of(&suite.name));
+    object.option("name", shared_text(&suite.name));
     object.list("tests", suite.cases.as_slice());
     object.into_json()
 }
@@ -124,7 +125,7 @@ pub(crate) fn open_suite_json(suite: &Suite<String>) -> String {
 pub(crate) fn problem_json(cause: &Cause<'_>) -> String {
     let mut object = JsonObject::new();
     object.text("kind", cause.kind);
-    object.option("suite", cause.suite);
+    object.option("suite", cause.suite.map(|suite| suite.as_str()));
     object.text("line", cause.line.as_str());
     object.option("why", cause.why);
     object.into_json()

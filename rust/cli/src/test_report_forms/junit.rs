@@ -6,13 +6,14 @@ use crate::test_report_forms::cause::{Cause, cause_of};
 use crate::test_report_forms::document::push_document;
 use crate::test_report_forms::entry::Entry;
 use crate::test_report_forms::form::Form;
-use crate::test_report_forms::junit_case::{Case, OWN_NAME, text_of};
+use crate::test_report_forms::junit_case::{Case, OWN_NAME};
 use crate::test_report_forms::junit_template::JUNIT;
 use crate::test_report_forms::junit_values::junit_values;
 use crate::test_report_forms::model::no_tests_ran;
-use crate::test_report_forms::open_suites::{OpenSuites, Suite};
+use crate::test_report_forms::open_suites::{OpenSuites, Suite, name_of};
 use crate::test_report_forms::options::Options;
 use crate::test_report_run::note::{RunEnd, SuiteNote};
+use std::rc::Rc;
 
 /// The line of a run in which no test ran.
 const NO_TESTS: &str = "no test ran";
@@ -38,20 +39,22 @@ impl JunitForm {
     }
 
     /// Adds a test case to a suite.
-    fn add(&mut self, suite: Option<&str>, case: Case) {
+    fn add(&mut self, suite: Option<&Rc<String>>, case: Case) {
         self.suites.add(suite, case);
     }
 
     /// Takes an entry.
     fn take(&mut self, entry: &Entry<'_>) {
         match entry {
-            Entry::Passed(test) => self.add(text_of(&test.suite), Case::passed(test)),
+            Entry::Passed(test) => {
+                self.add(name_of(&test.suite), Case::passed(test));
+            }
             Entry::Skipped(test) => {
-                self.add(text_of(&test.suite), Case::skipped(test));
+                self.add(name_of(&test.suite), Case::skipped(test));
             }
             Entry::Failed { test, failure, why } => {
                 let case = Case::failed(test, failure, why, self.options);
-                self.add(text_of(&test.suite), case);
+                self.add(name_of(&test.suite), case);
             }
             Entry::Disagreement { .. } | Entry::NotRun(_) => self.on_cause(entry),
             Entry::Suite(suite) => self.on_suite(suite),
@@ -79,14 +82,14 @@ impl JunitForm {
 
     /// Takes the end of a suite. The tests outside of a suite are left out if there are none.
     fn on_suite(&mut self, suite: &SuiteNote) {
-        if let Some(over) = self.take_suite(text_of(&suite.name)) {
+        if let Some(over) = self.take_suite(name_of(&suite.name)) {
             self.close(over, suite.time)
         }
     }
 
     /// Takes the first open suite of this name out, or returns a new one. Returns `None` if there are no tests
     /// outside of a suite.
-    fn take_suite(&mut self, name: Option<&str>) -> Option<Suite<Case>> {
+    fn take_suite(&mut self, name: Option<&Rc<String>>) -> Option<Suite<Case>> {
         self.suites.end_suite(name)
     }
 
@@ -133,9 +136,12 @@ fn push_own(suites: &mut Vec<Suite<Case>>, own: Vec<Case>) {
     if own.is_empty() {
         return;
     }
-    let mut suite = Suite::new(Some(OWN_NAME));
-    suite.cases = own;
-    suites.push(suite);
+    let name = Rc::new(String::from(OWN_NAME));
+    suites.push(Suite {
+        name: Some(name),
+        time: None,
+        cases: own,
+    });
 }
 
 impl Form for JunitForm {

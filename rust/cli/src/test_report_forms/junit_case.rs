@@ -11,6 +11,7 @@ use crate::test_report_forms::skipped_test::skip_reason;
 use crate::test_report_forms::title::shown_name;
 use crate::test_report_forms::why::Why;
 use crate::test_report_run::note::{Failure, FailureKind, TestNote};
+use std::rc::Rc;
 
 /// The name of the run, and of the suite of causes that name no suite.
 pub(crate) const OWN_NAME: &str = "test-report";
@@ -82,7 +83,7 @@ pub(crate) struct Reason {
 impl Case {
     /// Returns the test case of a test.
     fn of_test(test: &TestNote, place: Option<CasePlace>, kind: CaseKind) -> Case {
-        let suite = suite_name(text_of(&test.suite));
+        let suite = suite_name(shared_text(&test.suite));
         Case {
             name: name_text(shown_name(test)),
             class: class_name(suite.as_str()),
@@ -112,7 +113,7 @@ impl Case {
         options: Options,
     ) -> Case {
         let place = shown_place(why.place);
-        let FailedTest { short, why, .. } = shown_failure(test, failure, why, options);
+        let FailedTest { short, why, .. } = shown_failure(test, failure, why, options, 0);
         let reason = Reason {
             is_error: is_error(&failure.kind),
             message: short,
@@ -230,4 +231,10 @@ fn type_of(kind: &FailureKind) -> &'static str {
 /// Returns the text of a `String`.
 pub(crate) fn text_of(text: &Option<String>) -> Option<&str> {
     text.as_deref()
+}
+
+/// Returns the text of a shared `String`.
+pub(crate) fn shared_text(text: &Option<Rc<String>>) -> Option<&str> {
+    let text = text.as_ref()?;
+    Some(text.as_str())
 }

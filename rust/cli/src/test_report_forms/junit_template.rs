@@ -11,9 +11,9 @@ pub(crate) const JUNIT: &str = r#"<testsuites name="test-report" tests="{{tests}
 <error message="{{message}}" type="{{type}}">{{why}}</error>
 {{/error}}{{#skipped}}
 <skipped/>
-{{/skipped}}{{#reason}}
+{{/skipped}}{{#skipped_because}}
 <skipped message="{{message}}"/>
-{{/reason}}{{#flaky}}
+{{/skipped_because}}{{#flaky}}
 {{#attempt}}<flakyFailure message="attempt failed" type="flaky"/>
 {{/attempt}}{{/flaky}}{{#output}}<system-out>{{text}}</system-out>
 {{/output}}</testcase>

@@ -9,12 +9,12 @@
 //! | `class` | each `case`: the name of its suite, with `_` for each `.` |
 //! | `place` (its `file` and `line`) | each `case` that failed, if its place is known |
 //! | `flaky` (its `attempt`s) | each `case` that passed after attempts that failed |
-//! | `reason` (its `message`) | each `case` that was skipped with a reason |
+//! | `skipped_because` (its `message`) | each `case` that was skipped with a reason |
 //! | `skipped` | each other `case` that was skipped |
 //! | `failure` or `error` (`message`, `type`, `why`), `output` (its `text`) | each `case` that failed |
 
 use crate::template::{Value, push_item, push_section, push_text};
-use crate::test_report_forms::junit_case::{Case, CaseKind, CasePlace, Reason, text_of};
+use crate::test_report_forms::junit_case::{Case, CaseKind, CasePlace, Reason, shared_text};
 use crate::test_report_forms::junit_suite::JunitCounts;
 use crate::test_report_forms::model::suite_name;
 use crate::test_report_forms::open_suites::Suite;
@@ -34,7 +34,7 @@ pub(crate) fn junit_values(suites: Vec<Suite<Case>>, time: Option<u64>) -> Vec<V
 fn suite_values(suite: Suite<Case>) -> Vec<Value> {
     let Suite { name, time, cases } = suite;
     let mut values = counts_values(JunitCounts::of_cases(cases.as_slice()));
-    push_text(&mut values, "name", suite_name(text_of(&name)));
+    push_text(&mut values, "name", suite_name(shared_text(&name)));
     push_time(&mut values, time);
     for case in cases {
         push_item(&mut values, "case", case_values(case));
@@ -96,9 +96,14 @@ fn push_kind(values: &mut Vec<Value>, kind: CaseKind) {
 /// Adds that a test was skipped.
 fn push_skipped(values: &mut Vec<Value>, reason: Option<String>) {
     match reason {
-        Some(reason) => push_item(values, "reason", one_text("message", reason)),
+        Some(reason) => push_because(values, "skipped_because", reason),
         None => push_item(values, "skipped", Vec::new()),
     }
+}
+
+/// Adds the reason why a test was skipped, as an item of this list.
+fn push_because(values: &mut Vec<Value>, list: &'static str, reason: String) {
+    push_item(values, list, one_text("message", reason));
 }
 
 /// Returns this number of attempts.

@@ -34,13 +34,15 @@ fn attempts_for(finish: Finish, attempts: usize) -> usize {
 }
 
 /// Returns a test that finished in this way, as the levels take it.
-fn own_test(finish: Finish, attempts: usize) -> FinishedTest {
-    finished_test(finish, attempts_for(finish, attempts))
+fn own_test(finish: Finish, attempts: usize, is_slow: bool) -> FinishedTest {
+    finished_test(finish, attempts_for(finish, attempts), is_slow)
 }
 
 /// Returns the level of a finished test at the end of the run.
-pub(crate) fn own_final_level(finish: Finish, attempts: usize) -> FinalStatusLevel {
-    own_test(finish, attempts).view().final_status_level()
+pub(crate) fn own_final_level(finish: Finish, attempts: usize, is_slow: bool) -> FinalStatusLevel {
+    own_test(finish, attempts, is_slow)
+        .view()
+        .final_status_level()
 }
 
 /// Returns what is shown of a finished test, and what is stored for the list at the end.
@@ -48,8 +50,9 @@ pub(crate) fn finished_output(
     options: Options,
     finish: Finish,
     attempts: usize,
+    is_slow: bool,
 ) -> OutputOnTestFinished {
-    let test = own_test(finish, attempts);
+    let test = own_test(finish, attempts, is_slow);
     let view = test.view();
     levels_of(options).compute_output_on_test_finished(
         display_of(options.failure_output, finish),

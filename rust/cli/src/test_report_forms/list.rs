@@ -6,7 +6,7 @@ use crate::test_report_forms::levels::{finished_output, own_final_level, skipped
 use crate::test_report_forms::options::Options;
 use crate::test_report_forms::shown::{front, push_bracket, push_spaces, push_text};
 use crate::test_report_forms::slowest::Slowest;
-use crate::test_report_forms::status::{failed_status, passed_status, push_status};
+use crate::test_report_forms::status::{failed_status, listed_status, push_status};
 use crate::test_report_forms::text_why::text_why;
 use crate::test_report_forms::title::push_title;
 use crate::test_report_forms::why::Why;
@@ -26,6 +26,7 @@ const WHY_MARGIN: usize = 13;
 pub(crate) struct ShortList {
     passed: String,
     skipped: String,
+    slow: String,
     flaky: String,
     failed: String,
     slowest: Slowest,
@@ -37,6 +38,7 @@ impl ShortList {
         ShortList {
             passed: String::new(),
             skipped: String::new(),
+            slow: String::new(),
             flaky: String::new(),
             failed: String::new(),
             slowest: Slowest::new(most),
@@ -56,6 +58,7 @@ impl ShortList {
         match level {
             FinalStatusLevel::Pass => self.passed.push_str(line),
             FinalStatusLevel::Skip => self.skipped.push_str(line),
+            FinalStatusLevel::Slow => self.slow.push_str(line),
             FinalStatusLevel::Flaky => self.flaky.push_str(line),
             FinalStatusLevel::Fail => self.failed.push_str(line),
             _ => {}
@@ -66,6 +69,7 @@ impl ShortList {
     pub(crate) fn push(&self, text: &mut String) {
         text.push_str(self.passed.as_str());
         text.push_str(self.skipped.as_str());
+        text.push_str(self.slow.as_str());
         text.push_str(self.flaky.as_str());
         text.push_str(self.failed.as_str());
         for slow in self.slowest.tests() {
@@ -77,10 +81,10 @@ impl ShortList {
 /// Returns the level at the end of the run of the test of an entry. It is `None` for an entry that is not of a test.
 fn final_level_of(entry: &Entry<'_>) -> FinalStatusLevel {
     match entry {
-        Entry::Passed(test) => own_final_level(Finish::Passed, test.attempts),
+        Entry::Passed(test) => own_final_level(Finish::Passed, test.attempts, test.slow),
         Entry::Skipped(_) => FinalStatusLevel::Skip,
         Entry::Failed { test, failure, .. } => {
-            own_final_level(Finish::of_failure(&failure.kind), test.attempts)
+            own_final_level(Finish::of_failure(&failure.kind), test.attempts, test.slow)
         }
         Entry::Disagreement { .. } | Entry::NotRun(_) | Entry::Suite(_) => FinalStatusLevel::None,
     }
@@ -100,9 +104,9 @@ fn push_item(text: &mut String, entry: &Entry<'_>, options: Options) {
 
 /// Appends the line of a test that passed, if the test is in the list.
 fn push_passed(text: &mut String, test: &TestNote, options: Options) {
-    match finished_output(options, Finish::Passed, test.attempts).store_final {
+    match finished_output(options, Finish::Passed, test.attempts, test.slow).store_final {
         OutputStoreFinal::Yes { .. } => {
-            let status = passed_status(test.attempts);
+            let status = listed_status(test.attempts, test.slow);
             push_ended(text, test, status.as_str(), options);
         }
         OutputStoreFinal::No => {}
@@ -126,7 +130,14 @@ fn push_failed(
     options: Options,
 ) {
     let status = failed_status(&failure.kind);
-    match finished_output(options, Finish::of_failure(&failure.kind), test.attempts).store_final {
+    match finished_output(
+        options,
+        Finish::of_failure(&failure.kind),
+        test.attempts,
+        test.slow,
+    )
+    .store_final
+    {
         OutputStoreFinal::Yes {
             display_output: true,
         } => {

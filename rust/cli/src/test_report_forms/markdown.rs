@@ -20,7 +20,7 @@ impl MarkdownForm {
     /// Returns the form before the first entry. Of the options it uses only `limit` and `output`.
     pub fn new(options: Options) -> MarkdownForm {
         MarkdownForm {
-            model: ReportModel::new(options),
+            model: ReportModel::of_summary(options),
         }
     }
 }

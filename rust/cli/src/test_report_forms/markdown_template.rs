@@ -6,7 +6,7 @@
 /// nothing in it for the name of a user. A reader drops the line feed after `<pre>`.
 pub(crate) const MARKDOWN: &str = r#"## Test report: {{*outcome}}
 
-{{*finished}} tests run: {{*passed}} passed ({{*flaky}} flaky), {{*failed}} failed ({{*timed_out}} timed out, {{*crashed}} crashed), {{*skipped}} skipped, {{*not_run}} not run{{#time}}, in {{*seconds}}s{{/time}}
+{{*finished}} tests run: {{*passed}} passed ({{*flaky}} flaky{{#slow}}, {{*count}} slow{{/slow}}), {{*failed}} failed ({{*timed_out}} timed out, {{*crashed}} crashed), {{*skipped}} skipped, {{*not_run}} not run{{#time}}, in {{*seconds}}s{{/time}}
 
 {{#problems}}{{#problem}}- {{#line_code}}<code>{{/line_code}}{{*line}}{{#line_code}}</code>{{/line_code}}{{#why}}
 
@@ -23,7 +23,14 @@ pub(crate) const MARKDOWN: &str = r#"## Test report: {{*outcome}}
 <pre>
 {{why}}</pre>
 
+{{#output}}<details><summary>output, {{*lines}} lines</summary>
+
+<pre>
+{{text}}</pre>
+
 </details>
+
+{{/output}}</details>
 
 {{/failed}}{{/failures}}{{#more}}({{*count}} more failed tests: a summary on GitHub holds 1 MiB)
 {{/more}}"#;
@@ -35,6 +42,13 @@ pub(crate) const FAILED: &str = r#"| {{*status}} | {{#suite}}{{#name_code}}<code
 <pre>
 {{why}}</pre>
 
+{{#output}}<details><summary>output, {{*lines}} lines</summary>
+
+<pre>
+{{text}}</pre>
+
 </details>
+
+{{/output}}</details>
 
 "#;

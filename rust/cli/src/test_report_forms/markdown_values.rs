@@ -1,5 +1,5 @@
 // Made by tools/erase from crates/test_report_forms/src/markdown_values.rt. Do not edit.
-//! The values of a finished report for the summary of a workflow. If there are many failed tests, it has the first ones.
+//! The values of a finished report for the summary of a workflow, which shows only the first of many failed tests.
 //!
 //! They are those of `report_values` for the run, its problems and its failed tests. If there are other failed tests,
 //! `more` has their number, as `count`.
@@ -11,14 +11,16 @@ use crate::test_report_forms::model::ReportModel;
 use crate::test_report_forms::values::{failed_values, one_text, problem_items, run_values};
 use crate::test_report_run::note::RunEnd;
 
-/// The number of bytes of rows and details after which the summary has no other failed tests. GitHub shows a summary of
-/// at most 1 MiB.
+/// The summary shows failed tests until their rows and details have this number of bytes. GitHub shows a summary of at most
+/// 1 MiB.
 const MOST_BYTES: usize = 900_000;
 
 /// Returns the values of a finished report for its summary. The only error is that memory runs out.
 pub(crate) fn summary_values(model: ReportModel, end: &RunEnd) -> Vec<Value> {
     let ReportModel {
         options: _,
+        limits: _,
+        room: _,
         failed,
         problems,
         suites: _,

@@ -47,6 +47,7 @@
 //! assert_eq!(text_of_note(&note, options), "2 tests started outside of a suite\n");
 //! ```
 
+pub mod annotated;
 mod cargo_why;
 mod cause;
 mod commands;
@@ -90,6 +91,7 @@ pub mod text;
 mod text_why;
 mod title;
 pub mod values;
+mod whole_output;
 pub mod why;
 mod why_lines;
 mod written;

@@ -4,18 +4,32 @@
 use crate::test_report_forms::cause::{Problem, cause_of};
 use crate::test_report_forms::entry::Entry;
 use crate::test_report_forms::failed_test::{FailedTest, shown_failure};
-use crate::test_report_forms::junit_case::text_of;
+use crate::test_report_forms::junit_case::shared_text;
 use crate::test_report_forms::numbers::Numbers;
 use crate::test_report_forms::options::Options;
 use crate::test_report_forms::shown::push_name;
 use crate::test_report_forms::skipped_test::SkippedTest;
 use crate::test_report_forms::slowest::Slowest;
 use crate::test_report_forms::title::push_title;
+use crate::test_report_forms::whole_output::{OutputLimits, room_after};
 use crate::test_report_run::note::{SuiteNote, TestNote};
 use deodarsieve::RunOutcome;
+use std::rc::Rc;
 
 /// The number of slowest tests that are listed.
 const SLOWEST: usize = 10;
+
+/// How much of the outputs of failed tests a page has.
+const PAGE_LIMITS: OutputLimits = OutputLimits {
+    each: 1_048_576,
+    all: 16_777_216,
+};
+
+/// How much of the outputs of failed tests a summary has. After this number of bytes it has no failed tests.
+const SUMMARY_LIMITS: OutputLimits = OutputLimits {
+    each: 16_384,
+    all: 900_000,
+};
 
 /// A suite in the table of suites.
 #[derive(Clone)]
@@ -37,6 +51,12 @@ pub struct ReportModel {
     /// How the reasons are shown.
     pub(crate) options: Options,
 
+    /// How much of the outputs of failed tests is kept.
+    pub(crate) limits: OutputLimits,
+
+    /// The number of bytes of outputs, as they are written, for which there is room.
+    pub(crate) room: usize,
+
     /// The failed tests.
     pub(crate) failed: Vec<FailedTest>,
 
@@ -54,10 +74,23 @@ pub struct ReportModel {
 }
 
 impl ReportModel {
-    /// Returns the model of a run without entries. Of the options it uses only `limit` and `output`.
+    /// Returns the model of a run without entries, for a page. Of the options it uses only `limit` and `output`. Of the
+    /// output of a failed test it keeps at most 1 MiB, and of all outputs 16 MiB.
     pub fn new(options: Options) -> ReportModel {
+        ReportModel::with_limits(options, PAGE_LIMITS)
+    }
+
+    /// Returns the model of a run without entries, for a summary.
+    pub(crate) fn of_summary(options: Options) -> ReportModel {
+        ReportModel::with_limits(options, SUMMARY_LIMITS)
+    }
+
+    /// Returns the model of a run without entries.
+    fn with_limits(options: Options, limits: OutputLimits) -> ReportModel {
         ReportModel {
             options,
+            limits,
+            room: limits.all,
             failed: Vec::new(),
             problems: Vec::new(),
             suites: Vec::new(),
@@ -68,7 +101,9 @@ impl ReportModel {
 
     /// Keeps what is shown of an entry. The only error is that memory runs out.
     pub fn on_entry(&mut self, entry: &Entry<'_>) {
-        keep_failure(&mut self.failed, entry, self.options);
+        let most = self.limits.most(self.room);
+        let room = keep_failure(&mut self.failed, self.room, entry, self.options, most);
+        self.room = room;
         keep_problem(&mut self.problems, entry);
         keep_suite(&mut self.suites, entry);
         keep_skipped(&mut self.skipped, entry);
@@ -77,17 +112,27 @@ impl ReportModel {
 
     /// Returns this model, and keeps that of a run without entries.
     pub(crate) fn take_out(&mut self) -> ReportModel {
-        let options = self.options;
-        std::mem::replace(self, ReportModel::new(options))
+        let (options, limits) = (self.options, self.limits);
+        std::mem::replace(self, ReportModel::with_limits(options, limits))
     }
 }
 
-/// Keeps the failed test of an entry, if it has one.
-fn keep_failure(failed: &mut Vec<FailedTest>, entry: &Entry<'_>, options: Options) {
-    if let Entry::Failed { test, failure, why } = entry {
-        let shown = shown_failure(test, failure, why, options);
-        failed.push(shown);
-    }
+/// Keeps the failed test of an entry, if it has one, with at most `most` bytes of its output. Returns how much room for
+/// outputs is left.
+fn keep_failure(
+    failed: &mut Vec<FailedTest>,
+    room: usize,
+    entry: &Entry<'_>,
+    options: Options,
+    most: usize,
+) -> usize {
+    let Entry::Failed { test, failure, why } = entry else {
+        return room;
+    };
+    let shown = shown_failure(test, failure, why, options, most);
+    let left = room_after(room, &shown.output);
+    failed.push(shown);
+    left
 }
 
 /// Keeps a disagreement, or a suite whose tests were not all run.
@@ -144,7 +189,7 @@ impl SuiteRow {
             return None;
         }
         Some(SuiteRow {
-            name: suite_name(text_of(&suite.name)),
+            name: suite_name(shared_text(&suite.name)),
             numbers,
             time: suite.time,
         })
@@ -152,7 +197,7 @@ impl SuiteRow {
 }
 
 /// Returns true if a suite of this name with these numbers has a row. Every suite with a name has one.
-fn has_row(name: &Option<String>, numbers: Numbers) -> bool {
+fn has_row(name: &Option<Rc<String>>, numbers: Numbers) -> bool {
     name.is_some() || !numbers.are_zero()
 }
 

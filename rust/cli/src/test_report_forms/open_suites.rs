@@ -1,11 +1,13 @@
 // Made by tools/erase from crates/test_report_forms/src/open_suites.rt. Do not edit.
 //! Suites that have not ended, with what a form keeps of their tests.
 
+use std::rc::Rc;
+
 /// A suite, and what a form keeps of its tests.
 #[derive(Clone)]
 pub(crate) struct Suite<C> {
     /// Its name, or `None` for the tests outside of a suite.
-    pub(crate) name: Option<String>,
+    pub(crate) name: Option<Rc<String>>,
 
     /// The time that it took, in microseconds, if it is known.
     pub(crate) time: Option<u64>,
@@ -22,18 +24,18 @@ pub(crate) struct OpenSuites<C> {
 
 impl<C> Suite<C> {
     /// Returns a suite without cases, or the tests outside of a suite if there is no name.
-    pub(crate) fn new(name: Option<&str>) -> Suite<C> {
+    pub(crate) fn new(name: Option<&Rc<String>>) -> Suite<C> {
         Suite {
-            name: name.map(String::from),
+            name: name.cloned(),
             time: None,
             cases: Vec::new(),
         }
     }
 
     /// Returns true if the suite has this name.
-    fn is_named(&self, name: Option<&str>) -> bool {
+    fn is_named(&self, name: Option<&Rc<String>>) -> bool {
         match (&self.name, name) {
-            (Some(own), Some(name)) => own.as_str() == name,
+            (Some(own), Some(name)) => own == name,
             (None, None) => true,
             _ => false,
         }
@@ -52,12 +54,12 @@ impl<C> OpenSuites<C> {
     }
 
     /// Returns the place of the first suite of this name.
-    fn place_of(&self, name: Option<&str>) -> Option<usize> {
+    fn place_of(&self, name: Option<&Rc<String>>) -> Option<usize> {
         self.list.iter().position(|open| open.is_named(name))
     }
 
     /// Adds a case to the first suite of this name, or to a new one.
-    pub(crate) fn add(&mut self, name: Option<&str>, case: C) {
+    pub(crate) fn add(&mut self, name: Option<&Rc<String>>, case: C) {
         match self.place_of(name) {
             Some(at) => self.list[at].add(case),
             None => {
@@ -70,7 +72,7 @@ impl<C> OpenSuites<C> {
 
     /// Takes the first suite of this name out, or returns a new one. Returns `None` if there are no tests outside
     /// of a suite.
-    pub(crate) fn end_suite(&mut self, name: Option<&str>) -> Option<Suite<C>> {
+    pub(crate) fn end_suite(&mut self, name: Option<&Rc<String>>) -> Option<Suite<C>> {
         match (self.take_first(name), name) {
             (Some(over), _) => Some(over),
             (None, Some(_)) => Some(Suite::new(name)),
@@ -79,7 +81,12 @@ impl<C> OpenSuites<C> {
     }
 
     /// Takes the first suite of this name out.
-    fn take_first(&mut self, name: Option<&str>) -> Option<Suite<C>> {
+    fn take_first(&mut self, name: Option<&Rc<String>>) -> Option<Suite<C>> {
         self.place_of(name).map(|at| self.list.remove(at))
     }
+}
+
+/// Returns a reference to the name of a suite.
+pub(crate) fn name_of(name: &Option<Rc<String>>) -> Option<&Rc<String>> {
+    name.as_ref()
 }

@@ -47,6 +47,7 @@ h1, h3, th, li, .reason { overflow-wrap: anywhere; }
   border-radius: 0.3rem; background: var(--box); }
 .causes pre { padding: 0.25rem 0; border-top: 0; }
 details { margin: 0 0 0.75rem; border: 1px solid var(--line); border-left: 0.3rem solid var(--failed); border-radius: 0.3rem; }
+details details { margin: 0; border: 0; border-top: 1px solid var(--line); border-radius: 0; }
 summary { padding: 0.5rem 0.75rem; cursor: pointer; }
 summary:focus-visible { outline: 2px solid var(--slow); outline-offset: 2px; }
 .status { padding: 0 0.4rem; border-radius: 0.3rem; background: var(--bad); color: var(--page); font-size: 0.8125rem; }
@@ -76,7 +77,7 @@ td .bar { margin-top: 0.45rem; }
 <body>
 <header>
 <h1>Test report: <span class="word {{outcome}}">{{outcome}}</span></h1>
-<p class="summary">{{finished}} tests run: {{passed}} passed ({{flaky}} flaky), {{failed}} failed ({{timed_out}} timed out, {{crashed}} crashed), {{skipped}} skipped, {{not_run}} not run{{#time}}, in {{seconds}}s{{/time}}</p>
+<p class="summary">{{finished}} tests run: {{passed}} passed ({{flaky}} flaky{{#slow}}, {{count}} slow{{/slow}}), {{failed}} failed ({{timed_out}} timed out, {{crashed}} crashed), {{skipped}} skipped, {{not_run}} not run{{#time}}, in {{seconds}}s{{/time}}</p>
 {{#bar}}<div class="bar" aria-hidden="true">{{#part}}<span class="{{class}}" style="flex-grow: {{number}}">{{number}}</span>{{/part}}</div>
 {{/bar}}</header>
 <main>
@@ -91,7 +92,11 @@ td .bar { margin-top: 0.45rem; }
 {{#failed}}<details open="open">
 <summary><h3><span class="status">{{status}}</span> {{#suite}}<span class="suite">{{name}}</span> {{/suite}}<span>{{name}}</span>{{#note}}<span class="note">{{#attempts}} ({{count}} attempts){{/attempts}}{{#time}} {{seconds}}s{{/time}}</span>{{/note}}</h3></summary>
 <pre><code>{{why}}</code></pre>
+{{#output}}<details>
+<summary>output, {{lines}} lines</summary>
+<pre><code>{{text}}</code></pre>
 </details>
+{{/output}}</details>
 {{/failed}}</section>
 {{/failures}}<section>
 <h2>Suites</h2>

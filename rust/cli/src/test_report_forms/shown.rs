@@ -69,10 +69,10 @@ pub(crate) fn push_line(text: &mut String, line: &str) {
 }
 
 /// Appends a name and a space. Appends nothing if there is no name.
-pub(crate) fn push_name_and_space(text: &mut String, name: &Option<String>) {
+pub(crate) fn push_name_and_space(text: &mut String, name: Option<&str>) {
     if let Some(name) = name {
         {
-            push_name(text, name.as_str());
+            push_name(text, name);
             text.push(' ');
         }
     }

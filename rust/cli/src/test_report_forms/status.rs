@@ -21,6 +21,14 @@ pub(crate) fn passed_status(attempts: usize) -> String {
     format!("FLAKY {attempts}/{attempts}")
 }
 
+/// Returns the word for a test that passed, in the list at the end.
+pub(crate) fn listed_status(attempts: usize, is_slow: bool) -> String {
+    if attempts <= 1 && is_slow {
+        return String::from("SLOW");
+    }
+    passed_status(attempts)
+}
+
 /// Returns the colour of a word, as the parameters of an escape sequence.
 fn color_of(status: &str) -> &'static str {
     match status {

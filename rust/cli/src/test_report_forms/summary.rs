@@ -30,11 +30,27 @@ fn push_numbers(text: &mut String, end: &RunEnd) {
 
 /// Appends how many tests were run, and how many of them passed.
 fn push_passed(text: &mut String, end: &RunEnd) {
+    push_finished(text, end);
+    push_slow(text, end);
+    text.push_str("), ");
+}
+
+/// Appends how many tests were run, how many passed, and how many of these are flaky.
+fn push_finished(text: &mut String, end: &RunEnd) {
     let stats = &end.stats;
     let (finished, passed, flaky) = (stats.finished_count, stats.passed, stats.flaky);
     text.push_str(&format!(
-        "{finished} tests run: {passed} passed ({flaky} flaky), "
+        "{finished} tests run: {passed} passed ({flaky} flaky"
     ));
+}
+
+/// Appends how many tests that passed were slow, if some were.
+fn push_slow(text: &mut String, end: &RunEnd) {
+    let slow = end.stats.passed_slow;
+    if slow == 0 {
+        return;
+    }
+    text.push_str(&format!(", {slow} slow"));
 }
 
 /// Appends how many tests failed.

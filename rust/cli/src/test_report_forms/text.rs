@@ -94,7 +94,12 @@ fn push_failed(
     why: &Why<'_>,
     options: Options,
 ) {
-    let shows = finished_output(options, Finish::of_failure(&failure.kind), test.attempts);
+    let shows = finished_output(
+        options,
+        Finish::of_failure(&failure.kind),
+        test.attempts,
+        test.slow,
+    );
     if !has_line(shows) {
         return;
     }
@@ -108,7 +113,12 @@ fn push_failed(
 
 /// Appends the line of a test that passed, if the levels show it.
 fn push_passed(text: &mut String, test: &TestNote, options: Options) {
-    if !has_line(finished_output(options, Finish::Passed, test.attempts)) {
+    if !has_line(finished_output(
+        options,
+        Finish::Passed,
+        test.attempts,
+        test.slow,
+    )) {
         return;
     }
     let status = passed_status(test.attempts);

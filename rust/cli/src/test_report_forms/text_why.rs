@@ -7,8 +7,8 @@ use crate::test_report_forms::shown_why::{ShownWhy, shown_why};
 use crate::test_report_forms::why::{Why, parts_of};
 use crate::test_report_run::note::{Failure, FailureKind, TestNote};
 
-/// Returns why a test failed, as the form for people shows it. Of several crashed tests of a suite with an explanation
-/// only the first has it.
+/// Returns why a test failed, as the form for people shows it. If several tests of a suite crashed, only the first has the
+/// explanation.
 pub(crate) fn text_why(
     options: Options,
     test: &TestNote,
@@ -32,7 +32,7 @@ fn is_below_crash(kind: &FailureKind) -> bool {
     }
 }
 
-/// Returns why a test crashed whose explanation is shown of the test before it.
+/// Returns why a test crashed, if the explanation is shown for the test before it.
 fn why_below(test: &TestNote, failure: &Failure) -> ShownWhy {
     let above = String::from("as above");
     let parts = parts_of(failure, test.time, Some(above));

@@ -1,6 +1,7 @@
 // Made by tools/erase from crates/test_report_forms/src/title.rt. Do not edit.
 //! The name of a test, as people read it.
 
+use crate::test_report_forms::junit_case::shared_text;
 use crate::test_report_forms::shown::{push_name, push_name_and_space};
 use crate::test_report_run::note::TestNote;
 
@@ -18,6 +19,6 @@ pub(crate) fn shown_name(test: &TestNote) -> &str {
 
 /// Appends the name of the suite of a test and the name of the test.
 pub(crate) fn push_title(text: &mut String, test: &TestNote) {
-    push_name_and_space(text, &test.suite);
+    push_name_and_space(text, shared_text(&test.suite));
     push_name(text, shown_name(test));
 }

@@ -7,10 +7,11 @@
 //! |---|---|
 //! | `outcome` | the run: a word |
 //! | `finished`, `passed`, `flaky`, `failed`, `timed_out`, `crashed`, `skipped`, `not_run` | its tests, as numbers |
+//! | `slow` | the tests that passed and were slow, if there are some: a `count` |
 //! | `time` | the run, if its time is known |
 //! | `bar` | the run, unless no test is known: a `part` with a `class` and a `number` for each number that is not 0 |
 //! | `problems` | a `problem` with a `line` and, if anything explains it, `why` (its `text`) |
-//! | `failures` | a `failed` test with `status`, `suite` (its `name`), `name`, `note`, `short` and `why` |
+//! | `failures` | a `failed` test with `status`, `suite` (its `name`), `name`, `note`, `short`, `why` and, if `why` does not show all of its output, `output` (its `text`, and the number of its `lines`) |
 //! | `suites` | a `suite` with `name`, `words`, `bar` (as above) and `time` |
 //! | `slowest` | a `slow` test with `name`, `share` (of the longest time, in hundredths) and `seconds` |
 //! | `skips` | a `skip` with `name` and `reason`: a skipped test that has a reason |
@@ -28,6 +29,7 @@ use crate::test_report_forms::shown::seconds_text;
 use crate::test_report_forms::skipped_test::SkippedTest;
 use crate::test_report_forms::slowest::SlowTest;
 use crate::test_report_forms::summary::outcome_text;
+use crate::test_report_forms::whole_output::WholeOutput;
 use crate::test_report_run::note::{RunEnd, failed_count};
 use deodarsieve::RunOutcome;
 
@@ -35,6 +37,8 @@ use deodarsieve::RunOutcome;
 pub fn report_values(model: ReportModel, end: &RunEnd) -> Vec<Value> {
     let ReportModel {
         options: _,
+        limits: _,
+        room: _,
         failed,
         problems,
         suites,
@@ -100,7 +104,16 @@ pub(crate) fn push_time(values: &mut Vec<Value>, time: Option<u64>) {
     push_item(values, "time", seconds);
 }
 
-/// Returns the values of the run that are not lists, and its time.
+/// Adds how many tests were slow, if some were.
+fn push_slow(values: &mut Vec<Value>, slow: usize) {
+    if slow == 0 {
+        return;
+    }
+    let count = one_text("count", format!("{slow}"));
+    push_item(values, "slow", count);
+}
+
+/// Returns the values of the run that are not lists, how many of its tests were slow, and its time.
 pub(crate) fn run_values(end: &RunEnd) -> Vec<Value> {
     let stats = &end.stats;
     let failed = failed_count(stats);
@@ -113,6 +126,7 @@ pub(crate) fn run_values(end: &RunEnd) -> Vec<Value> {
     push_number(&mut values, "crashed", end.crashed as u128);
     push_number(&mut values, "skipped", end.skipped);
     push_number(&mut values, "not_run", end.not_run);
+    push_slow(&mut values, stats.passed_slow);
     push_time(&mut values, end.time);
     values
 }
@@ -198,6 +212,21 @@ fn push_suite(values: &mut Vec<Value>, suite: Option<String>) {
     }
 }
 
+/// Returns the values of the whole output of a failed test.
+fn output_values(output: WholeOutput) -> Vec<Value> {
+    let WholeOutput { lines, text } = output;
+    let mut values = one_text("lines", format!("{lines}"));
+    push_text(&mut values, "text", text);
+    values
+}
+
+/// Adds the whole output of a failed test, if it is shown.
+fn push_output(values: &mut Vec<Value>, output: Option<WholeOutput>) {
+    if let Some(output) = output {
+        push_item(values, "output", output_values(output))
+    }
+}
+
 /// Returns the values of a failed test.
 pub(crate) fn failed_values(test: FailedTest) -> Vec<Value> {
     let FailedTest {
@@ -208,6 +237,7 @@ pub(crate) fn failed_values(test: FailedTest) -> Vec<Value> {
         time,
         short,
         why,
+        output,
     } = test;
     let name_has_at = has_at(name.as_bytes());
     let short_has_at = has_at(short.as_bytes());
@@ -219,6 +249,7 @@ pub(crate) fn failed_values(test: FailedTest) -> Vec<Value> {
     push_text(&mut values, "why", why);
     push_code(&mut values, "name_code", name_has_at);
     push_code(&mut values, "short_code", short_has_at);
+    push_output(&mut values, output);
     values
 }
 

@@ -47,7 +47,7 @@ pub(crate) fn output_of(failure: &Failure) -> &str {
 }
 
 /// Returns the output of a test, or an empty text if there is none.
-fn stdout_of(failure: &Failure) -> &str {
+pub(crate) fn stdout_of(failure: &Failure) -> &str {
     match &failure.stdout {
         Some(stdout) => stdout.as_str(),
         None => "",

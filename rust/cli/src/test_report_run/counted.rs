@@ -56,12 +56,12 @@ fn described(finish: Finish) -> ExecutionResultDescription {
     }
 }
 
-/// Returns a test that finished in this way, after this number of attempts. It was not slow.
-pub fn finished_test(finish: Finish, attempts: usize) -> FinishedTest {
+/// Returns a test that finished in this way, after this number of attempts.
+pub fn finished_test(finish: Finish, attempts: usize, is_slow: bool) -> FinishedTest {
     FinishedTest {
         result: described(finish),
         attempts,
-        is_slow: false,
+        is_slow,
         flaky_result: match finish {
             Finish::FlakyFailed => FlakyResult::Fail,
             Finish::Passed | Finish::Failed | Finish::TimedOut => FlakyResult::Pass,
@@ -74,7 +74,8 @@ pub(crate) fn count(
     stats: &mut RunStats,
     finish: Finish,
     attempts: usize,
+    is_slow: bool,
 ) -> Result<(), CounterFull> {
-    let test = finished_test(finish, attempts);
+    let test = finished_test(finish, attempts, is_slow);
     stats.try_on_test_view(&test.view())
 }

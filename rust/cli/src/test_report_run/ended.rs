@@ -53,7 +53,7 @@ impl Suite {
         if test.attempts > 1 {
             return self.on_flaky(test, order, details);
         }
-        count(&mut self.stats, Finish::Passed, 1)?;
+        count(&mut self.stats, Finish::Passed, 1, test.slow)?;
         notes.push(self.note(test, TestOutcome::Passed));
         Ok(())
     }
@@ -82,6 +82,7 @@ impl Suite {
             &mut self.stats,
             Finish::of_failure(&failure.kind),
             test.attempts,
+            test.slow,
         )?;
         notes.push(self.note(test, TestOutcome::Failed(failure)));
         Ok(())

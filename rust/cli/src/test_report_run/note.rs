@@ -25,8 +25,9 @@ pub enum Note {
 /// A test, and whether it passed, failed or was skipped.
 #[derive(Clone, Debug)]
 pub struct TestNote {
-    /// The name of the suite of the test, or `None` if the test started outside of a suite.
-    pub suite: Option<String>,
+    /// The name of the suite of the test, or `None` if the test started outside of a suite. The notes of a suite
+    /// share it.
+    pub suite: Option<Rc<String>>,
 
     /// The name of the test in its lines, without `#` and the number of attempts.
     pub name: String,
@@ -39,6 +40,9 @@ pub struct TestNote {
 
     /// The number of tests that ended before this one, or `None` if no line says that it ended.
     pub ended: Option<usize>,
+
+    /// True if the test was slow: a line says so, or its time is at least that of a slow test.
+    pub slow: bool,
 
     /// Whether the test passed, failed or was skipped.
     pub outcome: TestOutcome,
@@ -126,13 +130,13 @@ pub enum Disagreement {
     /// A suite has no last line, and none of its tests crashed.
     EndedEarly {
         /// The name of the suite.
-        suite: String,
+        suite: Rc<String>,
     },
 
     /// The last line of a suite has other numbers or another verdict than the lines of its tests.
     LastLine {
         /// The name of the suite.
-        suite: String,
+        suite: Rc<String>,
 
         /// The numbers and the verdict of the last line.
         said: SaidNumbers,
@@ -199,8 +203,8 @@ pub struct CargoReport {
     /// failure, or its first 200 bytes, as a terminal shows it.
     pub cause: Option<String>,
 
-    /// True if no line of the file before this failure is an event of a harness, and this is the first failure in
-    /// the file that says that tests failed.
+    /// True if this is the first failure of the file that says that tests failed, no line before it is an event of a
+    /// harness, and the next heading, event or failure is none either.
     pub lacks_events: bool,
 }
 
@@ -243,7 +247,7 @@ pub struct SaidNumbers {
 #[derive(Clone, Debug)]
 pub struct NotRun {
     /// The name of the suite.
-    pub suite: String,
+    pub suite: Rc<String>,
 
     /// The number of tests that did not run.
     pub not_run: u128,
@@ -256,7 +260,7 @@ pub struct NotRun {
 #[derive(Clone, Debug)]
 pub struct SuiteNote {
     /// The name of the suite, or `None` for the tests that started outside of a suite.
-    pub name: Option<String>,
+    pub name: Option<Rc<String>>,
 
     /// The statistics of its finished tests.
     pub stats: RunStats,

@@ -33,6 +33,7 @@ fn over(test: RunningTest) -> OverTest {
         attempts: 1,
         time: None,
         ended: None,
+        slow: test.slow,
     }
 }
 
@@ -125,7 +126,7 @@ impl Suite {
         kind: FailureKind,
         notes: &mut Vec<Note>,
     ) -> Result<(), RunError> {
-        count(&mut self.stats, Finish::Failed, 1)?;
+        count(&mut self.stats, Finish::Failed, 1, test.slow)?;
         let failure = Failure {
             kind,
             stdout: None,
@@ -158,7 +159,8 @@ impl Suite {
             if have_failed {
                 self.fail_flaky(flaky, notes)?;
             } else {
-                count(&mut self.stats, Finish::Passed, flaky.test.attempts)?;
+                let (attempts, slow) = (flaky.test.attempts, flaky.test.slow);
+                count(&mut self.stats, Finish::Passed, attempts, slow)?;
                 notes.push(self.note(flaky.test, TestOutcome::Passed));
             }
         }
@@ -167,7 +169,8 @@ impl Suite {
 
     /// Counts a flaky test as failed.
     fn fail_flaky(&mut self, flaky: FlakyTest, notes: &mut Vec<Note>) -> Result<(), RunError> {
-        count(&mut self.stats, Finish::FlakyFailed, flaky.test.attempts)?;
+        let (attempts, slow) = (flaky.test.attempts, flaky.test.slow);
+        count(&mut self.stats, Finish::FlakyFailed, attempts, slow)?;
         let failure = Failure {
             kind: FailureKind::Flaky,
             stdout: flaky.stdout,

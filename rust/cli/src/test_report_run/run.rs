@@ -20,6 +20,7 @@ use crate::test_report_run::run::lines::push_damaged;
 use crate::test_report_run::running::Running;
 use crate::test_report_run::suite::Suite;
 use crate::test_report_run::totals::Totals;
+use std::rc::Rc;
 
 /// A test run, up to the line that was passed last.
 #[derive(Clone)]
@@ -32,7 +33,7 @@ pub struct TestRun {
 
     /// The headings of the file, and the name that the last one gives the suites after it.
     headings: Headings,
-    heading: Option<String>,
+    heading: Option<Rc<String>>,
 
     /// True if a line of the file was an event of a harness.
     has_event: bool,
@@ -69,11 +70,14 @@ pub struct TestRun {
     causes: usize,
     causes_at_file: usize,
     causes_at_cargo: usize,
+
+    /// The least time of a slow test, in microseconds.
+    slow: u64,
 }
 
 impl TestRun {
-    /// Returns a run before its first line.
-    pub fn new() -> TestRun {
+    /// Returns a run before its first line. A test whose time is at least `slow` microseconds is slow.
+    pub fn new(slow: u64) -> TestRun {
         TestRun {
             outside: Suite::outside(),
             suites: OpenSuites::new(),
@@ -94,6 +98,7 @@ impl TestRun {
             causes: 0,
             causes_at_file: 0,
             causes_at_cargo: 0,
+            slow,
         }
     }
 
@@ -173,7 +178,7 @@ impl TestRun {
         Ok(())
     }
 
-    /// Makes the last failure of cargo known if an event comes after all that may say why.
+    /// Makes the last failure of cargo known, if no line after this event can explain it.
     fn settle_at(&mut self, event: Event<'_>, notes: &mut Vec<Note>) {
         if is_after_report(event) {
             self.settle(is_event(event), notes);
@@ -193,6 +198,10 @@ impl TestRun {
                 result: end,
                 details,
             } => self.on_test_ended(name, end, details, notes),
+            Event::TestSlow { name } => {
+                self.on_test_slow(name);
+                Ok(())
+            }
             Event::Other => Ok(()),
             Event::Heading { suite, path } => self.on_heading(suite, path),
             Event::CargoFailed { failure, plain, .. } => self.on_cargo_failed(failure, plain),
@@ -219,6 +228,7 @@ impl TestRun {
             | Event::SuiteEnded(_)
             | Event::TestStarted { .. }
             | Event::TestEnded { .. }
+            | Event::TestSlow { .. }
             | Event::Other => self.has_event = true,
             Event::CargoFailed { .. } => {
                 if self.suites.list.is_empty() {
@@ -278,6 +288,7 @@ fn is_event(event: Event<'_>) -> bool {
         | Event::SuiteEnded(_)
         | Event::TestStarted { .. }
         | Event::TestEnded { .. }
+        | Event::TestSlow { .. }
         | Event::Other => true,
         Event::CargoFailed { .. }
         | Event::Heading { .. }

@@ -18,6 +18,9 @@ pub struct RunningTest {
 
     /// The number of tests that started before it.
     pub(crate) order: usize,
+
+    /// True if a line says that it is slow.
+    pub(crate) slow: bool,
 }
 
 /// The tests that are running, in the order in which they started.

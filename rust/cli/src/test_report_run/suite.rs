@@ -10,6 +10,7 @@ use crate::test_report_run::others::{EventPlace, Others, PrintPlace};
 use crate::test_report_run::said::{Said, sum};
 use crate::test_report_run::suite_name::SuiteName;
 use deodarsieve::RunStats;
+use std::rc::Rc;
 
 /// A test that is over, without its outcome.
 #[derive(Clone)]
@@ -25,6 +26,9 @@ pub(crate) struct OverTest {
 
     /// The number of tests that ended before this one, or `None` if no line says that it ended.
     pub(crate) ended: Option<usize>,
+
+    /// True if the test was slow.
+    pub(crate) slow: bool,
 }
 
 /// A test that passed after several attempts. The last line of its suite may still count it as failed.
@@ -84,7 +88,7 @@ impl Suite {
     pub(crate) fn new(
         number: usize,
         key: Option<String>,
-        heading: Option<String>,
+        heading: Option<Rc<String>>,
         test_count: Option<u128>,
         others: &Others,
     ) -> Suite {
@@ -152,7 +156,7 @@ impl Suite {
     }
 
     /// Returns the name of the suite, or `None` for the tests outside of a suite.
-    pub(crate) fn shown_name(&self) -> Option<String> {
+    pub(crate) fn shown_name(&self) -> Option<Rc<String>> {
         self.name.shown()
     }
 
@@ -173,6 +177,7 @@ impl Suite {
             attempts: test.attempts,
             time: test.time,
             ended: test.ended,
+            slow: test.slow,
             outcome,
         })
     }

@@ -1,8 +1,10 @@
 // Made by tools/erase from crates/test_report_run/src/suite_name.rt. Do not edit.
 //! The name of a suite.
 
-/// The number and the texts that can name a suite, and the name that they give it. The name is made once,
-/// because each note of a test has a copy of it.
+use std::rc::Rc;
+
+/// The number and the texts that can name a suite, and the name that they give it. The name is made once, and the
+/// notes of the suite share it.
 #[derive(Clone)]
 pub(crate) struct SuiteName {
     /// The number of the suite, from 1 on in the order of first lines, or `None` for the tests outside of a
@@ -13,13 +15,13 @@ pub(crate) struct SuiteName {
     pub(crate) key: Option<String>,
 
     /// The last heading before the suite started.
-    pub(crate) heading: Option<String>,
+    pub(crate) heading: Option<Rc<String>>,
 
     /// The name in the first line of a test of the suite.
     pub(crate) first_test: Option<String>,
 
     /// The name of the suite, or `None` for the tests outside of a suite.
-    shown: Option<String>,
+    shown: Option<Rc<String>>,
 }
 
 impl SuiteName {
@@ -35,9 +37,14 @@ impl SuiteName {
     }
 
     /// Returns the name of a suite before its first test.
-    pub(crate) fn new(number: usize, key: Option<String>, heading: Option<String>) -> SuiteName {
+    pub(crate) fn new(
+        number: usize,
+        key: Option<String>,
+        heading: Option<Rc<String>>,
+    ) -> SuiteName {
         let number = Some(number);
-        let shown = shown_name(number, given_name(&key, &heading, &None));
+        let given = given_name(&key, &heading, &None);
+        let shown = shown_name(number, given);
         SuiteName {
             number,
             key,
@@ -59,35 +66,46 @@ impl SuiteName {
         self.shown = shown;
     }
 
-    /// Returns a copy of the name, or `None` for the tests outside of a suite.
-    pub(crate) fn shown(&self) -> Option<String> {
+    /// Returns the name, or `None` for the tests outside of a suite.
+    pub(crate) fn shown(&self) -> Option<Rc<String>> {
         self.shown.clone()
     }
 }
 
 /// Returns the name that texts give a suite: its key, or else the heading, or else the part of its first
-/// test's name before the first `$`.
-fn given_name<'a>(
-    key: &'a Option<String>,
-    heading: &'a Option<String>,
-    first_test: &'a Option<String>,
-) -> Option<&'a str> {
+/// test's name before the first `$`. The name is shared with the heading.
+fn given_name(
+    key: &Option<String>,
+    heading: &Option<Rc<String>>,
+    first_test: &Option<String>,
+) -> Option<Rc<String>> {
     if let Some(key) = key {
-        return Some(key.as_str());
+        return Some(shared(key.as_str()));
     }
     if let Some(heading) = heading {
-        return Some(heading.as_str());
+        return Some(heading.clone());
     }
-    let (name, _) = first_test.as_ref()?.split_once('$')?;
+    before_dollar(first_test).map(shared)
+}
+
+/// Returns the part of the name of a test before the first `$`.
+fn before_dollar(test: &Option<String>) -> Option<&str> {
+    let (name, _) = test.as_ref()?.split_once('$')?;
     Some(name)
+}
+
+/// Returns a copy of a text, which can be shared.
+fn shared(text: &str) -> Rc<String> {
+    Rc::new(String::from(text))
 }
 
 /// Returns the name of a suite: the given one, or else `suite` and its number. The tests outside of a suite
 /// have none.
-fn shown_name(number: Option<usize>, given: Option<&str>) -> Option<String> {
+fn shown_name(number: Option<usize>, given: Option<Rc<String>>) -> Option<Rc<String>> {
     let number = number?;
-    if let Some(name) = given {
-        return Some(String::from(name));
+    if given.is_some() {
+        return given;
     }
-    Some(format!("suite {number}"))
+    let name = format!("suite {number}");
+    Some(Rc::new(name))
 }

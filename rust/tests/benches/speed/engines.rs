@@ -19,6 +19,9 @@ use serde_json::Value;
 use std::hint::black_box;
 use std::rc::Rc;
 
+/// The time in microseconds from which on a test is slow.
+const SLOW: u64 = 60_000_000;
+
 const OPTIONS: Options = Options {
     limit: 4_096,
     output: OutputDisplay::Auto,
@@ -126,7 +129,7 @@ fn reported_with(files: fn() -> FileForms, lines: String, expected: String) -> W
             let mut written = Vec::with_capacity(expected.len());
             let mut source = StdSource::new(black_box(lines.as_bytes()));
             let mut sink = StdSink::new(&mut written);
-            let mut report = Report::with_files(TextForm::new(OPTIONS), files());
+            let mut report = Report::with_files(TextForm::new(OPTIONS), files(), SLOW);
             report
                 .read_file(&mut source, &mut sink, &mut Nowhere::new())
                 .expect("the run is read");

@@ -9,6 +9,9 @@ use deodarsieve_cli::test_report_forms::options::{Options, OutputDisplay};
 use deodarsieve_cli::test_report_forms::text::TextForm;
 use std::fmt::Write;
 
+/// The time in microseconds from which on a test is slow.
+const SLOW: u64 = 60_000_000;
+
 /// The greatest number of bytes that are shown of the explanation of a failure.
 const LIMIT: usize = 4_096;
 
@@ -28,7 +31,7 @@ fn reported(input: &str) -> String {
     let mut buffer = vec![0; 1_000_000];
     let mut source = MemorySource::new(input.as_bytes(), None);
     let mut sink = MemorySink::new(&mut buffer, None);
-    let mut report = Report::new(form);
+    let mut report = Report::new(form, SLOW);
     report
         .read_file(&mut source, &mut sink, &mut Nowhere::new())
         .expect("the run is read");

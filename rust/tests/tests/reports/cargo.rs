@@ -110,6 +110,13 @@ fn only_the_first_failure_before_all_events_has_the_advice() {
         format!("{line}{ADVICE}{line}{ADVICE}")
     );
     assert_eq!(written(&[&format!("{suite}{failed}")]), line);
+    assert_eq!(
+        written(&[&format!("{failed}warning: a print\n{suite}")]),
+        line
+    );
+    let heading = "     Running tests/a.rs (target/debug/deps/a-46e3cc0ad64614af)\n";
+    let followed = format!("{failed}{heading}{suite}{failed}");
+    assert_eq!(written(&[&followed]), format!("{line}{ADVICE}{line}"));
     let other = "error: doctest failed, to rerun pass `--doc`\n";
     assert_eq!(written(&[other]), format!("cargo: {other}"));
 }

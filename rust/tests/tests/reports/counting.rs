@@ -184,7 +184,7 @@ fn a_sum_of_times_that_does_not_fit() {
     lines.push_str("{\"type\":\"test\",\"event\":\"failed\",\"name\":\"real\",\"exec_time\":1}\n");
     assert_eq!(reported(NamesForm, &[&lines]).0, "real\n");
     let (text, _) = reported(TextForm::new(OPTIONS), &[&lines, &lines]);
-    let summary =
-        "     Summary [18446744073709.551s] 36898 tests run: 36896 passed (0 flaky), 2 failed ";
+    let summary = "     Summary [18446744073709.551s] 36898 tests run: \
+        36896 passed (0 flaky, 36896 slow), 2 failed ";
     assert!(text.contains(summary), "{text}");
 }

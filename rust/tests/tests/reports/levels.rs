@@ -2,6 +2,9 @@
 
 use crate::{OPTIONS, reported};
 use deodarsieve::{FinalStatusLevel, StatusLevel, TestOutputDisplay};
+use deodarsieve_cli::test_report_forms::html::HtmlForm;
+use deodarsieve_cli::test_report_forms::json_form::JsonForm;
+use deodarsieve_cli::test_report_forms::markdown::MarkdownForm;
 use deodarsieve_cli::test_report_forms::options::Options;
 use deodarsieve_cli::test_report_forms::text::TextForm;
 
@@ -142,4 +145,58 @@ fn a_reason_in_the_list_lists_its_test() {
         list,
         "        FAIL [   0.004s] suite 1 failed: why\n             why\n"
     );
+}
+
+/// Tests that are slow by a line or by their time, one that is just not slow, and a slow line of no running test.
+const SLOW_RUN: &str = r#"{"type":"suite","event":"started","test_count":6}
+{"type":"test","event":"started","name":"told"}
+{"type":"test","event":"timeout","name":"told"}
+{"type":"test","event":"ok","name":"told","exec_time":1}
+{"type":"test","event":"started","name":"long"}
+{"type":"test","event":"ok","name":"long","exec_time":60}
+{"type":"test","event":"started","name":"short"}
+{"type":"test","event":"ok","name":"short","exec_time":59.999999}
+{"type":"test","event":"started","name":"flaky"}
+{"type":"test","event":"timeout","name":"flaky#2"}
+{"type":"test","event":"ok","name":"flaky#2","exec_time":0.5}
+{"type":"test","event":"started","name":"failed"}
+{"type":"test","event":"timeout","name":"failed"}
+{"type":"test","event":"failed","name":"failed","message":"why"}
+{"type":"test","event":"timeout","name":"nobody"}
+{"type":"test","event":"started","name":"skipped"}
+{"type":"test","event":"ignored","name":"skipped","exec_time":70}
+{"type":"suite","event":"failed"}
+"#;
+
+#[test]
+fn slow_tests_have_a_level_and_a_number() {
+    let options = Options {
+        status_level: StatusLevel::Pass,
+        ..OPTIONS
+    };
+    let wanted = "PASS [   1.000s] suite 1 told\n\
+        PASS [  60.000s] suite 1 long\n\
+        PASS [  59.999s] suite 1 short\n\
+        FAIL suite 1 failed\n    why\n\
+        FLAKY 2/2 [   0.500s] suite 1 flaky\n\
+        ------------\n     \
+        Summary [ 121.499s] 5 tests run: 4 passed (1 flaky, 3 slow), 1 failed (0 timed out, 0 crashed), 1 skipped, 0 not run\n        \
+        SLOW [   1.000s] suite 1 told\n        \
+        SLOW [  60.000s] suite 1 long\n   \
+        FLAKY 2/2 [   0.500s] suite 1 flaky\n        \
+        FAIL suite 1 failed: why\n\
+        outcome failed\n";
+    assert_eq!(
+        reported(TextForm::new(options), &[SLOW_RUN]).0.as_str(),
+        wanted
+    );
+    let numbers = "4 passed (1 flaky, 3 slow), 1 failed";
+    for text in [
+        reported(HtmlForm::new(OPTIONS), &[SLOW_RUN]).0,
+        reported(MarkdownForm::new(OPTIONS), &[SLOW_RUN]).0,
+    ] {
+        assert!(text.contains(numbers), "{text}");
+    }
+    let json = reported(JsonForm::new(OPTIONS), &[SLOW_RUN]).0;
+    assert!(json.contains("\"slow\":3"), "{json}");
 }

@@ -15,6 +15,9 @@ use deodarsieve_cli::test_report_forms::form::Form;
 use deodarsieve_cli::test_report_forms::options::{Options, OutputDisplay};
 use deodarsieve_cli::test_report_forms::text::TextForm;
 
+/// The time in microseconds from which on a test is slow.
+const SLOW: u64 = 60_000_000;
+
 /// The options of most reports.
 const OPTIONS: Options = Options {
     limit: 4_096,
@@ -32,7 +35,7 @@ const OPTIONS: Options = Options {
 fn reported<F: Form>(form: F, files: &[&str]) -> (String, bool) {
     let mut buffer = vec![0; 2_000_000];
     let mut sink = MemorySink::new(&mut buffer, None);
-    let mut report = Report::new(form);
+    let mut report = Report::new(form, SLOW);
     for file in files {
         let mut source = MemorySource::new(file.as_bytes(), None);
         report

@@ -12,6 +12,9 @@ use deodarsieve_cli::test_report_forms::text::TextForm;
 use deodarsieve_cli::test_report_run::note::{CommandEnd, Disagreement, Note};
 use deodarsieve_cli::test_report_run::run::TestRun;
 
+/// The time in microseconds from which on a test is slow.
+const SLOW: u64 = 60_000_000;
+
 /// Appends what a form writes of notes. Files that have no form take them, too.
 fn push_notes<F: Form>(notes: &[Note], form: &mut F, text: &mut String) {
     let mut files = FileForms::none();
@@ -24,7 +27,7 @@ fn push_notes<F: Form>(notes: &[Note], form: &mut F, text: &mut String) {
 
 /// Returns the report of [`RUN`], made call by call.
 fn report_by_calls() -> Result<String, Fault> {
-    let mut run = TestRun::new();
+    let mut run = TestRun::new(SLOW);
     let mut form = TextForm::new(OPTIONS);
     let mut text = String::new();
     for bytes in RUN.lines() {
@@ -45,7 +48,7 @@ fn calls_make_the_report() {
 
 #[test]
 fn a_command_that_a_signal_ended_disagrees() {
-    let mut run = TestRun::new();
+    let mut run = TestRun::new(SLOW);
     run.on_command_started();
     run.on_command_ended(&CommandEnd::Signal { number: 9 });
     let notes = run.end_file().expect("the numbers fit");
@@ -59,7 +62,7 @@ fn a_command_that_a_signal_ended_disagrees() {
 
 #[test]
 fn a_run_without_lines_has_no_tests() {
-    let end = TestRun::new().end();
+    let end = TestRun::new(SLOW).end();
     assert!(end.outcome == RunOutcome::NoTestsRun);
     assert!((end.stats.passed, end.skipped, end.not_run, end.crashed) == (0, 0, 0, 0));
     assert!(end.time.is_none());
@@ -67,7 +70,7 @@ fn a_run_without_lines_has_no_tests() {
 
 #[test]
 fn files_that_are_absent_have_no_texts() {
-    let end = TestRun::new().end();
+    let end = TestRun::new(SLOW).end();
     let texts = FileForms::none().texts(&end);
     assert!(
         texts.junit.is_none()
@@ -79,7 +82,7 @@ fn files_that_are_absent_have_no_texts() {
 
 #[test]
 fn lines_are_events() {
-    let rows: [(&str, Event<'_>); 6] = [
+    let rows: [(&str, Event<'_>); 7] = [
         (
             r#"{"type":"suite","event":"started","nextest":{"crate":"a","test_binary":"b","stress_index":2}}"#,
             Event::SuiteStarted {
@@ -97,6 +100,10 @@ fn lines_are_events() {
         ),
         (
             r#"{"type":"test","event":"timeout","name":"c"}"#,
+            Event::TestSlow { name: "c" },
+        ),
+        (
+            r#"{"type":"test","event":"other","name":"c"}"#,
             Event::Other,
         ),
         (

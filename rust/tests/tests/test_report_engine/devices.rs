@@ -12,6 +12,9 @@ use deodarsieve_cli::test_report_forms::text::TextForm;
 use deodarsieve_cli::test_report_run::note::RunEnd;
 use deodarsieve_tests::devices::Devices;
 
+/// The time in microseconds from which on a test is slow.
+const SLOW: u64 = 60_000_000;
+
 /// The options of most reports.
 pub const OPTIONS: Options = Options {
     limit: 4_096,
@@ -56,7 +59,7 @@ pub fn reported<F: Form, R: Source, W: Sink>(
     source: &mut R,
     sink: &mut W,
 ) -> Result<RunEnd, Fault> {
-    let mut report = Report::new(form);
+    let mut report = Report::new(form, SLOW);
     report.read_file(source, sink, &mut Nowhere::new())?;
     report.finish(sink)
 }

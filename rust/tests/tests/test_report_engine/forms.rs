@@ -6,6 +6,7 @@ use deodarsieve_cli::program_io::memory_device::{MemorySink, MemorySource};
 use deodarsieve_cli::test_report_engine::fault::Fault;
 use deodarsieve_cli::test_report_engine::others::Nowhere;
 use deodarsieve_cli::test_report_engine::report::Report;
+use deodarsieve_cli::test_report_forms::annotated::AnnotatedForm;
 use deodarsieve_cli::test_report_forms::files::FileForms;
 use deodarsieve_cli::test_report_forms::form::Form;
 use deodarsieve_cli::test_report_forms::github::GithubForm;
@@ -16,9 +17,24 @@ use deodarsieve_cli::test_report_forms::markdown::MarkdownForm;
 use deodarsieve_cli::test_report_forms::names::NamesForm;
 use deodarsieve_cli::test_report_forms::text::TextForm;
 
+/// The time in microseconds from which on a test is slow.
+const SLOW: u64 = 60_000_000;
+
 /// The report as commands of a workflow on GitHub.
 const GITHUB: &str = "::error title=suite 1 a::suite 1 a%0Awhy\n\
      ::error::suite 1: 1 of 2 tests were not run\n\
+     ::notice::1 tests run: 0 passed (0 flaky), 1 failed (0 timed out, 0 crashed), 0 skipped, \
+     1 not run, outcome failed\n";
+
+/// The report for people with annotations between its lines.
+const ANNOTATED: &str = "FAIL suite 1 a\n    why\n\
+     ::error title=suite 1 a::suite 1 a%0Awhy\n\
+     suite 1: 1 of 2 tests were not run\n\
+     ::error::suite 1: 1 of 2 tests were not run\n\
+     ------------\n     \
+     Summary 1 tests run: 0 passed (0 flaky), 1 failed (0 timed out, 0 crashed), 0 skipped, 1 not run\n        \
+     FAIL suite 1 a: why\n\
+     outcome failed\n\
      ::notice::1 tests run: 0 passed (0 flaky), 1 failed (0 timed out, 0 crashed), 0 skipped, \
      1 not run, outcome failed\n";
 
@@ -58,10 +74,10 @@ why</pre>
 
 /// The report in JSON.
 const JSON: &str = "{\"outcome\":\"failed\",\
-     \"numbers\":{\"finished\":1,\"passed\":0,\"flaky\":0,\"failed\":1,\"timed_out\":0,\"crashed\":0,\
+     \"numbers\":{\"finished\":1,\"passed\":0,\"flaky\":0,\"slow\":0,\"failed\":1,\"timed_out\":0,\"crashed\":0,\
      \"skipped\":0,\"not_run\":1},\
      \"suites\":[{\"name\":\"suite 1\",\
-     \"numbers\":{\"finished\":1,\"passed\":0,\"flaky\":0,\"failed\":1,\"timed_out\":0,\"crashed\":0,\
+     \"numbers\":{\"finished\":1,\"passed\":0,\"flaky\":0,\"slow\":0,\"failed\":1,\"timed_out\":0,\"crashed\":0,\
      \"skipped\":0,\"not_run\":1},\
      \"tests\":[{\"name\":\"a\",\"written_name\":\"a\",\"result\":\"failed\",\"attempts\":1,\
      \"short\":\"why\",\"why\":\"why\"}]}],\
@@ -97,6 +113,7 @@ fn each_form_has_its_report() {
     assert!(gives(TextForm::new(OPTIONS), &report_of_run()));
     assert!(gives(NamesForm, "a\n"));
     assert!(gives(GithubForm::new(OPTIONS), GITHUB));
+    assert!(gives(AnnotatedForm::new(OPTIONS, OPTIONS), ANNOTATED));
     assert!(gives(JunitForm::new(OPTIONS), JUNIT));
     assert!(gives(MarkdownForm::new(OPTIONS), MARKDOWN));
     assert!(gives(JsonForm::new(OPTIONS), JSON));
@@ -118,7 +135,7 @@ fn has_files() -> Result<bool, Fault> {
     let mut buffer = [0; 100];
     let mut source = MemorySource::new(RUN.as_bytes(), None);
     let mut sink = MemorySink::new(&mut buffer, None);
-    let mut report = Report::with_files(NamesForm, all_files());
+    let mut report = Report::with_files(NamesForm, all_files(), SLOW);
     report.read_file(&mut source, &mut sink, &mut Nowhere::new())?;
     let texts = report.file_texts()?;
     let end = report.finish(&mut sink)?;
@@ -141,7 +158,7 @@ fn files_have_their_forms() {
 fn is_one_run() -> Result<bool, Fault> {
     let mut buffer = [0; 100];
     let mut sink = MemorySink::new(&mut buffer, None);
-    let mut report = Report::new(NamesForm);
+    let mut report = Report::new(NamesForm, SLOW);
     let (cut, _last) = RUN.rsplit_once("{").expect("a line begins with a brace");
     report.read_file(
         &mut MemorySource::new(cut.as_bytes(), None),
@@ -177,7 +194,7 @@ fn passes_on(fails: Option<usize>, wanted: &str) -> Result<bool, Fault> {
     let mut source = MemorySource::new(MIXED.as_bytes(), None);
     let mut sink = MemorySink::new(&mut names, None);
     let mut others = MemorySink::new(&mut passed, fails);
-    let mut report = Report::new(NamesForm);
+    let mut report = Report::new(NamesForm, SLOW);
     report.read_file(&mut source, &mut sink, &mut others)?;
     let end = report.finish(&mut sink)?;
     Ok(sink.written() == b"a\n" && end.stats.failed == 1 && others.written() == wanted.as_bytes())

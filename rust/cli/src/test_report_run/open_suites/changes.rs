@@ -6,6 +6,7 @@ use crate::test_report_run::open_suites::OpenSuites;
 use crate::test_report_run::open_suites::keys::KeyNumbers;
 use crate::test_report_run::others::Others;
 use crate::test_report_run::suite::Suite;
+use std::rc::Rc;
 
 impl OpenSuites {
     /// Returns no suites.
@@ -22,7 +23,7 @@ impl OpenSuites {
     pub(crate) fn open(
         &mut self,
         key: Option<String>,
-        heading: Option<String>,
+        heading: Option<Rc<String>>,
         test_count: Option<u128>,
         others: &Others,
     ) -> Result<(), RunError> {

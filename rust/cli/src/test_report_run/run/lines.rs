@@ -6,6 +6,7 @@ use crate::test_report_run::cuts::shortened;
 use crate::test_report_run::error::{RunError, one_more};
 use crate::test_report_run::note::{CargoReport, Disagreement, Note};
 use crate::test_report_run::run::TestRun;
+use std::rc::Rc;
 
 /// The front of the line in which cargo says that tests failed.
 const TESTS_FAILED: &[u8] = b"error: test failed";
@@ -14,7 +15,8 @@ impl TestRun {
     /// Takes a heading of cargo.
     pub(crate) fn on_heading(&mut self, name: &str, path: Option<&str>) -> Result<(), RunError> {
         self.others.on_heading()?;
-        self.heading = Some(self.headings.on_heading(name, path)?);
+        let name = self.headings.on_heading(name, path)?;
+        self.heading = Some(Rc::new(name));
         Ok(())
     }
 

@@ -33,6 +33,34 @@ impl TestRun {
         }
     }
 
+    /// Marks the running test with this name as slow, and stores that its suite had an event. Changes nothing if there
+    /// is no such test.
+    pub(crate) fn on_test_slow(&mut self, name: &str) {
+        if let Some(number) = self.running.mark_slow(name) {
+            self.hear(number);
+        }
+    }
+
+    /// Stores that the line is an event of a suite. `number` is the number of the suite, or `None` for the tests
+    /// outside of a suite.
+    fn hear(&mut self, number: Option<usize>) {
+        let place = self.others.event_place();
+        match self.suite_of_number(number) {
+            Some(at) => self.suites.list[at].last_event = place,
+            None => self.outside.last_event = place,
+        }
+    }
+
+    /// Returns true if a running test that ends with this time is slow.
+    fn is_slow(&self, test: &RunningTest, time: Option<u64>) -> bool {
+        test.slow || self.is_long(time)
+    }
+
+    /// Returns true if a test with this time is slow.
+    fn is_long(&self, time: Option<u64>) -> bool {
+        time.is_some_and(|time| self.slow <= time)
+    }
+
     /// Returns the position of the open suite that a starting test with this name belongs to, or `None` if no
     /// suite is open.
     fn suite_of(&self, name: &str) -> Option<usize> {
@@ -89,12 +117,14 @@ impl TestRun {
         notes: &mut Vec<Note>,
     ) -> Result<(), RunError> {
         let order = test.order;
+        let slow = self.is_slow(&test, details.time);
         let place = self.suite_of_number(test.suite);
         let over = OverTest {
             name: test.name,
             attempts,
             time: details.time,
             ended: Some(self.ended),
+            slow,
         };
         let event = self.others.event_place();
         match place {
@@ -146,11 +176,13 @@ impl TestRun {
         details: TestDetails<'_>,
         notes: &mut Vec<Note>,
     ) -> Result<(), RunError> {
+        let slow = self.is_long(details.time);
         let test = OverTest {
             name: String::from(name),
             attempts: 1,
             time: details.time,
             ended: Some(self.ended),
+            slow,
         };
         let event = self.others.event_place();
         match self.suite_of(name) {

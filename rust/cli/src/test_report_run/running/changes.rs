@@ -29,6 +29,7 @@ impl Running {
             name: String::from(name),
             suite,
             order,
+            slow: false,
         };
         let Running {
             mut tests,
@@ -59,6 +60,16 @@ impl Running {
         Some((test, attempts))
     }
 
+    /// Marks the running test that a line calls slow, and returns the number of its suite, which is `None` outside of
+    /// a suite. `written` is the name in the line. Returns `None` if no such test is running.
+    pub(crate) fn mark_slow(&mut self, written: &str) -> Option<Option<usize>> {
+        if let Some(suite) = self.mark_named(written) {
+            return Some(suite);
+        }
+        let (name, _) = name_and_attempts(written)?;
+        self.mark_named(name)
+    }
+
     /// Returns the name of the test that started last.
     pub fn last_name(&self) -> Option<&str> {
         let (_, test) = self.tests.last_key_value()?;
@@ -78,6 +89,19 @@ impl Running {
     fn remove_named(&mut self, name: &str) -> Option<RunningTest> {
         let order = self.names.first(name)?;
         self.remove(order)
+    }
+
+    /// Marks the first test with a name as slow, and returns the number of its suite.
+    fn mark_named(&mut self, name: &str) -> Option<Option<usize>> {
+        let order = self.names.first(name)?;
+        self.mark(order)
+    }
+
+    /// Marks the test with this number as slow, and returns the number of its suite.
+    fn mark(&mut self, order: usize) -> Option<Option<usize>> {
+        let test = self.tests.get_mut(&order)?;
+        test.slow = true;
+        Some(test.suite)
     }
 
     /// Removes the first test of a suite, and returns it.
