@@ -227,9 +227,13 @@ def limits():
         for arguments in (["--limit", limit], [f"--limit={limit}"]):
             yield Row(f"{arguments}", arguments, LONG, 1, wanted)
     yield Row("the limit is 4096 by default", [], LONG, 1, Parts(["    (75911 more bytes)\n"]))
-    for limit in ("80007", "18446744073709551615"):
+    for limit in ("80007", "18446744073709551615", "none"):
         wanted = Parts([f"    {LONG_TEXT}\n"], ["more bytes"])
         yield Row(f"the limit {limit}", ["--limit", limit], LONG, 1, wanted)
+        yield Row(f"the limit {limit} of an annotation", ["--limit", limit, "--format", "github"], LONG, 1, Parts([LONG_TEXT]))
+    for limit in ("many", "18446744073709551616", "None", ""):
+        message = f"test-report: --limit {limit}: neither a number of bytes nor `none`\n"
+        yield Row(f"the limit {limit!r}", ["--limit", limit], LONG, 2, "", message)
 
 
 PANICS = (
@@ -323,6 +327,49 @@ def levels():
     yield Row("--slowest 0", ["--slowest", "0"], timed, 1, Parts([rule], ["SLOWEST"]))
     for option in ("--status-level", "--final-status-level", "--failure-output", "--slowest"):
         yield Row(f"an unknown value of {option}", [option, "late"], "", 2, "", Parts(["error: "]))
+
+
+def slow_tests():
+    """Yields the rows of `--slow`, in which `adds` has a line that says that it is slow, and `pays` has a time."""
+    quick = start("pays") + '{"type":"test","event":"ok","name":"pays","exec_time":1.25}\n'
+    late = start("adds") + '{"type":"test","event":"timeout","name":"adds"}\n'
+    text = started(2) + late + '{"type":"test","event":"ok","name":"adds"}\n' + quick + ended("ok", 2, 0)
+    summary = " 2 tests run: 2 passed (0 flaky, {} slow), 0 failed (0 timed out, 0 crashed), "
+    adds, pays = "        SLOW suite 1 adds\n", "        SLOW [   1.250s] suite 1 pays\n"
+    one, two = Parts([summary.format(1), adds + "outcome success"]), Parts([summary.format(2), adds + pays + "outcome"])
+    for seconds, wanted in [("60", one), ("1.25", two), ("1.250000", two), ("1.250001", one), ("0", two)]:
+        yield Row(f"--slow {seconds}", ["--slow", seconds], text, 0, wanted)
+    yield Row("a test of 60 seconds", [], text.replace("1.25", "60"), 0, Parts([summary.format(2)]))
+    yield Row("a test of less than 60 seconds", [], text.replace("1.25", "59.999999"), 0, Parts([summary.format(1)]))
+    passed_level = ["--status-level", "pass", "--final-status-level", "flaky"]
+    yield Row("a slow test when it ends", passed_level, text, 0, Parts(["PASS suite 1 adds\nPASS ["], ["SLOW"]))
+    for form, open_hole in (("html", "(0 flaky, 1 slow)"), ("markdown", "(0 flaky, 1 slow)"), ("json", '"flaky":0,"slow":1,')):
+        yield Row(f"a slow test in {form}", ["--format", form], text, 0, Parts([open_hole]))
+    for value in ("late", "1e3", ".5", "1.", ""):
+        message = f"test-report: --slow {value}: not a number of seconds\n"
+        yield Row(f"--slow {value!r}", ["--slow", value], "", 2, "", message)
+
+
+def annotations():
+    """Yields the rows of `--annotations` and `GITHUB_ACTIONS`."""
+    before, rule, after = RED_TEXT.partition("------------\n")
+    error = "::error title=suite 1 pays::suite 1 pays%0AError: no money\n"
+    both = Parts([before + error + rule + after + "::notice::1 tests run: 0 passed (0 flaky), 1 failed (0 timed out, "])
+    on_github, elsewhere = {"GITHUB_ACTIONS": "true"}, {"GITHUB_ACTIONS": "TRUE"}
+    yield Row("--annotations github", ["--annotations", "github"], RED, 1, both)
+    for arguments in ([], ["--annotations", "auto"]):
+        yield Row(f"{arguments} on GitHub", arguments, RED, 1, both, variables=on_github)
+        yield Row(f"{arguments} elsewhere", arguments, RED, 1, RED_TEXT, variables=elsewhere)
+    yield Row("--annotations never on GitHub", ["--annotations", "never"], RED, 1, RED_TEXT, variables=on_github)
+    for form in FORMS:
+        if form != "text":
+            arguments = ["--annotations", "github", "--format", form]
+            yield Row(f"{arguments}", arguments, RED, 1, RED_PARTS[form], variables=on_github)
+    cut = Parts(["::error title=suite 1 pays::suite 1 pays%0A" + LONG_TEXT[:4_096] + "%0A(75911 more bytes)\n"])
+    whole = ["--annotations", "github", "--output", "whole"]
+    yield Row("an annotation has a limit", whole, LONG, 1, cut)
+    yield Row("an annotation of all", [*whole, "--limit", "none"], LONG, 1, Parts(["%0A" + LONG_TEXT + "\n"]))
+    yield Row("other annotations", ["--annotations", "gitlab"], "", 2, "", Parts(["error: "]))
 
 
 def colours():
@@ -438,7 +485,8 @@ def files():
               RED_TEXT, after=shared)
     yield Row("old files and no input", [*OPTIONS, "none.jsonl"], "", 3, "", NO_INPUT, OLD, after=GONE)
     yield Row("old files and a folder as input", [*OPTIONS, "."], "", 3, "", NOT_READ, OLD, after=GONE)
-    yield Row("old files and an invalid argument", [*OPTIONS, "--limit", "x"], "", 2, "", Parts(["error: "]), OLD,
+    yield Row("old files and an invalid limit", [*OPTIONS, "--limit", "x"], "", 2, "", Parts(["--limit x"]), OLD, after=OLD)
+    yield Row("old files and an invalid argument", [*OPTIONS, "--slowest", "x"], "", 2, "", Parts(["error: "]), OLD,
               after=OLD)
     for option, text in [("--junit", XML), ("--html", PAGE), ("--json", OBJECT)]:
         # A program that writes into the file at the place also changes the other name of that file.
@@ -616,6 +664,6 @@ def added_arguments():
 
 def rows():
     """Returns all rows."""
-    kinds = (forms, several_files, limits, outputs, levels, colours, progress, others, streams, files, links, devices, conflicts,
-             commands, surroundings, added_arguments)
+    kinds = (forms, several_files, limits, outputs, levels, slow_tests, annotations, colours, progress, others, streams,
+             files, links, devices, conflicts, commands, surroundings, added_arguments)
     return [row for kind in kinds for row in kind()]

@@ -235,6 +235,8 @@ def _mapped(value, inner, text, is_postfix):
     place = value.removeprefix("&")
     if re.fullmatch(r"&[a-z_]+(\.[a-z_]+)*", value):
         return f"{place}.clone()" if text == f"{inner}.clone()" else f"{place}.as_ref().map({_closure(inner, text)})"
+    if text == f"{inner}.clone()":
+        return f"{value}.cloned()" if is_postfix else None
     return f"{value}.map({_closure(inner, text)})" if is_postfix else None
 
 

@@ -63,6 +63,13 @@ class TestStart:
 
 
 @dataclass(frozen=True)
+class TestSlow:
+    """A test is slow."""
+
+    name: str
+
+
+@dataclass(frozen=True)
 class TestEnd:
     """A test or a benchmark ends: `result` is `ok`, `failed` or `ignored`."""
 
@@ -153,10 +160,10 @@ def test_event(said, event):
     name = member(said, "name", str)
     if name is None or event is None:
         return None
-    if event not in ("started", "ok", "failed", "ignored"):
+    if event in ("started", "timeout"):
+        return TestStart(name) if event == "started" else TestSlow(name)
+    if event not in ("ok", "failed", "ignored"):
         return KnownLine()
-    if event == "started":
-        return TestStart(name)
     return TestEnd(name, event, member(said, "reason", str), microseconds(said))
 
 

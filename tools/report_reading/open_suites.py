@@ -81,14 +81,27 @@ class OpenSuites:
         """Takes the start of a test."""
         self.running[written].append(self.suite_of(written).add_test(written, starts=True))
 
+    def first_of_name(self, written):
+        """Returns the running test of a name that started first, or None."""
+        tests = self.running.get(written, ())
+        while tests and tests[0].state != RUNNING:
+            tests.popleft()
+        return tests[0] if tests else None
+
     def end_of_name(self, written):
         """Removes and returns the running test of a name that started first, or None."""
-        tests = self.running.get(written, ())
-        while tests:
-            test = tests.popleft()
-            if test.state == RUNNING:
-                return test
-        return None
+        test = self.first_of_name(written)
+        if test:
+            self.running[written].popleft()
+        return test
+
+    def mark_slow(self, written):
+        """Marks the running test that an end line with this name would be of as slow, if there is one."""
+        test, numbered = self.first_of_name(written), of_attempts(written)
+        if test is None and numbered:
+            test = self.first_of_name(numbered[0])
+        if test:
+            test.was_slow = True
 
     def end_test(self, written):
         """Removes and returns the running test that an end line is of, or None if the end is a stray one."""

@@ -2,11 +2,14 @@
 
 from dataclasses import dataclass
 
-from report_reading.events import CargoFailure, Damage, Heading, KnownLine, SuiteEnd, SuiteStart, TestEnd, TestStart
-from report_reading.events import events_of
+from report_reading.events import CargoFailure, Damage, Heading, KnownLine, SuiteEnd, SuiteStart
+from report_reading.events import TestEnd, TestSlow, TestStart, events_of
 from report_reading.open_suites import OpenSuites
 from report_reading.suites import CRASHED, FAILURES, FINISHED, MOST_TIME, OUTCOMES, PASSED, TIMED_OUT, Suite, Test
 from report_reading.texts import shown_line, shown_name
+
+# The time in microseconds from which on a test is slow if `--slow` is absent.
+SLOW = 60_000_000
 
 
 @dataclass
@@ -33,6 +36,7 @@ class Run:
             SuiteEnd: self.on_suite_end,
             TestStart: self.on_test_start,
             TestEnd: self.on_test_end,
+            TestSlow: lambda event: self.now.mark_slow(event.name),
             Heading: self.on_heading,
             CargoFailure: self.on_cargo_failure,
             KnownLine: lambda event: None,
@@ -174,9 +178,10 @@ class Run:
         timed = [test for test in tests if test.time is not None]
         return sorted(timed, key=lambda test: -test.time)[:number]
 
-    def totals(self):
-        """Returns the numbers of the `Summary` line, and its time in microseconds."""
+    def totals(self, slow=SLOW):
+        """Returns the numbers of the `Summary` line, and its time in microseconds. From `slow` on a test is slow."""
         every = self.suites + self.parts
+        passed = [test for suite in every for test in suite.in_state(PASSED)]
         times = [time for time in (suite.time() for suite in every) if time is not None]
 
         def total(*states):
@@ -186,6 +191,7 @@ class Run:
             "run": total(*FINISHED),
             "passed": total(PASSED),
             "flaky": len(self.flaky_tests()),
+            "slow": sum(test.is_slow(slow) for test in passed),
             "failed": total(*FAILURES),
             "timed_out": total(TIMED_OUT),
             "crashed": total(CRASHED),

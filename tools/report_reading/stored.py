@@ -2,8 +2,9 @@
 
 import difflib
 import re
+from decimal import Decimal
 
-from report_reading.run import read
+from report_reading.run import SLOW, read
 from report_reading.suites import Test
 from report_reading.texts import flaky_line, heading, shown_text, shown_time, summary, names
 
@@ -35,6 +36,12 @@ def option(words, name, default):
         if word.startswith(f"{name}="):
             return word[len(name) + 1 :]
     return default
+
+
+def slow_from(words):
+    """Returns the time in microseconds from which on a test is slow."""
+    seconds = option(words, "--slow", "")
+    return int(Decimal(seconds) * 1_000_000) if seconds else SLOW
 
 
 def plain(report, words):
@@ -90,7 +97,7 @@ def text_differences(run, report, words):
     before = differing(without_why(expected_notes(run)), without_why(lines[:rule]), "lines before the summary")
     return [
         *(before + flaky_differences(run, lines[rule + 2 : -1]) if by_default else []),
-        *differing([summary(run.totals())], lines[rule + 1 : rule + 2], "summary"),
+        *differing([summary(run.totals(slow_from(words)))], lines[rule + 1 : rule + 2], "summary"),
         *list_differences(run, lines[rule + 2 : -1], words),
         *differing([f"outcome {run.outcome()}"], lines[-1:], "outcome"),
     ]

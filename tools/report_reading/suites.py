@@ -28,6 +28,7 @@ class Test:
     state: str = RUNNING
     attempts: int = 1
     time: Optional[int] = None
+    was_slow: bool = False
 
     def end(self, event):
         """Takes the result and the time of an end line."""
@@ -40,6 +41,10 @@ class Test:
     def is_flaky(self):
         """Returns true if the test passed after it had failed."""
         return self.state == PASSED and self.attempts > 1
+
+    def is_slow(self, least):
+        """Returns true if a line said that the test was slow, or if its time is at least this."""
+        return self.was_slow or (self.time is not None and self.time >= least)
 
     def name(self):
         """Returns the name for people: without that of the suite."""

@@ -59,9 +59,10 @@ def heading(test):
 
 def summary(totals):
     """Returns the `Summary` line of a run."""
+    slow = f", {totals['slow']} slow" if totals["slow"] else ""
     return (
         f"     Summary {shown_time(totals['time'])}{totals['run']} tests run:"
-        f" {totals['passed']} passed ({totals['flaky']} flaky),"
+        f" {totals['passed']} passed ({totals['flaky']} flaky{slow}),"
         f" {totals['failed']} failed ({totals['timed_out']} timed out, {totals['crashed']} crashed),"
         f" {totals['skipped']} skipped, {totals['not_run']} not run"
     )

@@ -8,7 +8,7 @@ let lines = b"{ \"type\": \"test\", \"name\": \"adds\", \"event\": \"failed\" }\
 let mut source = MemorySource::new(lines, None);
 let mut buffer = [0; 1_000];
 let mut sink = MemorySink::new(&mut buffer, None);
-let mut report = Report::new(NamesForm);
+let mut report = Report::new(NamesForm, 60_000_000);
 report.read_file(&mut source, &mut sink, &mut Nowhere::new())?;
 let end = report.finish(&mut sink)?;
 assert!(end.outcome != RunOutcome::Success);

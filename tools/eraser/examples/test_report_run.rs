@@ -4,7 +4,7 @@ use deodarsieve_cli::test_report_run::note::RunEnd;
 use deodarsieve_cli::test_report_run::run::TestRun;
 
 fn end_of_lines(lines: &[&[u8]]) -> Result<RunEnd, RunError> {
-    let mut run = TestRun::new();
+    let mut run = TestRun::new(60_000_000);
     for bytes in lines {
         let line = Line::read(bytes);
         run.on_line(&line)?;
