@@ -255,7 +255,7 @@ crashed_test (Disagrees d) = None
 crashed_test (IsNotRun suite n of) = None
 crashed_test (SuiteIs s) = None
 
--- two tests of one suite crashed, and what is known of the crashes is the same, but for which was the first
+-- two tests of one suite crashed, and the same is known of both crashes, except which of them was the first
 abbrev pub CrashedTogether : Crashed → Crashed → Type 0
 CrashedTogether a b = (a.suite ≡ b.suite) × (crash_again a.crash ≡ crash_again b.crash)
 

@@ -87,7 +87,7 @@ run_state r = record {
   slow = r.slow;
 }
 
--- a run of which no line is read. A test is slow from this time on
+-- a run before its first line, in which a test with at least this time is slow
 abbrev pub run_start : ℕ → RunState
 run_start slow = record {
   outside = outside_start;

@@ -47,7 +47,7 @@ no_test = record { name = []; suite = None; order = 0; slow = false }
 abbrev pub running_at : List RunningView → ℕ → RunningView
 running_at tests at = slice_index_or tests at no_test
 
--- the tests, of which the one at this position is slow
+-- the tests after a line that says that the one at this position is slow
 abbrev pub with_slow : List RunningView → ℕ → List RunningView
 with_slow tests at = slice_set tests at (record (running_at tests at) { slow = true })
 

@@ -113,10 +113,10 @@ impl Suite {
             return Ok(());
         }
         let mut crash = self.crash(alloc, others, left.len())?;
-        let behind = left.split_off(1)?;
+        let later = left.split_off(1)?;
         self.crash_all(alloc, &crash, left, notes)?;
         crash.above = true;
-        self.crash_all(alloc, &crash, behind, notes)
+        self.crash_all(alloc, &crash, later, notes)
     }
 
     /// Counts all these tests as crashed in this way.

@@ -287,19 +287,11 @@ impl TestRun {
         ensures { run_state self.new ≡ spec.marked (run_state self.old) (event_view event.entry) }
     {
         self.forget_prints(alloc, event);
-        match event {
-            Event::SuiteStarted { .. }
-            | Event::SuiteEnded(_)
-            | Event::TestStarted { .. }
-            | Event::TestEnded { .. }
-            | Event::TestSlow { .. }
-            | Event::Other => self.has_event = true,
-            Event::CargoFailed { .. } => {
-                if self.suites.list.is_empty() {
-                    self.causes_at_cargo = self.causes;
-                }
-            }
-            Event::Heading { .. } | Event::Print { .. } | Event::Damaged { .. } => {}
+        if is_event(event) {
+            self.has_event = true;
+        }
+        if matches!(event, Event::CargoFailed { .. }) && self.suites.list.is_empty() {
+            self.causes_at_cargo = self.causes;
         }
     }
 

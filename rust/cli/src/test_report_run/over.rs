@@ -86,10 +86,10 @@ impl Suite {
             return Ok(());
         }
         let mut crash = self.crash(others, left.len());
-        let behind = left.split_off(1);
+        let later = left.split_off(1);
         self.crash_all(&crash, left, notes)?;
         crash.above = true;
-        self.crash_all(&crash, behind, notes)
+        self.crash_all(&crash, later, notes)
     }
 
     /// Counts all these tests as crashed in this way.

@@ -223,19 +223,11 @@ impl TestRun {
     /// of a suite.
     fn mark(&mut self, event: Event<'_>) {
         self.forget_prints(event);
-        match event {
-            Event::SuiteStarted { .. }
-            | Event::SuiteEnded(_)
-            | Event::TestStarted { .. }
-            | Event::TestEnded { .. }
-            | Event::TestSlow { .. }
-            | Event::Other => self.has_event = true,
-            Event::CargoFailed { .. } => {
-                if self.suites.list.is_empty() {
-                    self.causes_at_cargo = self.causes;
-                }
-            }
-            Event::Heading { .. } | Event::Print { .. } | Event::Damaged { .. } => {}
+        if is_event(event) {
+            self.has_event = true;
+        }
+        if matches!(event, Event::CargoFailed { .. }) && self.suites.list.is_empty() {
+            self.causes_at_cargo = self.causes;
         }
     }
 
