@@ -4,7 +4,7 @@ use crate::{OPTIONS, reported};
 use deodarsieve_cli::test_report_forms::html::HtmlForm;
 use deodarsieve_cli::test_report_forms::markdown::MarkdownForm;
 
-/// A suite with a test that passes and two skipped tests, of which one has a reason.
+/// A suite with one test that passes and two that are skipped. One of the skipped tests has a reason.
 const SKIPPED: &str = r#"{"type":"suite","event":"started","test_count":3}
 {"type":"test","event":"started","name":"passes"}
 {"type":"test","event":"ok","name":"passes"}
@@ -99,7 +99,7 @@ fn a_summary_has_texts_with_an_at_sign_as_code() {
     }
 }
 
-/// Returns the summary of a run with this number of failed tests, each of which has a message of 3,000 bytes.
+/// Returns the summary of a run with this number of failed tests. Each has a message of 3,000 bytes.
 fn long_summary(count: usize) -> String {
     let mut lines =
         format!("{{\"type\":\"suite\",\"event\":\"started\",\"test_count\":{count}}}\n");

@@ -123,7 +123,7 @@ the worker panicked
     ]);
 }
 
-/// Two suites in each of which two tests crash: after a panic, and after a print.
+/// Two suites, each with two tests that crash. One suite printed a panic before that, and the other one a log line.
 const CRASHES: &str = r#"{"type":"suite","event":"started","test_count":2}
 {"type":"test","event":"started","name":"a"}
 {"type":"test","event":"started","name":"b"}
