@@ -6,8 +6,8 @@ pub mod FileEnds
 pub mod Finishes
 pub mod FirstTests
 pub mod Firsts
-pub mod FlakySteps
 pub mod HeadingViews
+pub mod InOrder
 pub mod KeySteps
 pub mod LastPrints
 pub mod Lines

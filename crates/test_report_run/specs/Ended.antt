@@ -6,9 +6,9 @@ use Rattle.std.specs.Str.{bytes_eq}
 use Rattle.test_report_events.specs.Event.{TestEndView}
 use Rattle.test_report_events.specs.declared.event.TestResult.TheVariants.{Ok, Failed, Ignored}
 use Rattle.test_report_run.specs.Counted.{finish_for}
-use Rattle.test_report_run.specs.Note.{FailureView, Fails, HasFailed, HasTimedOut, IsSkipped, NoteView, Passes}
+use Rattle.test_report_run.specs.Note.{FailureView, Fails, FlakyEnds, HasFailed, HasTimedOut, IsSkipped, NoteView, Passes}
 use Rattle.test_report_run.specs.Said.{time_sum_of}
-use Rattle.test_report_run.specs.Suite.{FlakyView, OverView, SuiteState, named, test_note, with_finish}
+use Rattle.test_report_run.specs.Suite.{FlakyView, OverView, SuiteState, named, test_note, test_of, with_finish}
 use Rattle.test_report_run.specs.declared.counted.Finish.TheVariants as finish
 
 -- the reason says that the test ran out of time
@@ -42,6 +42,10 @@ after_flaky s t order e = record s {
   flaky = with_flaky record { test = t; order = order; stdout = e.stdout; message = e.message } s.flaky;
 }
 
+-- what becomes known of a flaky test when it passed
+abbrev pub flaky_end : SuiteState → OverView → TestEndView → List NoteView
+flaky_end s t e = FlakyEnds (test_of s t (Passes e.stdout)) ∷ []
+
 -- what becomes known of a test that failed
 abbrev pub failed_note : SuiteState → OverView → TestEndView → List NoteView
 failed_note s t e = test_note s t (Fails (failure_of e)) ∷ []
@@ -58,10 +62,10 @@ after_end s t order e = elim e.result as (λ _. SuiteState) [
   | Ignored ↦ record s { skipped = s.skipped + 1 }
 ]
 
--- what becomes known at the end of a test. Nothing is known of a flaky test before its suite ends
+-- what becomes known at the end of a test. How a flaky test counts is not known before its suite ends
 abbrev pub end_notes : SuiteState → OverView → TestEndView → List NoteView
 end_notes s t e = elim e.result as (λ _. List NoteView) [
-  | Ok ↦ if nat_lt 1 t.attempts then [] else test_note s t Passes ∷ []
+  | Ok ↦ if nat_lt 1 t.attempts then flaky_end s t e else test_note s t (Passes e.stdout) ∷ []
   | Failed ↦ failed_note s t e
   | Ignored ↦ test_note s t (IsSkipped e.message) ∷ []
 ]

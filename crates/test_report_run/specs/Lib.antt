@@ -1,8 +1,8 @@
 pub mod Counted
 pub mod Ended
 pub mod Events
-pub mod Flaky
 pub mod Headings
+pub mod InOrder
 pub mod Keys
 pub mod LastLine
 pub mod LongestEnd
@@ -13,6 +13,7 @@ pub mod Orders
 pub mod Others
 pub mod Over
 pub mod Prints
+pub mod Progress
 pub mod Run
 pub mod Running
 pub mod Said

@@ -46,9 +46,9 @@ pub record FailureView : Type 0 where
   pub message : Option (List ℕ)
   pub reason : Option (List ℕ)
 
--- how a test counts. A skipped one may have a reason
+-- how a test counts. One that passed may have output, and a skipped one a reason
 pub data OutcomeView : Type 0 where
-  Passes : OutcomeView
+  Passes : Option (List ℕ) → OutcomeView
   IsSkipped : Option (List ℕ) → OutcomeView
   Fails : FailureView → OutcomeView
 
@@ -94,6 +94,8 @@ pub record SuiteNoteView : Type 0 where
 -- what becomes known
 pub data NoteView : Type 0 where
   TestIs : TestNoteView → NoteView
+  -- a test passed after several attempts, and how it counts is not known yet
+  FlakyEnds : TestNoteView → NoteView
   Disagrees : DisagreementView → NoteView
   -- the name of a suite, how many of its tests were not run, and how many were to run
   IsNotRun : List ℕ → ℕ → ℕ → NoteView
@@ -133,7 +135,7 @@ failure_view f = record {
 
 -- what the outcome of a test says
 abbrev pub outcome_view : TestOutcome → OutcomeView
-outcome_view outcome.Passed = Passes
+outcome_view (outcome.Passed output) = Passes (text_view output)
 outcome_view (outcome.Skipped reason) = IsSkipped (text_view reason)
 outcome_view (outcome.Failed failure) = Fails (failure_view failure)
 
@@ -185,6 +187,7 @@ suite_view s = record {
 -- what becomes known by a note
 abbrev pub note_view : Note → NoteView
 note_view (note.Test test) = TestIs (test_view test)
+note_view (note.Flaky test) = FlakyEnds (test_view test)
 note_view (note.Disagreement d) = Disagrees (disagreement_view d)
 note_view (note.NotRun n) = IsNotRun (string_bytes n.suite.value) n.not_run n.initial_run_count
 note_view (note.Suite suite) = SuiteIs (suite_view suite)

@@ -65,7 +65,7 @@ with_failure s t = record s { stats = one_failed s.stats t }
 
 -- how a flaky test counts: it passed, or it failed
 abbrev pub flaky_outcome : Bool → FlakyView → OutcomeView
-flaky_outcome false f = Passes
+flaky_outcome false f = Passes f.stdout
 flaky_outcome true f = Fails record { kind = IsFlaky; stdout = f.stdout; message = f.message; reason = None }
 
 -- what becomes known of a flaky test when its suite ends

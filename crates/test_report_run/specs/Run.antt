@@ -11,7 +11,7 @@ use Rattle.test_report_run.specs.Events.{is_after_report, is_event}
 use Rattle.test_report_run.specs.Headings.{NamedPaths, headings_of, shown_by, with_heading}
 use Rattle.test_report_run.specs.LongestEnd.{joined, with_kept}
 use Rattle.test_report_run.specs.OpenSuites.{suites_of}
-use Rattle.test_report_run.specs.Note.{CargoSays, CargoView, CommandFails, Disagrees, Fails, HasNoEvent, IsDamaged, IsNotRun, IsSkipped, NoteView, OutcomeView, Passes, StrayEnds, StraySuiteEnds, SuiteIs, TestIs, cargo_view, command_view, ended_well, is_new_disagreement, was_not_started}
+use Rattle.test_report_run.specs.Note.{CargoSays, CargoView, CommandFails, Disagrees, Fails, FlakyEnds, HasNoEvent, IsDamaged, IsNotRun, IsSkipped, NoteView, OutcomeView, Passes, StrayEnds, StraySuiteEnds, SuiteIs, TestIs, cargo_view, command_view, ended_well, is_new_disagreement, was_not_started}
 use Rattle.test_report_run.specs.Over.{early_notes, last_notes}
 use Rattle.test_report_run.specs.Others.{OthersView, after_failure, after_heading, after_print, event_place, last_cause, no_others, others_view}
 use Rattle.test_report_run.specs.Prints.{cut, lines_of}
@@ -278,7 +278,7 @@ heard_at r place = with_suite_at r place (suite_at r place)
 abbrev pub slow_at : RunState → ℕ → RunState
 slow_at r at = record (heard_at r (place_of_number r (running_at r.running at).suite)) { running = with_slow r.running at }
 
--- a test is slow
+-- a line says that a test is slow
 abbrev pub test_is_slow : RunState → List ℕ → RunState
 test_is_slow r name = option_map_or (λ place. slow_at r place.0) (place_of_end r.running name) r
 
@@ -320,7 +320,8 @@ cargo_fails r f line = record (if disagrees r f then with_report r line else r) 
 abbrev pub printed : RunState → List ℕ → List ℕ → RunState
 printed r line plain = record r { others = after_print r.others line plain; recent = with_kept r.recent plain }
 
--- All that may say why cargo failed was read: the failure becomes known, or waits for the end of the command. It lacks no events if one is heard now
+-- All that may say why cargo failed was read: the failure becomes known, or waits for the end of the command. If an event is heard now, it does not
+-- lack events
 abbrev pub report_told : RunState → Bool → CargoView → Step
 report_told r heard report =
     let whole = record report { cause = last_cause r.others; lacks_events = report.lacks_events && not heard } in
@@ -352,13 +353,14 @@ told r (CommandOver end) = step (record r { command = Some end }) []
 
 -- the test failed
 abbrev pub has_failed : OutcomeView → Bool
-has_failed Passes = false
+has_failed (Passes output) = false
 has_failed (IsSkipped reason) = false
 has_failed (Fails failure) = true
 
 -- the note is of a failed test
 abbrev pub is_failed_test : NoteView → Bool
 is_failed_test (TestIs t) = has_failed t.outcome
+is_failed_test (FlakyEnds t) = false
 is_failed_test (Disagrees d) = false
 is_failed_test (IsNotRun suite n of) = false
 is_failed_test (SuiteIs s) = false
@@ -366,6 +368,7 @@ is_failed_test (SuiteIs s) = false
 -- the note is a disagreement
 abbrev pub is_disagreement : NoteView → Bool
 is_disagreement (TestIs t) = false
+is_disagreement (FlakyEnds t) = false
 is_disagreement (Disagrees d) = true
 is_disagreement (IsNotRun suite n of) = false
 is_disagreement (SuiteIs s) = false
@@ -377,6 +380,7 @@ is_cause note = is_failed_test note || is_disagreement note
 -- the note is of a failed test, or of a disagreement that is counted when it becomes known
 abbrev pub is_new_cause : NoteView → Bool
 is_new_cause (TestIs t) = has_failed t.outcome
+is_new_cause (FlakyEnds t) = false
 is_new_cause (Disagrees d) = is_new_disagreement d
 is_new_cause (IsNotRun suite n of) = false
 is_new_cause (SuiteIs s) = false
@@ -384,6 +388,7 @@ is_new_cause (SuiteIs s) = false
 -- the sums with one more note: that of a suite which is over adds to them
 abbrev pub with_note : RunEnd → NoteView → RunEnd
 with_note e (TestIs t) = e
+with_note e (FlakyEnds t) = e
 with_note e (Disagrees d) = e
 with_note e (IsNotRun suite n of) = e
 with_note e (SuiteIs s) = with_suite e s
@@ -432,11 +437,19 @@ notes_of r (e ∷ events) = notes_at r e ++ notes_of (after r e) events
 abbrev pub run_after : RunState → List EventView → RunState
 run_after r events = fold after r events
 
--- The failures of cargo that wait for the end of the command become known, unless it ended with status 0: then they were prints.
+-- a failure of cargo when the command has ended. It does not lack events if there was one, before the failure or after it
+abbrev pub at_end : Bool → CargoView → CargoView
+at_end has_event report = record report { lacks_events = report.lacks_events && not has_event }
+
+-- the failures of cargo that wait for the end of the command
+abbrev pub held_reports : RunState → List CargoView
+held_reports r = map (at_end r.has_event) r.held
+
+-- they become known, unless the command ended with status 0: then they were prints
 abbrev pub held_told : RunState → Step
 held_told r =
     if ended_well r.command then step (record r { held = []; causes = r.causes - length r.held }) []
-    else step (record r { held = [] }) (map (λ report. Disagrees (CargoSays report)) r.held)
+    else step (record r { held = [] }) (map (λ report. Disagrees (CargoSays report)) (held_reports r))
 
 -- a file disagrees if it has no event of a harness and nothing failed or disagreed in it, unless its command ended with status 0 or was not started
 abbrev pub no_event_notes : RunState → List NoteView

@@ -8,7 +8,7 @@ use Rattle.run_events_stats.specs.declared.stats.RunStats.{RunStats}
 use Rattle.test_report_events.specs.Event.{SuiteEndView}
 use Rattle.test_report_run.specs.Counted.{view_of_finish}
 use Rattle.test_report_run.specs.Name.{name_by}
-use Rattle.test_report_run.specs.Note.{NoteView, OutcomeView, TestIs, text_view}
+use Rattle.test_report_run.specs.Note.{NoteView, OutcomeView, TestIs, TestNoteView, text_view}
 use Rattle.test_report_run.specs.Others.{OthersView, event_place, no_others, print_place}
 use Rattle.test_report_run.specs.Said.{no_lines, sum_of, with_said}
 use Rattle.test_report_run.specs.declared.counted.Finish.{Finish}
@@ -136,9 +136,9 @@ has_key (Some key) s = option_map_or (λ own. bytes_eq own key) s.key false
 abbrev pub suite_name : SuiteState → Option (List ℕ)
 suite_name s = name_by s.number s.key s.heading s.first_test
 
--- what becomes known of a test of the suite
-abbrev pub test_note : SuiteState → OverView → OutcomeView → NoteView
-test_note s t outcome = TestIs record {
+-- what is known of a test of the suite that is over
+abbrev pub test_of : SuiteState → OverView → OutcomeView → TestNoteView
+test_of s t outcome = record {
   suite = suite_name s;
   name = t.name;
   attempts = t.attempts;
@@ -147,6 +147,10 @@ test_note s t outcome = TestIs record {
   slow = t.slow;
   outcome = outcome;
 }
+
+-- what becomes known of a test of the suite
+abbrev pub test_note : SuiteState → OverView → OutcomeView → NoteView
+test_note s t outcome = TestIs (test_of s t outcome)
 
 -- one more test finished
 abbrev pub with_finish : SuiteState → Finish → ℕ → Bool → SuiteState

@@ -1,7 +1,7 @@
 //! The flaky tests of a suite.
 
 ghost use Rattle.std.specs.Prelude.{length};
-ghost use Rattle.test_report_run.specs.Flaky.{IsPlaced};
+ghost use Rattle.test_report_run.specs.InOrder.{IsPlaced};
 
 mod changes;
 
@@ -15,5 +15,5 @@ pub(crate) struct FlakyTests {
     /// that ended before it.
     pub(crate) tests: BTreeMap<(usize, usize), FlakyTest>,
 
-    ghost placed: { IsPlaced (length tests.entries) tests.entries },
+    ghost placed: { IsPlaced (λ t. t.order) (length tests.entries) tests.entries },
 }

@@ -10,6 +10,7 @@ ghost use Rattle.test_report_run.specs.Run.{run_state};
 
 mod command;
 mod lines;
+pub mod progress;
 mod suites;
 mod test_lines;
 
@@ -333,7 +334,7 @@ impl TestRun {
                     self.causes = one_more(self.causes)?;
                 }
             }
-            Note::NotRun(_) => {}
+            Note::Flaky(_) | Note::NotRun(_) => {}
             Note::Suite(suite) => self.totals.add(suite)?,
         }
         Ok(())

@@ -2,9 +2,9 @@
 
 ghost use Rattle.std.specs.Prelude.{◌≡◌, ◌==◌, ◌<◌, ◌^◌, ◌↔◌, IfOk, IsOk, OnOk, option_map, string_bytes};
 ghost use Rattle.test_report_events.specs.Event.{suite_end_view};
-ghost use Rattle.test_report_run.specs.Note.{note_view, outcome_view, text_view};
+ghost use Rattle.test_report_run.specs.Note.{note_view, outcome_view, test_view, text_view};
 ghost use Rattle.test_report_run.specs.Others.{no_others, others_view};
-ghost use Rattle.test_report_run.specs.Suite.{has_key, joined_by, named, outside_start, over_view, state_of, suite_name, suite_start, tally_of, test_note, with_line, with_start};
+ghost use Rattle.test_report_run.specs.Suite.{has_key, joined_by, named, outside_start, over_view, state_of, suite_name, suite_start, tally_of, test_note, test_of, with_line, with_start};
 
 use crate::error::{RunError, one_more};
 use crate::flaky::FlakyTests;
@@ -35,6 +35,21 @@ pub(crate) struct OverTest {
 
     /// True if the test was slow.
     pub(crate) slow: bool,
+}
+
+impl OverTest {
+    /// Returns the test once more.
+    pub(crate) fn duplicate(&self) -> Result<OverTest, AllocError>
+        ensures { IfOk result (λ copy. over_view copy ≡ over_view self.now) }
+    {
+        Ok(OverTest {
+            name: self.name.clone()?,
+            attempts: self.attempts,
+            time: self.time,
+            ended: self.ended,
+            slow: self.slow,
+        })
+    }
 }
 
 /// A test that passed after several attempts. The last line of its suite may still count it as failed.
@@ -209,6 +224,13 @@ impl Suite {
         self.name.shown()
     }
 
+    /// Returns the text of this name.
+    pub(crate) fn shown_text(&self) -> Option<&str>
+        ensures { option_map (λ name. name.now) result ≡ suite_name (state_of self.now) }
+    {
+        self.name.shown_text()
+    }
+
     /// Returns true if the suite has this key, or has no key if `key` is `None`.
     pub(crate) fn has_key(&self, key: Option<&str>) -> bool
         ensures { result ≡ has_key (option_map (λ key. key.now) key.entry) (state_of self.now) }
@@ -225,7 +247,19 @@ impl Suite {
         ensures { IfOk result (λ note. note_view note
             ≡ test_note (state_of self.now) (over_view test) (outcome_view outcome)) }
     {
-        Ok(Note::Test(TestNote {
+        Ok(Note::Test(self.test_note(test, outcome)?))
+    }
+
+    /// Returns what is known of a test of the suite.
+    pub(crate) fn test_note(
+        &self,
+        test: OverTest,
+        outcome: TestOutcome,
+    ) -> Result<TestNote, AllocError>
+        ensures { IfOk result (λ note. test_view note
+            ≡ test_of (state_of self.now) (over_view test) (outcome_view outcome)) }
+    {
+        Ok(TestNote {
             suite: self.shown_name()?,
             name: test.name,
             attempts: test.attempts,
@@ -233,7 +267,7 @@ impl Suite {
             ended: test.ended,
             slow: test.slow,
             outcome,
-        }))
+        })
     }
 
     /// Returns the numbers of tests of the suite. `left` is the number of running tests. Fails only if the number

@@ -104,6 +104,17 @@ impl SuiteName {
             None => Ok(None),
         }
     }
+
+    /// Returns the text of the name, or `None` for the tests outside of a suite.
+    pub(crate) fn shown_text(&self) -> Option<&str>
+        ensures { option_map (λ shown. shown.now) result
+            ≡ name_by self.now.number (text_view self.now.key) (option_map (λ n. string_bytes n.value) self.now.heading) (text_view self.now.first_test) }
+    {
+        match &self.shown {
+            Some(shown) => Some(shown.as_str()),
+            None => None,
+        }
+    }
 }
 
 /// Returns the name that texts give a suite: its key, or else the heading, or else the part of its first

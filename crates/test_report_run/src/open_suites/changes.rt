@@ -1,6 +1,6 @@
 //! What opens, finds and removes open suites.
 
-ghost use Rattle.std.specs.Prelude.{◌≡◌, ◌<◌, ◌+◌, ◌++◌, ◌∷◌, [], Some, None, OnOk, length, option_map, slice_get, string_bytes};
+ghost use Rattle.std.specs.Prelude.{◌≡◌, ◌<◌, ◌+◌, ◌++◌, ◌∷◌, [], Some, None, OnOk, length, nat_lt, option_map, slice_get, string_bytes};
 ghost use Rattle.std.specs.List.{position, remove};
 ghost use Rattle.test_report_run.specs.Note.{text_view};
 ghost use Rattle.test_report_run.specs.OpenSuites.{states_in, suites_of};
@@ -28,6 +28,13 @@ impl OpenSuites {
             keys: KeyNumbers::new(alloc),
             started: 0,
         }
+    }
+
+    /// Returns true if a suite has started.
+    pub(crate) fn has_started(&self) -> bool
+        ensures { result ≡ nat_lt 0 self.now.started }
+    {
+        self.started > 0
     }
 
     /// Opens a suite. `others` are the other lines of the file before it. After an error suites may be missing.

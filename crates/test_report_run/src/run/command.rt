@@ -46,7 +46,7 @@ impl TestRun {
             self.causes = self.causes.saturating_sub(held.len());
             Ok(())
         } else {
-            push_reports(held, notes)
+            push_reports(held, self.has_event, notes)
         }
     }
 
@@ -88,12 +88,17 @@ impl TestRun {
     }
 }
 
-/// Appends failures of cargo that disagree.
-fn push_reports(reports: Vec<CargoReport>, notes: &mut Vec<Note>) -> Result<(), AllocError>
+/// Appends failures of cargo that disagree. `has_event` is true if a line of the file is an event.
+fn push_reports(
+    reports: Vec<CargoReport>,
+    has_event: bool,
+    notes: &mut Vec<Note>,
+) -> Result<(), AllocError>
     ensures { OnOk result (map note_view notes.new.items ≡ map note_view notes.old.items
-        ++ map (λ report. Disagrees (CargoSays report)) (map cargo_view reports.items)) }
+        ++ map (λ report. Disagrees (CargoSays report)) (map (spec.at_end has_event) (map cargo_view reports.items))) }
 {
-    for report in reports {
+    for mut report in reports {
+        report.lacks_events = report.lacks_events && !has_event;
         notes.push(Note::Disagreement(Disagreement::Cargo(report)))?;
     }
     Ok(())

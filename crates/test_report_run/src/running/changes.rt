@@ -1,6 +1,6 @@
 //! What starts and ends running tests.
 
-ghost use Rattle.std.specs.Prelude.{◌≡◌, ◌≤◌, ◌++◌, ◌∷◌, [], ◌+◌, ◌-◌, ℕ, List, true, false, filter, length, not, IfNone, IfOk, IfSome, MatchOption, OnOk, option_map, slice_get};
+ghost use Rattle.std.specs.Prelude.{◌≡◌, ◌≤◌, ◌++◌, ◌∷◌, [], ◌+◌, ℕ, List, true, false, filter, not, IfNone, IfOk, IfSome, MatchOption, OnOk, option_map, slice_get};
 ghost use Rattle.std.specs.BTreeMap.{get, is_at};
 ghost use Rattle.std.specs.List.{position, remove};
 ghost use Rattle.std.specs.Map.{remove_entry, set_value};
@@ -98,13 +98,19 @@ impl Running {
         self.mark_named(name)
     }
 
-    /// Returns the name of the test that started last.
-    pub fn last_name(&self) -> Option<&str>
-        ensures { option_map (λ name. name.now) result ≡ option_map (λ t. t.name)
-            (slice_get (tests_of self.now) (length (tests_of self.now) - 1)) }
+    /// Returns the number of tests that started.
+    pub(crate) fn started(&self) -> usize
+        ensures { result ≡ self.now.started }
     {
-        let (_, test) = self.tests.last_key_value()?;
-        Some(test.name.as_str())
+        self.started
+    }
+
+    /// Returns the test that started first.
+    pub(crate) fn first(&self) -> Option<&RunningTest>
+        ensures { option_map (λ t. running_test_view t.now) result ≡ slice_get (tests_of self.now) 0 }
+    {
+        let (_, test) = self.tests.first_key_value()?;
+        Some(test)
     }
 
     /// Removes the tests of a suite, and returns them in the order in which they started.

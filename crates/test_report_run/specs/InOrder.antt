@@ -1,13 +1,12 @@
--- The places of the flaky tests of a suite.
+-- Places by which values are kept in the order of a number, and of their arrival.
 use Rattle.std.specs.Prelude.{◌≡◌, ◌<◌, ℕ, List}
 use Rattle.std.specs.List.{All}
 use Rattle.std.specs.Ordering.{nat_cmp, ordering_then}
 use Rattle.std.specs.declared.cmp.Ordering.{Ordering}
-use Rattle.test_report_run.specs.declared.suite.FlakyTest.{FlakyTest}
 
--- each of these tests is at the number of its start, and at a number below n
-abbrev pub IsPlaced : ℕ → List ((ℕ × ℕ) × FlakyTest) → Type 0
-IsPlaced n entries = All (λ e. (e.0.0 ≡ e.1.order) × (e.0.1 < n)) entries
+-- each of these values is at its own number, and at a number below n
+abbrev pub IsPlaced : {X : Type 0} → (X → ℕ) → ℕ → List ((ℕ × ℕ) × X) → Type 0
+IsPlaced own n entries = All (λ e. (e.0.0 ≡ own e.1) × (e.0.1 < n)) entries
 
 -- the order of places
 abbrev pub place_cmp : ℕ × ℕ → ℕ × ℕ → Ordering
