@@ -4,7 +4,7 @@ use Rattle.std.proofs.lemmas.Bool.{and_parts, false≢true}
 use Rattle.std.proofs.lemmas.Slice.Eq.{bytes_eq-Decides}
 use Rattle.std.specs.List.{find, flat_map, fold}
 use Rattle.std.specs.Option.{IfSome, option_map_or}
-use Rattle.test_report_forms.specs.Entry.{EntryView, LinesDisagree, SuiteNotRun, SuiteOver, TestFailed, TestPassed, TestSkipped}
+use Rattle.test_report_forms.specs.Entry.{EntryView, FlakyPassed, LinesDisagree, SuiteNotRun, SuiteOver, TestFailed, TestPassed, TestSkipped}
 use Rattle.test_report_forms.specs.Junit.{JunitState, add_case, add_cause, add_own, close, end_suite, junit_entry, junit_start, junit_state, junit_suites, own_cases, own_suite, without_suite}
 use Rattle.test_report_forms.specs.JunitCase.{CaseView, case_of_cause, failed_case, passed_case, skipped_case}
 use Rattle.test_report_forms.specs.JunitEntries.{JunitSaysEntries, case_if, cases_named, cause_case, entry_cases, own_case, own_cause}
@@ -291,6 +291,7 @@ module _ (name : Option (List ℕ)) where
   entry-has : (o : Options) (j : JunitState) (e : EntryView) (cases : List CaseView) → Has cases j → Has (cases ++ entry_cases o name e) (junit_entry o j e)
   unfolding junit_entry
   entry-has o j (TestPassed t) cases h = add-has j t.suite (passed_case t) cases h
+  entry-has o j (FlakyPassed t) cases h = subst (λ l. Has l j) (sym (append-nil cases)) h
   entry-has o j (TestSkipped t) cases h = add-has j t.suite (skipped_case t) cases h
   entry-has o j (TestFailed t f w) cases h = add-has j t.suite (failed_case t f w o) cases h
   entry-has o j (LinesDisagree d why) cases h = some-has j (cause_of_entry (LinesDisagree d why)) cases h
@@ -322,6 +323,7 @@ own-over j time (Some s) = refl
 own-entry : (o : Options) (j : JunitState) (e : EntryView) → (junit_entry o j e).own ≡ j.own ++ own_case e
 unfolding junit_entry
 own-entry o j (TestPassed t) = sym (append-nil j.own)
+own-entry o j (FlakyPassed t) = sym (append-nil j.own)
 own-entry o j (TestSkipped t) = sym (append-nil j.own)
 own-entry o j (TestFailed t f w) = sym (append-nil j.own)
 own-entry o j (LinesDisagree d why) = own-some j (cause_of_entry (LinesDisagree d why))

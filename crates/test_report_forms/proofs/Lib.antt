@@ -14,6 +14,8 @@ pub mod JunitParts
 pub mod JunitElements
 pub mod JunitEntries
 pub mod Kept
+pub mod NameOrder
+pub mod OpenPlaces
 pub mod Outputs
 pub mod Page
 pub mod Places
@@ -21,6 +23,7 @@ pub mod Pushed
 pub mod Readings
 pub mod Reports
 pub mod Returns
+pub mod SlowKeys
 pub mod Suites
 pub mod Tests
 pub mod Titles

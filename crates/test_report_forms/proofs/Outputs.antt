@@ -3,7 +3,7 @@ use Rattle.std.proofs.Common.{◌≡◌, ◌∙◌, ◌==◌, refl, sym, ap, ari
 use Rattle.std.specs.List.{fold}
 use Rattle.std.specs.Option.{option_map_or}
 use Rattle.test_report_forms.proofs.Filtered.{filter_map-more}
-use Rattle.test_report_forms.specs.Entry.{EntryView, LinesDisagree, SuiteNotRun, SuiteOver, TestFailed, TestPassed, TestSkipped}
+use Rattle.test_report_forms.specs.Entry.{EntryView, FlakyPassed, LinesDisagree, SuiteNotRun, SuiteOver, TestFailed, TestPassed, TestSkipped}
 use Rattle.test_report_forms.specs.Model.{FailedView, all_failures, failure_of_entry, failures_of, output_if_room, room_after_entry, room_after_test, shown_failure_of, with_room}
 use Rattle.test_report_forms.specs.WholeOutput.{OutputView, most_of, room_after}
 use Rattle.test_report_forms.specs.declared.options.Options.{Options}
@@ -18,6 +18,7 @@ limited-failure o limits room (TestFailed t f w) =
     ≡ Some (if b then record (shown_failure_of t f w o limits.each) { output = None } else shown_failure_of t f w o limits.each))
     [ true ↦ refl | false ↦ refl ]
 limited-failure o limits room (TestPassed t) = refl
+limited-failure o limits room (FlakyPassed t) = refl
 limited-failure o limits room (TestSkipped t) = refl
 limited-failure o limits room (LinesDisagree d why) = refl
 limited-failure o limits room (SuiteNotRun suite n of) = refl

@@ -13,7 +13,7 @@ use Rattle.test_report_forms.specs.Lines.{first_line}
 use Rattle.test_report_forms.specs.Place.{output, place_of}
 use Rattle.test_report_forms.specs.Short.{IsShort, short_of}
 use Rattle.test_report_forms.specs.Why.{IsShortOr, IsShortReason, first_part, own_reason, parts_of, slice_or_lines}
-use Rattle.test_report_run.specs.Note.{CargoSays, CommandFails, Disagrees, EndsEarly, Fails, HasNoEvent, IsDamaged, IsNotRun, IsSkipped, NoteView, OutcomeView, Passes, SaysOther, StartsOutside, StrayEnds, StraySuiteEnds, SuiteIs, TestIs, TestNoteView}
+use Rattle.test_report_run.specs.Note.{CargoSays, CommandFails, Disagrees, EndsEarly, Fails, FlakyEnds, HasNoEvent, IsDamaged, IsNotRun, IsSkipped, NoteView, OutcomeView, Passes, SaysOther, StartsOutside, StrayEnds, StraySuiteEnds, SuiteIs, TestIs, TestNoteView}
 
 module _ (heads : TakenHeadsExist) (extraction : OneExtraction) where
   last-same : (b : List ℕ) (f g : Option HeadSpan) → IsLastTaken b f → IsLastTaken b g → f ≡ g
@@ -60,12 +60,13 @@ module _ (heads : TakenHeadsExist) (extraction : OneExtraction) where
 
 module _ (one : OneWhy) (reason : OneReason) where
   test-same : (t : TestNoteView) (o : OutcomeView) (a b : EntryView) → IsTestEntry t o a → IsTestEntry t o b → a ≡ b
-  test-same t Passes a b p q = p ∙ sym q
+  test-same t (Passes output) a b p q = p ∙ sym q
   test-same t (IsSkipped reason) a b p q = p ∙ sym q
   test-same t (Fails f) a b p q = p.2 ∙ ap (TestFailed t f) (one t f p.0 q.0 p.1 q.1) ∙ sym q.2
 
   pub one-entry : (n : NoteView) (a b : EntryView) → IsEntryOf n a → IsEntryOf n b → a ≡ b
   one-entry (TestIs t) a b p q = test-same t t.outcome a b p q
+  one-entry (FlakyEnds t) a b p q = p ∙ sym q
   one-entry (Disagrees d) a b p q = p.2 ∙ ap (LinesDisagree d) (reason d p.0 q.0 p.1 q.1) ∙ sym q.2
   one-entry (IsNotRun suite n of) a b p q = p ∙ sym q
   one-entry (SuiteIs s) a b p q = p ∙ sym q

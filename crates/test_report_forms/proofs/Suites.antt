@@ -1,82 +1,136 @@
 -- The first open suite of a name.
-use Rattle.std.proofs.Common.{◌≡◌, ◌∙◌, refl, sym, ap, ℕ, zero, suc, ◌<◌, ◌≤◌, Bool, true, false, arith, List, [], ◌∷◌, ◌++◌, map, length, get_or, set, if◌then◌else◌, Option, Some, None, option_map}
+use Rattle.std.proofs.Common.{◌≡◌, ◌∙◌, refl, sym, ap, ℕ, zero, suc, ◌<◌, ◌≤◌, Bool, true, false, arith, List, [], ◌∷◌, ◌++◌, map, length, get_or, set, if◌then◌else◌, Option, Some, None, option_map, string_bytes}
+use Rattle.std.proofs.lemmas.Bool.{false≢true}
 use Rattle.std.proofs.lemmas.Bool.Decides.{nat_tests}
-use Rattle.std.proofs.lemmas.List.{map-append}
+use Rattle.std.proofs.lemmas.List.{get_or_default, map-append}
+use Rattle.std.proofs.lemmas.List.Elements.{filter_map-append}
 use Rattle.std.proofs.lemmas.List.Quantifiers.{position-Some}
 use Rattle.std.proofs.lemmas.List.Sums.{fails_before_first}
-use Rattle.std.specs.List.{filter, find, position, position_or_len, remove}
+use Rattle.std.proofs.lemmas.Option.{none-some, same_Some}
+use Rattle.std.specs.List.{filter, filter_map, find, position, position_or_len}
+use Rattle.std.specs.Option.{option_eq, option_to_list}
+use Rattle.std.specs.Str.{bytes_eq}
 use Rattle.test_report_forms.specs.JunitCase.{CaseView, case_view}
-use Rattle.test_report_forms.specs.Suites.{SuiteOf, added_to, is_named, map_cases, new_suite, or_new, suite_of, suite_over, with_case, without_first}
+use Rattle.test_report_forms.specs.SuiteNames.{is_in}
+use Rattle.test_report_forms.specs.Suites.{SuiteOf, added_to, is_named, map_cases, new_suite, or_new, same_name, suite_of, suite_over, with_case, without_first}
 use Rattle.test_report_forms.specs.declared.junit_case.Case.{Case}
 use Rattle.test_report_forms.specs.declared.open_suites.Suite.{Suite}
 
+-- names are compared as texts are
+texts-named : (own name : Option (List ℕ)) → same_name own name ≡ option_eq bytes_eq own name
+texts-named None None = refl
+texts-named None (Some y) = refl
+texts-named (Some x) None = refl
+texts-named (Some x) (Some y) = refl
+
 module _ {C : Type 0} (name : Option (List ℕ)) where
-  abbrev named : Suite C → Bool
-  named s = is_named name (suite_of s)
+  -- the suites of slots that are not empty
+  abbrev present : List (Option (Suite C)) → List (SuiteOf C)
+  present slots = map suite_of (filter_map (λ slot. slot) slots)
 
-  -- no suite has the name
-  no-place : (xs : List (Suite C)) → None ≡ position named xs → length xs ≤ position_or_len named xs
-  no-place xs none = grind (arith, nat_tests)
+  named-in : (s : Suite C) → is_named name (suite_of s) ≡ is_in name (Some s)
+  named-in s = texts-named (option_map (λ n. string_bytes n.value) s.name) name
 
-  none-named : (xs : List (Suite C)) (d : Suite C) → None ≡ position named xs → (k : ℕ) → k < length xs → named (get_or xs k d) ≡ false
-  none-named xs d none k inside = let end = no-place xs none in fails_before_first named xs k d (omega arith)
+  -- no slot has a suite of the name
+  none-in : (slots : List (Option (Suite C))) → None ≡ position (is_in name) slots → (k : ℕ) → k < length slots → is_in name (get_or slots k None) ≡ false
+  none-in slots none k inside =
+      let end : length slots ≤ position_or_len (is_in name) slots = grind (arith, nat_tests) in
+      fails_before_first (is_in name) slots k None (omega (arith, end, inside))
 
-  added-found : (xs : List (Suite C)) (at : ℕ) (x d : Suite C) (c : C) → at < length xs → named (get_or xs at d) ≡ true
-      → ((k : ℕ) → k < at → named (get_or xs k d) ≡ false) → suite_of x ≡ with_case (suite_of (get_or xs at d)) c
-      → map suite_of (set xs at x) ≡ added_to name c (map suite_of xs)
-  added-found [] at x d c inside found before is = absurd (omega arith)
-  added-found (s ∷ xs) zero x d c inside found before is = rw found (ap (λ v. v ∷ map suite_of xs) is)
-  added-found (s ∷ xs) (suc at) x d c inside found before is =
-      let other : named s ≡ false = before 0 (omega arith) in
-      rw other (ap (λ rest. suite_of s ∷ rest) (added-found xs at x d c (omega arith) found (λ k below. before (suc k) (omega arith)) is))
+  -- the first slot with a suite of the name
+  abbrev IsFirstAt : List (Option (Suite C)) → ℕ → Suite C → Type 0
+  IsFirstAt slots at s =
+      (get_or slots at None ≡ Some s) × (is_in name (get_or slots at None) ≡ true) × ((k : ℕ) → k < at → is_in name (get_or slots k None) ≡ false)
 
-  added-none : (xs : List (Suite C)) (d : Suite C) (c : C) → ((k : ℕ) → k < length xs → named (get_or xs k d) ≡ false)
-      → map suite_of xs ++ (with_case (new_suite name) c ∷ []) ≡ added_to name c (map suite_of xs)
-  added-none [] d c none = refl
-  added-none (s ∷ xs) d c none =
-      let other : named s ≡ false = none 0 (omega arith) in
-      rw other (ap (λ rest. suite_of s ∷ rest) (added-none xs d c (λ k inside. none (suc k) (omega arith))))
+  earlier-first : (slot : Option (Suite C)) (slots : List (Option (Suite C))) (at : ℕ) (s : Suite C)
+      → IsFirstAt (slot ∷ slots) (suc at) s → IsFirstAt slots at s
+  earlier-first slot slots at s first = (first.0, first.1, λ k below. first.2 (suc k) (omega (arith, below)))
 
-  taken-found : (xs : List (Suite C)) (at : ℕ) (d : Suite C) → at < length xs → named (get_or xs at d) ≡ true
-      → ((k : ℕ) → k < at → named (get_or xs k d) ≡ false)
-      → (Some (suite_of (get_or xs at d)) ≡ find (is_named name) (map suite_of xs))
-      × (map suite_of (remove xs at) ≡ without_first name (map suite_of xs))
-  taken-found [] at d inside found before = absurd (omega arith)
-  taken-found (s ∷ xs) zero d inside found before = rw found (refl, refl)
-  taken-found (s ∷ xs) (suc at) d inside found before =
-      let other : named s ≡ false = before 0 (omega arith) in
-      let rest = taken-found xs at d (omega arith) found (λ k below. before (suc k) (omega arith)) in
-      rw other (rest.0, ap (λ rest. suite_of s ∷ rest) rest.1)
+  added-found : (slots : List (Option (Suite C))) (at : ℕ) (x s : Suite C) (c : C) → IsFirstAt slots at s → suite_of x ≡ with_case (suite_of s) c
+      → present (set slots at (Some x)) ≡ added_to name c (present slots)
+  added-found [] at x s c first is = absurd (none-some s first.0)
+  added-found (None ∷ slots) zero x s c first is = absurd (none-some s first.0)
+  added-found (Some t ∷ slots) zero x s c first is =
+      let same : t ≡ s = same_Some t s first.0 in
+      let own : is_named name (suite_of t) ≡ true = named-in t ∙ first.1 in
+      rw own (ap (λ v. v ∷ present slots) (is ∙ ap (λ (u : Suite C). with_case (suite_of u) c) (sym same)))
+  added-found (None ∷ slots) (suc at) x s c first is = added-found slots at x s c (earlier-first None slots at s first) is
+  added-found (Some t ∷ slots) (suc at) x s c first is =
+      let other : is_named name (suite_of t) ≡ false = named-in t ∙ first.2 0 (omega arith) in
+      rw other (ap (λ rest. suite_of t ∷ rest) (added-found slots at x s c (earlier-first (Some t) slots at s first) is))
 
-  taken-none : (xs : List (Suite C)) (d : Suite C) → ((k : ℕ) → k < length xs → named (get_or xs k d) ≡ false)
-      → (None ≡ find (is_named name) (map suite_of xs)) × (map suite_of xs ≡ without_first name (map suite_of xs))
-  taken-none [] d none = (refl, refl)
-  taken-none (s ∷ xs) d none =
-      let other : named s ≡ false = none 0 (omega arith) in
-      let rest = taken-none xs d (λ k inside. none (suc k) (omega arith)) in
-      rw other (rest.0, ap (λ rest. suite_of s ∷ rest) rest.1)
+  added-none : (slots : List (Option (Suite C))) (x : Suite C) (c : C) → ((k : ℕ) → k < length slots → is_in name (get_or slots k None) ≡ false)
+      → suite_of x ≡ with_case (new_suite name) c → present (slots ++ (Some x ∷ [])) ≡ added_to name c (present slots)
+  added-none [] x c none is = ap (λ v. v ∷ []) is
+  added-none (None ∷ slots) x c none is = added-none slots x c (λ k inside. none (suc k) (omega (arith, inside))) is
+  added-none (Some t ∷ slots) x c none is =
+      let other : is_named name (suite_of t) ≡ false = named-in t ∙ none 0 (omega arith) in
+      rw other (ap (λ rest. suite_of t ∷ rest) (added-none slots x c (λ k inside. none (suc k) (omega (arith, inside))) is))
 
-  pub add_found : (xs : List (Suite C)) (at : ℕ) (x old : Suite C) (c : C) → Some at ≡ position named xs → old ≡ get_or xs at old
-      → suite_of x ≡ with_case (suite_of old) c → map suite_of (set xs at x) ≡ added_to name c (map suite_of xs)
-  add_found xs at x old c found is more =
-      let first = position-Some named xs at old (sym found) in
-      added-found xs at x old c first.0 first.1 first.2 (more ∙ ap (λ s. with_case (suite_of s) c) is)
+  taken-found : (slots : List (Option (Suite C))) (at : ℕ) (s : Suite C) → IsFirstAt slots at s
+      → (Some (suite_of s) ≡ find (is_named name) (present slots)) × (present (set slots at None) ≡ without_first name (present slots))
+  taken-found [] at s first = absurd (none-some s first.0)
+  taken-found (None ∷ slots) zero s first = absurd (none-some s first.0)
+  taken-found (Some t ∷ slots) zero s first =
+      let same : t ≡ s = same_Some t s first.0 in
+      let own : is_named name (suite_of t) ≡ true = named-in t ∙ first.1 in
+      rw own (ap (λ (u : Suite C). Some (suite_of u)) (sym same), refl)
+  taken-found (None ∷ slots) (suc at) s first = taken-found slots at s (earlier-first None slots at s first)
+  taken-found (Some t ∷ slots) (suc at) s first =
+      let other : is_named name (suite_of t) ≡ false = named-in t ∙ first.2 0 (omega arith) in
+      let rest = taken-found slots at s (earlier-first (Some t) slots at s first) in
+      rw other (rest.0, ap (λ rest. suite_of t ∷ rest) rest.1)
 
-  pub add_none : (xs : List (Suite C)) (x : Suite C) (c : C) → None ≡ position named xs → suite_of x ≡ with_case (new_suite name) c
-      → map suite_of (xs ++ (x ∷ [])) ≡ added_to name c (map suite_of xs)
-  add_none xs x c none is =
-      map-append suite_of xs (x ∷ []) ∙ (ap (λ v. map suite_of xs ++ (v ∷ [])) is ∙ added-none xs x c (none-named xs x none))
+  taken-none : (slots : List (Option (Suite C))) → ((k : ℕ) → k < length slots → is_in name (get_or slots k None) ≡ false)
+      → (None ≡ find (is_named name) (present slots)) × (present slots ≡ without_first name (present slots))
+  taken-none [] none = (refl, refl)
+  taken-none (None ∷ slots) none = taken-none slots (λ k inside. none (suc k) (omega (arith, inside)))
+  taken-none (Some t ∷ slots) none =
+      let other : is_named name (suite_of t) ≡ false = named-in t ∙ none 0 (omega arith) in
+      let rest = taken-none slots (λ k inside. none (suc k) (omega (arith, inside))) in
+      rw other (rest.0, ap (λ rest. suite_of t ∷ rest) rest.1)
 
-  pub take_found : (xs : List (Suite C)) (at : ℕ) (x : Suite C) → Some at ≡ position named xs → x ≡ get_or xs at x
-      → (Some (suite_of x) ≡ find (is_named name) (map suite_of xs)) × (map suite_of (remove xs at) ≡ without_first name (map suite_of xs))
-  take_found xs at x found is =
-      let first = position-Some named xs at x (sym found) in
-      let both = taken-found xs at x first.0 first.1 first.2 in (ap (λ s. Some (suite_of s)) is ∙ both.0, both.1)
+  -- what is in the slot at the position that was found
+  in-slot : (slot : Option (Suite C)) → is_in name slot ≡ true → (s : Suite C) × (slot ≡ Some s)
+  in-slot None has = absurd (false≢true has)
+  in-slot (Some s) has = (s, refl)
 
-  pub take_none : (xs : List (Suite C)) → None ≡ position named xs
-      → (None ≡ find (is_named name) (map suite_of xs)) × (map suite_of xs ≡ without_first name (map suite_of xs))
-  take_none [] none = (refl, refl)
-  take_none (s ∷ xs) none = taken-none (s ∷ xs) s (none-named (s ∷ xs) s none)
+  -- one more slot
+  pub more_slots : (slots : List (Option (Suite C))) (slot : Option (Suite C))
+      → filter_map (λ slot. slot) (slots ++ (slot ∷ [])) ≡ filter_map (λ slot. slot) slots ++ option_to_list slot
+  more_slots slots None = filter_map-append (λ slot. slot) slots (None ∷ [])
+  more_slots slots (Some s) = filter_map-append (λ slot. slot) slots (Some s ∷ [])
+
+  pub found_in : (slots : List (Option (Suite C))) (at : ℕ) → Some at ≡ position (is_in name) slots
+      → (at < length slots) × ((s : Suite C) × (get_or slots at None ≡ Some s))
+  found_in slots at found =
+      let first = position-Some (is_in name) slots at None (sym found) in
+      (first.0, in-slot (get_or slots at None) first.1)
+
+  -- the slot that was read is the one at this position
+  pub read_slot : (slots : List (Option (Suite C))) (at : ℕ) (slot : Option (Suite C)) → at < length slots → slot ≡ get_or slots at slot
+      → get_or slots at None ≡ slot
+  read_slot slots at slot inside is = get_or_default slots at None slot inside ∙ sym is
+
+  first-at : (slots : List (Option (Suite C))) (at : ℕ) (s : Suite C) → Some at ≡ position (is_in name) slots → get_or slots at None ≡ Some s
+      → IsFirstAt slots at s
+  first-at slots at s found is = let first = position-Some (is_in name) slots at None (sym found) in (is, first.1, first.2)
+
+  pub add_found : (slots : List (Option (Suite C))) (at : ℕ) (x s : Suite C) (c : C) → Some at ≡ position (is_in name) slots → get_or slots at None ≡ Some s
+      → suite_of x ≡ with_case (suite_of s) c → present (set slots at (Some x)) ≡ added_to name c (present slots)
+  add_found slots at x s c found is more = added-found slots at x s c (first-at slots at s found is) more
+
+  pub add_none : (slots : List (Option (Suite C))) (x : Suite C) (c : C) → None ≡ position (is_in name) slots → suite_of x ≡ with_case (new_suite name) c
+      → present (slots ++ (Some x ∷ [])) ≡ added_to name c (present slots)
+  add_none slots x c none is = added-none slots x c (none-in slots none) is
+
+  pub take_found : (slots : List (Option (Suite C))) (at : ℕ) (s : Suite C) → Some at ≡ position (is_in name) slots → get_or slots at None ≡ Some s
+      → (Some (suite_of s) ≡ find (is_named name) (present slots)) × (present (set slots at None) ≡ without_first name (present slots))
+  take_found slots at s found is = taken-found slots at s (first-at slots at s found is)
+
+  pub take_none : (slots : List (Option (Suite C))) → None ≡ position (is_in name) slots
+      → (None ≡ find (is_named name) (present slots)) × (present slots ≡ without_first name (present slots))
+  take_none slots none = taken-none slots (none-in slots none)
 
 -- the same suites, with each case seen in another way
 module _ {X Y : Type 0} (f : X → Y) (name : Option (List ℕ)) where

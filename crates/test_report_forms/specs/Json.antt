@@ -3,7 +3,7 @@ use Rattle.std.specs.Prelude.{◌≡◌, ◌++◌, ◌∷◌, [], ℕ, List, cod
 use Rattle.std.specs.List.{fold}
 use Rattle.std.specs.Option.{option_map_or}
 use Rattle.json.specs.Json.{Json}
-use Rattle.test_report_forms.specs.Entry.{EntryView, LinesDisagree, SuiteNotRun, SuiteOver, TestFailed, TestPassed, TestSkipped}
+use Rattle.test_report_forms.specs.Entry.{EntryView, FlakyPassed, LinesDisagree, SuiteNotRun, SuiteOver, TestFailed, TestPassed, TestSkipped}
 use Rattle.test_report_forms.specs.JsonText.{hidden, json_text}
 use Rattle.test_report_forms.specs.JsonValues.{failed_json, open_suite_json, problem_json, report_json, suite_json, test_json}
 use Rattle.test_report_forms.specs.Model.{CauseView, cause_of_entry}
@@ -46,6 +46,7 @@ end_suite j s = option_map_or (close j s) (suite_over s.name j.suites) (record j
 -- what an entry adds
 unfoldable pub json_entry : Options → JsonState → EntryView → JsonState
 json_entry o j (TestPassed t) = add_test j t.suite (test_json t (codes "passed"))
+json_entry o j (FlakyPassed t) = j
 json_entry o j (TestSkipped t) = add_test j t.suite (test_json t (codes "skipped"))
 json_entry o j (TestFailed t f w) = add_test j t.suite (failed_json t f w o)
 json_entry o j (LinesDisagree d why) = on_cause j (LinesDisagree d why)

@@ -5,11 +5,11 @@ use Rattle.std.specs.Option.{option_map_or}
 use Rattle.template.specs.Parse.{template_parts}
 use Rattle.template.specs.Template.{Parts, Values, parts_text, values_of}
 use Rattle.test_report_forms.specs.Model.{CauseView, cause_of_entry, no_tests_ran}
-use Rattle.test_report_forms.specs.Entry.{EntryView, LinesDisagree, SuiteNotRun, SuiteOver, TestFailed, TestPassed, TestSkipped}
+use Rattle.test_report_forms.specs.Entry.{EntryView, FlakyPassed, LinesDisagree, SuiteNotRun, SuiteOver, TestFailed, TestPassed, TestSkipped}
 use Rattle.test_report_forms.specs.JunitCase.{CaseView, case_view, case_of_cause, failed_case, own_name, passed_case, problem_case, skipped_case}
 use Rattle.test_report_forms.specs.JunitSuite.{SuiteView, suite_view}
 use Rattle.test_report_forms.specs.JunitValues.{junit_values}
-use Rattle.test_report_forms.specs.Suites.{added_to, suite_over, without_first}
+use Rattle.test_report_forms.specs.Suites.{added_to, open_list, suite_over, without_first}
 use Rattle.test_report_forms.specs.declared.junit.JunitForm.{JunitForm}
 use Rattle.test_report_forms.specs.declared.junit_template.TheConstants.{JUNIT}
 use Rattle.test_report_forms.specs.declared.options.Options.{Options}
@@ -23,7 +23,7 @@ pub record JunitState : Type 0 where
 
 -- what the form keeps
 abbrev pub junit_view : JunitForm → JunitState
-junit_view f = record { suites = map suite_view f.suites.list.items; over = map suite_view f.over.items; own = map case_view f.own.items }
+junit_view f = record { suites = map suite_view (open_list f.suites); over = map suite_view f.over.items; own = map case_view f.own.items }
 
 -- what the form keeps before the first entry
 abbrev pub junit_start : JunitState
@@ -57,6 +57,7 @@ end_suite j name time = option_map_or (close (without_suite j name) time) (suite
 -- what an entry adds
 unfoldable pub junit_entry : Options → JunitState → EntryView → JunitState
 junit_entry o j (TestPassed t) = add_case j t.suite (passed_case t)
+junit_entry o j (FlakyPassed t) = j
 junit_entry o j (TestSkipped t) = add_case j t.suite (skipped_case t)
 junit_entry o j (TestFailed t f w) = add_case j t.suite (failed_case t f w o)
 junit_entry o j (LinesDisagree d why) = option_map_or (add_cause j) (cause_of_entry (LinesDisagree d why)) j

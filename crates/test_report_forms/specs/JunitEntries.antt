@@ -2,7 +2,7 @@
 use Rattle.std.specs.Prelude.{◌≡◌, ◌++◌, ◌∷◌, ◌&&◌, [], not, ℕ, List, if◌then◌else◌, Option, Some}
 use Rattle.std.specs.List.{flat_map}
 use Rattle.std.specs.Option.{option_map_or}
-use Rattle.test_report_forms.specs.Entry.{EntryView, LinesDisagree, SuiteNotRun, SuiteOver, TestFailed, TestPassed, TestSkipped}
+use Rattle.test_report_forms.specs.Entry.{EntryView, FlakyPassed, LinesDisagree, SuiteNotRun, SuiteOver, TestFailed, TestPassed, TestSkipped}
 use Rattle.test_report_forms.specs.Junit.{junit_suites, own_cases, own_suite}
 use Rattle.test_report_forms.specs.JunitCase.{CaseView, case_of_cause, failed_case, passed_case, skipped_case}
 use Rattle.test_report_forms.specs.JunitSuite.{SuiteView}
@@ -26,6 +26,7 @@ cause_case name c = option_map_or (λ suite. case_if name (Some suite) (case_of_
 -- the test case of an entry, if it is of the suite with this name
 abbrev pub entry_cases : Options → Option (List ℕ) → EntryView → List CaseView
 entry_cases o name (TestPassed t) = case_if name t.suite (passed_case t)
+entry_cases o name (FlakyPassed t) = []
 entry_cases o name (TestSkipped t) = case_if name t.suite (skipped_case t)
 entry_cases o name (TestFailed t f w) = case_if name t.suite (failed_case t f w o)
 entry_cases o name (LinesDisagree d why) = option_map_or (cause_case name) (cause_of_entry (LinesDisagree d why)) []
@@ -47,6 +48,6 @@ pub record SaysEntries (o : Options) (entries : List EntryView) (end : RunEnd) :
   pub are : junit_suites o entries end ≡ named ++ own_suite (own_cases (no_tests_ran end.outcome && not o.no_tests_pass) (flat_map own_case entries))
   pub cases : (name : Option (List ℕ)) → cases_named name named ≡ flat_map (entry_cases o name) entries
 
--- The suites of JUnit's XML have exactly one test case for each entry that is not the end of a suite.
+-- The suites of JUnit's XML have exactly one test case for each entry that is neither the end of a suite nor that a flaky test passed.
 abbrev pub JunitSaysEntries : Type 0
 JunitSaysEntries = (o : Options) (entries : List EntryView) (end : RunEnd) → SaysEntries o entries end

@@ -1,5 +1,5 @@
 -- What the form for people shows of a test, by the levels of the layer.
-use Rattle.std.specs.Prelude.{◌||◌, ◌++◌, ℕ, Bool, List, [], if◌then◌else◌, max, None, unwrap_or}
+use Rattle.std.specs.Prelude.{◌&&◌, ◌||◌, ◌++◌, ℕ, Bool, List, [], if◌then◌else◌, max, None, unwrap_or}
 use Rattle.run_events_levels.specs.Level.{final_level_of, level_of}
 use Rattle.run_events_levels.specs.TestView.{TestView}
 use Rattle.run_events_levels.specs.Visibility.{asked_of, visibility}
@@ -23,12 +23,12 @@ use Rattle.test_report_run.specs.declared.counted.Finish.TheVariants as finish
 abbrev pub levels_of : Options → StatusLevels
 levels_of o = record { status_level = o.status_level; final_status_level = o.final_status_level }
 
--- when something is shown of a test besides its line: why a failed test failed, and nothing of another test
-abbrev pub display_of : TestOutputDisplay → Finish → TestOutputDisplay
-display_of failures finish.Passed = display.Never
-display_of failures finish.FlakyFailed = failures
-display_of failures finish.Failed = failures
-display_of failures finish.TimedOut = failures
+-- when something is shown of a finished test besides its line: the output of one that passed, or why it failed
+abbrev pub display_of : Options → Finish → TestOutputDisplay
+display_of o finish.Passed = o.success_output
+display_of o finish.FlakyFailed = o.failure_output
+display_of o finish.Failed = o.failure_output
+display_of o finish.TimedOut = o.failure_output
 
 -- the number of attempts that decides the levels of a test: a flaky test took several
 abbrev pub attempts_for : Finish → ℕ → ℕ
@@ -50,12 +50,16 @@ own_final_level how attempts slow = unwrap_or (final_level_of (own_view how atte
 -- what is shown of it, and what is stored for the list at the end
 unfoldable pub finished_output : Options → Finish → ℕ → Bool → OutputOnTestFinished
 finished_output o how attempts slow =
-    visibility (asked_of (levels_of o) (display_of o.failure_output how) (own_level how attempts slow) (own_final_level how attempts slow)
+    visibility (asked_of (levels_of o) (display_of o how) (own_level how attempts slow) (own_final_level how attempts slow)
     (own_view how attempts slow).result) None
 
 -- what is shown of a skipped test, and what is stored for the list at the end
 unfoldable pub skipped_output : Options → OutputOnTestFinished
 skipped_output o = visibility (asked_of (levels_of o) display.Never level.Skip final.Skip described.Pass) None
+
+-- the same, but nothing is shown under the line of a test that has nothing to show
+abbrev pub shown_if : Bool → OutputOnTestFinished → OutputOnTestFinished
+shown_if has shows = record shows { show_immediate = shows.show_immediate && has }
 
 -- a test has a line when it ends: the line is written, or something is shown under it
 abbrev pub has_line : OutputOnTestFinished → Bool

@@ -23,11 +23,14 @@ pub mod List
 pub mod Markdown
 pub mod Model
 pub mod Names
+pub mod PassedOutput
 pub mod Place
 pub mod Short
 pub mod Shown
 pub mod ShownWhy
 pub mod Skipped
+pub mod Slowest
+pub mod SuiteNames
 pub mod Suites
 pub mod Text
 pub mod Title

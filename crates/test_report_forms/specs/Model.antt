@@ -4,8 +4,8 @@ use Rattle.std.specs.List.{fold}
 use Rattle.std.specs.Option.{option_map_or}
 use Rattle.run_events_stats.specs.declared.outcome.run_outcome.RunOutcome.{RunOutcome}
 use Rattle.run_events_stats.specs.declared.outcome.run_outcome.RunOutcome.TheVariants as outcome
-use Rattle.test_report_forms.specs.Entry.{EntryView, LinesDisagree, SuiteNotRun, SuiteOver, TestFailed, TestPassed, TestSkipped}
-use Rattle.test_report_forms.specs.List.{KeyedLine, put_falling, slow_line_view}
+use Rattle.test_report_forms.specs.Entry.{EntryView, FlakyPassed, LinesDisagree, SuiteNotRun, SuiteOver, TestFailed, TestPassed, TestSkipped}
+use Rattle.test_report_forms.specs.List.{KeyedLine, kept_lines, put_falling}
 use Rattle.test_report_forms.specs.Shown.{front, shown_name, shown_text}
 use Rattle.test_report_forms.specs.ShownWhy.{limited_why, shown_why}
 use Rattle.test_report_forms.specs.Skipped.{SkippedView, skipped_tests, skipped_view}
@@ -106,6 +106,7 @@ lacks_events (CommandFails end) = false
 -- the cause of an entry, if it has one
 abbrev pub cause_of_entry : EntryView → Option CauseView
 cause_of_entry (TestPassed t) = None
+cause_of_entry (FlakyPassed t) = None
 cause_of_entry (TestSkipped t) = None
 cause_of_entry (TestFailed t f w) = None
 cause_of_entry (LinesDisagree d why) = Some record {
@@ -127,6 +128,7 @@ cause_of_entry (SuiteOver s) = None
 -- the failed test of an entry, if it has one, with at most this many bytes of its output
 abbrev pub failure_of_entry : Options → ℕ → EntryView → Option FailedView
 failure_of_entry o most (TestPassed t) = None
+failure_of_entry o most (FlakyPassed t) = None
 failure_of_entry o most (TestSkipped t) = None
 failure_of_entry o most (TestFailed t f w) = Some (shown_failure_of t f w o most)
 failure_of_entry o most (LinesDisagree d why) = None
@@ -208,6 +210,7 @@ row_of_suite s =
 abbrev pub row_of_entry : EntryView → Option RowView
 row_of_entry (SuiteOver s) = row_of_suite s
 row_of_entry (TestPassed t) = None
+row_of_entry (FlakyPassed t) = None
 row_of_entry (TestSkipped t) = None
 row_of_entry (TestFailed t f w) = None
 row_of_entry (LinesDisagree d why) = None
@@ -224,6 +227,7 @@ timed_title t = option_map (λ time. record { key = time; line = title t }) t.ti
 -- the line of the test of an entry, if the test ran and has a time
 abbrev pub timed_entry : EntryView → Option KeyedLine
 timed_entry (TestPassed t) = timed_title t
+timed_entry (FlakyPassed t) = None
 timed_entry (TestFailed t f w) = timed_title t
 timed_entry (TestSkipped t) = None
 timed_entry (LinesDisagree d why) = None
@@ -301,7 +305,7 @@ report_view m end = record {
   problems = all_problems end.outcome (map problem_view m.problems.items);
   failed = map failed_view m.failed.items;
   suites = map row_view m.suites.items;
-  slowest = map slow_line_view m.slowest.tests.items;
+  slowest = kept_lines m.slowest;
   skipped = map skipped_view m.skipped.items;
 }
 
@@ -312,6 +316,6 @@ pub record IsModelOf (limits : OutputLimits) (m : ReportModel) (entries : List E
   pub room : m.room ≡ fold room_after_test limits.all (all_failures m.options limits.each entries)
   pub problems : map problem_view m.problems.items ≡ problems_of entries
   pub suites : map row_view m.suites.items ≡ suite_rows entries
-  pub slowest : map slow_line_view m.slowest.tests.items ≡ slowest_tests entries
+  pub slowest : kept_lines m.slowest ≡ slowest_tests entries
   pub most : m.slowest.most ≡ 10
   pub skipped : map skipped_view m.skipped.items ≡ skipped_tests entries

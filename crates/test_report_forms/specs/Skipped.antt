@@ -1,6 +1,6 @@
 -- Skipped tests that have a reason.
 use Rattle.std.specs.Prelude.{ℕ, List, Option, None, filter_map, option_map, string_bytes}
-use Rattle.test_report_forms.specs.Entry.{EntryView, LinesDisagree, SuiteNotRun, SuiteOver, TestFailed, TestPassed, TestSkipped}
+use Rattle.test_report_forms.specs.Entry.{EntryView, FlakyPassed, LinesDisagree, SuiteNotRun, SuiteOver, TestFailed, TestPassed, TestSkipped}
 use Rattle.test_report_forms.specs.Shown.{whole_text}
 use Rattle.test_report_forms.specs.Title.{title}
 use Rattle.test_report_forms.specs.declared.skipped_test.SkippedTest.{SkippedTest}
@@ -17,7 +17,7 @@ skipped_view t = record { name = string_bytes t.name; reason = string_bytes t.re
 
 -- why a test was skipped, if its line says so
 abbrev pub skip_reason : OutcomeView → Option (List ℕ)
-skip_reason Passes = None
+skip_reason (Passes output) = None
 skip_reason (IsSkipped reason) = reason
 skip_reason (Fails failure) = None
 
@@ -29,6 +29,7 @@ skipped_test t = option_map (λ reason. record { name = title t; reason = whole_
 abbrev pub skipped_of_entry : EntryView → Option SkippedView
 skipped_of_entry (TestSkipped t) = skipped_test t
 skipped_of_entry (TestPassed t) = None
+skipped_of_entry (FlakyPassed t) = None
 skipped_of_entry (TestFailed t f w) = None
 skipped_of_entry (LinesDisagree d why) = None
 skipped_of_entry (SuiteNotRun suite n of) = None

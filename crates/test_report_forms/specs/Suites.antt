@@ -1,6 +1,6 @@
 -- The suites that a form keeps at the end of a run, each with what the form keeps of its tests, called its cases.
 use Rattle.std.specs.Prelude.{◌++◌, ◌∷◌, [], ℕ, Bool, true, false, List, if◌then◌else◌, map, Option, Some, None, option_map, string_bytes}
-use Rattle.std.specs.List.{find}
+use Rattle.std.specs.List.{filter_map, find}
 use Rattle.std.specs.Str.{bytes_eq}
 use Rattle.test_report_forms.specs.declared.open_suites.OpenSuites.{OpenSuites}
 use Rattle.test_report_forms.specs.declared.open_suites.Suite.{Suite}
@@ -23,9 +23,13 @@ module _ {X : Type 0} where
   abbrev pub suite_of : Suite X → SuiteOf X
   suite_of s = record { name = option_map (λ n. string_bytes n.value) s.name; time = s.time; cases = s.cases.items }
 
+  -- the open suites: what is in the slots that are not empty
+  abbrev pub open_list : OpenSuites X → List (Suite X)
+  open_list o = filter_map (λ slot. slot) o.slots.items
+
   -- the open suites that are kept
   abbrev pub open_of : OpenSuites X → List (SuiteOf X)
-  open_of o = map suite_of o.list.items
+  open_of o = map suite_of (open_list o)
 
   -- a suite without cases
   abbrev pub new_suite : Option (List ℕ) → SuiteOf X

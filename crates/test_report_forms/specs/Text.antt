@@ -3,10 +3,11 @@ use Rattle.std.specs.Prelude.{ℕ, List, Bool, ◌++◌, [], codes, if◌then◌
 use Rattle.run_events_levels.specs.declared.levels.OutputOnTestFinished.{OutputOnTestFinished}
 use Rattle.std.specs.Fmt.{decimal}
 use Rattle.std.specs.Option.{option_map_or}
-use Rattle.test_report_forms.specs.Entry.{EntryView, TestFailed, TestPassed, TestSkipped}
-use Rattle.test_report_forms.specs.Levels.{finished_output, has_line, skipped_output}
+use Rattle.test_report_forms.specs.Entry.{EntryView, FlakyPassed, TestFailed, TestPassed, TestSkipped}
+use Rattle.test_report_forms.specs.Levels.{finished_output, has_line, shown_if, skipped_output}
 use Rattle.test_report_forms.specs.List.{passed_word, short_list}
 use Rattle.test_report_forms.specs.Model.{CauseView, cause_of_entry}
+use Rattle.test_report_forms.specs.PassedOutput.{has_output, output_lines}
 use Rattle.test_report_forms.specs.Shown.{bracket, indented}
 use Rattle.test_report_forms.specs.ShownWhy.{text_why}
 use Rattle.test_report_forms.specs.Title.{title}
@@ -41,9 +42,15 @@ unfoldable pub failed_text : Options → TestNoteView → FailureView → WhyVie
 failed_text o t f w =
     ended_text (finished_output o (finish_for f.kind) t.attempts t.slow) (failed_head o t (failed_word f.kind)) (why_lines 4 o (text_why o t f w))
 
--- a test that passed
+-- a test that passed, with its output
 unfoldable pub passed_text : Options → TestNoteView → List ℕ
-passed_text o t = ended_text (finished_output o Passed t.attempts t.slow) (ended_head o t (passed_word t.attempts)) []
+passed_text o t =
+    ended_text (shown_if (has_output t.outcome) (finished_output o Passed t.attempts t.slow)) (ended_head o t (passed_word t.attempts))
+    (output_lines 4 o t.outcome)
+
+-- a test that passed, if it is not flaky: what is written of a flaky one was written when it passed
+unfoldable pub counted_text : Options → TestNoteView → List ℕ
+counted_text o t = if nat_lt 1 t.attempts then [] else passed_text o t
 
 -- a skipped test
 unfoldable pub skipped_text : Options → TestNoteView → List ℕ
@@ -64,7 +71,8 @@ cause_text o c = c.line ++ (codes "\n" ++ (option_map_or (indented 4 o.raw) c.wh
 -- what is written of an entry: a test by its level, or a cause
 abbrev pub text_line : Options → EntryView → List ℕ
 text_line o (TestFailed t f w) = failed_text o t f w
-text_line o (TestPassed t) = passed_text o t
+text_line o (TestPassed t) = counted_text o t
+text_line o (FlakyPassed t) = passed_text o t
 text_line o (TestSkipped t) = skipped_text o t
 text_line o e = option_map_or (cause_text o) (cause_of_entry e) []
 

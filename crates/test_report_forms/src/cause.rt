@@ -100,7 +100,11 @@ pub(crate) fn cause_of<'a>(
                 lacks_events: false,
             }))
         }
-        Entry::Passed(_) | Entry::Skipped(_) | Entry::Failed { .. } | Entry::Suite(_) => Ok(None),
+        Entry::Passed(_)
+        | Entry::Flaky(_)
+        | Entry::Skipped(_)
+        | Entry::Failed { .. }
+        | Entry::Suite(_) => Ok(None),
     }
 }
 

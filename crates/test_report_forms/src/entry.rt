@@ -18,6 +18,9 @@ pub enum Entry<'a> {
     /// A test passed.
     Passed(&'a TestNote),
 
+    /// A flaky test passed. With another entry it counts as passed or as failed.
+    Flaky(&'a TestNote),
+
     /// A test was skipped.
     Skipped(&'a TestNote),
 
@@ -56,7 +59,7 @@ impl<'a> Entry<'a> {
     {
         match note {
             Note::Test(test) => match &test.outcome {
-                TestOutcome::Passed => Ok(Entry::Passed(test)),
+                TestOutcome::Passed { .. } => Ok(Entry::Passed(test)),
                 TestOutcome::Skipped { .. } => Ok(Entry::Skipped(test)),
                 TestOutcome::Failed(failure) => Ok(Entry::Failed {
                     test,
@@ -64,6 +67,7 @@ impl<'a> Entry<'a> {
                     why: Why::of(alloc, test, failure)?,
                 }),
             },
+            Note::Flaky(test) => Ok(Entry::Flaky(test)),
             Note::Disagreement(disagreement) => Ok(Entry::Disagreement {
                 disagreement,
                 why: disagreement_why(alloc, disagreement)?,

@@ -146,6 +146,7 @@ impl Form for GithubForm {
                 self.push_failed(alloc, test, failure, why, text)
             },
             Entry::Passed(_)
+            | Entry::Flaky(_)
             | Entry::Skipped(_)
             | Entry::Disagreement { .. }
             | Entry::NotRun(_)

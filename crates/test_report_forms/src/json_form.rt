@@ -18,7 +18,8 @@ use crate::json_values::{
     failed_json, no_tests_json, open_suite_json, problem_json, report_json, suite_json, test_json,
 };
 use crate::model::no_tests_ran;
-use crate::open_suites::{OpenSuites, name_of};
+use crate::open_suites::OpenSuites;
+use crate::open_suites::name::name_of;
 use crate::options::Options;
 use std::alloc::{AllocError, Global};
 use std::rc::Rc;
@@ -76,6 +77,7 @@ impl JsonForm {
             }
             Entry::Disagreement { .. } | Entry::NotRun(_) => self.on_cause(alloc, entry),
             Entry::Suite(suite) => self.on_suite(alloc, suite),
+            Entry::Flaky(_) => Ok(()),
         }
     }
 
@@ -126,7 +128,7 @@ impl JsonForm {
     {
         let open = std::mem::replace(&mut self.suites, OpenSuites::new(alloc));
         let mut suites = std::mem::replace(&mut self.over, Vec::new(alloc));
-        for suite in open.list {
+        for suite in open.into_list(alloc)? {
             suites.push(open_suite_json(alloc, &suite)?)?;
         }
         Ok(suites)

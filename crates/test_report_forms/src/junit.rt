@@ -19,7 +19,8 @@ use crate::junit_case::{Case, OWN_NAME};
 use crate::junit_template::JUNIT;
 use crate::junit_values::junit_values;
 use crate::model::no_tests_ran;
-use crate::open_suites::{OpenSuites, Suite, name_of};
+use crate::open_suites::name::name_of;
+use crate::open_suites::{OpenSuites, Suite};
 use crate::options::Options;
 use std::alloc::{AllocError, Global};
 use std::rc::Rc;
@@ -86,6 +87,7 @@ impl JunitForm {
             }
             Entry::Disagreement { .. } | Entry::NotRun(_) => self.on_cause(alloc, entry),
             Entry::Suite(suite) => self.on_suite(alloc, suite),
+            Entry::Flaky(_) => Ok(()),
         }
     }
 
@@ -186,7 +188,7 @@ impl JunitForm {
         let own = self.take_own(alloc, no_tests)?;
         let open = std::mem::replace(&mut self.suites, OpenSuites::new(alloc));
         let mut suites = std::mem::replace(&mut self.over, Vec::new(alloc));
-        for suite in open.list {
+        for suite in open.into_list(alloc)? {
             suites.push(suite)?;
         }
         push_own(alloc, &mut suites, own)?;

@@ -5,14 +5,17 @@ ghost use Rattle.std.specs.List.{fold};
 ghost use Rattle.run_events_levels.specs.declared.levels.FinalStatusLevel.TheVariants as levels;
 ghost use Rattle.test_report_forms.specs.Entry.{TestFailed, entry_view};
 ghost use Rattle.test_report_forms.specs.Levels.{finished_output, listed_text, skipped_output};
+ghost use Rattle.test_report_forms.specs.PassedOutput.{output_lines};
 ghost use Rattle.test_report_forms.specs.List as spec;
-ghost use Rattle.test_report_forms.specs.List.{put_falling, slow_line_view, text_of_lines};
+ghost use Rattle.test_report_forms.specs.List.{kept_flaky, kept_lines, put_falling, put_rising, text_of_lines};
 ghost use Rattle.test_report_forms.specs.Why.{why_view};
-ghost use Rattle.test_report_run.specs.Note.{failure_view, test_view};
+ghost use Rattle.test_report_run.specs.Note.{failure_view, outcome_view, test_view};
 
 use crate::entry::Entry;
+use crate::flaky_lines::{FlakyLine, FlakyLines};
 use crate::levels::{finished_output, own_final_level, skipped_output};
 use crate::options::Options;
+use crate::passed_output::push_output_lines;
 use crate::shown::{front, push_bracket, push_spaces, push_text};
 use crate::slowest::Slowest;
 use crate::status::{failed_status, listed_status, push_status};
@@ -37,7 +40,7 @@ pub(crate) struct ShortList {
     passed: String,
     skipped: String,
     slow: String,
-    flaky: String,
+    flaky: FlakyLines,
     failed: String,
     slowest: Slowest,
 }
@@ -48,16 +51,16 @@ impl ShortList {
         ensures passed { string_bytes result.passed ≡ [] }
         ensures skipped { string_bytes result.skipped ≡ [] }
         ensures slow { string_bytes result.slow ≡ [] }
-        ensures flaky { string_bytes result.flaky ≡ [] }
+        ensures flaky { kept_flaky result.flaky ≡ [] }
         ensures failed { string_bytes result.failed ≡ [] }
-        ensures slowest { map slow_line_view result.slowest.tests.items ≡ [] }
+        ensures slowest { kept_lines result.slowest ≡ [] }
         ensures most { result.slowest.most ≡ most }
     {
         ShortList {
             passed: String::new(alloc),
             skipped: String::new(alloc),
             slow: String::new(alloc),
-            flaky: String::new(alloc),
+            flaky: FlakyLines::new(alloc),
             failed: String::new(alloc),
             slowest: Slowest::new(alloc, most),
         }
@@ -77,41 +80,42 @@ impl ShortList {
             ++ spec.item_at options levels.Skip (entry_view entry.now)) }
         ensures slow { OnOk result (string_bytes self.new.slow ≡ string_bytes self.old.slow
             ++ spec.item_at options levels.Slow (entry_view entry.now)) }
-        ensures flaky { OnOk result (string_bytes self.new.flaky ≡ string_bytes self.old.flaky
-            ++ spec.item_at options levels.Flaky (entry_view entry.now)) }
+        ensures flaky { OnOk result (kept_flaky self.new.flaky
+            ≡ fold put_rising (kept_flaky self.old.flaky) (spec.flaky_of options (entry_view entry.now))) }
         ensures failed { OnOk result (string_bytes self.new.failed ≡ string_bytes self.old.failed
             ++ spec.item_at options levels.Fail (entry_view entry.now)) }
-        ensures slowest { OnOk result (map slow_line_view self.new.slowest.tests.items
-            ≡ fold (put_falling self.old.slowest.most) (map slow_line_view self.old.slowest.tests.items)
+        ensures slowest { OnOk result (kept_lines self.new.slowest
+            ≡ fold (put_falling self.old.slowest.most) (kept_lines self.old.slowest)
             (spec.slow_of options (entry_view entry.now))) }
         ensures most { OnOk result (self.new.slowest.most ≡ self.old.slowest.most) }
     {
         let mut item = String::new(alloc);
         push_item(alloc, &mut item, entry, options)?;
-        self.add(final_level_of(entry), item.as_str())?;
+        self.add(final_level_of(entry), ended_before(entry), item)?;
         add_slow(alloc, &mut self.slowest, entry, options)
     }
 
-    /// Adds a line to the part of the list for a level.
-    fn add(&mut self, level: FinalStatusLevel, line: &str) -> Result<(), AllocError>
+    /// Adds the lines of a test to the part of the list for a level. `ended` is the number of tests that ended before
+    /// it.
+    fn add(&mut self, level: FinalStatusLevel, ended: usize, line: String) -> Result<(), AllocError>
         ensures passed { OnOk result (string_bytes self.new.passed ≡ string_bytes self.old.passed
-            ++ spec.line_at levels.Pass level line.now) }
+            ++ spec.line_at levels.Pass level (string_bytes line)) }
         ensures skipped { OnOk result (string_bytes self.new.skipped ≡ string_bytes self.old.skipped
-            ++ spec.line_at levels.Skip level line.now) }
+            ++ spec.line_at levels.Skip level (string_bytes line)) }
         ensures slow { OnOk result (string_bytes self.new.slow ≡ string_bytes self.old.slow
-            ++ spec.line_at levels.Slow level line.now) }
-        ensures flaky { OnOk result (string_bytes self.new.flaky ≡ string_bytes self.old.flaky
-            ++ spec.line_at levels.Flaky level line.now) }
+            ++ spec.line_at levels.Slow level (string_bytes line)) }
+        ensures flaky { OnOk result (kept_flaky self.new.flaky
+            ≡ fold put_rising (kept_flaky self.old.flaky) (spec.flaky_at level ended (string_bytes line))) }
         ensures failed { OnOk result (string_bytes self.new.failed ≡ string_bytes self.old.failed
-            ++ spec.line_at levels.Fail level line.now) }
+            ++ spec.line_at levels.Fail level (string_bytes line)) }
         ensures slowest { self.new.slowest ≡ self.old.slowest }
     {
         match level {
-            FinalStatusLevel::Pass => self.passed.push_str(line),
-            FinalStatusLevel::Skip => self.skipped.push_str(line),
-            FinalStatusLevel::Slow => self.slow.push_str(line),
-            FinalStatusLevel::Flaky => self.flaky.push_str(line),
-            FinalStatusLevel::Fail => self.failed.push_str(line),
+            FinalStatusLevel::Pass => self.passed.push_str(line.as_str()),
+            FinalStatusLevel::Skip => self.skipped.push_str(line.as_str()),
+            FinalStatusLevel::Slow => self.slow.push_str(line.as_str()),
+            FinalStatusLevel::Flaky => self.flaky.insert(FlakyLine { ended, line }),
+            FinalStatusLevel::Fail => self.failed.push_str(line.as_str()),
             _ => Ok(()),
         }
     }
@@ -120,15 +124,15 @@ impl ShortList {
     pub(crate) fn push(&self, text: &mut String) -> Result<(), AllocError>
         ensures { OnOk result (string_bytes text.new ≡ string_bytes text.old
             ++ (string_bytes self.now.passed ++ (string_bytes self.now.skipped ++ (string_bytes self.now.slow
-            ++ (string_bytes self.now.flaky ++ (string_bytes self.now.failed
-            ++ text_of_lines (map slow_line_view self.now.slowest.tests.items))))))) }
+            ++ (text_of_lines (kept_flaky self.now.flaky) ++ (string_bytes self.now.failed
+            ++ text_of_lines (kept_lines self.now.slowest))))))) }
     {
         text.push_str(self.passed.as_str())?;
         text.push_str(self.skipped.as_str())?;
         text.push_str(self.slow.as_str())?;
-        text.push_str(self.flaky.as_str())?;
+        self.flaky.push(text)?;
         text.push_str(self.failed.as_str())?;
-        for slow in self.slowest.tests() {
+        for slow in self.slowest.tests.values() {
             text.push_str(slow.line.as_str())?;
         }
         Ok(())
@@ -145,7 +149,24 @@ fn final_level_of(entry: &Entry<'_>) -> FinalStatusLevel
         Entry::Failed { test, failure, .. } => {
             own_final_level(Finish::of_failure(&failure.kind), test.attempts, test.slow)
         }
-        Entry::Disagreement { .. } | Entry::NotRun(_) | Entry::Suite(_) => FinalStatusLevel::None,
+        Entry::Flaky(_) | Entry::Disagreement { .. } | Entry::NotRun(_) | Entry::Suite(_) => {
+            FinalStatusLevel::None
+        },
+    }
+}
+
+/// Returns the number of tests that ended before the test of an entry, or 0 if no line says that the test passed.
+fn ended_before(entry: &Entry<'_>) -> usize
+    ensures { result ≡ spec.ended_before (entry_view entry.now) }
+{
+    match entry {
+        Entry::Passed(test) => test.ended.unwrap_or(0),
+        Entry::Flaky(_)
+        | Entry::Skipped(_)
+        | Entry::Failed { .. }
+        | Entry::Disagreement { .. }
+        | Entry::NotRun(_)
+        | Entry::Suite(_) => 0,
     }
 }
 
@@ -165,11 +186,11 @@ fn push_item(
         Entry::Failed { test, failure, why } => {
             push_failed(alloc, text, test, failure, why, options)
         }
-        Entry::Disagreement { .. } | Entry::NotRun(_) | Entry::Suite(_) => Ok(()),
+        Entry::Flaky(_) | Entry::Disagreement { .. } | Entry::NotRun(_) | Entry::Suite(_) => Ok(()),
     }
 }
 
-/// Appends the line of a test that passed, if the test is in the list.
+/// Appends the line of a test that passed, if the test is in the list, and its output, if that is shown there.
 fn push_passed(
     alloc: Global,
     text: &mut String,
@@ -178,15 +199,24 @@ fn push_passed(
 ) -> Result<(), AllocError>
     ensures { OnOk result (string_bytes text.new ≡ string_bytes text.old ++ listed_text
         (finished_output options Finish.Passed test.now.attempts test.now.slow).store_final
-        (spec.ended_line options (test_view test.now) (spec.listed_word test.now.attempts test.now.slow)) []) }
+        (spec.ended_line options (test_view test.now) (spec.listed_word test.now.attempts test.now.slow))
+        (output_lines 13 options (outcome_view test.now.outcome))) }
 {
-    match finished_output(options, Finish::Passed, test.attempts, test.slow).store_final {
-        OutputStoreFinal::Yes { .. } => {
-            let status = listed_status(alloc, test.attempts, test.slow)?;
-            push_ended(text, test, status.as_str(), options)
-        }
-        OutputStoreFinal::No => Ok(()),
+    let OutputStoreFinal::Yes { display_output } = finished_output(
+        options,
+        Finish::Passed,
+        test.attempts,
+        test.slow,
+    ).store_final
+    else {
+        return Ok(());
+    };
+    let status = listed_status(alloc, test.attempts, test.slow)?;
+    push_ended(text, test, status.as_str(), options)?;
+    if display_output {
+        push_output_lines(alloc, text, &test.outcome, WHY_MARGIN, options)?;
     }
+    Ok(())
 }
 
 /// Appends the line of a skipped test, if the test is in the list.
@@ -275,17 +305,19 @@ fn add_slow(
     entry: &Entry<'_>,
     options: Options,
 ) -> Result<(), AllocError>
-    ensures adds { OnOk result (map slow_line_view slowest.new.tests.items ≡ fold (put_falling slowest.old.most)
-        (map slow_line_view slowest.old.tests.items) (spec.slow_of options (entry_view entry.now))) }
+    ensures adds { OnOk result (kept_lines slowest.new ≡ fold (put_falling slowest.old.most)
+        (kept_lines slowest.old) (spec.slow_of options (entry_view entry.now))) }
     ensures most { OnOk result (slowest.new.most ≡ slowest.old.most) }
 {
     match entry {
         Entry::Passed(test) | Entry::Failed { test, .. } => {
             add_time(alloc, slowest, test, options)
         }
-        Entry::Skipped(_) | Entry::Disagreement { .. } | Entry::NotRun(_) | Entry::Suite(_) => {
-            Ok(())
-        }
+        Entry::Flaky(_)
+        | Entry::Skipped(_)
+        | Entry::Disagreement { .. }
+        | Entry::NotRun(_)
+        | Entry::Suite(_) => Ok(()),
     }
 }
 
@@ -297,8 +329,8 @@ fn add_time(
     test: &TestNote,
     options: Options,
 ) -> Result<(), AllocError>
-    ensures adds { OnOk result (map slow_line_view slowest.new.tests.items ≡ fold (put_falling slowest.old.most)
-        (map slow_line_view slowest.old.tests.items) (spec.timed options (test_view test.now))) }
+    ensures adds { OnOk result (kept_lines slowest.new ≡ fold (put_falling slowest.old.most)
+        (kept_lines slowest.old) (spec.timed options (test_view test.now))) }
     ensures most { OnOk result (slowest.new.most ≡ slowest.old.most) }
 {
     let Some(time) = test.time else {

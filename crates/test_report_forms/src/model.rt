@@ -3,7 +3,7 @@
 ghost use Rattle.std.specs.Prelude.{◌≡◌, ◌++◌, ◌∷◌, [], ℕ, IfOk, List, OnOk, map, option_map, option_to_list, string_bytes};
 ghost use Rattle.std.specs.List.{fold};
 ghost use Rattle.test_report_forms.specs.Entry.{EntryView, entry_view};
-ghost use Rattle.test_report_forms.specs.List.{put_falling, slow_line_view};
+ghost use Rattle.test_report_forms.specs.List.{kept_lines, put_falling};
 ghost use Rattle.test_report_forms.specs.Model as spec;
 ghost use Rattle.test_report_forms.specs.Model.{IsModelOf, failed_view, problem_view, row_view};
 ghost use Rattle.test_report_forms.specs.Skipped.{skipped_of_entry, skipped_view};
@@ -224,22 +224,24 @@ fn keep_skipped(
 
 /// Keeps the test of an entry, if it ran and is one of the slowest.
 fn keep_time(alloc: Global, slowest: &mut Slowest, entry: &Entry<'_>) -> Result<(), AllocError>
-    ensures keeps { OnOk result (map slow_line_view slowest.new.tests.items ≡ fold (put_falling slowest.old.most)
-        (map slow_line_view slowest.old.tests.items) (option_to_list (spec.timed_entry (entry_view entry.now)))) }
+    ensures keeps { OnOk result (kept_lines slowest.new ≡ fold (put_falling slowest.old.most)
+        (kept_lines slowest.old) (option_to_list (spec.timed_entry (entry_view entry.now)))) }
     ensures most { OnOk result (slowest.new.most ≡ slowest.old.most) }
 {
     match entry {
         Entry::Passed(test) | Entry::Failed { test, .. } => keep_test(alloc, slowest, test),
-        Entry::Skipped(_) | Entry::Disagreement { .. } | Entry::NotRun(_) | Entry::Suite(_) => {
-            Ok(())
-        }
+        Entry::Flaky(_)
+        | Entry::Skipped(_)
+        | Entry::Disagreement { .. }
+        | Entry::NotRun(_)
+        | Entry::Suite(_) => { Ok(()) }
     }
 }
 
 /// Keeps a test that ran, if it has a time and is one of the slowest.
 fn keep_test(alloc: Global, slowest: &mut Slowest, test: &TestNote) -> Result<(), AllocError>
-    ensures keeps { OnOk result (map slow_line_view slowest.new.tests.items ≡ fold (put_falling slowest.old.most)
-        (map slow_line_view slowest.old.tests.items) (option_to_list (spec.timed_title (test_view test.now)))) }
+    ensures keeps { OnOk result (kept_lines slowest.new ≡ fold (put_falling slowest.old.most)
+        (kept_lines slowest.old) (option_to_list (spec.timed_title (test_view test.now)))) }
     ensures most { OnOk result (slowest.new.most ≡ slowest.old.most) }
 {
     let Some(time) = test.time else {

@@ -75,7 +75,7 @@ fn has_escape(c: char, rest: &str, at_front: bool, one_line: bool) -> bool
 /// Appends the name of a suite or a test: at most its first 1,024 bytes, cut at a character, and `..` if it is
 /// longer.
 #[tactic(auto, unfolding(crate::specs::Shown::shown_name))]
-pub(crate) fn push_name(text: &mut String, name: &str) -> Result<(), AllocError>
+pub fn push_name(text: &mut String, name: &str) -> Result<(), AllocError>
     ensures { OnOk result (string_bytes text.new ≡ string_bytes text.old ++ spec.shown_name name.now) }
 {
     push_line(text, front(name, NAME_LIMIT))?;
@@ -101,7 +101,7 @@ pub(crate) fn push_line(text: &mut String, line: &str) -> Result<(), AllocError>
 
 /// Appends a name and a space. Appends nothing if there is no name.
 #[tactic(auto, unfolding(crate::specs::Shown::name_and_space))]
-pub(crate) fn push_name_and_space(text: &mut String, name: Option<&str>) -> Result<(), AllocError>
+pub fn push_name_and_space(text: &mut String, name: Option<&str>) -> Result<(), AllocError>
     ensures { OnOk result (string_bytes text.new
         ≡ string_bytes text.old ++ spec.name_and_space (option_map (λ n. n.now) name.entry)) }
 {

@@ -11,9 +11,10 @@ ghost use Rattle.test_report_run.specs.Note.{failure_view, test_view};
 use crate::cause::{Cause, cause_of};
 use crate::entry::Entry;
 use crate::form::Form;
-use crate::levels::{finished_output, has_line, skipped_output};
+use crate::levels::{finished_output, has_line, shown_if, skipped_output};
 use crate::list::ShortList;
 use crate::options::Options;
+use crate::passed_output::{passed_output, push_output_lines};
 use crate::shown::{push_bracket, push_indented};
 use crate::status::{failed_status, passed_status, push_status};
 use crate::summary::{outcome_text, push_summary};
@@ -63,7 +64,8 @@ impl TextForm {
             Entry::Failed { test, failure, why } => {
                 push_failed(alloc, text, test, failure, why, self.options)
             }
-            Entry::Passed(test) => push_passed(alloc, text, test, self.options),
+            Entry::Passed(test) => push_counted(alloc, text, test, self.options),
+            Entry::Flaky(test) => push_passed(alloc, text, test, self.options),
             Entry::Skipped(test) => push_skipped(text, test, self.options),
             Entry::Disagreement { .. } | Entry::NotRun(_) | Entry::Suite(_) => {
                 push_cause_of(alloc, entry, text, self.options)
@@ -154,7 +156,25 @@ fn push_failed(
     push_why_lines(text, &shown, WHY_MARGIN, options)
 }
 
-/// Appends the line of a test that passed, if the levels show it.
+/// Appends what the levels show of a test that passed. Appends nothing for a flaky test: what is shown of it was written
+/// when it passed.
+#[tactic(auto, unfolding(crate::specs::Text::counted_text))]
+fn push_counted(
+    alloc: Global,
+    text: &mut String,
+    test: &TestNote,
+    options: Options,
+) -> Result<(), AllocError>
+    ensures { OnOk result (string_bytes text.new ≡ string_bytes text.old
+        ++ spec.counted_text options (test_view test.now)) }
+{
+    if test.attempts > 1 {
+        return Ok(());
+    }
+    push_passed(alloc, text, test, options)
+}
+
+/// Appends the line of a test that passed and its output, if the levels show them.
 #[tactic(auto, unfolding(crate::specs::Text::passed_text))]
 fn push_passed(
     alloc: Global,
@@ -165,11 +185,18 @@ fn push_passed(
     ensures { OnOk result (string_bytes text.new ≡ string_bytes text.old
         ++ spec.passed_text options (test_view test.now)) }
 {
-    if !has_line(finished_output(options, Finish::Passed, test.attempts, test.slow)) {
+    let has_output = passed_output(&test.outcome).is_some();
+    let shows = finished_output(options, Finish::Passed, test.attempts, test.slow);
+    let shows = shown_if(has_output, shows);
+    if !has_line(shows) {
         return Ok(());
     }
     let status = passed_status(alloc, test.attempts)?;
-    push_ended(text, test, status.as_str(), options)
+    push_ended(text, test, status.as_str(), options)?;
+    if shows.show_immediate {
+        push_output_lines(alloc, text, &test.outcome, WHY_MARGIN, options)?;
+    }
+    Ok(())
 }
 
 /// Appends the line of a skipped test, if the levels show it.

@@ -22,7 +22,7 @@
 ghost use Rattle.std.specs.Prelude.{◌≡◌, ◌==◌, ◌++◌, ◌∷◌, [], IfOk, OnOk, if◌then◌else◌, map, option_map, string_bytes};
 ghost use Rattle.std.specs.List.{list_any};
 ghost use Rattle.template.specs.Template.{ItemValue, NoValues, value_view};
-ghost use Rattle.test_report_forms.specs.List.{slow_line_view};
+ghost use Rattle.test_report_forms.specs.List.{kept_lines, slow_line_view};
 ghost use Rattle.test_report_forms.specs.Model.{all_problems, failed_view, no_tests_problem, problem_view, report_view, row_view};
 ghost use Rattle.test_report_forms.specs.Skipped.{skipped_view};
 ghost use Rattle.test_report_forms.specs.Values as spec;
@@ -35,7 +35,7 @@ use crate::model::{ReportModel, SuiteRow, no_tests_ran};
 use crate::numbers::Numbers;
 use crate::shown::seconds_text;
 use crate::skipped_test::SkippedTest;
-use crate::slowest::SlowTest;
+use crate::slowest::{SlowTest, Slowest};
 use crate::summary::outcome_text;
 use crate::whole_output::WholeOutput;
 use run_events_stats::outcome::RunOutcome;
@@ -71,11 +71,7 @@ pub fn report_values(
     )?;
     push_section(&mut values, "failures", failed_items(alloc, failed)?)?;
     push_section(&mut values, "suites", suite_items(alloc, suites)?)?;
-    push_section(
-        &mut values,
-        "slowest",
-        slow_items(alloc, slowest.into_tests())?,
-    )?;
+    push_section(&mut values, "slowest", slow_items(alloc, slowest)?)?;
     push_section(&mut values, "skips", skip_items(alloc, skipped)?)?;
     Ok(values)
 }
@@ -424,23 +420,13 @@ fn slow_values(alloc: Global, test: SlowTest, longest: u64) -> Result<Vec<Value>
     Ok(values)
 }
 
-/// Returns the time of the slowest test, or 0 if there is none.
-fn longest_time(tests: &[SlowTest]) -> u64
-    ensures { result ≡ spec.longest_time (map slow_line_view tests.now) }
-{
-    match tests.first() {
-        Some(test) => test.time,
-        None => 0,
-    }
-}
-
 /// Returns the slowest tests.
-fn slow_items(alloc: Global, tests: Vec<SlowTest>) -> Result<Vec<Value>, AllocError>
-    ensures { IfOk result (λ v. map value_view v.items ≡ spec.slow_items (map slow_line_view tests.items)) }
+fn slow_items(alloc: Global, slowest: Slowest) -> Result<Vec<Value>, AllocError>
+    ensures { IfOk result (λ v. map value_view v.items ≡ spec.slow_items (kept_lines slowest)) }
 {
-    let longest = longest_time(tests.as_slice());
+    let longest = slowest.longest();
     let mut items = Vec::new(alloc);
-    for test in tests {
+    for test in slowest.tests.into_values() {
         push_item(&mut items, "slow", slow_values(alloc, test, longest)?)?;
     }
     Ok(items)

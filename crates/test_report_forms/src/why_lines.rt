@@ -30,7 +30,7 @@ pub(crate) fn push_why_lines(
 
 /// Appends a line that says how many bytes are not shown. Appends nothing if all are shown.
 #[tactic(auto, unfolding(crate::specs::WhyLines::more_line))]
-fn push_more(text: &mut String, more: usize, margin: usize) -> Result<(), AllocError>
+pub(crate) fn push_more(text: &mut String, more: usize, margin: usize) -> Result<(), AllocError>
     ensures { OnOk result (string_bytes text.new
         ≡ string_bytes text.old ++ spec.more_line margin more) }
 {

@@ -5,6 +5,7 @@ use Rattle.std.proofs.lemmas.List.{map-append}
 use Rattle.test_report_forms.proofs.JsonStates.{kept_suite, kept_suites, more_open, no_suites}
 use Rattle.test_report_forms.specs.JsonText.{json_text}
 use Rattle.test_report_forms.specs.JsonValues.{open_suite_json}
+use Rattle.test_report_forms.specs.Suites.{open_list}
 use Rattle.test_report_forms.specs.declared.open_suites.OpenSuites.{OpenSuites}
 use Rattle.test_report_forms.proofs.json_form.JsonForm.take_suites.Goals as goal
 
@@ -21,12 +22,13 @@ loop-suite-preserved c =
 pub returns-clause-suites : goal.returns-clause-suites
 returns-clause-suites c =
     λ j is.
-    let given = c.replace-open.result.list in
+    let given = c.in_ok-suite-items.suite-items in
     let gives = c.into_iter-suite-iterator.ensures.into_iter_gives in
     let end = YieldsList-end (YieldsList-from_vec given.items gives.0 (omega (arith, gives.1, given.ok))) c.loop-suite.yielded _ c.loop-suite.yielded_by
     _ c.next.new.self c.in-None.is c.next.ensures.steps in
-    let whole : c.loop-suite.yielded ≡ c.args.self.now.suites.list.items =
-    sym (map-id c.loop-suite.yielded) ∙ end.0 ∙ ap (λ (o : OpenSuites (String Global)). o.list.items) c.replace-open.ensures.value in
-    let all = c.loop-suite.invariant j.suites (ap (map kept_suite) whole ∙ (sym (kept_suites c.args.self.now.suites.list.items) ∙ is.suites)) in
+    let whole : c.loop-suite.yielded ≡ open_list c.args.self.now.suites =
+    sym (map-id c.loop-suite.yielded) ∙ end.0 ∙ (c.in_ok-suite-items.ensures
+    ∙ ap (λ (o : OpenSuites (String Global)). open_list o) c.replace-open.ensures.value) in
+    let all = c.loop-suite.invariant j.suites (ap (map kept_suite) whole ∙ (sym (kept_suites (open_list c.args.self.now.suites)) ∙ is.suites)) in
     all ∙ (ap (λ l. l ++ map json_text (map open_suite_json j.suites)) (ap (λ v. map string_bytes v.items) c.replace-suites.ensures.value ∙ is.over)
     ∙ sym (map-append json_text j.over (map open_suite_json j.suites)))

@@ -1,5 +1,5 @@
 -- Each of the five steps keeps what the entry adds to its list.
-use Rattle.std.proofs.Common.{[], ℕ, List, ◌∙◌, ap, map, sym, option_to_list}
+use Rattle.std.proofs.Common.{[], ℕ, List, ◌∙◌, ap, sym, option_to_list}
 use Rattle.std.proofs.lemmas.List.Sums.{fold-append}
 use Rattle.std.proofs.lemmas.Result.{on_ok_weaker}
 use Rattle.std.specs.List.{filter_map, fold}
@@ -7,7 +7,7 @@ use Rattle.test_report_forms.proofs.Filtered.{filter_map-more, kept-more}
 use Rattle.test_report_forms.proofs.Outputs.{failed-more, room-more}
 use Rattle.test_report_forms.specs.Entry.{entry_view}
 use Rattle.test_report_forms.proofs.Both.{on_ok_both}
-use Rattle.test_report_forms.specs.List.{KeyedLine, put_falling, slow_line_view}
+use Rattle.test_report_forms.specs.List.{KeyedLine, kept_lines, put_falling}
 use Rattle.test_report_forms.specs.Model.{problem_of_entry, row_of_entry, timed_entry}
 use Rattle.test_report_forms.specs.Skipped.{skipped_of_entry}
 use Rattle.test_report_forms.specs.WholeOutput.{most_of}
@@ -27,7 +27,7 @@ returns-clause-knows c =
       problems = kept-more problem_of_entry entries (entry_view c.args.entry.now) _ _ known.problems c.in_ok-keep_problem.ensures;
       suites = kept-more row_of_entry entries (entry_view c.args.entry.now) _ _ known.suites c.in_ok-keep_suite.ensures;
       slowest = kept.0
-          ∙ (ap (λ most. add most (map slow_line_view c.args.self.now.slowest.tests.items)) known.most
+          ∙ (ap (λ most. add most (kept_lines c.args.self.now.slowest)) known.most
           ∙ (ap (add 10) known.slowest
           ∙ (sym (fold-append (put_falling 10) [] (filter_map timed_entry entries) _)
           ∙ ap (fold (put_falling 10) []) (sym (filter_map-more timed_entry entries (entry_view c.args.entry.now))))));
