@@ -12,7 +12,7 @@ use Rattle.test_report_forms.specs.declared.files.FileTexts.{FileTexts}
 use Rattle.test_report_run.specs.Note.{NoteView}
 use Rattle.test_report_run.specs.declared.note.RunEnd.{RunEnd}
 use Rattle.test_report_run.specs.declared.run.TestRun.{TestRun}
-use Rattle.test_report_engine.specs.Lines.{AreLineEvents, InputView, events_after, file, output}
+use Rattle.test_report_engine.specs.Lines.{AreLineEvents, InputView, events_after, output}
 use Rattle.test_report_engine.specs.Report.{AreEntriesOf, AreLinesOf, IsReport, after_line, line_notes, notes_of_input, run_after_input, run_of}
 use Rattle.test_report_engine.specs.declared.report.Report.{Report}
 

@@ -16,7 +16,6 @@ ghost use Rattle.test_report_engine.specs.declared.fault.Fault.TheVariants as fa
 use crate::fault::Fault;
 use crate::others::pass_rest;
 use crate::pieces::Pieces;
-use crate::progress::{Progress, take_line};
 use bstr::ByteSlice;
 use program_io::device::{Sink, Source};
 use program_io::transfer::write_all;
@@ -113,7 +112,7 @@ impl<F: Form + Drop> Report<F> {
     {
         test_report_events::laws::one_reading_of_line();
         test_report_forms::laws::one_entry();
-        let mut pieces = Pieces::without_progress(alloc);
+        let mut pieces = Pieces::new(alloc);
         for _piece in 0..u64::MAX {
             let more = self.read_piece(alloc, source, &mut pieces, sink, others)?;
             if !more {
@@ -185,18 +184,11 @@ impl<F: Form + Drop> Report<F> {
         };
         let mut line = std::mem::replace(&mut pieces.line, Vec::new(alloc));
         if n == 0 {
-            self.end_input(
-                alloc,
-                line.as_slice(),
-                None,
-                &mut pieces.progress,
-                sink,
-                others,
-            )?;
+            self.end_input(alloc, line.as_slice(), None, sink, others)?;
             return Ok(false);
         }
         let bytes = &chunk[..n];
-        self.on_bytes(alloc, &mut line, &mut pieces.progress, bytes, sink, others)?;
+        self.on_bytes(alloc, &mut line, bytes, sink, others)?;
         pieces.line = line;
         Ok(true)
     }
@@ -248,14 +240,14 @@ impl<F: Form + Drop> Report<F> {
             (sink_state O.failed O.flushed O.written others.new) (W.written sink.old) (W.written sink.new)) }
     {
         let line = std::mem::replace(&mut pieces.line, Vec::new(alloc));
-        self.end_input(
-            alloc,
-            line.as_slice(),
-            Some(end),
-            &mut pieces.progress,
-            sink,
-            others,
-        )
+        self.end_input(alloc, line.as_slice(), Some(end), sink, others)
+    }
+
+    /// Returns the run, up to the line that was taken last.
+    pub fn run(&self) -> &TestRun
+        ensures { result.now ≡ self.now.run }
+    {
+        &self.run
     }
 
     /// Returns the texts of the files. Call it after the last file of the run was read.
@@ -301,7 +293,6 @@ impl<F: Form + Drop> Report<F> {
         &mut self,
         alloc: Global,
         begun: &mut Vec<u8>,
-        progress: &mut Option<Progress>,
         bytes: &[u8],
         sink: &mut W,
         others: &mut O,
@@ -329,7 +320,7 @@ impl<F: Form + Drop> Report<F> {
         while let Some(at) = rest.find_byte(b'\n') {
             let (end, after) = rest.split_at(at);
             begun.extend_from_slice(end)?;
-            self.on_line(alloc, begun.as_slice(), progress, sink, others)?;
+            self.on_line(alloc, begun.as_slice(), sink, others)?;
             begun.clear();
             rest = &after[1..];
         }
@@ -342,7 +333,6 @@ impl<F: Form + Drop> Report<F> {
         &mut self,
         alloc: Global,
         bytes: &[u8],
-        progress: &mut Option<Progress>,
         sink: &mut W,
         others: &mut O,
     ) -> Result<(), Fault>
@@ -364,7 +354,7 @@ impl<F: Form + Drop> Report<F> {
             (sink_state O.failed O.flushed O.written others.new)) }
     {
         test_report_events::laws::one_reading_of_line();
-        let notes = notes_of_line(alloc, &mut self.run, progress, bytes, others)?;
+        let notes = notes_of_line(alloc, &mut self.run, bytes, others)?;
         self.write(alloc, notes.as_slice(), sink)
     }
 
@@ -375,7 +365,6 @@ impl<F: Form + Drop> Report<F> {
         alloc: Global,
         begun: &[u8],
         command: Option<&CommandEnd>,
-        progress: &mut Option<Progress>,
         sink: &mut W,
         others: &mut O,
     ) -> Result<(), Fault>
@@ -401,7 +390,7 @@ impl<F: Form + Drop> Report<F> {
         test_report_events::laws::one_reading_of_line();
         test_report_forms::laws::one_entry();
         if !begun.is_empty() {
-            self.on_line(alloc, begun, progress, sink, others)?;
+            self.on_line(alloc, begun, sink, others)?;
         }
         let notes = notes_of_end(alloc, &mut self.run, command)?;
         self.write(alloc, notes.as_slice(), sink)
@@ -444,12 +433,10 @@ impl<F: Form + Drop> Report<F> {
     }
 }
 
-/// Passes on what of a line is no event, takes the events of the line and, if the progress of the run is followed,
-/// updates it. Returns the notes that the events make known.
+/// Passes on what of a line is no event, and takes the events of the line. Returns the notes that they make known.
 fn notes_of_line<O: Sink>(
     alloc: Global,
     run: &mut TestRun,
-    progress: &mut Option<Progress>,
     bytes: &[u8],
     others: &mut O,
 ) -> Result<Vec<Note>, RunError>
@@ -465,7 +452,6 @@ fn notes_of_line<O: Sink>(
     let line = Line::read(alloc, bytes)?;
     pass_rest(alloc, others, bytes, line.rest())?;
     let notes = run.on_line(alloc, &line)?;
-    take_line(alloc, progress, &line, notes.as_slice())?;
     Ok(notes)
 }
 

@@ -1,4 +1,4 @@
-use Rattle.std.proofs.Common.{◌≡◌, Option, Some, map, option_map, subst, sym}
+use Rattle.std.proofs.Common.{◌≡◌, Some, map, option_map, subst, sym}
 use Rattle.std.proofs.lemmas.Result.{IfOk-weaker, on_ok_weaker}
 use Rattle.test_report_run.specs.Note.{command_view, note_view}
 use Rattle.test_report_run.specs.Run.{file_notes, run_state}

@@ -17,8 +17,3 @@ pub returns-in_err-notes-clause-others_start : goal.returns-in_err-notes-clause-
 returns-in_err-notes-clause-others_start g c =
     on_err _ (inr (others-one c.args.bytes.now c.rest.result _ _ (subst (RestOf c.args.bytes.now) (sym c.rest.ensures) c.in_ok-line.ensures.rest)
     c.in_ok-pass_rest.ensures.gets))
-
-pub returns-in_err-take_line-clause-others_start : goal.returns-in_err-take_line-clause-others_start
-returns-in_err-take_line-clause-others_start g c =
-    on_err _ (inr (others-one c.args.bytes.now c.rest.result _ _ (subst (RestOf c.args.bytes.now) (sym c.rest.ensures) c.in_ok-line.ensures.rest)
-    c.in_ok-pass_rest.ensures.gets))

@@ -67,7 +67,7 @@ loop-piece-init g c = record {
   reads =
       subst (λ y. ReadsPiece g.F.Form.line g.F.Form.last g.F.Form.Knows c.args.self.now c.args.self.now [] y (g.R.Source.left c.args.source.now)
       (g.R.Source.left c.args.source.now) (g.W.Sink.written c.args.sink.now) (g.W.Sink.written c.args.sink.now))
-      (sym c.without_progress-pieces.ensures) (record {
+      (sym c.new-pieces.ensures) (record {
         bytes = [];
         consumed = Consumes-nil (g.R.Source.left c.args.source.now);
         leads = leads-begun g.F.Form.line g.F.Form.last g.F.Form.Knows c.args.self.now [] [] [] _ refl;
@@ -77,6 +77,6 @@ loop-piece-init g c = record {
       (sink_state g.O.Sink.failed g.O.Sink.flushed g.O.Sink.written c.args.others.now)
       (sink_state g.O.Sink.failed g.O.Sink.flushed g.O.Sink.written c.args.others.now)
       (g.W.Sink.written c.args.sink.now) (g.W.Sink.written c.args.sink.now))
-      (sym c.without_progress-pieces.ensures)
+      (sym c.new-pieces.ensures)
       ([], Consumes-nil (g.R.Source.left c.args.source.now), bytes-none g.F.Form.line c.args.self.now [] _ _);
 }
