@@ -4,7 +4,7 @@ use Rattle.std.specs.List.{sum_by}
 use Rattle.std.specs.Option.{option_map_or}
 use Rattle.std.specs.Prelude.{◌&&◌, ◌-◌, not}
 use Rattle.std.proofs.lemmas.Bool.{cond_both}
-use Rattle.std.proofs.lemmas.List.{length-append, map-append}
+use Rattle.std.proofs.lemmas.List.{length-append, length-map, map-append}
 use Rattle.std.proofs.lemmas.List.Sums.{sum_by-append}
 use Rattle.test_report_events.specs.Event.{EventView}
 use Rattle.test_report_events.specs.declared.event.CargoFailure.{CargoFailure}
@@ -12,7 +12,7 @@ use Rattle.test_report_laws.proofs.Sums.{sum-map, sum-none, sum-ones}
 use Rattle.test_report_run.specs.Events.{is_after_report, is_event}
 use Rattle.test_report_run.specs.Note.{CargoSays, CargoView, Disagrees, NoteView, ended_well}
 use Rattle.test_report_run.specs.Others.{after_failure, last_cause}
-use Rattle.test_report_run.specs.Run.{RunState, Step, cargo_fails, disagrees, held_told, notes_at, report_told, reports_told, settled, settled_at, step, told, with_report}
+use Rattle.test_report_run.specs.Run.{RunState, Step, at_end, cargo_fails, disagrees, held_reports, held_told, notes_at, report_told, reports_told, settled, settled_at, step, told, with_report}
 
 -- the run with other failures of cargo that are not known yet, and another number of causes
 abbrev pub with_reports : RunState → Option CargoView → List CargoView → ℕ → RunState
@@ -79,9 +79,9 @@ only-settled_at r e = cond_both (is_after_report e) (settled r (is_event e)) (st
 -- those that wait become known, or were prints
 only-held : (r : RunState) → OnlyReports r (held_told r)
 only-held r = cond_both (ended_well r.command) (step (record r { held = []; causes = r.causes - length r.held }) [])
-    (step (record r { held = [] }) (report_notes r.held)) (OnlyReports r)
+    (step (record r { held = [] }) (report_notes (held_reports r))) (OnlyReports r)
     (λ _. record { reported = r.reported; held = []; causes = r.causes - length r.held; run_is = refl; reports = []; notes_are = refl })
-    (λ _. record { reported = r.reported; held = []; causes = r.causes; run_is = refl; reports = r.held; notes_are = refl })
+    (λ _. record { reported = r.reported; held = []; causes = r.causes; run_is = refl; reports = held_reports r; notes_are = refl })
 
 -- two such steps
 only-both : (r : RunState) (s t : Step) → OnlyReports r s → OnlyReports s.run t → OnlyReports r (step t.run (s.notes ++ t.notes))
@@ -160,11 +160,12 @@ module _ (w : NoteView → ℕ) (one : (report : CargoView) → w (Disagrees (Ca
 
   counted-held : (r : RunState) → Counted r (held_told r) (sum_by w (held_told r).notes)
   counted-held r =
-      let all = sum-map w (λ (report : CargoView). Disagrees (CargoSays report)) r.held in
-      let each = sum-ones (λ (report : CargoView). w (Disagrees (CargoSays report))) one r.held in
+      let all = sum-map w (λ (report : CargoView). Disagrees (CargoSays report)) (held_reports r) in
+      let each = sum-ones (λ (report : CargoView). w (Disagrees (CargoSays report))) one (held_reports r) in
+      let many = length-map r.held (at_end r.has_event) in
       cond_both (ended_well r.command) (step (record r { held = []; causes = r.causes - length r.held }) [])
-      (step (record r { held = [] }) (report_notes r.held)) (λ (t : Step). Counted r t (sum_by w t.notes))
-      (λ _ known low. omega (arith, low)) (λ _ known low. omega (arith, low, all, each))
+      (step (record r { held = [] }) (report_notes (held_reports r))) (λ (t : Step). Counted r t (sum_by w t.notes))
+      (λ _ known low. omega (arith, low)) (λ _ known low. omega (arith, low, all, each, many))
 
   pub counted-told : (r : RunState) → Counted r (reports_told r) (sum_by w (reports_told r).notes)
   counted-told r known low =

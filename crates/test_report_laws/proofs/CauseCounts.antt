@@ -13,7 +13,7 @@ use Rattle.test_report_laws.proofs.RunCauses.{weight}
 use Rattle.test_report_laws.proofs.Sums.{one-most}
 use Rattle.test_report_laws.specs.Whole.{all_notes, notes_of, run_after, run_after_files}
 use Rattle.test_report_run.specs.Note.{CargoView, Disagrees, NoteView, TestIs, ended_well, is_new_disagreement}
-use Rattle.test_report_run.specs.Run.{RunState, Step, after, after_file, command_notes, file_notes, held_told, is_cause, is_new_cause, no_event_notes, notes_at, reports_told, run_start, settled, settled_at, step, told}
+use Rattle.test_report_run.specs.Run.{RunState, Step, after, after_file, command_notes, file_notes, held_reports, held_told, is_cause, is_new_cause, no_event_notes, notes_at, reports_told, run_start, settled, settled_at, step, told}
 
 -- a note that counts when it becomes known
 abbrev new : NoteView → ℕ
@@ -82,11 +82,11 @@ bound-told notes r i =
 
 pub held-known : (r : RunState) → (held_told r).run.held ≡ []
 held-known r = cond_both (ended_well r.command) (step (record r { held = []; causes = r.causes - length r.held }) [])
-    (step (record r { held = [] }) (report_notes r.held)) (λ (t : Step). t.run.held ≡ []) (λ _. refl) (λ _. refl)
+    (step (record r { held = [] }) (report_notes (held_reports r))) (λ (t : Step). t.run.held ≡ []) (λ _. refl) (λ _. refl)
 
 held-reported : (r : RunState) → (held_told r).run.reported ≡ r.reported
 held-reported r = cond_both (ended_well r.command) (step (record r { held = []; causes = r.causes - length r.held }) [])
-    (step (record r { held = [] }) (report_notes r.held)) (λ (t : Step). t.run.reported ≡ r.reported) (λ _. refl) (λ _. refl)
+    (step (record r { held = [] }) (report_notes (held_reports r))) (λ (t : Step). t.run.reported ≡ r.reported) (λ _. refl) (λ _. refl)
 
 pub none-waits : (r : RunState) → waiting (reported_run r) ≡ 0
 none-waits r =

@@ -7,7 +7,7 @@ use Rattle.template.specs.Shown.{is_escaped}
 use Rattle.test_report_laws.proofs.CleanLines.{clean, clean-line, clean-number, clean-text, line-alone}
 use Rattle.test_report_laws.proofs.CleanWords.{clean-disagreement, clean-not_run, clean-outcome, clean-summary, clean-title}
 use Rattle.test_report_laws.proofs.Numerals.{HasNumbers, IsColumn, IsNumbered, entry-numbers}
-use Rattle.test_report_forms.specs.Entry.{EntryView, IsEntryOf, LinesDisagree, SuiteNotRun, SuiteOver, TestFailed, TestPassed, TestSkipped}
+use Rattle.test_report_forms.specs.Entry.{EntryView, FlakyPassed, IsEntryOf, LinesDisagree, SuiteNotRun, SuiteOver, TestFailed, TestPassed, TestSkipped}
 use Rattle.test_report_forms.specs.Github.{cause_message, column_property, data_char, error_command, failed_command, github_last, github_line, message, place_properties, properties, property, property_char, title_property, why_message}
 use Rattle.test_report_forms.specs.Place.{PlaceView}
 use Rattle.test_report_forms.specs.Shown.{front, limited, more_bytes, more_note}
@@ -23,6 +23,7 @@ use Rattle.test_report_forms.specs.declared.options.Options.{Options}
 pub names-are-lines : NamesAreLines
 names-are-lines (TestFailed t f w) = inr (line-alone t.name)
 names-are-lines (TestPassed t) = inl refl
+names-are-lines (FlakyPassed t) = inl refl
 names-are-lines (TestSkipped t) = inl refl
 names-are-lines (LinesDisagree d why) = inl refl
 names-are-lines (SuiteNotRun suite n of) = inl refl
@@ -84,11 +85,12 @@ clean-cause : (line : List ℕ) (why : Option (List ℕ)) → Clean line → Cle
 clean-cause line None h = h
 clean-cause line (Some why) h = also h (also (word (codes "\n") refl) (clean-text false why refl))
 
-clean-github_line : (o : Options) (e : EntryView) → HasNumbers e → Clean (github_line o e)
+pub clean-github_line : (o : Options) (e : EntryView) → HasNumbers e → Clean (github_line o e)
 clean-github_line o (TestFailed t f w) h = clean-command o t f w h
 clean-github_line o (LinesDisagree d why) h = clean-error (clean-cause (disagreement_line d) why (clean (clean-disagreement d)))
 clean-github_line o (SuiteNotRun suite n of) h = clean-error (clean (clean-not_run suite n of))
 clean-github_line o (TestPassed t) h = nothing
+clean-github_line o (FlakyPassed t) h = nothing
 clean-github_line o (TestSkipped t) h = nothing
 clean-github_line o (SuiteOver s) h = nothing
 
@@ -99,7 +101,7 @@ clean-github_lines o (e ∷ es) are =
     also (clean-github_line o e (entry-numbers is.0 e is.1))
     (clean-github_lines o es (All-tail (λ e. (n : NoteView) × IsEntryOf n e) e es are))
 
-clean-github_last : (end : RunEnd) → Clean (github_last end)
+pub clean-github_last : (end : RunEnd) → Clean (github_last end)
 unfolding github_last
 clean-github_last end =
     also (word (codes "::notice::") refl) (also (clean (clean-summary end)) (also (word (codes ", outcome ") refl) (also (clean (clean-outcome end.outcome))

@@ -1,5 +1,5 @@
 -- The form for people has no control characters except sequences for colours.
-use Rattle.std.proofs.Common.{◌≡◌, ◌∙◌, ◌-◌, ◌==◌, refl, sym, subst, ap, arith, ℕ, Bool, true, false, List, [], ◌∷◌, ◌++◌, append-nil, append_assoc, codes, if◌then◌else◌, length, replicate, Option, Some, None}
+use Rattle.std.proofs.Common.{◌≡◌, ◌∙◌, ◌-◌, ◌==◌, refl, sym, subst, ap, arith, ℕ, Bool, true, false, List, [], ◌∷◌, ◌++◌, append-nil, append_assoc, codes, if◌then◌else◌, length, nat_lt, replicate, Option, Some, None}
 use Rattle.std.specs.List.{AllZip, Contains, flat_map}
 use Rattle.std.specs.Option.{option_map_or}
 use Rattle.std.specs.Str.{bytes_eq}
@@ -11,18 +11,20 @@ use Rattle.run_events_levels.specs.declared.levels.FinalStatusLevel.TheVariants 
 use Rattle.run_events_levels.specs.declared.levels.OutputOnTestFinished.{OutputOnTestFinished}
 use Rattle.run_events_levels.specs.declared.levels.OutputStoreFinal.{OutputStoreFinal}
 use Rattle.run_events_levels.specs.declared.levels.OutputStoreFinal.TheVariants as store
-use Rattle.test_report_forms.specs.Entry.{EntryView, LinesDisagree, SuiteNotRun, SuiteOver, TestFailed, TestPassed, TestSkipped}
-use Rattle.test_report_forms.specs.Levels.{finished_output, has_line, listed_text, skipped_output}
-use Rattle.test_report_forms.specs.List.{KeyedLine, ended_line, failed_line, final_level_of, item, item_at, list_line, part_at, listed_word, passed_word, put_falling, short_list, slow_line, slow_lines, slow_of, text_of_lines, timed}
+use Rattle.test_report_forms.specs.Entry.{EntryView, FlakyPassed, LinesDisagree, SuiteNotRun, SuiteOver, TestFailed, TestPassed, TestSkipped}
+use Rattle.test_report_forms.specs.Levels.{finished_output, has_line, listed_text, shown_if, skipped_output}
+use Rattle.test_report_forms.specs.List.{KeyedLine, ended_before, ended_line, failed_line, final_level_of, flaky_lines, flaky_of, item, item_at, list_line, part_at, listed_word, passed_word, put_falling, put_rising, short_list, slow_line, slow_lines, slow_of, text_of_lines, timed}
+use Rattle.test_report_forms.specs.Lines.{without_returns}
+use Rattle.test_report_forms.specs.PassedOutput.{has_output, limited_lines, passed_output}
 use Rattle.test_report_forms.specs.Shown.{front, indented, indented_line, more_bytes}
-use Rattle.test_report_forms.specs.Text.{advice, cargo_advice, ended_head, ended_text, failed_head, failed_text, outcome_line, passed_text, skipped_text, summary_lines, text_last, text_line}
+use Rattle.test_report_forms.specs.Text.{advice, cargo_advice, counted_text, ended_head, ended_text, failed_head, failed_text, outcome_line, passed_text, skipped_text, summary_lines, text_last, text_line}
 use Rattle.test_report_forms.specs.WhyLines.{hidden_line, more_line, why_lines}
 use Rattle.test_report_forms.specs.Words.{color_of, failed_word, status_text}
 use Rattle.test_report_forms.specs.declared.options.Options.{Options}
 use Rattle.test_report_laws.proofs.CleanLines as own
 use Rattle.test_report_laws.proofs.CleanLines.{CleanLine, clean-text}
 use Rattle.test_report_laws.proofs.CleanWords.{clean-attempts, clean-bracket, clean-disagreement, clean-failed_word, clean-not_run, clean-outcome, clean-listed_word, clean-passed_word, clean-summary, clean-title}
-use Rattle.test_report_laws.proofs.KeyedLines.{Alike, each-alike, falling-alike, fold-alike, text-alike}
+use Rattle.test_report_laws.proofs.KeyedLines.{Alike, each-alike, falling-alike, fold-alike, rising-alike, text-alike}
 use Rattle.test_report_laws.specs.Colours.{AreParts, IsColoured, Other, Part, Sequence, TextIsColoured, kept, sequences, text_of_run, without_color, written}
 use Rattle.template.specs.Clean.{HasNoControls}
 use Rattle.test_report_laws.specs.Forms.{TextHasNoControls}
@@ -160,6 +162,7 @@ module _ (o : Options) (raw : o.raw ≡ false) where
   coloured-slow (TestPassed t) = coloured-timed t t.time
   coloured-slow (TestFailed t f w) = coloured-timed t t.time
   coloured-slow (TestSkipped t) = tt
+  coloured-slow (FlakyPassed t) = tt
   coloured-slow (LinesDisagree d why) = tt
   coloured-slow (SuiteNotRun suite n of) = tt
   coloured-slow (SuiteOver s) = tt
@@ -173,6 +176,18 @@ module _ (o : Options) (raw : o.raw ≡ false) where
   coloured-why margin why =
       let notes = clean.also (clean-more_line margin (more_bytes why.text o.limit)) (clean-hidden_line margin why.hidden) in
       same (clean.also (clean-flat_map (indented_line margin o.raw) (clean-indented margin) _) notes)
+
+  -- the output of a test that passed
+  coloured-limited : (margin : ℕ) (text : List ℕ) → Coloured (limited_lines margin o text) (limited_lines margin plain text)
+  unfolding limited_lines
+  coloured-limited margin text =
+      same (clean.also (clean-flat_map (indented_line margin o.raw) (clean-indented margin) _) (clean-more_line margin (more_bytes text o.passed_limit)))
+
+  coloured-some : (margin : ℕ) (out : Option (List ℕ))
+      → Coloured (option_map_or (λ text. limited_lines margin o (without_returns text)) out [])
+      (option_map_or (λ text. limited_lines margin plain (without_returns text)) out [])
+  coloured-some margin None = none
+  coloured-some margin (Some out) = coloured-limited margin (without_returns out)
 
   coloured-ended : (t : TestNoteView) (w : List ℕ) → CleanLine w → Coloured (ended_line o t w) (ended_line plain t w)
   unfolding ended_line
@@ -196,9 +211,10 @@ module _ (o : Options) (raw : o.raw ≡ false) where
       (coloured-reason t (failed_word f.kind) w.short (clean-failed_word f.kind)) (coloured-why 13 (text_why o t f w))
   coloured-listed (TestPassed t) =
       listed-coloured (finished_output o Passed t.attempts t.slow).store_final
-      (coloured-ended t (listed_word t.attempts t.slow) (clean-listed_word t.attempts t.slow)) none
+      (coloured-ended t (listed_word t.attempts t.slow) (clean-listed_word t.attempts t.slow)) (coloured-some 13 (passed_output t.outcome))
   coloured-listed (TestSkipped t) =
       listed-coloured (skipped_output o).store_final (coloured-ended t (codes "SKIP") (own.word (codes "SKIP") refl)) none
+  coloured-listed (FlakyPassed t) = none
   coloured-listed (LinesDisagree d why) = none
   coloured-listed (SuiteNotRun suite n of) = none
   coloured-listed (SuiteOver s) = none
@@ -210,6 +226,14 @@ module _ (o : Options) (raw : o.raw ≡ false) where
   coloured-part : (level : FinalStatusLevel) (entries : List EntryView) → Coloured (part_at o level entries) (part_at plain level entries)
   coloured-part level entries = each-coloured (item_at o level) (item_at plain level) (coloured-at level) entries
 
+  flaky-coloured : (e : EntryView) → AreColoured (flaky_of o e) (flaky_of plain e)
+  flaky-coloured e =
+      let own : KeyedLine = record { key = ended_before e; line = item o e } in
+      let other : KeyedLine = record { key = ended_before e; line = item plain e } in
+      elim (final_level_rank (final_level_of e) == final_level_rank final.Flaky)
+      as (λ b. AreColoured (if b then own ∷ [] else []) (if b then other ∷ [] else []))
+      [ true ↦ (record { key = refl; line = coloured-listed e }, tt) | false ↦ tt ]
+
   lines-coloured : (xs ys : List KeyedLine) → AreColoured xs ys → Coloured (text_of_lines xs) (text_of_lines ys)
   lines-coloured xs ys h = text-alike Coloured none both xs ys h
 
@@ -217,9 +241,11 @@ module _ (o : Options) (raw : o.raw ≡ false) where
   unfolding short_list
   coloured-list entries =
       let falling = each-alike Coloured (slow_of o) (slow_of plain) coloured-slow entries in
+      let rising = each-alike Coloured (flaky_of o) (flaky_of plain) flaky-coloured entries in
+      let flaky = fold-alike Coloured put_rising (rising-alike Coloured) [] [] _ _ tt rising in
       let slow = fold-alike Coloured (put_falling o.slowest) (falling-alike Coloured o.slowest) [] [] _ _ tt falling in
       also (coloured-part final.Pass entries) (also (coloured-part final.Skip entries) (also (coloured-part final.Slow entries)
-      (also (coloured-part final.Flaky entries) (also (coloured-part final.Fail entries)
+      (also (lines-coloured (flaky_lines o entries) (flaky_lines plain entries) flaky) (also (coloured-part final.Fail entries)
       (lines-coloured (slow_lines o entries) (slow_lines plain entries) slow)))))
 
   -- entries
@@ -250,13 +276,21 @@ module _ (o : Options) (raw : o.raw ≡ false) where
       → Coloured (ended_text shows xs us) (ended_text shows ys vs)
   coloured-text shows h more = then-coloured (has_line shows) (also h (then-coloured shows.show_immediate more))
 
-  coloured-entry : (e : EntryView) → Coloured (text_line o e) (text_line plain e)
-  unfolding failed_text passed_text skipped_text finished_output skipped_output advice cargo_advice
+  coloured-passed : (t : TestNoteView) → Coloured (passed_text o t) (passed_text plain t)
+  unfolding passed_text finished_output
+  coloured-passed t =
+      coloured-text (shown_if (has_output t.outcome) (finished_output o Passed t.attempts t.slow))
+      (coloured-end t (passed_word t.attempts) (clean-passed_word t.attempts)) (coloured-some 4 (passed_output t.outcome))
+
+  pub coloured-entry : (e : EntryView) → Coloured (text_line o e) (text_line plain e)
+  unfolding failed_text counted_text skipped_text finished_output skipped_output advice cargo_advice
   coloured-entry (TestFailed t f w) =
       coloured-text (finished_output o (finish_for f.kind) t.attempts t.slow) (coloured-head t (failed_word f.kind) (clean-failed_word f.kind))
       (coloured-why 4 (text_why o t f w))
   coloured-entry (TestPassed t) =
-      coloured-text (finished_output o Passed t.attempts t.slow) (coloured-end t (passed_word t.attempts) (clean-passed_word t.attempts)) none
+      elim (nat_lt 1 t.attempts) as (λ b. Coloured (if b then [] else passed_text o t) (if b then [] else passed_text plain t))
+      [ true ↦ none | false ↦ coloured-passed t ]
+  coloured-entry (FlakyPassed t) = coloured-passed t
   coloured-entry (TestSkipped t) =
       coloured-text (skipped_output o) (coloured-end t (codes "SKIP") (own.word (codes "SKIP") refl)) none
   coloured-entry (LinesDisagree d why) =
@@ -264,7 +298,7 @@ module _ (o : Options) (raw : o.raw ≡ false) where
   coloured-entry (SuiteNotRun suite n of) = same (clean.also (own.clean (clean-not_run suite n of)) (word (codes "\n") refl))
   coloured-entry (SuiteOver s) = none
 
-  coloured-last : (entries : List EntryView) (end : RunEnd) → Coloured (text_last o entries end) (text_last plain entries end)
+  pub coloured-last : (entries : List EntryView) (end : RunEnd) → Coloured (text_last o entries end) (text_last plain entries end)
   unfolding text_last summary_lines outcome_line
   coloured-last entries end =
       let summary = clean.also (word (codes "------------\n     Summary ") refl) (clean.also (own.clean (clean-summary end)) (word (codes "\n") refl)) in
@@ -275,18 +309,33 @@ pub text-is-coloured : TextIsColoured
 text-is-coloured o entries end raw =
     (also (each-coloured (text_line o) (text_line (without_color o)) (coloured-entry o raw) entries) (coloured-last o raw entries end)).is
 
+-- options without colours
+is-plain : (o : Options) → o.color ≡ false → without_color o ≡ o
+is-plain o color = λ i. record {
+  limit = o.limit;
+  output = o.output;
+  raw = o.raw;
+  color = sym color i;
+  status_level = o.status_level;
+  final_status_level = o.final_status_level;
+  failure_output = o.failure_output;
+  success_output = o.success_output;
+  passed_limit = o.passed_limit;
+  slowest = o.slowest;
+  no_tests_pass = o.no_tests_pass;
+}
+
+-- a text without colours is clean
+clean-plain : {text plain : List ℕ} → Coloured text plain → Clean plain
+clean-plain h = record { is = subst HasNoControls (sym h.is.3) (kept-clean h.is.0 h.is.1).is }
+
+pub clean-entry : (o : Options) (e : EntryView) → o.raw ≡ false → o.color ≡ false → Clean (text_line o e)
+clean-entry o e raw color = subst (λ p. Clean (text_line p e)) (is-plain o color) (clean-plain (coloured-entry o raw e))
+
+pub clean-end : (o : Options) (entries : List EntryView) (end : RunEnd) → o.raw ≡ false → o.color ≡ false → Clean (text_last o entries end)
+clean-end o entries end raw color = subst (λ p. Clean (text_last p entries end)) (is-plain o color) (clean-plain (coloured-last o raw entries end))
+
 pub text-has-no-controls : TextHasNoControls
 text-has-no-controls o entries end raw color =
     let parts = text-is-coloured o entries end raw in
-    let plain : without_color o ≡ o = λ i. record {
-      limit = o.limit;
-      output = o.output;
-      raw = o.raw;
-      color = sym color i;
-      status_level = o.status_level;
-      final_status_level = o.final_status_level;
-      failure_output = o.failure_output;
-      slowest = o.slowest;
-      no_tests_pass = o.no_tests_pass;
-    } in
-    subst (λ p. HasNoControls (text_of_run p entries end)) plain (subst HasNoControls (sym parts.3) (kept-clean parts.0 parts.1).is)
+    subst (λ p. HasNoControls (text_of_run p entries end)) (is-plain o color) (subst HasNoControls (sym parts.3) (kept-clean parts.0 parts.1).is)

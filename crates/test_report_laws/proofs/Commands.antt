@@ -7,7 +7,7 @@ use Rattle.std.specs.Char.{encode_utf8, is_ascii_digit}
 use Rattle.std.specs.List.{All, Contains, flat_map, join_with_byte, list_all, slice_split}
 use Rattle.std.specs.Str.{chars}
 use Rattle.template.proofs.Lacks.{Lacks, both, lacks-flat_map, lacks-word, none, one-char, visible}
-use Rattle.test_report_forms.specs.Entry.{EntryView, IsEntryOf, LinesDisagree, SuiteNotRun, SuiteOver, TestFailed, TestPassed, TestSkipped}
+use Rattle.test_report_forms.specs.Entry.{EntryView, FlakyPassed, IsEntryOf, LinesDisagree, SuiteNotRun, SuiteOver, TestFailed, TestPassed, TestSkipped}
 use Rattle.test_report_forms.specs.Github.{cause_message, data_char, error_command, failed_command, github_last, github_line, message, named_why, place_properties, properties, column_property, property, property_char, title_property, why_message}
 use Rattle.test_report_forms.specs.Place.{PlaceView}
 use Rattle.test_report_forms.specs.Shown.{shown_line}
@@ -232,11 +232,12 @@ one-entry o (TestFailed t f w) h = one-failed o t f w h
 one-entry o (LinesDisagree d why) h = one-error (cause_message (disagreement_line d) why)
 one-entry o (SuiteNotRun suite n of) h = one-error (not_run_line suite n of)
 one-entry o (TestPassed t) h = refl
+one-entry o (FlakyPassed t) h = refl
 one-entry o (TestSkipped t) h = refl
 one-entry o (SuiteOver s) h = refl
 
 -- the lines of a text are commands
-record AreCommands (text : List ℕ) : Type 0 where
+pub record AreCommands (text : List ℕ) : Type 0 where
   pub lines : List (List ℕ)
   pub are : All IsCommand lines
   pub before : (rest : List ℕ) → slice_split is_line_end (text ++ rest) ≡ lines ++ slice_split is_line_end rest
@@ -268,6 +269,9 @@ entry-commands text None h = subst AreCommands (sym h) no-commands
 entry-commands text (Some b) h =
     subst AreCommands (sym (h.0 ∙ ap (λ l. b.line ++ (codes "\n" ++ l)) h.2)) (one-command b.line h.1)
 
+pub own-commands : (o : Options) (e : EntryView) → (n : NoteView) × IsEntryOf n e → AreCommands (github_line o e)
+own-commands o e is = entry-commands (github_line o e) (github_block o e) (one-entry o e (entry-numbers is.0 e is.1))
+
 abbrev OfNotes : List EntryView → Type 0
 OfNotes entries = All (λ e. (n : NoteView) × IsEntryOf n e) entries
 
@@ -275,17 +279,19 @@ all-commands : (o : Options) (entries : List EntryView) → OfNotes entries → 
 all-commands o [] are = no-commands
 all-commands o (e ∷ es) are =
     let is = All-head (λ e. (n : NoteView) × IsEntryOf n e) e es are in
-    commands-both (github_line o e) (flat_map (github_line o) es)
-    (entry-commands (github_line o e) (github_block o e) (one-entry o e (entry-numbers is.0 e is.1)))
+    commands-both (github_line o e) (flat_map (github_line o) es) (own-commands o e is)
     (all-commands o es (All-tail (λ e. (n : NoteView) × IsEntryOf n e) e es are))
 
 last-is : (end : RunEnd) → github_last end ≡ notice end ++ codes "\n"
 unfolding github_last
 last-is end = notice-parts (codes "::notice::") (summary_line end) (codes ", outcome ") (outcome_word end.outcome) (codes "\n")
 
+pub end-commands : (end : RunEnd) → AreCommands (github_last end)
+end-commands end = subst AreCommands (sym (last-is end)) (one-command (notice end) (whole-notice end))
+
 pub only-commands : OnlyCommands
 only-commands o entries end are =
-    let last = subst AreCommands (sym (last-is end)) (one-command (notice end) (whole-notice end)) in
+    let last = end-commands end in
     let text = flat_map (github_line o) entries ++ github_last end in
     let all = commands-both (flat_map (github_line o) entries) (github_last end) (all-commands o entries are) last in
     (all.lines, all.are, ap (slice_split is_line_end) (sym (append-nil text)) ∙ all.before [])

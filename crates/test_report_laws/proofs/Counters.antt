@@ -18,7 +18,7 @@ use Rattle.test_report_laws.proofs.Sums.{sum-map, sum-none}
 use Rattle.test_report_run.specs.Running.{RunningView}
 use Rattle.test_report_run.specs.Counted.{finish_for, view_of_finish}
 use Rattle.test_report_run.specs.Ended.{after_end, after_flaky, end_notes, starts_later, timed}
-use Rattle.test_report_run.specs.Note.{CrashView, Fails, HasCrashed, HasFailed, HasNoEnd, HasTimedOut, IsFlaky, IsSkipped, KindView, NoteView, OutcomeView, Passes, SuiteIs, SuiteNoteView, TestIs}
+use Rattle.test_report_run.specs.Note.{CrashView, Fails, FlakyEnds, HasCrashed, HasFailed, HasNoEnd, HasTimedOut, IsFlaky, IsSkipped, KindView, NoteView, OutcomeView, Passes, SuiteIs, SuiteNoteView, TestIs}
 use Rattle.test_report_run.specs.Others.{OthersView}
 use Rattle.test_report_run.specs.Over.{bare_failure, crash_again, crash_of, crashed_notes, early_notes, early_state, failed_note, failed_notes, flaky_outcome, last_state, lost, one_failed, one_flaky, rest_of, skipped_note, with_all_flaky, with_failed}
 use Rattle.test_report_run.specs.Run.{with_note}
@@ -31,7 +31,7 @@ use Rattle.test_report_laws.proofs.Types.{Explanation}
 
 -- the statistics with a test that counts so after so many attempts, and that was slow or not
 abbrev pub with_outcome : RunStats → OutcomeView → ℕ → Bool → RunStats
-with_outcome stats Passes n slow = with_test stats (view_of_finish finish_passed n slow)
+with_outcome stats (Passes output) n slow = with_test stats (view_of_finish finish_passed n slow)
 with_outcome stats (IsSkipped reason) n slow = stats
 with_outcome stats (Fails f) n slow = with_test stats (view_of_finish (finish_for f.kind) n slow)
 
@@ -47,6 +47,7 @@ fits outcome n = true
 -- notes of tests weighed by a rule, and notes of suites
 abbrev pub of_test : (OutcomeView → ℕ → Bool → ℕ) → NoteView → ℕ
 of_test rule (TestIs t) = rule t.outcome t.attempts t.slow
+of_test rule (FlakyEnds t) = 0
 of_test rule note = 0
 
 abbrev pub of_suite : (SuiteNoteView → ℕ) → NoteView → ℕ
@@ -118,7 +119,7 @@ sum-of g weight h none notes = omega (arith, none, adds-up g (of_suite weight) e
 module _ (counter : RunStats → ℕ) (rule : OutcomeView → ℕ → Bool → ℕ) (empty : counter (counters_of [] [] nothing_known) ≡ 0)
     (counts : (stats : RunStats) (outcome : OutcomeView) (n : ℕ) (slow : Bool) → fits outcome n ≡ true
     → counter (with_outcome stats outcome n slow) ≡ counter stats + rule outcome n slow)
-    (once : (n : ℕ) (slow : Bool) → nat_lt 1 n ≡ false → rule Passes n slow ≡ rule Passes 1 slow)
+    (once : (output : Option (List ℕ)) (n : ℕ) (slow : Bool) → nat_lt 1 n ≡ false → rule (Passes output) n slow ≡ rule (Passes output) 1 slow)
     (skips : (reason : Option (List ℕ)) (n : ℕ) (slow : Bool) → rule (IsSkipped reason) n slow ≡ 0) where
   abbrev w : NoteView → ℕ
   w note = of_test rule note
@@ -160,7 +161,7 @@ module _ (counter : RunStats → ℕ) (rule : OutcomeView → ℕ → Bool → �
   counts-flaky-one : (failed : Bool) (stats : RunStats) (f : FlakyView) → IsLate f
       → counter (one_flaky failed stats f) ≡ counter stats + rule (flaky_outcome failed f) f.test.attempts f.test.slow
   counts-flaky-one true stats f late = counts stats (flaky_outcome true f) f.test.attempts f.test.slow late
-  counts-flaky-one false stats f late = counts stats Passes f.test.attempts f.test.slow refl
+  counts-flaky-one false stats f late = counts stats (Passes f.stdout) f.test.attempts f.test.slow refl
 
   counts-flaky : (failed : Bool) (stats : RunStats) (flaky : List FlakyView) → All IsLate flaky
       → counter (with_all_flaky failed stats flaky) ≡ counter stats + sum_by (λ f. rule (flaky_outcome failed f) f.test.attempts f.test.slow) flaky
@@ -175,7 +176,7 @@ module _ (counter : RunStats → ℕ) (rule : OutcomeView → ℕ → Bool → �
   -- the end of a test
   at-end : (s : SuiteState) (t : OverView) (order : ℕ) (e : TestEndView) (how : TestResult)
       → sum_by w (end_notes s t (record e { result = how })) + counter s.stats ≡ 0 + counter (after_end s t order (record e { result = how })).stats
-  at-end s t order e Ok = grind (arith, counts s.stats Passes 1 t.slow refl, once t.attempts t.slow)
+  at-end s t order e Ok = grind (arith, counts s.stats (Passes e.stdout) 1 t.slow refl, once e.stdout t.attempts t.slow)
   at-end s t order e Failed =
       let how = λ (kind : KindView). Fails record { kind = kind; stdout = e.stdout; message = e.message; reason = e.reason } in
       grind (arith, counts s.stats (how HasTimedOut) t.attempts t.slow refl, counts s.stats (how HasFailed) t.attempts t.slow refl)

@@ -20,7 +20,7 @@ use Rattle.template.specs.declared.hole.Hole.TheVariants as hole
 use Rattle.test_report_laws.proofs.Parts.{KeptHas, OneHas, all-weaker-named, in-left, in-right, one-last, some-weaker}
 use Rattle.test_report_forms.proofs.JunitElements.{item, run_item, run_suites, suite_cases, suite_item}
 use Rattle.test_report_forms.proofs.JunitEntries.{names-same}
-use Rattle.test_report_forms.specs.Entry.{EntryView, LinesDisagree, SuiteNotRun, SuiteOver, TestFailed, TestPassed, TestSkipped}
+use Rattle.test_report_forms.specs.Entry.{EntryView, FlakyPassed, LinesDisagree, SuiteNotRun, SuiteOver, TestFailed, TestPassed, TestSkipped}
 use Rattle.test_report_forms.specs.Junit.{JunitState, add_case, add_cause, add_own, all_suites, close, end_suite, junit_entry, junit_of, junit_parts, junit_start, junit_state, junit_suites, junit_text, no_tests_case, own_cases, own_suite, without_suite, xml_header}
 use Rattle.test_report_forms.specs.JunitCase.{CaseView, case_of_cause, failed_case, own_name, passed_case, skipped_case}
 use Rattle.test_report_forms.specs.JunitSuite.{SuiteView, counts_of}
@@ -159,6 +159,7 @@ module _ (c : JunitCause) where
   entry-kept : (o : Options) (j : JunitState) (e : EntryView) → IsThere j → IsThere (junit_entry o j e)
   unfolding junit_entry
   entry-kept o j (TestPassed t) h = add-kept j t.suite (passed_case t) h
+  entry-kept o j (FlakyPassed t) h = h
   entry-kept o j (TestSkipped t) h = add-kept j t.suite (skipped_case t) h
   entry-kept o j (TestFailed t f w) h = add-kept j t.suite (failed_case t f w o) h
   entry-kept o j (LinesDisagree d why) h = add_cause-kept j (cause_of_entry (LinesDisagree d why)) h
@@ -243,6 +244,7 @@ some-cause j (Some cause) = cause-there j (case_of_cause cause) cause.suite
 entry-there : (o : Options) (j : JunitState) (e : EntryView) → IfSome (junit_cause o e) (λ c. IsThere c (junit_entry o j e))
 unfolding junit_entry
 entry-there o j (TestPassed t) = tt
+entry-there o j (FlakyPassed t) = tt
 entry-there o j (TestSkipped t) = tt
 entry-there o j (TestFailed t f w) = inl (added-last (failed_cause o t f w) t.suite (failed_case t f w o) j.suites refl refl)
 entry-there o j (LinesDisagree d why) = some-cause j (cause_of_entry (LinesDisagree d why))

@@ -1,8 +1,8 @@
 -- Lines in order, of which two lists have the same places, and a relation holds of the lines at the same place.
 use Rattle.std.proofs.Common.{◌≡◌, ◌∙◌, ◌+◌, refl, ap, subst, ℕ, zero, suc, Bool, cond, not, List, [], ◌∷◌, ◌++◌, drop, nat_lt, take}
-use Rattle.std.specs.List.{AllZip, flat_map, fold, insert, prefix_len}
+use Rattle.std.specs.List.{AllZip, flat_map, fold, insert, position_or_len, prefix_len}
 use Rattle.test_report_forms.specs.Entry.{EntryView}
-use Rattle.test_report_forms.specs.List.{KeyedLine, falling_place, put_falling, text_of_lines}
+use Rattle.test_report_forms.specs.List.{KeyedLine, ends_before, falling_place, put_falling, put_rising, text_of_lines}
 
 module _ (R : List ℕ → List ℕ → Type 0) where
   pub record Alike (a b : KeyedLine) : Type 0 where
@@ -49,6 +49,13 @@ module _ (R : List ℕ → List ℕ → Type 0) where
       let at = falling_place a.key xs in
       subst (λ k. AllZip Alike (take most (insert xs at a)) (take most (insert ys k b))) place
       (take-alike most (insert xs at a) (insert ys at b) (insert-alike at xs ys a b h is))
+
+  pub rising-alike : (xs ys : List KeyedLine) (a b : KeyedLine) → AllZip Alike xs ys → Alike a b → AllZip Alike (put_rising xs a) (put_rising ys b)
+  rising-alike xs ys a b h is =
+      let place : position_or_len (ends_before a.key) xs ≡ position_or_len (ends_before b.key) ys =
+      ap (λ k. position_or_len (ends_before k) xs) is.key ∙ same-place (λ k. not (nat_lt b.key k)) xs ys h in
+      let at = position_or_len (ends_before a.key) xs in
+      subst (λ k. AllZip Alike (insert xs at a) (insert ys k b)) place (insert-alike at xs ys a b h is)
 
   pub fold-alike : (put : List KeyedLine → KeyedLine → List KeyedLine)
       → ((xs ys : List KeyedLine) (a b : KeyedLine) → AllZip Alike xs ys → Alike a b → AllZip Alike (put xs a) (put ys b))

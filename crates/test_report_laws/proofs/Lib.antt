@@ -1,3 +1,4 @@
+pub mod Annotated
 pub mod Announced
 pub mod Aside
 pub mod Books
@@ -7,6 +8,7 @@ pub mod CauseCounts
 pub mod CleanEnds
 pub mod CleanForms
 pub mod CleanLines
+pub mod CleanProgress
 pub mod CleanWords
 pub mod ColouredText
 pub mod CommandInputs

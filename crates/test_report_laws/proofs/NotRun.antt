@@ -17,7 +17,7 @@ use Rattle.test_report_laws.proofs.Sums.{sum-if-none, sum-map, sum-none}
 use Rattle.test_report_laws.proofs.Weights.{has-number, numbered-end, numbered-line, numbered-ready, numbered-reported, unnumbered, weigh, weight_of}
 use Rattle.test_report_run.specs.Ended.{after_end, end_notes}
 use Rattle.test_report_laws.specs.Run.{not_run_of}
-use Rattle.test_report_run.specs.Note.{Disagrees, DisagreementView, HasNoEnd, IsNotRun, NoteView, StrayEnds, StraySuiteEnds, SuiteIs, SuiteNoteView, TestIs, TestNoteView}
+use Rattle.test_report_run.specs.Note.{Disagrees, DisagreementView, FlakyEnds, HasNoEnd, IsNotRun, NoteView, StrayEnds, StraySuiteEnds, SuiteIs, SuiteNoteView, TestIs, TestNoteView}
 use Rattle.test_report_run.specs.Others.{OthersView}
 use Rattle.test_report_run.specs.Over.{crash_of, crashed_notes, early_disagreements, early_notes, early_state, explained_of, failed_note, failed_notes, flaky_note, flaky_notes, initial_of, last_disagreement, last_notes, last_state, lost, number_notes, rest_of, skipped_note}
 use Rattle.test_report_run.specs.Run.{RunState, Step, after, counts_tests, ended_at, ended_early, file_notes, tests_in, notes_at, open_suite, opened, place_of_number, running_ends, running_over, settled_at, slow_at, started_again, step, stray_ends, stray_over, stray_suite_notes, stray_test, suite_at, suite_place, told, with_suite_at, without_tests}
@@ -27,8 +27,9 @@ use Rattle.test_report_run.specs.Name.{given_by, name_of}
 use Rattle.test_report_run.specs.Suite.{OverView, SuiteState, has_key, named, outside_start, suite_name, with_line, with_start}
 use Rattle.test_report_laws.proofs.Types.{Explanation, Rest}
 
--- a weight of notes, in which those of tests and of disagreements weigh nothing
-module _ (w : NoteView → ℕ) (test : (t : TestNoteView) → w (TestIs t) ≡ 0) (disagree : (d : DisagreementView) → w (Disagrees d) ≡ 0) where
+-- a weight of notes, in which those of tests, of ends of flaky tests and of disagreements weigh nothing
+module _ (w : NoteView → ℕ) (test : (t : TestNoteView) → w (TestIs t) ≡ 0) (flaky-end : (t : TestNoteView) → w (FlakyEnds t) ≡ 0)
+    (disagree : (d : DisagreementView) → w (Disagrees d) ≡ 0) where
   -- of a suite that ends, only its numbers weigh
   of-early : (others : OthersView) (s : SuiteState) (tests : List RunningView)
       → sum_by w (early_notes others s tests) ≡ sum_by w (number_notes (early_state s tests) (early_rest s))
@@ -75,7 +76,7 @@ module _ (w : NoteView → ℕ) (test : (t : TestNoteView) → w (TestIs t) ≡ 
 
   -- the end of a test does not weigh
   of-end : (s : SuiteState) (t : OverView) (e : TestEndView) (how : TestResult) → sum_by w (end_notes s t (record e { result = how })) ≡ 0
-  of-end s t e Ok = grind (arith, test)
+  of-end s t e Ok = grind (arith, test, flaky-end)
   of-end s t e Failed = grind (arith, test)
   of-end s t e Ignored = grind (arith, test)
 
@@ -136,8 +137,8 @@ same-early others s tests fine =
     let rest = early_rest s in
     omega (
       arith,
-      of-early named_not_run (λ t. refl) (λ d. refl) others s tests,
-      of-early not_run_of (λ t. refl) (λ d. refl) others s tests,
+      of-early named_not_run (λ t. refl) (λ t. refl) (λ d. refl) others s tests,
+      of-early not_run_of (λ t. refl) (λ t. refl) (λ d. refl) others s tests,
       same-numbers last rest (λ h. none-announced s.test_count rest.skipped last.stats.finished_count (fine (no-name last h))),
     )
 
@@ -147,8 +148,8 @@ same-last s e tests some =
     let rest = rest_of s e tests in
     omega (
       arith,
-      of-last named_not_run (λ t. refl) (λ d. refl) s e tests,
-      of-last not_run_of (λ t. refl) (λ d. refl) s e tests,
+      of-last named_not_run (λ t. refl) (λ t. refl) (λ d. refl) s e tests,
+      of-last not_run_of (λ t. refl) (λ t. refl) (λ d. refl) s e tests,
       same-numbers last rest (λ h. absurd (some (no-name last h))),
     )
 
@@ -184,7 +185,7 @@ same-told r (SuiteEnds e) numbered =
     same-ended r e (open_suite r e.key) (position-in (has_key e.key) r.suites (open_suite r e.key) refl) numbered
 same-told r (TestEnds e) numbered =
     let place = place_of_end r.running e.name in
-    of-test named_not_run (λ t. refl) (λ d. refl) r e place ∙ sym (of-test not_run_of (λ t. refl) (λ d. refl) r e place)
+    of-test named_not_run (λ t. refl) (λ t. refl) (λ d. refl) r e place ∙ sym (of-test not_run_of (λ t. refl) (λ t. refl) (λ d. refl) r e place)
 same-told r e numbered = refl
 
 same-line : (r : RunState) (e : EventView) → weight_of unnumbered r ≡ 0 → Same (notes_at r e)

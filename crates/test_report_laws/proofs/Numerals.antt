@@ -6,12 +6,12 @@ use Rattle.std.specs.Option.{option_or}
 use Rattle.std.specs.Prelude.{option_and_then}
 use Rattle.output_slice.specs.declared.panic_head.HeadSpan.{HeadSpan}
 use Rattle.test_report_forms.proofs.Tests.{and-left, and-right}
-use Rattle.test_report_forms.specs.Entry.{EntryView, IsEntryOf, IsTestEntry, LinesDisagree, SuiteNotRun, SuiteOver, TestFailed, TestPassed, TestSkipped}
+use Rattle.test_report_forms.specs.Entry.{EntryView, FlakyPassed, IsEntryOf, IsTestEntry, LinesDisagree, SuiteNotRun, SuiteOver, TestFailed, TestPassed, TestSkipped}
 use Rattle.test_report_forms.specs.Explanation.{FoundView}
 use Rattle.test_report_forms.specs.Lines.{first_line}
 use Rattle.test_report_forms.specs.Place.{Cut, PlaceView, are_digits, cause_head, documented_place, failure_place, first_cut, if_ours, is_item, is_ours, item_place, last_cut, last_line, line_place, message_place, numbered_place, our_place, output, panic_place, parsed_place, place_behind, place_of, without_last}
 use Rattle.test_report_forms.specs.Title.{title_name}
-use Rattle.test_report_run.specs.Note.{Disagrees, FailureView, Fails, IsNotRun, IsSkipped, NoteView, OutcomeView, Passes, SuiteIs, TestIs, TestNoteView}
+use Rattle.test_report_run.specs.Note.{Disagrees, FailureView, Fails, FlakyEnds, IsNotRun, IsSkipped, NoteView, OutcomeView, Passes, SuiteIs, TestIs, TestNoteView}
 
 -- a number in decimal digits, the column of a place and a place
 pub record IsNumber (ds : List ℕ) : Type 0 where
@@ -97,19 +97,21 @@ numbered-place t f found =
 abbrev pub HasNumbers : EntryView → Type 0
 HasNumbers (TestFailed t f w) = IsNumbered w.place
 HasNumbers (TestPassed t) = Unit {0}
+HasNumbers (FlakyPassed t) = Unit {0}
 HasNumbers (TestSkipped t) = Unit {0}
 HasNumbers (LinesDisagree d why) = Unit {0}
 HasNumbers (SuiteNotRun suite n of) = Unit {0}
 HasNumbers (SuiteOver s) = Unit {0}
 
 numbered-test : (t : TestNoteView) (o : OutcomeView) (e : EntryView) → IsTestEntry t o e → HasNumbers e
-numbered-test t Passes e h = subst HasNumbers (sym h) tt
+numbered-test t (Passes output) e h = subst HasNumbers (sym h) tt
 numbered-test t (IsSkipped reason) e h = subst HasNumbers (sym h) tt
 numbered-test t (Fails f) e h =
     subst HasNumbers (sym h.2) (subst IsNumbered (sym h.1.place) (numbered-place t f h.1.found))
 
 pub entry-numbers : (n : NoteView) (e : EntryView) → IsEntryOf n e → HasNumbers e
 entry-numbers (TestIs t) e h = numbered-test t t.outcome e h
+entry-numbers (FlakyEnds t) e h = subst HasNumbers (sym h) tt
 entry-numbers (Disagrees d) e h = subst HasNumbers (sym h.2) tt
 entry-numbers (IsNotRun suite n of) e h = subst HasNumbers (sym h) tt
 entry-numbers (SuiteIs s) e h = subst HasNumbers (sym h) tt

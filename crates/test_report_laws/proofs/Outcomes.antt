@@ -16,7 +16,7 @@ use Rattle.test_report_laws.proofs.Counters.{of_suite, of_test, sums-up, with_ou
 use Rattle.test_report_laws.proofs.Sums.{sum-none}
 use Rattle.test_report_laws.proofs.Tallies.{counted, failed-total, run-sums}
 use Rattle.test_report_laws.specs.Run.{Counts, IsClean, Means, OutcomeMeans, disagreements_in, failed_in, not_run_in}
-use Rattle.test_report_run.specs.Note.{Fails, IsSkipped, NoteView, OutcomeView, Passes, SuiteIs, SuiteNoteView, TestIs}
+use Rattle.test_report_run.specs.Note.{Fails, FlakyEnds, IsSkipped, NoteView, OutcomeView, Passes, SuiteIs, SuiteNoteView, TestIs}
 use Rattle.test_report_run.specs.Run.{run_start, with_note}
 use Rattle.test_report_run.specs.Totals.{no_suites, suite_outcome, with_suite}
 use Rattle.test_report_laws.specs.Whole.{all_notes, run_after_files}
@@ -40,17 +40,18 @@ scripts_of s =
 
 -- suites have none
 scripts-counts : (stats : RunStats) (o : OutcomeView) (n : ℕ) (slow : Bool) → fits o n ≡ true → scripts_of (with_outcome stats o n slow) ≡ scripts_of stats + 0
-scripts-counts stats Passes n slow fit = omega arith
+scripts-counts stats (Passes output) n slow fit = omega arith
 scripts-counts stats (IsSkipped reason) n slow fit = omega arith
 scripts-counts stats (Fails f) n slow fit = omega arith
 
 none-of : (note : NoteView) → of_test (λ o n slow. 0) note ≡ 0
 none-of (TestIs t) = refl
+none-of (FlakyEnds t) = refl
 none-of note = refl
 
 no-scripts : (slow : ℕ) (files : List (List EventView)) → sum_by (of_suite (λ s. scripts_of s.stats)) (all_notes slow files) ≡ 0
 no-scripts slow files =
-    let sums = sums-up scripts_of (λ o n slow. 0) refl scripts-counts (λ n slow h. refl) (λ reason n slow. refl) slow files in
+    let sums = sums-up scripts_of (λ o n slow. 0) refl scripts-counts (λ output n slow h. refl) (λ reason n slow. refl) slow files in
     omega (arith, sum-none (of_test (λ o n slow. 0)) none-of (all_notes slow files))
 
 -- the outcome of one suite

@@ -13,23 +13,25 @@ use Rattle.run_events_levels.specs.declared.levels.FinalStatusLevel.TheVariants 
 use Rattle.run_events_levels.specs.declared.levels.OutputOnTestFinished.{OutputOnTestFinished}
 use Rattle.run_events_levels.specs.declared.levels.OutputStoreFinal.{OutputStoreFinal}
 use Rattle.run_events_levels.specs.declared.levels.OutputStoreFinal.TheVariants as store
-use Rattle.test_report_forms.specs.Entry.{EntryView, LinesDisagree, SuiteNotRun, SuiteOver, TestFailed, TestPassed, TestSkipped}
-use Rattle.test_report_forms.specs.Levels.{finished_output, has_line, listed_text, skipped_output}
-use Rattle.test_report_forms.specs.List.{KeyedLine, ended_line, failed_line, final_level_of, flaky_word, item, item_at, list_line, part_at, listed_word, passed_word, put_falling, short_list, slow_line, slow_lines, slow_of, text_of_lines, timed}
+use Rattle.test_report_forms.specs.Entry.{EntryView, FlakyPassed, LinesDisagree, SuiteNotRun, SuiteOver, TestFailed, TestPassed, TestSkipped}
+use Rattle.test_report_forms.specs.Levels.{finished_output, has_line, listed_text, shown_if, skipped_output}
+use Rattle.test_report_forms.specs.List.{KeyedLine, ended_before, ended_line, failed_line, final_level_of, flaky_lines, flaky_of, flaky_word, item, item_at, list_line, part_at, listed_word, passed_word, put_falling, put_rising, short_list, slow_line, slow_lines, slow_of, text_of_lines, timed}
 use Rattle.test_report_forms.specs.Names.{names_line}
+use Rattle.test_report_forms.specs.Lines.{without_returns}
+use Rattle.test_report_forms.specs.PassedOutput.{has_output, limited_lines, output_lines, passed_output}
 use Rattle.test_report_forms.specs.Shown.{bracket, front, indented, indented_line, more_bytes, name_and_space, shown_line, shown_name, shown_text}
 use Rattle.test_report_forms.specs.ShownWhy.{ShownWhyView, text_why}
-use Rattle.test_report_forms.specs.Text.{advice, attempts_note, cargo_advice, ended_head, ended_text, failed_head, failed_text, outcome_line, passed_text, skipped_text, summary_lines, text_last, text_line}
+use Rattle.test_report_forms.specs.Text.{advice, attempts_note, cargo_advice, counted_text, ended_head, ended_text, failed_head, failed_text, outcome_line, passed_text, skipped_text, summary_lines, text_last, text_line}
 use Rattle.test_report_forms.specs.Title.{title, title_name}
 use Rattle.test_report_forms.specs.WhyLines.{hidden_line, more_line, why_lines}
 use Rattle.test_report_forms.specs.Words.{color_of, command_words, disagreement_line, failed_word, key_and_verdict, not_run_line, outcome_word, said_text, status_text, summary_line, verdict_word}
 use Rattle.test_report_forms.specs.declared.options.Options.{Options}
 use Rattle.test_report_laws.proofs.Joins.{note-parts, title-end}
-use Rattle.test_report_laws.proofs.KeyedLines.{Alike, each-alike, falling-alike, fold-alike, text-alike}
+use Rattle.test_report_laws.proofs.KeyedLines.{Alike, each-alike, falling-alike, fold-alike, rising-alike, text-alike}
 use Rattle.test_report_laws.proofs.Quiet.{Inner, Quiet, also, dark-decimal, inner-decimal, inner-if, inner-more, is_dark, is_inner, no-commands, quiet-byte, quiet-colon, quiet-dark, quiet-dark-all, quiet-feed, quiet-inner, quiet-nothing, quiet-space, word}
 use Rattle.test_report_laws.proofs.QuietWords.{inner-bracket, inner-its_tests, inner-outcome, inner-result, inner-said_numbers, inner-summary, inner-verdict}
 use Rattle.test_report_laws.proofs.QuietShown.{After, quiet-line, quiet-name, quiet-text}
-use Rattle.test_report_laws.specs.Commands.{NamesHasNoCommands, TextHasNoCommands}
+use Rattle.test_report_laws.specs.Commands.{HasNoCommands, NamesHasNoCommands, TextHasNoCommands}
 use Rattle.test_report_run.specs.Counted.{finish_for}
 use Rattle.test_report_run.specs.Note.{CargoSays, CommandFails, DisagreementView, EndsEarly, HasCrashed, HasFailed, HasNoEnd, HasNoEvent, HasTimedOut, IsDamaged, IsFlaky, KindView, SaysOther, StartsOutside, StrayEnds, StraySuiteEnds, TestNoteView}
 use Rattle.test_report_run.specs.declared.counted.Finish.TheVariants.{Passed}
@@ -138,7 +140,7 @@ not-run-opens suite n of =
     (also (inner-decimal of) (word (codes " tests were not run") refl))))))
 
 -- whole lines
-record Lines (text : List ℕ) : Type 0 where
+pub record Lines (text : List ℕ) : Type 0 where
   pub is : {rest : List ℕ} → Quiet true rest → Quiet true (text ++ rest)
 
 no-lines : Lines []
@@ -290,6 +292,7 @@ module _ (o : Options) (raw : o.raw ≡ false) where
   slow-of (TestPassed t) = timed-of t t.time
   slow-of (TestFailed t f w) = timed-of t t.time
   slow-of (TestSkipped t) = tt
+  slow-of (FlakyPassed t) = tt
   slow-of (LinesDisagree d why) = tt
   slow-of (SuiteNotRun suite n of) = tt
   slow-of (SuiteOver s) = tt
@@ -336,6 +339,15 @@ module _ (o : Options) (raw : o.raw ≡ false) where
       both (each (indented_line margin o.raw) (indented-line margin) _)
       (both (more-line margin (more_bytes why.text o.limit)) (hidden-line margin why.hidden))
 
+  -- the output of a test that passed
+  limited-lines : (margin : ℕ) (text : List ℕ) → Lines (limited_lines margin o text)
+  unfolding limited_lines
+  limited-lines margin text = both (each (indented_line margin o.raw) (indented-line margin) _) (more-line margin (more_bytes text o.passed_limit))
+
+  some-lines : (margin : ℕ) (out : Option (List ℕ)) → Lines (option_map_or (λ text. limited_lines margin o (without_returns text)) out [])
+  some-lines margin None = no-lines
+  some-lines margin (Some out) = limited-lines margin (without_returns out)
+
   ended-line : (t : TestNoteView) (w : List ℕ) → Status w → Lines (ended_line o t w)
   unfolding ended_line
   ended-line t w s = list-item w t s
@@ -353,8 +365,10 @@ module _ (o : Options) (raw : o.raw ≡ false) where
   item-lines : (e : EntryView) → Lines (item o e)
   item-lines (TestFailed t f w) =
       listed-lines _ (failed-line t (failed_word f.kind) w.short (failed-status f.kind)) (why-lines 13 (text_why o t f w))
-  item-lines (TestPassed t) = listed-lines _ (ended-line t (listed_word t.attempts t.slow) (listed-status t.attempts t.slow)) no-lines
+  item-lines (TestPassed t) =
+      listed-lines _ (ended-line t (listed_word t.attempts t.slow) (listed-status t.attempts t.slow)) (some-lines 13 (passed_output t.outcome))
   item-lines (TestSkipped t) = listed-lines _ (ended-line t (codes "SKIP") skipped-status) no-lines
+  item-lines (FlakyPassed t) = no-lines
   item-lines (LinesDisagree d why) = no-lines
   item-lines (SuiteNotRun suite n of) = no-lines
   item-lines (SuiteOver s) = no-lines
@@ -366,11 +380,23 @@ module _ (o : Options) (raw : o.raw ≡ false) where
   part-lines : (level : FinalStatusLevel) (entries : List EntryView) → Lines (part_at o level entries)
   part-lines level entries = each (item_at o level) (at-lines level) entries
 
+  flaky-own : (e : EntryView) → AreLines (flaky_of o e)
+  flaky-own e =
+      let line : KeyedLine = record { key = ended_before e; line = item o e } in
+      elim (final_level_rank (final_level_of e) == final_level_rank final.Flaky) as (λ b. AreLines (if b then line ∷ [] else []))
+      [ true ↦ (record { key = refl; line = item-lines e }, tt) | false ↦ tt ]
+
+  flaky-text : (entries : List EntryView) → Lines (text_of_lines (flaky_lines o entries))
+  flaky-text entries =
+      lines-text (flaky_lines o entries) (fold-alike Own put_rising (rising-alike Own) [] []
+      (flat_map (flaky_of o) entries) (flat_map (flaky_of o) entries) tt
+      (each-alike Own (flaky_of o) (flaky_of o) flaky-own entries))
+
   list-lines : (entries : List EntryView) → Lines (short_list o entries)
   unfolding short_list
   list-lines entries =
       both (part-lines final.Pass entries) (both (part-lines final.Skip entries) (both (part-lines final.Slow entries)
-      (both (part-lines final.Flaky entries) (both (part-lines final.Fail entries) (slow-text entries)))))
+      (both (flaky-text entries) (both (part-lines final.Fail entries) (slow-text entries)))))
 
   -- entries
   reason-lines : (why : Option (List ℕ)) → Lines (option_map_or (indented 4 o.raw) why [])
@@ -403,14 +429,19 @@ module _ (o : Options) (raw : o.raw ≡ false) where
       (one-line {text = replicate 4 32 ++ (116 ∷ second)} (spaces-open 4 (word-opens 116 refl (inner (word second refl)))))
   advice-lines false = no-lines
 
-  text-entry : (e : EntryView) → Lines (text_line o e)
-  unfolding failed_text passed_text skipped_text advice cargo_advice
+  passed-lines : (t : TestNoteView) → Lines (passed_text o t)
+  unfolding passed_text
+  passed-lines t =
+      ended-text (shown_if (has_output t.outcome) (finished_output o Passed t.attempts t.slow)) (ended_head o t (passed_word t.attempts))
+      (output_lines 4 o t.outcome) (ended-head t (passed_word t.attempts) (passed-status t.attempts)) (some-lines 4 (passed_output t.outcome))
+
+  pub text-entry : (e : EntryView) → Lines (text_line o e)
+  unfolding failed_text counted_text skipped_text advice cargo_advice
   text-entry (TestFailed t f w) =
       ended-text (finished_output o (finish_for f.kind) t.attempts t.slow) (failed_head o t (failed_word f.kind)) (why_lines 4 o (text_why o t f w))
       (head-line t (failed_word f.kind) (failed-status f.kind)) (why-lines 4 (text_why o t f w))
-  text-entry (TestPassed t) =
-      ended-text (finished_output o Passed t.attempts t.slow) (ended_head o t (passed_word t.attempts)) []
-      (ended-head t (passed_word t.attempts) (passed-status t.attempts)) no-lines
+  text-entry (TestPassed t) = lines-if (nat_lt 1 t.attempts) (passed-lines t)
+  text-entry (FlakyPassed t) = passed-lines t
   text-entry (TestSkipped t) =
       ended-text (skipped_output o) (ended_head o t (codes "SKIP")) [] (ended-head t (codes "SKIP") skipped-status) no-lines
   text-entry (LinesDisagree d why) =
@@ -418,19 +449,24 @@ module _ (o : Options) (raw : o.raw ≡ false) where
   text-entry (SuiteNotRun suite n of) = one-line (not-run-opens suite n of)
   text-entry (SuiteOver s) = no-lines
 
-  text-end : (entries : List EntryView) (end : RunEnd) → Lines (text_last o entries end)
+  pub text-end : (entries : List EntryView) (end : RunEnd) → Lines (text_last o entries end)
   unfolding text_last
   text-end entries end = both (summary-lines end) (both (list-lines entries) (outcome-lines end))
+
+-- whole lines have no commands
+pub lines-have-none : (text : List ℕ) → Lines text → HasNoCommands text
+lines-have-none text h = no-commands (subst (Quiet true) (append-nil text) (h.is (quiet-nothing true)))
 
 pub text-has-no-commands : TextHasNoCommands
 text-has-no-commands o entries end raw =
     let all = both (each (text_line o) (text-entry o raw) entries) (text-end o raw entries end) in
-    no-commands (subst (Quiet true) (append-nil _) (all.is (quiet-nothing true)))
+    lines-have-none _ all
 
 -- the form of names
 names-entry : (e : EntryView) → Lines (names_line e)
 names-entry (TestFailed t f w) = one-line (record { is = λ a. quiet-line true t.name a })
 names-entry (TestPassed t) = no-lines
+names-entry (FlakyPassed t) = no-lines
 names-entry (TestSkipped t) = no-lines
 names-entry (LinesDisagree d why) = no-lines
 names-entry (SuiteNotRun suite n of) = no-lines
@@ -438,4 +474,4 @@ names-entry (SuiteOver s) = no-lines
 
 pub names-has-no-commands : NamesHasNoCommands
 names-has-no-commands entries =
-    no-commands (subst (Quiet true) (append-nil _) ((each names_line names-entry entries).is (quiet-nothing true)))
+    lines-have-none _ (each names_line names-entry entries)

@@ -15,7 +15,7 @@ use Rattle.run_events_levels.specs.declared.levels.OutputStoreFinal.TheVariants 
 use Rattle.run_events_levels.specs.declared.levels.StatusLevel.TheVariants as level
 use Rattle.run_events_settings.specs.Config.{is_immediate_display, is_final_display}
 use Rattle.test_report_forms.specs.Levels.{finished_output, has_line}
-use Rattle.test_report_forms.specs.Entry.{EntryView, IsEntryOf, IsTestEntry, LinesDisagree, SuiteNotRun, SuiteOver, TestFailed, TestPassed, TestSkipped}
+use Rattle.test_report_forms.specs.Entry.{EntryView, FlakyPassed, IsEntryOf, IsTestEntry, LinesDisagree, SuiteNotRun, SuiteOver, TestFailed, TestPassed, TestSkipped}
 use Rattle.test_report_forms.specs.Files.{html_last, junit_last, markdown_last}
 use Rattle.test_report_forms.specs.Github.{github_last, github_line}
 use Rattle.test_report_forms.specs.Html.{html_of}
@@ -44,7 +44,7 @@ use Rattle.test_report_forms.specs.declared.junit.JunitForm.{JunitForm}
 use Rattle.test_report_forms.specs.declared.markdown.MarkdownForm.{MarkdownForm}
 use Rattle.test_report_forms.specs.declared.options.Options.{Options}
 use Rattle.test_report_run.specs.Counted.{finish_for}
-use Rattle.test_report_run.specs.Note.{Disagrees, FailureView, Fails, HasCrashed, HasFailed, HasNoEnd, HasTimedOut, IsFlaky, IsNotRun, IsSkipped, KindView, NoteView, OutcomeView, Passes, SuiteIs, TestIs, TestNoteView, text_view}
+use Rattle.test_report_run.specs.Note.{Disagrees, FailureView, Fails, FlakyEnds, HasCrashed, HasFailed, HasNoEnd, HasTimedOut, IsFlaky, IsNotRun, IsSkipped, KindView, NoteView, OutcomeView, Passes, SuiteIs, TestIs, TestNoteView, text_view}
 use Rattle.test_report_run.specs.Run.{end_of, has_failed}
 use Rattle.test_report_laws.specs.Lines.{Block, EndsWith, GithubNamesCauses, GithubSays, HasBlock, HasBlocks, SaysReason, TextNamesCauses, TextSays, ended_block, github_block, is_reason, notice, text_block, ended_words, HasCause, IsShortInLine, list_block, listed_block}
 use Rattle.test_report_laws.specs.Status as status
@@ -91,12 +91,13 @@ module _ {A B : Type 0} (R : A → B → Type 0) where
 
 -- the entry of a note that is a reason is one, too
 test-reason : (t : TestNoteView) (o : OutcomeView) (e : EntryView) → IsTestEntry t o e → has_failed o ≡ true → IsTrue (is_reason e)
-test-reason t Passes e is failed = absurd (cc)
+test-reason t (Passes output) e is failed = absurd (cc)
 test-reason t (IsSkipped reason) e is failed = absurd (cc)
 test-reason t (Fails f) e is failed = subst (λ x. IsTrue (is_reason x)) (sym is.2) refl
 
 entry-reason : (note : NoteView) (e : EntryView) → IsEntryOf note e → IsTrue (status.is_reason note) → IsTrue (is_reason e)
 entry-reason (TestIs t) e is reason = test-reason t t.outcome e is (grind arith)
+entry-reason (FlakyEnds t) e is reason = absurd (cc)
 entry-reason (Disagrees d) e is reason = subst (λ x. IsTrue (is_reason x)) (sym is.2) refl
 entry-reason (IsNotRun suite n of) e is reason = subst (λ x. IsTrue (is_reason x)) (sym is) refl
 entry-reason (SuiteIs s) e is reason = absurd (cc)
@@ -122,6 +123,7 @@ at-entry entries P e is_one all = subst P is_one.2 (all is_one.0 e is_one.1)
 module _ (name line : List ℕ → List ℕ) (entries : List EntryView) (end : RunEnd) (text : List ℕ) (causes : NamesCauses name line entries end text) where
   names-entry : (e : EntryView) → Contains entries e → IsTrue (is_reason e) → NamesReason name line entries end text
   names-entry (TestPassed t) is_one reason = absurd (cc)
+  names-entry (FlakyPassed t) is_one reason = absurd (cc)
   names-entry (TestSkipped t) is_one reason = absurd (cc)
   names-entry (TestFailed t f w) is_one reason = inl record {
     entry = TestFailed t f w;
@@ -186,6 +188,7 @@ first-failed o [] = inl refl
 first-failed o (TestFailed t f w ∷ entries) =
     inr record { test = t; failure = f; why = w; others = tests_of o entries; is_one = (0, omega arith, refl); is_first = refl }
 first-failed o (TestPassed t ∷ entries) = other-first o (TestPassed t) entries refl (first-failed o entries)
+first-failed o (FlakyPassed t ∷ entries) = other-first o (FlakyPassed t) entries refl (first-failed o entries)
 first-failed o (TestSkipped t ∷ entries) = other-first o (TestSkipped t) entries refl (first-failed o entries)
 first-failed o (LinesDisagree d why ∷ entries) = other-first o (LinesDisagree d why) entries refl (first-failed o entries)
 first-failed o (SuiteNotRun suite n of ∷ entries) = other-first o (SuiteNotRun suite n of) entries refl (first-failed o entries)
@@ -218,6 +221,7 @@ module _ (o : Options) (entries : List EntryView) (end : RunEnd) (text : List �
 
   summary-entry : (e : EntryView) → Contains entries e → IsTrue (is_reason e) → NamesReason in_markdown in_markdown entries end text
   summary-entry (TestPassed t) is_one reason = absurd (cc)
+  summary-entry (FlakyPassed t) is_one reason = absurd (cc)
   summary-entry (TestSkipped t) is_one reason = absurd (cc)
   summary-entry (TestFailed t f w) is_one reason = names-test t f w is_one (first-failed o entries)
   summary-entry (LinesDisagree d why) is_one reason = inr (inl record {
@@ -283,6 +287,7 @@ failed-shown o (HasCrashed crash) attempts slow h = h
 
 text-own : (o : Options) → shows_failures o ≡ true → (e : EntryView) → IsTrue (is_reason e) → (b : Block) × (text_block o e ≡ Some b)
 text-own o shows (TestPassed t) reason = absurd (cc)
+text-own o shows (FlakyPassed t) reason = absurd (cc)
 text-own o shows (TestSkipped t) reason = absurd (cc)
 text-own o shows (TestFailed t f w) reason =
     shown-own (finished_output o (finish_for f.kind) t.attempts t.slow) (ended_words o (failed_word f.kind) t (attempts_note t.attempts))
@@ -314,6 +319,7 @@ module _ (o : Options) (entries : List EntryView) (end : RunEnd) (text : List �
   list-entry : (e : EntryView) → Contains entries e → IsTrue (is_reason e)
       → SaysReason (text_block o) no-tests entries end text ⊎ HasCause (list_block o) entries text
   list-entry (TestPassed t) is_one reason = absurd (cc)
+  list-entry (FlakyPassed t) is_one reason = absurd (cc)
   list-entry (TestSkipped t) is_one reason = absurd (cc)
   list-entry (TestFailed t f w) is_one reason =
       let line = list_line o (failed_word f.kind) t ++ (codes ": " ++ shown_text o.raw (front w.short o.limit)) in
@@ -331,6 +337,7 @@ module _ (o : Options) (entries : List EntryView) (end : RunEnd) (text : List �
 
 github-own : (o : Options) (e : EntryView) → IsTrue (is_reason e) → (b : Block) × (github_block o e ≡ Some b)
 github-own o (TestPassed t) reason = absurd (cc)
+github-own o (FlakyPassed t) reason = absurd (cc)
 github-own o (TestSkipped t) reason = absurd (cc)
 github-own o (TestFailed t f w) reason = (_, refl)
 github-own o (LinesDisagree d why) reason = (_, refl)
@@ -347,6 +354,7 @@ of-notes (n ∷ ns) (e ∷ es) zip = All-cons (λ e. (n : NoteView) × IsEntryOf
 -- the cause of an entry that is a reason
 cause-of : (o : Options) (e : EntryView) → IsTrue (is_reason e) → (c : JunitCause) × (junit_cause o e ≡ Some c)
 cause-of o (TestPassed t) reason = absurd (cc)
+cause-of o (FlakyPassed t) reason = absurd (cc)
 cause-of o (TestSkipped t) reason = absurd (cc)
 cause-of o (TestFailed t f w) reason = (_, refl)
 cause-of o (LinesDisagree d why) reason = (_, refl)

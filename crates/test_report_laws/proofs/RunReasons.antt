@@ -12,7 +12,7 @@ use Rattle.test_report_laws.proofs.NotRun.{not-run-named}
 use Rattle.test_report_laws.proofs.Outcomes.{outcome-means}
 use Rattle.test_report_laws.proofs.Sums.{sum-both}
 use Rattle.test_report_laws.specs.Run.{Means, not_run_in, passed_in}
-use Rattle.test_report_run.specs.Note.{Disagrees, IsNotRun, NoteView, SuiteIs, TestIs}
+use Rattle.test_report_run.specs.Note.{Disagrees, FlakyEnds, IsNotRun, NoteView, SuiteIs, TestIs}
 use Rattle.test_report_laws.specs.Status.{FailureHasReason, is_reason, named_not_run}
 use Rattle.test_report_laws.specs.Whole.{all_notes, whole_end}
 
@@ -32,6 +32,7 @@ reason note = weight note + named_not_run note
 
 is-reason : (note : NoteView) → 0 < reason note → IsTrue (is_reason note)
 is-reason (TestIs t) some = grind arith
+is-reason (FlakyEnds t) some = absurd (omega arith)
 is-reason (Disagrees d) some = refl
 is-reason (IsNotRun suite n of) some = refl
 is-reason (SuiteIs s) some = absurd (omega arith)

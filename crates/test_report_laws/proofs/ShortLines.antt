@@ -26,7 +26,7 @@ use Rattle.test_report_forms.specs.declared.entry.Entry.TheVariants as entry
 use Rattle.test_report_laws.proofs.Lines.{in-one-line}
 use Rattle.test_report_laws.specs.Lines.{IsInLine, ShortIsInLine}
 use Rattle.test_report_run.specs.LongestEnd.{floor_of, is_boundary}
-use Rattle.test_report_run.specs.Note.{CrashView, Disagrees, FailureView, Fails, HasCrashed, HasFailed, HasNoEnd, HasTimedOut, IsFlaky, IsNotRun, IsSkipped, KindView, NoteView, OutcomeView, Passes, SuiteIs, TestIs, TestNoteView}
+use Rattle.test_report_run.specs.Note.{CrashView, Disagrees, FailureView, Fails, FlakyEnds, HasCrashed, HasFailed, HasNoEnd, HasTimedOut, IsFlaky, IsNotRun, IsSkipped, KindView, NoteView, OutcomeView, Passes, SuiteIs, TestIs, TestNoteView}
 
 abbrev is_feed : ℕ → Bool
 is_feed b = b == 10
@@ -162,7 +162,7 @@ HasShort (TestFailed t f w) = NoFeed w.short
 HasShort _ = Unit {0}
 
 test-short : (t : TestNoteView) (o : OutcomeView) (e : EntryView) → IsTestEntry t o e → HasShort e
-test-short t Passes e h = subst HasShort (sym h) tt
+test-short t (Passes output) e h = subst HasShort (sym h) tt
 test-short t (IsSkipped reason) e h = subst HasShort (sym h) tt
 test-short t (Fails f) e h =
     let found = h.1.found in
@@ -171,6 +171,7 @@ test-short t (Fails f) e h =
 
 entry-short : (n : NoteView) (e : EntryView) → IsEntryOf n e → HasShort e
 entry-short (TestIs t) e h = test-short t t.outcome e h
+entry-short (FlakyEnds t) e h = subst HasShort (sym h) tt
 entry-short (Disagrees d) e h = subst HasShort (sym h.2) tt
 entry-short (IsNotRun suite n of) e h = subst HasShort (sym h) tt
 entry-short (SuiteIs s) e h = subst HasShort (sym h) tt
@@ -227,6 +228,7 @@ short-is-in-line o n (entry.Failed test failure why) is =
     shown-in-line o.raw (string_bytes why.short) o.limit (IsUtf8-string_bytes why.short) (entry-short n _ is)
 short-is-in-line o n (entry.Passed test) is = tt
 short-is-in-line o n (entry.Skipped test) is = tt
+short-is-in-line o n (entry.Flaky test) is = tt
 short-is-in-line o n (entry.Disagreement d why) is = tt
 short-is-in-line o n (entry.NotRun d) is = tt
 short-is-in-line o n (entry.Suite d) is = tt

@@ -78,12 +78,12 @@ last-agrees s tests some sound =
     let notes = last_by s e tests in
     let passed : t.stats.passed ≡ s.stats.passed + passed_in notes = omega (
       arith,
-      after-last (λ x. x.passed) passed_weight refl passed-counts (λ n slow h. refl) (λ reason n slow. refl) s e tests sound.retried,
+      after-last (λ x. x.passed) passed_weight refl passed-counts (λ output n slow h. refl) (λ reason n slow. refl) s e tests sound.retried,
       count-of (λ x. has_passed x.outcome) passed_weight (λ x. refl) notes,
     ) in
     let finished : t.stats.finished_count ≡ s.stats.finished_count + (passed_in notes + failed_in notes) = omega (
       arith,
-      after-last (λ x. x.finished_count) finished_weight refl finished-counts (λ n slow h. refl) (λ reason n slow. refl) s e tests sound.retried,
+      after-last (λ x. x.finished_count) finished_weight refl finished-counts (λ output n slow h. refl) (λ reason n slow. refl) s e tests sound.retried,
       finished-of notes,
     ) in
     let failed : failed_of t.stats ≡ failed_of s.stats + failed_in notes = omega (arith, sound.passed) in

@@ -11,7 +11,7 @@ use Rattle.template.specs.Shows.{HasPart, items_at}
 use Rattle.template.specs.Template.{Parts, Values, parts_text, text_of, values_of}
 use Rattle.template.specs.declared.hole.Hole.{Hole}
 use Rattle.test_report_laws.proofs.ReportValues.{failed-at, name-of, problems-at}
-use Rattle.test_report_forms.specs.Entry.{EntryView, LinesDisagree, SuiteNotRun, SuiteOver, TestFailed, TestPassed, TestSkipped}
+use Rattle.test_report_forms.specs.Entry.{EntryView, FlakyPassed, LinesDisagree, SuiteNotRun, SuiteOver, TestFailed, TestPassed, TestSkipped}
 use Rattle.test_report_forms.specs.Holes.{HoleView, has_hole}
 use Rattle.test_report_forms.specs.Model.{CauseView, FailedView, ProblemView, all_failures, all_problems, cause_line, cause_of_entry, failure_of_entry, failures_of, no_tests_problem, no_tests_ran, output_if_room, problem_of, problem_of_entry, problems_of, report_of, room_after_test, with_room}
 use Rattle.test_report_forms.specs.Values.{failed_values, problem_values, report_values, run_values, values_of_run}
@@ -83,6 +83,7 @@ module _ (text : List ℕ) (kind : Hole) (o : Options) (entries : List EntryView
   own-name (LinesDisagree d why) h = tt
   own-name (SuiteNotRun suite n of) h = tt
   own-name (TestPassed t) h = tt
+  own-name (FlakyPassed t) h = tt
   own-name (TestSkipped t) h = tt
   own-name (SuiteOver s) h = tt
 

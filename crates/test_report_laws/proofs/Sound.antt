@@ -18,7 +18,7 @@ as-record s sound = record { retried = sound.late; passed = sound.passed }
 
 -- the rules for failed tests
 abbrev pub failed-rules : Rules 0 (of_test failed_weight) (of_suite (λ s. failed_tests s.stats)) (λ k. failed_tests k.stats) Sound
-failed-rules = counter-rules failed_tests failed_weight refl failed-counts (λ n slow h. refl) (λ reason n slow. refl)
+failed-rules = counter-rules failed_tests failed_weight refl failed-counts (λ output n slow h. refl) (λ reason n slow. refl)
 
 pub all-sound : (notes : List NoteView) (r : RunState) → Holds failed-rules notes r → IsSound r.outside × All IsSound r.suites
 all-sound notes r holds = (as-record r.outside holds.fine.0, All-weaker (λ s. Sound (kept s)) IsSound as-record r.suites holds.fine.1)

@@ -42,7 +42,7 @@ passed_weight outcome n slow = one (has_passed outcome)
 
 pub passed-counts : (stats : RunStats) (outcome : OutcomeView) (n : ℕ) (slow : Bool) → fits outcome n ≡ true
     → (with_outcome stats outcome n slow).passed ≡ stats.passed + passed_weight outcome n slow
-passed-counts stats Passes n slow fit = grind arith
+passed-counts stats (Passes output) n slow fit = grind arith
 passed-counts stats (IsSkipped reason) n slow fit = omega arith
 passed-counts stats (Fails f) n slow fit = passed-kind stats f.kind n slow fit
 
@@ -52,7 +52,7 @@ finished_weight outcome n slow = one (has_passed outcome) + one (has_failed outc
 
 pub finished-counts : (stats : RunStats) (outcome : OutcomeView) (n : ℕ) (slow : Bool) → fits outcome n ≡ true
     → (with_outcome stats outcome n slow).finished_count ≡ stats.finished_count + finished_weight outcome n slow
-finished-counts stats Passes n slow fit = refl
+finished-counts stats (Passes output) n slow fit = refl
 finished-counts stats (IsSkipped reason) n slow fit = omega arith
 finished-counts stats (Fails f) n slow fit = refl
 
@@ -66,7 +66,7 @@ flaky-kind stats kind n slow = refl
 
 flaky-counts : (stats : RunStats) (outcome : OutcomeView) (n : ℕ) (slow : Bool) → fits outcome n ≡ true
     → (with_outcome stats outcome n slow).flaky ≡ stats.flaky + flaky_weight outcome n slow
-flaky-counts stats Passes n slow fit = grind arith
+flaky-counts stats (Passes output) n slow fit = grind arith
 flaky-counts stats (IsSkipped reason) n slow fit = omega arith
 flaky-counts stats (Fails f) n slow fit = flaky-kind stats f.kind n slow
 
@@ -81,7 +81,7 @@ slow-kind stats kind n slow fit = refl
 
 slow-counts : (stats : RunStats) (outcome : OutcomeView) (n : ℕ) (slow : Bool) → fits outcome n ≡ true
     → (with_outcome stats outcome n slow).passed_slow ≡ stats.passed_slow + slow_weight outcome n slow
-slow-counts stats Passes n slow fit = grind arith
+slow-counts stats (Passes output) n slow fit = grind arith
 slow-counts stats (IsSkipped reason) n slow fit = omega arith
 slow-counts stats (Fails f) n slow fit = slow-kind stats f.kind n slow fit
 
@@ -96,7 +96,7 @@ timed_out-kind stats kind n slow = refl
 
 timed_out-counts : (stats : RunStats) (outcome : OutcomeView) (n : ℕ) (slow : Bool) → fits outcome n ≡ true
     → (with_outcome stats outcome n slow).failed_timed_out ≡ stats.failed_timed_out + timed_out_weight outcome n slow
-timed_out-counts stats Passes n slow fit = refl
+timed_out-counts stats (Passes output) n slow fit = refl
 timed_out-counts stats (IsSkipped reason) n slow fit = omega arith
 timed_out-counts stats (Fails f) n slow fit = timed_out-kind stats f.kind n slow
 
@@ -111,7 +111,7 @@ failed-kind stats kind n slow fit = omega arith
 
 pub failed-counts : (stats : RunStats) (outcome : OutcomeView) (n : ℕ) (slow : Bool) → fits outcome n ≡ true
     → failed_tests (with_outcome stats outcome n slow) ≡ failed_tests stats + failed_weight outcome n slow
-failed-counts stats Passes n slow fit = grind arith
+failed-counts stats (Passes output) n slow fit = grind arith
 failed-counts stats (IsSkipped reason) n slow fit = omega arith
 failed-counts stats (Fails f) n slow fit = failed-kind stats f.kind n slow fit
 
@@ -215,7 +215,7 @@ pub failed-total : (slow : ℕ) (files : List (List EventView))
     → failed_tests (fold with_note no_suites (all_notes slow files)).stats ≡ failed_in (all_notes slow files)
 failed-total slow files = omega (
   arith,
-  total failed_tests failed_weight refl failed-counts (λ n slow h. refl) (λ reason n slow. refl) (λ a b. omega arith) slow files,
+  total failed_tests failed_weight refl failed-counts (λ output n slow h. refl) (λ reason n slow. refl) (λ a b. omega arith) slow files,
   count-of (λ t. has_failed t.outcome) failed_weight (λ t. refl) (all_notes slow files),
 )
 
@@ -228,8 +228,9 @@ counted slow files o =
     let skipped = (skipped-sums slow files).whole in
     let sum_crashed = sum-of (λ e. e.crashed) (λ s. s.crashed) (λ e s. refl) refl notes in
     let sum_skipped = sum-of (λ e. e.skipped) (λ s. s.skipped) (λ e s. refl) refl notes in
-    let finished = total (λ s. s.finished_count) finished_weight refl finished-counts (λ n slow h. refl) (λ reason n slow. refl) (λ a b. refl) slow files in
-    let passed = total (λ s. s.passed) passed_weight refl passed-counts (λ n slow h. refl) (λ reason n slow. refl) (λ a b. refl) slow files in
+    let finished =
+    total (λ s. s.finished_count) finished_weight refl finished-counts (λ output n slow h. refl) (λ reason n slow. refl) (λ a b. refl) slow files in
+    let passed = total (λ s. s.passed) passed_weight refl passed-counts (λ output n slow h. refl) (λ reason n slow. refl) (λ a b. refl) slow files in
     let passed_count = count-of (λ t. has_passed t.outcome) passed_weight (λ t. refl) notes in
     let finished_count = finished-of notes in
     record {
@@ -238,17 +239,17 @@ counted slow files o =
       failed = omega arith;
       flaky = omega (
         arith,
-        total (λ s. s.flaky) flaky_weight refl flaky-counts (λ n slow h. ap one h) (λ reason n slow. refl) (λ a b. refl) slow files,
+        total (λ s. s.flaky) flaky_weight refl flaky-counts (λ output n slow h. ap one h) (λ reason n slow. refl) (λ a b. refl) slow files,
         count-of (λ t. has_passed t.outcome && nat_lt 1 t.attempts) flaky_weight (λ t. refl) notes,
       );
       slow = omega (
         arith,
-        total (λ s. s.passed_slow) slow_weight refl slow-counts (λ n slow h. refl) (λ reason n slow. refl) (λ a b. refl) slow files,
+        total (λ s. s.passed_slow) slow_weight refl slow-counts (λ output n slow h. refl) (λ reason n slow. refl) (λ a b. refl) slow files,
         count-of (λ t. has_passed t.outcome && t.slow) slow_weight (λ t. refl) notes,
       );
       timed_out = omega (
         arith,
-        total (λ s. s.failed_timed_out) timed_out_weight refl timed_out-counts (λ n slow h. refl) (λ reason n slow. refl) (λ a b. refl) slow files,
+        total (λ s. s.failed_timed_out) timed_out_weight refl timed_out-counts (λ output n slow h. refl) (λ reason n slow. refl) (λ a b. refl) slow files,
         count-of (λ t. fails_by is_timed_out t.outcome) timed_out_weight (λ t. refl) notes,
       );
       crashed = omega (arith, crashed.high refl, count-of (λ t. fails_by is_crash t.outcome) crashed_weight (λ t. refl) notes);

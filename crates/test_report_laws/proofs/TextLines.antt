@@ -1,16 +1,16 @@
 -- The lines of the form for people, and of the form of names.
-use Rattle.std.proofs.Common.{◌≡◌, ◌∙◌, ◌-◌, ◌==◌, refl, sym, subst, ap, ℕ, Bool, true, false, List, [], ◌∷◌, ◌++◌, append-nil, append_assoc, codes, if◌then◌else◌, inl, inr, length, replicate, Option, Some, None, arith, nat_lt}
+use Rattle.std.proofs.Common.{◌≡◌, ◌∙◌, ◌-◌, ◌==◌, refl, sym, subst, ap, ℕ, Bool, true, false, List, [], ◌∷◌, ◌++◌, append-nil, append_assoc, codes, slice_index_or, if◌then◌else◌, inl, inr, length, replicate, Option, Some, None, arith, nat_lt}
 use Rattle.std.proofs.lemmas.List.Elements.{All-head, All-tail}
 use Rattle.std.proofs.lemmas.Bool.Decides.{nat_tests}
 use Rattle.std.specs.Prelude.{max, unwrap_or}
 use Rattle.std.specs.Fmt.{decimal}
 use Rattle.std.specs.List.{All, AllZip, filter_map, flat_map, slice_split}
-use Rattle.std.specs.Option.{option_map_or}
+use Rattle.std.specs.Option.{IfSome, option_map_or}
 use Rattle.test_report_laws.proofs.CleanLines as clean
 use Rattle.test_report_laws.proofs.CleanLines.{CleanLine, clean-line, clean-replicate, word}
 use Rattle.test_report_laws.proofs.CleanWords.{clean-attempts, clean-bracket, clean-disagreement, clean-failed_word, clean-not_run, clean-outcome, clean-listed_word, clean-passed_word, clean-summary, clean-title}
 use Rattle.test_report_laws.proofs.Joins.{end-parts, four-parts, item-parts, list-parts, rule-parts, three-parts, words-end}
-use Rattle.test_report_laws.proofs.KeyedLines.{Alike, each-alike, falling-alike, fold-alike, text-alike}
+use Rattle.test_report_laws.proofs.KeyedLines.{Alike, append-alike, each-alike, falling-alike, fold-alike, rising-alike, text-alike}
 use Rattle.test_report_laws.proofs.StatusLines.{in-status}
 use Rattle.test_report_laws.proofs.Lines.{AddsNoRule, HasNoRule, IsWritten, also, blocks-lines, has-blocks, in-line, line-end, lines-both, lines-each, no-rule-both, no-rule-line, no-rules, none-after, later-blocks}
 use Rattle.run_events_results.specs.declared.results.ExecutionResultDescription.TheVariants as result
@@ -22,21 +22,23 @@ use Rattle.run_events_levels.specs.declared.levels.OutputOnTestFinished.{OutputO
 use Rattle.run_events_levels.specs.declared.levels.OutputStoreFinal.{OutputStoreFinal}
 use Rattle.run_events_levels.specs.declared.levels.OutputStoreFinal.TheVariants as store
 use Rattle.run_events_settings.specs.Config.{is_final_display}
-use Rattle.test_report_forms.specs.Entry.{EntryView, LinesDisagree, SuiteNotRun, SuiteOver, TestFailed, TestPassed, TestSkipped}
-use Rattle.test_report_forms.specs.Levels.{finished_output, has_line, listed_text, skipped_output, own_final_level}
-use Rattle.test_report_forms.specs.List.{KeyedLine, ended_line, failed_line, final_level_of, item, item_at, list_line, part_at, listed_word, passed_word, put_falling, short_list, slow_line, slow_lines, slow_of, text_of_lines, timed, line_at}
+use Rattle.test_report_forms.specs.Entry.{EntryView, FlakyPassed, LinesDisagree, SuiteNotRun, SuiteOver, TestFailed, TestPassed, TestSkipped}
+use Rattle.test_report_forms.specs.Levels.{finished_output, has_line, listed_text, shown_if, skipped_output, own_final_level}
+use Rattle.test_report_forms.specs.List.{KeyedLine, ended_before, ended_line, failed_line, final_level_of, flaky_lines, flaky_of, item, item_at, list_line, part_at, listed_word, passed_word, put_falling, put_rising, short_list, slow_line, slow_lines, slow_of, text_of_lines, timed, line_at}
 use Rattle.test_report_forms.specs.Names.{names_line}
+use Rattle.test_report_forms.specs.Lines.{without_returns}
+use Rattle.test_report_forms.specs.PassedOutput.{has_output, limited_lines, output_lines, passed_output}
 use Rattle.test_report_forms.specs.Shown.{bracket, front, indented, indented_line, more_bytes, shown_text}
 use Rattle.test_report_forms.specs.Model.{lacks_events}
-use Rattle.test_report_forms.specs.Text.{advice, attempts_note, cargo_advice, ended_head, ended_text, failed_head, failed_text, outcome_line, passed_text, skipped_text, summary_lines, text_last, text_line}
+use Rattle.test_report_forms.specs.Text.{advice, attempts_note, cargo_advice, counted_text, ended_head, ended_text, failed_head, failed_text, outcome_line, passed_text, skipped_text, summary_lines, text_last, text_line}
 use Rattle.test_report_forms.specs.Title.{title}
 use Rattle.test_report_forms.specs.Words.{failed_word, outcome_word, status_text, summary_line}
 use Rattle.test_report_forms.specs.declared.options.Options.{Options}
-use Rattle.test_report_laws.specs.Lines.{AreInLines, EndsWith, HasAfterRule, HasBlocks, IsInLine, IsLines, IsShortInLine, IsWhyInLines, NamesNamesTests, TextNamesCauses, TextSays, ended_block, ended_words, names_block, rule, text_block, list_block, listed_block}
+use Rattle.test_report_laws.specs.Lines.{AreInLines, EndsWith, HasAfterRule, HasBlocks, IsInLine, IsLines, IsOutputInLines, IsShortInLine, IsWhyInLines, NamesNamesTests, TextNamesCauses, TextSays, ended_block, ended_words, names_block, passed_block, rule, text_block, list_block, listed_block}
 use Rattle.test_report_forms.specs.Why.{WhyView}
 use Rattle.test_report_forms.specs.WhyLines.{hidden_line, more_line, why_lines}
 use Rattle.test_report_run.specs.Counted.{finish_for}
-use Rattle.test_report_run.specs.Note.{FailureView, HasCrashed, HasFailed, HasNoEnd, HasTimedOut, IsFlaky, KindView, TestNoteView}
+use Rattle.test_report_run.specs.Note.{FailureView, HasCrashed, HasFailed, HasNoEnd, HasTimedOut, IsFlaky, KindView, OutcomeView, TestNoteView}
 use Rattle.test_report_run.specs.declared.counted.Finish.TheVariants.{Passed}
 use Rattle.test_report_run.specs.declared.note.RunEnd.{RunEnd}
 use Rattle.test_report_forms.specs.ShownWhy.{ShownWhyView, text_why}
@@ -97,12 +99,32 @@ module _ (o : Options) where
       (why_lines 4 o (text_why o t f w)) (words-end status (codes " ") (bracket t.time) (title t) note (codes "\n"))
       (in-words (failed_word f.kind) t note (clean-failed_word f.kind) (clean-attempts t.attempts)) (lines-why 4 (text_why o t f w))
 
-  other-written : (shows : OutputOnTestFinished) (t : TestNoteView) (w : List ℕ) → CleanLine w
-      → IsWritten (ended_text shows (ended_head o t w) []) (ended_block shows (ended_words o w t []) [])
+  other-written : (shows : OutputOnTestFinished) (t : TestNoteView) (w below : List ℕ) → CleanLine w → IsLines below
+      → IsWritten (ended_text shows (ended_head o t w) below) (ended_block shows (ended_words o w t []) below)
   unfolding ended_head
-  other-written shows t w h =
-      ended-written shows (ended_words o w t []) (ended_head o t w) []
-      (words-end (status_text o.color w) (codes " ") (bracket t.time) (title t) [] (codes "\n")) (in-words w t [] h clean.nothing) (inl refl)
+  other-written shows t w below h lines =
+      ended-written shows (ended_words o w t []) (ended_head o t w) below
+      (words-end (status_text o.color w) (codes " ") (bracket t.time) (title t) [] (codes "\n")) (in-words w t [] h clean.nothing) lines
+
+  -- the output of a test that passed
+  lines-limited : (margin : ℕ) (text : List ℕ) → IsLines (limited_lines margin o text)
+  unfolding limited_lines
+  lines-limited margin text =
+      let more = more_bytes text o.passed_limit in
+      lines-both _ (more_line margin more) (lines-each (indented_line margin o.raw) (lines-indented margin) _) (lines-more margin more)
+
+  lines-some : (margin : ℕ) (out : Option (List ℕ)) → IsLines (option_map_or (λ text. limited_lines margin o (without_returns text)) out [])
+  lines-some margin None = inl refl
+  lines-some margin (Some out) = lines-limited margin (without_returns out)
+
+  lines-output : (margin : ℕ) (outcome : OutcomeView) → IsLines (output_lines margin o outcome)
+  lines-output margin outcome = lines-some margin (passed_output outcome)
+
+  passed-written : (t : TestNoteView) → IsWritten (passed_text o t) (passed_block o t)
+  unfolding passed_text
+  passed-written t =
+      other-written (shown_if (has_output t.outcome) (finished_output o Passed t.attempts t.slow)) t (passed_word t.attempts) (output_lines 4 o t.outcome)
+      (clean-passed_word t.attempts) (lines-output 4 t.outcome)
 
   lines-reason : (why : Option (List ℕ)) → IsLines (option_map_or (indented 4 o.raw) why [])
   lines-reason None = inl refl
@@ -118,13 +140,16 @@ module _ (o : Options) where
   lines-advice false = inl refl
 
   entry-written : (e : EntryView) → IsWritten (text_line o e) (text_block o e)
-  unfolding passed_text skipped_text advice cargo_advice
+  unfolding counted_text skipped_text advice cargo_advice
   entry-written (TestFailed t f w) = failed-written t f w
   entry-written (LinesDisagree d why) =
       (refl, in-line (clean-disagreement d), lines-both _ (advice (lacks_events d)) (lines-reason why) (lines-advice (lacks_events d)))
   entry-written (SuiteNotRun suite n of) = (refl, in-line (clean-not_run suite n of), inl refl)
-  entry-written (TestPassed t) = other-written (finished_output o Passed t.attempts t.slow) t (passed_word t.attempts) (clean-passed_word t.attempts)
-  entry-written (TestSkipped t) = other-written (skipped_output o) t (codes "SKIP") (word (codes "SKIP") refl)
+  entry-written (TestPassed t) =
+      elim (nat_lt 1 t.attempts) as (λ b. IsWritten (if b then [] else passed_text o t) (if b then None else passed_block o t))
+      [ true ↦ refl | false ↦ passed-written t ]
+  entry-written (FlakyPassed t) = passed-written t
+  entry-written (TestSkipped t) = other-written (skipped_output o) t (codes "SKIP") [] (word (codes "SKIP") refl) (inl refl)
   entry-written (SuiteOver s) = refl
 
   -- the lines of the list, each with a space
@@ -177,6 +202,7 @@ module _ (o : Options) where
   slow-items (TestPassed t) = timed-items t t.time
   slow-items (TestFailed t f w) = timed-items t t.time
   slow-items (TestSkipped t) = tt
+  slow-items (FlakyPassed t) = tt
   slow-items (LinesDisagree d why) = tt
   slow-items (SuiteNotRun suite n of) = tt
   slow-items (SuiteOver s) = tt
@@ -237,6 +263,19 @@ module _ (o : Options) where
       (no-rule-both (more_line 13 (more_bytes why.text o.limit)) (hidden_line 13 why.hidden) (more-no-rule (more_bytes why.text o.limit))
       (hidden-no-rule why.hidden))
 
+  -- the output of a test that passed, in the list
+  limited-no-rule : (text : List ℕ) → All (λ line. IsInLine (shown_text o.raw line)) (slice_split (λ b. b == 10) (front text o.passed_limit))
+      → AddsNoRule (limited_lines 13 o text)
+  unfolding limited_lines
+  limited-no-rule text h =
+      no-rule-both _ (more_line 13 (more_bytes text o.passed_limit)) (each-no-rule _ h) (more-no-rule (more_bytes text o.passed_limit))
+
+  some-no-rule : (out : Option (List ℕ))
+      → IfSome out (λ text. All (λ line. IsInLine (shown_text o.raw line)) (slice_split (λ b. b == 10) (front (without_returns text) o.passed_limit)))
+      → AddsNoRule (option_map_or (λ text. limited_lines 13 o (without_returns text)) out [])
+  some-no-rule None h = no-rules
+  some-no-rule (Some out) h = limited-no-rule (without_returns out) h
+
   -- the lines of entries in the list
   lines-listed : (kept : OutputStoreFinal) (line below : List ℕ) → IsLines line → IsLines below → IsLines (listed_text kept line below)
   lines-listed store.No line below h more = inl refl
@@ -266,10 +305,17 @@ module _ (o : Options) where
   failed-stored IsFlaky attempts slow = (_, refl)
   failed-stored (HasCrashed crash) attempts slow = (_, refl)
 
+  -- the output of a test that passed is shown in the list if the options say so
+  passed-stored : (attempts : ℕ) (slow : Bool) → (stored : Bool)
+      × ((finished_output o Passed attempts slow).store_final ≡ (if stored then store.Yes (is_final_display o.success_output) else store.No))
+  unfolding finished_output
+  passed-stored attempts slow = (_, refl)
+
   -- each line of the entry is shown in one line
   pub record IsEntryInLines (e : EntryView) : Type 0 where
     pub short : IsShortInLine o e
     pub why : is_final_display o.failure_output ≡ true → IsWhyInLines o e
+    pub output : is_final_display o.success_output ≡ true → IsOutputInLines o e
 
   ended-item : (t : TestNoteView) (w : List ℕ) → CleanLine w → IsItem (ended_line o t w)
   unfolding ended_line
@@ -292,8 +338,9 @@ module _ (o : Options) where
   item-lines : (e : EntryView) → IsLines (item o e)
   item-lines (TestFailed t f w) = lines-listed _ _ _ (failed-lines t (failed_word f.kind) w.short) (lines-why 13 (text_why o t f w))
   item-lines (TestPassed t) =
-      lines-listed _ _ _ (ended-item t (listed_word t.attempts t.slow) (clean-listed_word t.attempts t.slow)).lines (inl refl)
+      lines-listed _ _ _ (ended-item t (listed_word t.attempts t.slow) (clean-listed_word t.attempts t.slow)).lines (lines-output 13 t.outcome)
   item-lines (TestSkipped t) = lines-listed _ _ _ (ended-item t (codes "SKIP") (word (codes "SKIP") refl)).lines (inl refl)
+  item-lines (FlakyPassed t) = inl refl
   item-lines (LinesDisagree d why) = inl refl
   item-lines (SuiteNotRun suite n of) = inl refl
   item-lines (SuiteOver s) = inl refl
@@ -307,7 +354,14 @@ module _ (o : Options) where
       (rule-listed stored.0 (is_final_display o.failure_output) line why
       (failed-no-rule t (failed_word f.kind) w.short (clean-failed_word f.kind) h.short)
       (λ shown. why-no-rule (text_why o t f w) (h.why shown)))
-  item-no-rule (TestPassed t) h = rule-own _ _ (ended-item t (listed_word t.attempts t.slow) (clean-listed_word t.attempts t.slow)).no_rule
+  item-no-rule (TestPassed t) h =
+      let stored = passed-stored t.attempts t.slow in
+      let word = listed_word t.attempts t.slow in
+      let below = output_lines 13 o t.outcome in
+      subst (λ s. AddsNoRule (listed_text s (ended_line o t word) below)) (sym stored.1)
+      (rule-listed stored.0 (is_final_display o.success_output) (ended_line o t word) below
+      (ended-item t word (clean-listed_word t.attempts t.slow)).no_rule (λ shown. some-no-rule (passed_output t.outcome) (h.output shown)))
+  item-no-rule (FlakyPassed t) h = no-rules
   item-no-rule (TestSkipped t) h = rule-own _ _ (ended-item t (codes "SKIP") (word (codes "SKIP") refl)).no_rule
   item-no-rule (LinesDisagree d why) h = no-rules
   item-no-rule (SuiteNotRun suite n of) h = no-rules
@@ -355,6 +409,7 @@ module _ (o : Options) where
         | false ↦ elim t.slow as (λ s. line_at final.Fail (unwrap_or (one s) final.Fail) (item o (TestPassed t)) ≡ []) [ true ↦ refl | false ↦ refl ]
       ]
   at-written (TestSkipped t) h = refl
+  at-written (FlakyPassed t) h = refl
   at-written (LinesDisagree d why) h = refl
   at-written (SuiteNotRun suite n of) h = refl
   at-written (SuiteOver s) h = refl
@@ -373,14 +428,64 @@ module _ (o : Options) where
   part-lines : (level : FinalStatusLevel) (entries : List EntryView) → IsLines (part_at o level entries)
   part-lines level entries = lines-each (item_at o level) (at-lines level) entries
 
+  first-in-lines : (e : EntryView) (es : List EntryView) → AreInLines o (e ∷ es) → IsEntryInLines e
+  first-in-lines e es h = record {
+    short = All-head (IsShortInLine o) e es h.short;
+    why = λ shown. All-head (IsWhyInLines o) e es (h.why shown);
+    output = λ shown. All-head (IsOutputInLines o) e es (h.output shown);
+  }
+
+  rest-in-lines : (e : EntryView) (es : List EntryView) → AreInLines o (e ∷ es) → AreInLines o es
+  rest-in-lines e es h = record {
+    short = All-tail (IsShortInLine o) e es h.short;
+    why = λ shown. All-tail (IsWhyInLines o) e es (h.why shown);
+    output = λ shown. All-tail (IsOutputInLines o) e es (h.output shown);
+  }
+
   part-no-rule : (level : FinalStatusLevel) (entries : List EntryView) → AreInLines o entries → AddsNoRule (part_at o level entries)
   part-no-rule level [] h = no-rules
   part-no-rule level (e ∷ es) h =
-      let own : IsEntryInLines e =
-      record { short = All-head (IsShortInLine o) e es h.short; why = λ shown. All-head (IsWhyInLines o) e es (h.why shown) } in
-      let rest : AreInLines o es =
-      record { short = All-tail (IsShortInLine o) e es h.short; why = λ shown. All-tail (IsWhyInLines o) e es (h.why shown) } in
-      no-rule-both (item_at o level e) (part_at o level es) (at-no-rule level e own) (part-no-rule level es rest)
+      no-rule-both (item_at o level e) (part_at o level es) (at-no-rule level e (first-in-lines e es h)) (part-no-rule level es (rest-in-lines e es h))
+
+  -- the flaky tests in the list
+  abbrev OfLines : List ℕ → List ℕ → Type 0
+  OfLines line other = IsLines line
+
+  flaky-own : (e : EntryView) → AllZip (Alike OfLines) (flaky_of o e) (flaky_of o e)
+  flaky-own e =
+      let line : KeyedLine = record { key = ended_before e; line = item o e } in
+      elim (final_level_rank (final_level_of e) == final_level_rank final.Flaky)
+      as (λ b. AllZip (Alike OfLines) (if b then line ∷ [] else []) (if b then line ∷ [] else []))
+      [ true ↦ (record { key = refl; line = item-lines e }, tt) | false ↦ tt ]
+
+  flaky-text : (entries : List EntryView) → IsLines (text_of_lines (flaky_lines o entries))
+  flaky-text entries =
+      text-alike OfLines (inl refl) (λ xs ys us vs a b. lines-both xs us a b) (flaky_lines o entries) (flaky_lines o entries)
+      (fold-alike OfLines put_rising (rising-alike OfLines) [] [] (flat_map (flaky_of o) entries) (flat_map (flaky_of o) entries) tt
+      (each-alike OfLines (flaky_of o) (flaky_of o) flaky-own entries))
+
+  abbrev Ruleless : List ℕ → List ℕ → Type 0
+  Ruleless line other = AddsNoRule line
+
+  flaky-ruleless : (e : EntryView) → IsEntryInLines e → AllZip (Alike Ruleless) (flaky_of o e) (flaky_of o e)
+  flaky-ruleless e h =
+      let line : KeyedLine = record { key = ended_before e; line = item o e } in
+      elim (final_level_rank (final_level_of e) == final_level_rank final.Flaky)
+      as (λ b. AllZip (Alike Ruleless) (if b then line ∷ [] else []) (if b then line ∷ [] else []))
+      [ true ↦ (record { key = refl; line = item-no-rule e h }, tt) | false ↦ tt ]
+
+  all-ruleless : (entries : List EntryView) → AreInLines o entries
+      → AllZip (Alike Ruleless) (flat_map (flaky_of o) entries) (flat_map (flaky_of o) entries)
+  all-ruleless [] h = tt
+  all-ruleless (e ∷ es) h =
+      append-alike Ruleless (flaky_of o e) (flaky_of o e) (flat_map (flaky_of o) es) (flat_map (flaky_of o) es)
+      (flaky-ruleless e (first-in-lines e es h)) (all-ruleless es (rest-in-lines e es h))
+
+  flaky-no-rule : (entries : List EntryView) → AreInLines o entries → AddsNoRule (text_of_lines (flaky_lines o entries))
+  flaky-no-rule entries h =
+      text-alike Ruleless no-rules (λ xs ys us vs a b. no-rule-both xs us a b) (flaky_lines o entries) (flaky_lines o entries)
+      (fold-alike Ruleless put_rising (rising-alike Ruleless) [] [] (flat_map (flaky_of o) entries) (flat_map (flaky_of o) entries) tt
+      (all-ruleless entries h))
 
   list-lines : (entries : List EntryView) → IsLines (short_list o entries)
   unfolding short_list
@@ -388,7 +493,7 @@ module _ (o : Options) where
       lines-both (part_at o final.Pass entries) _ (part-lines final.Pass entries)
       (lines-both (part_at o final.Skip entries) _ (part-lines final.Skip entries)
       (lines-both (part_at o final.Slow entries) _ (part-lines final.Slow entries)
-      (lines-both (part_at o final.Flaky entries) _ (part-lines final.Flaky entries)
+      (lines-both (text_of_lines (flaky_lines o entries)) _ (flaky-text entries)
       (lines-both (part_at o final.Fail entries) _ (part-lines final.Fail entries) (slow-text entries).lines))))
 
   list-no-rule : (entries : List EntryView) → AreInLines o entries → AddsNoRule (short_list o entries)
@@ -397,7 +502,7 @@ module _ (o : Options) where
       no-rule-both (part_at o final.Pass entries) _ (part-no-rule final.Pass entries h)
       (no-rule-both (part_at o final.Skip entries) _ (part-no-rule final.Skip entries h)
       (no-rule-both (part_at o final.Slow entries) _ (part-no-rule final.Slow entries h)
-      (no-rule-both (part_at o final.Flaky entries) _ (part-no-rule final.Flaky entries h)
+      (no-rule-both (text_of_lines (flaky_lines o entries)) _ (flaky-no-rule entries h)
       (no-rule-both (part_at o final.Fail entries) _ (part-no-rule final.Fail entries h) (slow-text entries).no_rule))))
 
 -- the end
@@ -423,7 +528,7 @@ module _ (o : Options) (entries : List EntryView) (end : RunEnd) where
   Text = Lines ++ text_last o entries end
 
   lines-entries : IsLines Lines
-  lines-entries = blocks-lines (text_line o) (text_block o) entries (λ k d low. entry-written o _)
+  lines-entries = blocks-lines (text_line o) (text_block o) entries (λ k d low. entry-written o (slice_index_or entries k d))
 
   text-ends : EndsWith Text (codes "outcome " ++ outcome_word end.outcome)
   unfolding text_last outcome_line
@@ -440,13 +545,13 @@ module _ (o : Options) (entries : List EntryView) (end : RunEnd) where
       let passed = part_at o final.Pass entries in
       let skipped = part_at o final.Skip entries in
       let slow = part_at o final.Slow entries in
-      let flaky = part_at o final.Flaky entries in
+      let flaky = text_of_lines (flaky_lines o entries) in
       let slowest = text_of_lines (slow_lines o entries) in
       let front = Lines ++ (summary_lines end ++ (passed ++ (skipped ++ (slow ++ flaky)))) in
       let lines = lines-both Lines _ lines-entries (lines-both (summary_lines end) _ (lines-summary end)
       (lines-both passed _ (part-lines o final.Pass entries)
       (lines-both skipped _ (part-lines o final.Skip entries)
-      (lines-both slow flaky (part-lines o final.Slow entries) (part-lines o final.Flaky entries))))) in
+      (lines-both slow flaky (part-lines o final.Slow entries) (flaky-text o entries))))) in
       subst (λ t. HasBlocks t (filter_map (list_block o) entries))
       (sym (list-parts Lines (summary_lines end) passed skipped slow flaky (part_at o final.Fail entries) slowest (outcome_line end)))
       (later-blocks front _ (filter_map (list_block o) entries) lines
@@ -466,7 +571,7 @@ module _ (o : Options) (entries : List EntryView) (end : RunEnd) where
 
   text-says : TextSays o entries end Text
   text-says = record {
-    causes = has-blocks (text_line o) (text_block o) entries (text_last o entries end) (λ k d low. entry-written o _);
+    causes = has-blocks (text_line o) (text_block o) entries (text_last o entries end) (λ k d low. entry-written o (slice_index_or entries k d));
     summary = text-summary;
     listed = text-listed;
     outcome = text-ends;
@@ -479,6 +584,7 @@ text-names-causes o entries end = text-says o entries end
 name-written : (e : EntryView) → IsWritten (names_line e) (names_block e)
 name-written (TestFailed t f w) = (refl, in-line (clean-line t.name), inl refl)
 name-written (TestPassed t) = refl
+name-written (FlakyPassed t) = refl
 name-written (TestSkipped t) = refl
 name-written (LinesDisagree d why) = refl
 name-written (SuiteNotRun suite n of) = refl

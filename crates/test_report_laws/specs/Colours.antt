@@ -48,6 +48,8 @@ without_color o = record {
   status_level = o.status_level;
   final_status_level = o.final_status_level;
   failure_output = o.failure_output;
+  success_output = o.success_output;
+  passed_limit = o.passed_limit;
   slowest = o.slowest;
   no_tests_pass = o.no_tests_pass;
 }

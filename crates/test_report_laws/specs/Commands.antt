@@ -76,6 +76,25 @@ abbrev pub TextHasNoCommands : Type 0
 TextHasNoCommands = (o : Options) (entries : List EntryView) (end : RunEnd) → o.raw ≡ false
     → HasNoCommands (flat_map (text_line o) entries ++ text_last o entries end)
 
+-- each line of a text is a command, and nothing is after the last one
+abbrev pub AreCommands : List ℕ → Type 0
+AreCommands text = (commands : List (List ℕ)) × All IsCommand commands × (slice_split is_line_end text ≡ commands ++ [] ∷ [])
+
+-- what the form for people with annotations writes of an entry: the text, and behind it the command, if the entry has one
+abbrev pub annotated_line : Options → Options → EntryView → List ℕ
+annotated_line o a e = text_line o e ++ github_line a e
+
+-- what it writes of entries and at the end
+abbrev pub annotated_of_run : Options → Options → List EntryView → RunEnd → List ℕ
+annotated_of_run o a entries end = flat_map (annotated_line o a) entries ++ (text_last o entries end ++ github_last end)
+
+-- What the form for people with annotations writes of the entries of notes and at the end is texts that have no command, each with commands behind it
+-- or none, if `raw` is false.
+abbrev pub AnnotatedHasOwnCommands : Type 0
+AnnotatedHasOwnCommands = (o a : Options) (entries : List EntryView) (end : RunEnd) → o.raw ≡ false → All (λ e. (n : NoteView) × IsEntryOf n e) entries
+    → (parts : List (List ℕ × List ℕ)) × All (λ p. HasNoCommands p.0 × AreCommands p.1) parts
+    × (annotated_of_run o a entries end ≡ flat_map (λ p. p.0 ++ p.1) parts)
+
 -- What the form of names writes has no command.
 abbrev pub NamesHasNoCommands : Type 0
 NamesHasNoCommands = (entries : List EntryView) → HasNoCommands (flat_map names_line entries)

@@ -13,7 +13,7 @@ use Rattle.template.specs.Shows.{HasPart, items_at}
 use Rattle.template.specs.Template.{Values, parts_text, text_of}
 use Rattle.template.specs.Tree.{TreeView}
 use Rattle.template.specs.declared.hole.Hole.TheVariants as hole
-use Rattle.test_report_forms.specs.Entry.{EntryView, IsEntryOf, LinesDisagree, SuiteNotRun, SuiteOver, TestFailed, TestPassed, TestSkipped}
+use Rattle.test_report_forms.specs.Entry.{EntryView, FlakyPassed, IsEntryOf, LinesDisagree, SuiteNotRun, SuiteOver, TestFailed, TestPassed, TestSkipped}
 use Rattle.test_report_forms.specs.Github.{github_last, github_line}
 use Rattle.test_report_forms.specs.Holes.{HoleView, PhraseView}
 use Rattle.test_report_forms.specs.Html.{failed_text, html_of, page_heading, page_holes, page_parts, page_phrases, problem_text, skip_text, suite_text, title_text}
@@ -28,7 +28,10 @@ use Rattle.test_report_forms.specs.Values.{values_of_run}
 use Rattle.test_report_forms.specs.WholeOutput.{page_limits, summary_limits}
 use Rattle.test_report_forms.specs.Words.{outcome_word, run_numbers}
 use Rattle.test_report_forms.specs.declared.options.Options.{Options}
+use Rattle.test_report_engine.specs.Progress.{progress_text}
+use Rattle.test_report_laws.specs.Commands.{annotated_of_run}
 use Rattle.test_report_run.specs.Note.{NoteView}
+use Rattle.test_report_run.specs.Run.{RunState}
 use Rattle.test_report_run.specs.declared.note.RunEnd.{RunEnd}
 
 -- a control character, or a character that changes the direction of writing
@@ -43,10 +46,19 @@ HasNoControls text = NoCharPasses is_escaped text
 abbrev pub IsPlainLine : List ℕ → Type 0
 IsPlainLine text = (line : List ℕ) × (text ≡ line ++ codes "\n") × NoCharPasses is_unseen line
 
+-- the line that shows the progress of a run has no control characters, and no characters that change the direction of writing
+abbrev pub ProgressIsPlain : Type 0
+ProgressIsPlain = (r : RunState) (seconds : ℕ) → NoCharPasses is_unseen (progress_text r seconds)
+
 -- What the form for people writes of entries and at the end has no control characters, if `raw` and `color` are false.
 abbrev pub TextHasNoControls : Type 0
 TextHasNoControls = (o : Options) (entries : List EntryView) (end : RunEnd) → o.raw ≡ false → o.color ≡ false
     → HasNoControls (flat_map (text_line o) entries ++ text_last o entries end)
+
+-- What the form for people with annotations writes of the entries of notes and at the end has no control characters, if `raw` and `color` are false.
+abbrev pub AnnotatedHasNoControls : Type 0
+AnnotatedHasNoControls = (o a : Options) (entries : List EntryView) (end : RunEnd) → o.raw ≡ false → o.color ≡ false
+    → All (λ e. (n : NoteView) × IsEntryOf n e) entries → HasNoControls (annotated_of_run o a entries end)
 
 -- What the form of names writes of an entry is nothing or one line.
 abbrev pub NamesAreLines : Type 0
@@ -69,6 +81,7 @@ MarkdownHasNoControls = (o : Options) (entries : List EntryView) (end : RunEnd) 
 abbrev pub failed_name : EntryView → Option (List ℕ)
 failed_name (TestFailed t f w) = Some (shown_name (title_name t))
 failed_name (TestPassed t) = None
+failed_name (FlakyPassed t) = None
 failed_name (TestSkipped t) = None
 failed_name (LinesDisagree d why) = None
 failed_name (SuiteNotRun suite n of) = None

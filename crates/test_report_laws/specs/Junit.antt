@@ -9,7 +9,7 @@ use Rattle.template.specs.Elements.{elements_in}
 use Rattle.template.specs.Reader.{read_tree}
 use Rattle.template.specs.Shows.{HasPart}
 use Rattle.template.specs.Tree.{TreeView, Trees}
-use Rattle.test_report_forms.specs.Entry.{EntryView, LinesDisagree, SuiteNotRun, SuiteOver, TestFailed, TestPassed, TestSkipped}
+use Rattle.test_report_forms.specs.Entry.{EntryView, FlakyPassed, LinesDisagree, SuiteNotRun, SuiteOver, TestFailed, TestPassed, TestSkipped}
 use Rattle.test_report_forms.specs.Junit.{junit_of, junit_parts, junit_suites, no_tests_case, values_at_end, xml_header}
 use Rattle.test_report_forms.specs.JunitCase.{CaseView, case_of_cause, failed_case, own_name}
 use Rattle.test_report_forms.specs.JunitEntries.{SaysEntries}
@@ -48,8 +48,8 @@ abbrev pub JunitHasCases : Type 0
 JunitHasCases = (o : Options) (entries : List EntryView) (end : RunEnd)
     → (t : TreeView) × IsXml (junit_of o entries end) t × HasNamed (junit_suites o entries end) t
 
--- The tree that JUnit's XML reads back as is that of suites that have exactly one test case for each entry that is not the end of a suite, in
--- order. Its numbers are the numbers of these test cases.
+-- The tree that JUnit's XML reads back as is that of suites that have exactly one test case for each entry that is neither the end of a suite nor that
+-- a flaky test passed, in order. Its numbers are the numbers of these test cases.
 abbrev pub JunitSaysNotes : Type 0
 JunitSaysNotes = (o : Options) (entries : List EntryView) (end : RunEnd)
     → (t : TreeView) × IsXml (junit_of o entries end) t × IsRunElement (junit_suites o entries end) end.time t × SaysEntries o entries end
@@ -75,6 +75,7 @@ no_test_cause = record { suite = suite_name (Some own_name); case = no_tests_cas
 abbrev pub junit_cause : Options → EntryView → Option JunitCause
 junit_cause o (TestFailed t f w) = Some (failed_cause o t f w)
 junit_cause o (TestPassed t) = None
+junit_cause o (FlakyPassed t) = None
 junit_cause o (TestSkipped t) = None
 junit_cause o (LinesDisagree d why) = option_map other_cause (cause_of_entry (LinesDisagree d why))
 junit_cause o (SuiteNotRun suite n of) = option_map other_cause (cause_of_entry (SuiteNotRun suite n of))

@@ -1,16 +1,18 @@
 -- The lines of the forms that write each entry at once.
-use Rattle.std.specs.Prelude.{◌≡◌, ◌≢◌, ◌==◌, ◌++◌, ◌⊎◌, ℕ, Bool, true, false, if◌then◌else◌, IsTrue, List, [], ◌∷◌, Some, None, Option, ⊤, codes}
+use Rattle.std.specs.Prelude.{◌≡◌, ◌≢◌, ◌==◌, ◌++◌, ◌⊎◌, ℕ, Bool, true, false, if◌then◌else◌, IsTrue, List, [], ◌∷◌, Some, None, Option, ⊤, codes, nat_lt}
 use Rattle.std.specs.List.{All, Contains, filter_map, flat_map, slice_split}
-use Rattle.std.specs.Option.{option_map_or}
+use Rattle.std.specs.Option.{IfSome, option_map_or}
 use Rattle.run_events_settings.specs.Config.{is_final_display}
 use Rattle.run_events_levels.specs.declared.levels.OutputOnTestFinished.{OutputOnTestFinished}
 use Rattle.run_events_levels.specs.declared.levels.OutputStoreFinal.{OutputStoreFinal}
 use Rattle.run_events_levels.specs.declared.levels.OutputStoreFinal.TheVariants as store
-use Rattle.test_report_forms.specs.Entry.{EntryView, IsEntryOf, LinesDisagree, SuiteNotRun, SuiteOver, TestFailed, TestPassed, TestSkipped, entry_view}
+use Rattle.test_report_forms.specs.Entry.{EntryView, FlakyPassed, IsEntryOf, LinesDisagree, SuiteNotRun, SuiteOver, TestFailed, TestPassed, TestSkipped, entry_view}
 use Rattle.test_report_forms.specs.Github.{cause_message, github_last, github_line, message, named_why, properties, title_property}
-use Rattle.test_report_forms.specs.Levels.{finished_output, has_line, skipped_output}
+use Rattle.test_report_forms.specs.Levels.{finished_output, has_line, shown_if, skipped_output}
 use Rattle.test_report_forms.specs.List.{list_line, passed_word}
 use Rattle.test_report_forms.specs.Names.{names_line}
+use Rattle.test_report_forms.specs.Lines.{without_returns}
+use Rattle.test_report_forms.specs.PassedOutput.{has_output, output_lines, passed_output}
 use Rattle.test_report_forms.specs.Shown.{bracket, front, indented, shown_line, shown_text}
 use Rattle.test_report_forms.specs.Model.{lacks_events}
 use Rattle.test_report_forms.specs.Text.{advice, attempts_note, text_last, text_line}
@@ -81,13 +83,21 @@ ended_block shows line below = if has_line shows then Some (record { line = line
 abbrev pub ended_words : Options → List ℕ → TestNoteView → List ℕ → List ℕ
 ended_words o word t note = status_text o.color word ++ (codes " " ++ (bracket t.time ++ (title t ++ note)))
 
+-- a line with the status, the time and the name of a test that passed, and under it its output
+abbrev pub passed_block : Options → TestNoteView → Option Block
+passed_block o t =
+    ended_block (shown_if (has_output t.outcome) (finished_output o Passed t.attempts t.slow)) (ended_words o (passed_word t.attempts) t [])
+    (output_lines 4 o t.outcome)
+
 -- the form for people: a line with the status, the time, the name and the attempts of a failed test, and under it why it failed; a line with the
--- status, the time and the name of another test; or the line of a cause, and under it what explains the cause
+-- status, the time and the name of another test, and under it what the test wrote if it passed; or the line of a cause, and under it what explains
+-- the cause. A flaky test has its line when it passed, and no other one when it counts as passed
 abbrev pub text_block : Options → EntryView → Option Block
 text_block o (TestFailed t f w) =
     ended_block (finished_output o (finish_for f.kind) t.attempts t.slow) (ended_words o (failed_word f.kind) t (attempts_note t.attempts))
     (why_lines 4 o (text_why o t f w))
-text_block o (TestPassed t) = ended_block (finished_output o Passed t.attempts t.slow) (ended_words o (passed_word t.attempts) t []) []
+text_block o (TestPassed t) = if nat_lt 1 t.attempts then None else passed_block o t
+text_block o (FlakyPassed t) = passed_block o t
 text_block o (TestSkipped t) = ended_block (skipped_output o) (ended_words o (codes "SKIP") t []) []
 text_block o (LinesDisagree d why) =
     Some (record { line = disagreement_line d; below = option_map_or (indented 4 o.raw) why [] ++ advice (lacks_events d) })
@@ -136,10 +146,18 @@ IsWhyInLines o (TestFailed t f w) =
     All (λ line. IsInLine (shown_text o.raw line)) (slice_split (λ b. b == 10) (front (text_why o t f w).text o.limit))
 IsWhyInLines o _ = ⊤
 
--- the short reason of each entry is shown in one line, and each line of why a test failed, too, if it is shown in the list
+-- each line of the output of a test that passed is shown in one line
+abbrev pub IsOutputInLines : Options → EntryView → Type 0
+IsOutputInLines o (TestPassed t) = IfSome (passed_output t.outcome) (λ out.
+    All (λ line. IsInLine (shown_text o.raw line)) (slice_split (λ b. b == 10) (front (without_returns out) o.passed_limit)))
+IsOutputInLines o _ = ⊤
+
+-- the short reason of each entry is shown in one line, and so is each line of why a test failed and of the output of a test that passed, if they are
+-- shown in the list
 pub record AreInLines (o : Options) (entries : List EntryView) : Type 0 where
   pub short : All (IsShortInLine o) entries
   pub why : is_final_display o.failure_output ≡ true → All (IsWhyInLines o) entries
+  pub output : is_final_display o.success_output ≡ true → All (IsOutputInLines o) entries
 
 -- The short reason of each entry of a note is shown in one line.
 abbrev pub ShortIsInLine : Type 0
@@ -179,6 +197,7 @@ NamesNamesTests = (entries : List EntryView) → HasBlocks (flat_map names_line 
 -- the entry says why a run does not succeed: a failed test, a disagreement, or a suite whose tests were not all run
 abbrev pub is_reason : EntryView → Bool
 is_reason (TestPassed t) = false
+is_reason (FlakyPassed t) = false
 is_reason (TestSkipped t) = false
 is_reason (TestFailed t f w) = true
 is_reason (LinesDisagree d why) = true

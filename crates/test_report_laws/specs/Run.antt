@@ -9,7 +9,7 @@ use Rattle.test_report_events.specs.declared.event.TestResult.{TestResult}
 use Rattle.test_report_events.specs.declared.event.TestResult.TheVariants.{Ok, Failed, Ignored}
 use Rattle.test_report_run.specs.Events.{is_event}
 use Rattle.test_report_run.specs.Ended.{failure_of}
-use Rattle.test_report_run.specs.Note.{CrashView, Disagrees, Fails, HasCrashed, HasFailed, HasNoEnd, HasTimedOut, IsFlaky, IsNotRun, IsSkipped, KindView, NoteView, OutcomeView, Passes, SuiteIs, SuiteNoteView, TestIs, TestNoteView}
+use Rattle.test_report_run.specs.Note.{CrashView, Disagrees, Fails, FlakyEnds, HasCrashed, HasFailed, HasNoEnd, HasTimedOut, IsFlaky, IsNotRun, IsSkipped, KindView, NoteView, OutcomeView, Passes, SuiteIs, SuiteNoteView, TestIs, TestNoteView}
 use Rattle.test_report_run.specs.Others.{OthersView}
 use Rattle.test_report_run.specs.Over.{crash_again, early_notes, last_notes}
 use Rattle.test_report_run.specs.Run.{RunState, counts_tests, file_notes, has_failed, is_disagreement, notes_at, open_suite, run_start, told}
@@ -53,13 +53,14 @@ is_told (HasCrashed crash) = false
 
 -- the test failed, and a line says so
 abbrev pub fails_as_told : OutcomeView → Bool
-fails_as_told Passes = false
+fails_as_told (Passes output) = false
 fails_as_told (IsSkipped reason) = false
 fails_as_told (Fails failure) = is_told failure.kind
 
 -- the note is of a failed test whose line says that it failed
 abbrev pub is_told_failure : NoteView → Bool
 is_told_failure (TestIs t) = fails_as_told t.outcome
+is_told_failure (FlakyEnds t) = false
 is_told_failure (Disagrees d) = false
 is_told_failure (IsNotRun suite n of) = false
 is_told_failure (SuiteIs s) = false
@@ -92,19 +93,20 @@ FailureIsTold = (r : RunState) → (e : TestEndView) → e.result ≡ Failed
 -- the note is of a test, and the rule is true of this test
 abbrev pub is_test : (TestNoteView → Bool) → NoteView → Bool
 is_test rule (TestIs t) = rule t
+is_test rule (FlakyEnds t) = false
 is_test rule (Disagrees d) = false
 is_test rule (IsNotRun suite n of) = false
 is_test rule (SuiteIs s) = false
 
 -- the test passed
 abbrev pub has_passed : OutcomeView → Bool
-has_passed Passes = true
+has_passed (Passes output) = true
 has_passed (IsSkipped reason) = false
 has_passed (Fails failure) = false
 
 -- the test was skipped
 abbrev pub was_skipped : OutcomeView → Bool
-was_skipped Passes = false
+was_skipped (Passes output) = false
 was_skipped (IsSkipped reason) = true
 was_skipped (Fails failure) = false
 
@@ -126,7 +128,7 @@ is_crash (HasCrashed crash) = true
 
 -- the test failed, and this holds of the kind of its failure
 abbrev pub fails_by : (KindView → Bool) → OutcomeView → Bool
-fails_by rule Passes = false
+fails_by rule (Passes output) = false
 fails_by rule (IsSkipped reason) = false
 fails_by rule (Fails failure) = rule failure.kind
 
@@ -161,6 +163,7 @@ crashed_in notes = count_by (is_test (λ t. fails_by is_crash t.outcome)) notes
 -- how many tests of a suite that is over were not run
 abbrev pub not_run_of : NoteView → ℕ
 not_run_of (TestIs t) = 0
+not_run_of (FlakyEnds t) = 0
 not_run_of (Disagrees d) = 0
 not_run_of (IsNotRun suite n of) = 0
 not_run_of (SuiteIs s) = s.not_run
@@ -244,13 +247,14 @@ crash_of_kind (HasCrashed crash) = Some crash
 
 -- a crash, if a test that counts so crashed
 abbrev pub crash_of_outcome : OutcomeView → Option CrashView
-crash_of_outcome Passes = None
+crash_of_outcome (Passes output) = None
 crash_of_outcome (IsSkipped reason) = None
 crash_of_outcome (Fails failure) = crash_of_kind failure.kind
 
 -- the crashed test of a note, if it is of one
 abbrev pub crashed_test : NoteView → Option Crashed
 crashed_test (TestIs t) = option_map (λ c. record { suite = t.suite; crash = c }) (crash_of_outcome t.outcome)
+crashed_test (FlakyEnds t) = None
 crashed_test (Disagrees d) = None
 crashed_test (IsNotRun suite n of) = None
 crashed_test (SuiteIs s) = None

@@ -7,7 +7,7 @@ use Rattle.test_report_events.specs.Event.{EventView, SuiteEndView, SuiteStarts,
 use Rattle.test_report_events.specs.declared.event.CargoFailure.{CargoFailure}
 use Rattle.test_report_laws.specs.Run.{Agrees, IsClean, damaged_lines_of, events_in, failed_lines_of, failed_verdicts_of, not_run_in, passed_in, skipped_in}
 use Rattle.test_report_run.specs.Running.{RunningView}
-use Rattle.test_report_run.specs.Note.{Disagrees, IsNotRun, NoteView, SuiteIs, TestIs}
+use Rattle.test_report_run.specs.Note.{Disagrees, FlakyEnds, IsNotRun, NoteView, SuiteIs, TestIs}
 use Rattle.test_report_run.specs.Over.{last_notes}
 use Rattle.test_report_run.specs.Run.{RunState, counts_tests, is_cause, tests_in, open_suite, suite_at}
 use Rattle.test_report_run.specs.Said.{numbers_of}
@@ -28,6 +28,7 @@ RanNoTests end = end.outcome ≡ outcome.NoTestsRun
 -- how many tests of a suite were not run, by the note that names the suite
 abbrev pub named_not_run : NoteView → ℕ
 named_not_run (TestIs t) = 0
+named_not_run (FlakyEnds t) = 0
 named_not_run (Disagrees d) = 0
 named_not_run (IsNotRun suite n of) = n
 named_not_run (SuiteIs s) = 0
@@ -39,6 +40,7 @@ NotRunIsNamed = (slow : ℕ) → (files : List (List EventView)) → sum_by name
 -- the note is of a suite whose tests were not all run
 abbrev pub is_not_run : NoteView → Bool
 is_not_run (TestIs t) = false
+is_not_run (FlakyEnds t) = false
 is_not_run (Disagrees d) = false
 is_not_run (IsNotRun suite n of) = true
 is_not_run (SuiteIs s) = false

@@ -1,17 +1,19 @@
 //! Laws of what the forms write.
 
 ghost use Rattle.test_report_laws.specs.Colours.{TextIsColoured};
-ghost use Rattle.test_report_laws.specs.Commands.{NamesHasNoCommands, OnlyCommands, TextHasNoCommands};
-ghost use Rattle.test_report_laws.specs.Forms.{GithubHasNoControls, HtmlHasNoControls, HtmlNamesCauses, HtmlReadsBack, HtmlSaysEnd, HtmlShowsItems, HtmlShowsPhrases, HtmlShowsValues, MarkdownHasNoControls, MarkdownKeepsMarks, MarkdownNamesCauses, MarkdownSaysEnd, MarkdownSaysMore, MarkdownShowsPhrases, MarkdownShowsTests, MarkdownShowsValues, NamesAreLines, TextHasNoControls};
+ghost use Rattle.test_report_laws.specs.Commands.{AnnotatedHasOwnCommands, NamesHasNoCommands, OnlyCommands, TextHasNoCommands};
+ghost use Rattle.test_report_laws.specs.Forms.{AnnotatedHasNoControls, GithubHasNoControls, HtmlHasNoControls, HtmlNamesCauses, HtmlReadsBack, HtmlSaysEnd, HtmlShowsItems, HtmlShowsPhrases, HtmlShowsValues, MarkdownHasNoControls, MarkdownKeepsMarks, MarkdownNamesCauses, MarkdownSaysEnd, MarkdownSaysMore, MarkdownShowsPhrases, MarkdownShowsTests, MarkdownShowsValues, NamesAreLines, ProgressIsPlain, TextHasNoControls};
 ghost use Rattle.test_report_laws.specs.Json.{JsonHasNoCommands, JsonReadsBack};
 ghost use Rattle.test_report_laws.specs.Junit.{JunitHasCases, JunitHasNoControls, JunitNamesCauses, JunitReadsBack, JunitSaysNoTests, JunitSaysNotes};
 ghost use Rattle.test_report_laws.specs.Lines.{GithubNamesCauses, NamesNamesTests, ShortIsInLine, TextNamesCauses};
 
 /// Every line that the form for GitHub writes of entries of notes (`IsEntryOf`) is a command for an error or a
 /// notice: `::`, the name of the command, properties or none, `::` and a message. The value of a property has no
-/// comma, no colon and no end of a line. A carriage return ends a line, too.
+/// comma, no colon and no end of a line. A carriage return ends a line, too. What `AnnotatedForm` without `raw` writes is
+/// texts that are no commands of a CI system, as those of `no_commands`, each with such commands behind it or none.
 pub fn only_commands()
-    ensures { OnlyCommands }
+    ensures github { OnlyCommands }
+    ensures annotated { AnnotatedHasOwnCommands }
 {}
 
 /// Whatever the input has, no line that `text` without `raw` or `names` writes is a command of a CI system: after white
@@ -22,19 +24,23 @@ pub fn no_commands()
 {}
 
 /// Whatever the input has, no form but `json` writes control characters, except tabs and line feeds, or characters
-/// that change the direction of writing. For `text` this holds if `raw` and `color` are false: `raw`
+/// that change the direction of writing. For `text` and `AnnotatedForm` this holds if `raw` and `color` are false: `raw`
 /// keeps these characters of the input, and colours use the control character ESC. If only `raw` is false, `text`
 /// writes no others than four fixed sequences for colours (`colours`). Without these the text is the one without
-/// colours. `names` writes each name on a line of its own, without tabs and line feeds in it. For `github` the
-/// entries must be those of notes (`IsEntryOf`), since the form writes the line number of a failure without escapes.
+/// colours. `names` writes each name on a line of its own, without tabs and line feeds in it. For `github` and
+/// `AnnotatedForm` the entries must be those of notes (`IsEntryOf`), since these forms write the line number of a failure
+/// without escapes.
+/// The line that shows the progress of a run has no such characters either, and no tabs and line feeds.
 pub fn no_controls()
     ensures text { TextHasNoControls }
     ensures colours { TextIsColoured }
     ensures names { NamesAreLines }
+    ensures annotated { AnnotatedHasNoControls }
     ensures github { GithubHasNoControls }
     ensures junit { JunitHasNoControls }
     ensures html { HtmlHasNoControls }
     ensures markdown { MarkdownHasNoControls }
+    ensures progress { ProgressIsPlain }
 {
     template::laws::renders_no_controls();
     test_report_forms::laws::junit_is_sound();
@@ -45,11 +51,12 @@ pub fn no_controls()
 /// Every form but `names` names each reason why a run does not succeed.
 ///
 /// What `text` writes has, in the order of the entries, a line for each test that the levels show, with its status, its
-/// time and its name, and for a failed test its attempts and, if the options say so, under it why it failed. It has a
-/// line for each disagreement, with what explains a failure of cargo under it, and for each suite whose tests were not
-/// all run. The last line is the outcome, which says if no test ran. The summary is the line after the last line of
-/// dashes, if each short reason is shown in one line, as those of notes are (`short`), and if each line of the reasons
-/// that the list shows is shown in one line. The list at the end has, in the order of the entries, a line with the short
+/// time and its name, and for a failed test its attempts. Under it is, if the options say so, why the test failed, or
+/// what it wrote if it passed. A flaky test has this line when it passed, and no other when it counts as passed. The
+/// text has a line for each disagreement, with what explains a failure of cargo under it, and for each suite whose tests
+/// were not all run. The last line is the outcome, which says if no test ran. The summary is the line after the last
+/// line of dashes, if each short reason is shown in one line, as those of notes are (`short`), and if each line of the
+/// reasons and outputs that the list shows is shown in one line. The list at the end has, in the order of the entries, a line with the short
 /// reason for each failed test that the levels list, if each short reason is shown in one line, and under it why it
 /// failed, if the options say so. `github` writes a command for each failed test and each of these lines, and as the
 /// last line the one with the summary and the outcome. `names` writes the name of each failed test. These are whole
