@@ -27,7 +27,7 @@ const FINAL_STATUS_LEVELS: &[&str] = &[
     "none", "fail", "flaky", "retry", "slow", "skip", "leak", "pass", "all",
 ];
 
-/// The values of `--failure-output`.
+/// The values of `--failure-output` and `--success-output`.
 const OUTPUT_DISPLAYS: &[&str] = &["immediate", "immediate-final", "final", "never"];
 
 /// The values of `--format`.
@@ -152,14 +152,24 @@ fn with_display<'a>(alloc: Global, command: Command<'a>) -> Result<Command<'a>, 
         .arg(choice(alloc, "others", "WHEN", TIMES).help(
             "Write the lines that are no events to standard error; `auto` does so for standard input, and not for files",
         ))?
-        .arg(level(alloc, "status-level", STATUS_LEVELS, "fail").help(
+        .arg(choice_with(alloc, "status-level", "LEVEL", STATUS_LEVELS, "fail").help(
             "Write a line for each test of this level or a more important one when it ends, in the form `text`",
         ))?
-        .arg(level(alloc, "final-status-level", FINAL_STATUS_LEVELS, "slow").help(
+        .arg(choice_with(
+            alloc,
+            "final-status-level",
+            "LEVEL",
+            FINAL_STATUS_LEVELS,
+            "slow",
+        )
+        .help(
             "List the tests of this level and of more important ones at the end of the form `text`",
         ))?
         .arg(choice(alloc, "failure-output", "WHEN", OUTPUT_DISPLAYS).help(
             "When the form `text` shows why tests failed: when they end, in the list at the end, both, or never",
+        ))?
+        .arg(choice_with(alloc, "success-output", "WHEN", OUTPUT_DISPLAYS, "never").help(
+            "When the form `text` shows the output of tests that passed, if their lines have it: as for --failure-output",
         ))?
         .arg(choice(alloc, "annotations", "WHEN", ANNOTATIONS).help(
             "Write annotations for GitHub between the lines of the form `text`; `auto` does so if GITHUB_ACTIONS is `true`",
@@ -176,19 +186,21 @@ fn with_display<'a>(alloc: Global, command: Command<'a>) -> Result<Command<'a>, 
 /// Returns an option that takes one of these values. The first is the default.
 fn choice<'a>(alloc: Global, name: &'a str, value: &'a str, values: &'a [&'a str]) -> Arg<'a> {
     let default = values.first().copied().unwrap_or("");
+    choice_with(alloc, name, value, values, default)
+}
+
+/// Returns an option that takes one of these values, which has this default.
+fn choice_with<'a>(
+    alloc: Global,
+    name: &'a str,
+    value: &'a str,
+    values: &'a [&'a str],
+    default: &'a str,
+) -> Arg<'a> {
     Arg::new(alloc, name)
         .long(name)
         .value_name(value)
         .value_parser(values)
-        .default_value(default)
-}
-
-/// Returns an option that takes a level, which has this default.
-fn level<'a>(alloc: Global, name: &'a str, levels: &'a [&'a str], default: &'a str) -> Arg<'a> {
-    Arg::new(alloc, name)
-        .long(name)
-        .value_name("LEVEL")
-        .value_parser(levels)
         .default_value(default)
 }
 
@@ -234,9 +246,9 @@ fn final_status_level_of(matches: &ArgMatches<'_>) -> FinalStatusLevel {
     }
 }
 
-/// Returns when it is shown why tests failed.
-fn failure_output_of(matches: &ArgMatches<'_>) -> TestOutputDisplay {
-    match matches.get_str("failure-output") {
+/// Returns the display that an option names.
+fn display_of(matches: &ArgMatches<'_>, option: &str) -> TestOutputDisplay {
+    match matches.get_str(option) {
         Some("immediate-final") => TestOutputDisplay::ImmediateFinal,
         Some("final") => TestOutputDisplay::Final,
         Some("never") => TestOutputDisplay::Never,
@@ -292,8 +304,9 @@ pub(crate) fn options_of<'a>(
     colors: bool,
 ) -> Result<Options, BadValue<'a>> {
     let output = output_of(matches);
+    let limit = limit_of(matches)?;
     Ok(Options {
-        limit: limit_of(matches)?.unwrap_or(default_limit(output)),
+        limit: limit.unwrap_or(default_limit(output)),
         output,
         raw: matches.get_flag("raw"),
         color: match matches.get_str("color") {
@@ -303,7 +316,9 @@ pub(crate) fn options_of<'a>(
         },
         status_level: status_level_of(matches),
         final_status_level: final_status_level_of(matches),
-        failure_output: failure_output_of(matches),
+        failure_output: display_of(matches, "failure-output"),
+        success_output: display_of(matches, "success-output"),
+        passed_limit: limit.unwrap_or(usize::MAX),
         slowest: matches.get_one::<usize>("slowest").unwrap_or(0),
         no_tests_pass: matches.get_str("no-tests") == Some("pass"),
     })

@@ -34,6 +34,7 @@ use std::rc::Rc;
 use std::rt::{Env, Files};
 use test_report_engine::fault::Fault;
 use test_report_engine::pieces::Pieces;
+use test_report_engine::progress::progress_text;
 use test_report_engine::report::Report;
 use test_report_engine::status::exit_status;
 use test_report_forms::annotated::AnnotatedForm;
@@ -59,9 +60,6 @@ struct Settings {
 
     /// The time in microseconds from which on a test is slow.
     slow: u64,
-
-    /// True if a line on standard error shows the progress of the run.
-    shows_progress: bool,
 }
 
 /// Returns the program's name and its arguments, or `None` if one of them is not UTF-8.
@@ -140,7 +138,8 @@ fn read_file<'a, R: Files + AllocGlobal + Input, F: Form + Drop, W: Write>(
     }
 }
 
-/// Reads a file of the run from a reader, and shows the progress of the run after each piece.
+/// Reads a file of the run from a reader. After each piece it shows the progress of the run, if that is wanted and a
+/// suite has started.
 fn read_from<S: Read + Drop, R: AllocGlobal, F: Form + Drop, W: Write>(
     rt: &R,
     reader: S,
@@ -154,8 +153,8 @@ fn read_from<S: Read + Drop, R: AllocGlobal, F: Form + Drop, W: Write>(
         if !read_piece(rt.alloc(), &mut source, report, pieces, output, others)? {
             return Ok(());
         }
-        if let Some(progress) = pieces.progress() {
-            output.show_progress(progress.text(rt.alloc())?);
+        if output.wants_progress() && report.run().has_suite() {
+            output.show_progress(progress_text(rt.alloc(), report.run(), 0)?);
         }
     }
     Err(Fault::CounterFull)
@@ -184,10 +183,10 @@ fn report_to<'a, R: Files + AllocGlobal + Input, F: Form + Drop, W: Write>(
     rt: &R,
     matches: &ArgMatches<'a>,
     mut report: Report<F>,
-    mut pieces: Pieces,
     output: &mut Output<W>,
     others: &mut Others,
 ) -> Result<(RunEnd, FileTexts), Failure<'a>> {
+    let mut pieces = Pieces::new(rt.alloc());
     for path in inputs_of(rt.alloc(), matches)? {
         others.are_wanted = wants_others(matches, path == STANDARD_INPUT);
         read_file(rt, path, &mut report, &mut pieces, output, others)?;
@@ -195,15 +194,6 @@ fn report_to<'a, R: Files + AllocGlobal + Input, F: Form + Drop, W: Write>(
     let texts = report.file_texts(rt.alloc())?;
     let end = report.finish(rt.alloc(), &mut StdSink::new(output))?;
     Ok((end, texts))
-}
-
-/// Returns the state of the reading before the first file.
-fn pieces_of(alloc: Global, settings: Settings) -> Pieces {
-    if settings.shows_progress {
-        Pieces::with_progress(alloc)
-    } else {
-        Pieces::without_progress(alloc)
-    }
 }
 
 /// Writes the report to standard output in a form, and then the files. Returns the exit status, which is that of a
@@ -219,9 +209,8 @@ fn report_in<'a, R: Files + AllocGlobal + Input + Print, F: Form + Drop>(
 ) -> Result<u8, Failure<'a>> {
     let files = file_forms(rt.alloc(), matches, settings.options)?;
     let report = Report::with_files(rt.alloc(), form, files, settings.slow);
-    let pieces = pieces_of(rt.alloc(), settings);
     let mut output = Output::new(io::writer(rt), line);
-    let written = report_to(rt, matches, report, pieces, &mut output, &mut others);
+    let written = report_to(rt, matches, report, &mut output, &mut others);
     output.hide_progress();
     match written {
         Ok((end, texts)) => {
@@ -348,10 +337,10 @@ fn run_parsed<'a>(rt: &HostRuntime, matches: &ArgMatches<'a>) -> Result<u8, Fail
         options: options_of(matches, has_colors(rt)?)?,
         has_annotations: wants_annotations(matches, is_github(rt)?),
         slow: slow_of(matches)?,
-        shows_progress: shows_progress(matches, rt.stderr().is_terminal()),
     };
     prepare(rt, matches)?;
-    let line = Rc::new(rt.alloc(), ProgressLine::new(rt.stderr()));
+    let is_wanted = shows_progress(matches, rt.stderr().is_terminal());
+    let line = Rc::new(rt.alloc(), ProgressLine::new(rt.stderr(), is_wanted));
     let line = line.map_err(AllocError::from)?;
     let others = Others::new(Output::new(rt.stderr(), line.clone()?));
     report_of(rt, matches, settings, line, others)

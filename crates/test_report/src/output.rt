@@ -25,6 +25,11 @@ impl<W: Write> Output<W> {
         }
     }
 
+    /// Returns true if the line of progress is to be shown.
+    pub(crate) fn wants_progress(&self) -> bool {
+        self.line.is_wanted()
+    }
+
     /// Shows this text in the line of progress.
     pub(crate) fn show_progress(&self, text: String) {
         self.line.show(text);

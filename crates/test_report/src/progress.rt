@@ -6,6 +6,8 @@ use std::io::{Stderr, Write};
 /// A line on standard error, which several writers share. While it is shown, the cursor is at its end.
 #[derive(Drop)]
 pub(crate) struct ProgressLine {
+    /// True if the line is to be shown.
+    is_wanted: bool,
     state: RefCell<State>,
 }
 
@@ -19,14 +21,20 @@ struct State {
 }
 
 impl ProgressLine {
-    /// Returns a line that is not shown yet.
-    pub(crate) fn new(stderr: Stderr) -> ProgressLine {
+    /// Returns a line that is not shown yet. `is_wanted` is true if it is to be shown.
+    pub(crate) fn new(stderr: Stderr, is_wanted: bool) -> ProgressLine {
         ProgressLine {
+            is_wanted,
             state: RefCell::new(State {
                 stderr,
                 shown: None,
             }),
         }
+    }
+
+    /// Returns true if the line is to be shown.
+    pub(crate) fn is_wanted(&self) -> bool {
+        self.is_wanted
     }
 
     /// Shows this text, and writes nothing if it is on the terminal already. The terminal cuts the text at its
