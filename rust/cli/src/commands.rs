@@ -35,7 +35,7 @@ const FINAL_STATUS_LEVELS: [&str; 9] = [
     "none", "fail", "flaky", "retry", "slow", "skip", "leak", "pass", "all",
 ];
 
-/// The values of `--failure-output`.
+/// The values of `--failure-output` and `--success-output`.
 const OUTPUT_DISPLAYS: [&str; 4] = ["immediate", "immediate-final", "final", "never"];
 
 /// The groups of options in `--help`.
@@ -169,6 +169,10 @@ fn with_options(command: Command) -> Command {
         .arg(
             choice("failure-output", "WHEN", "immediate", OUTPUT_DISPLAYS)
                 .help("When the form `text` shows why tests failed: when they end, in the list at the end, both, or never"),
+        )
+        .arg(
+            choice("success-output", "WHEN", "never", OUTPUT_DISPLAYS)
+                .help("When the form `text` shows the output of tests that passed, if their lines have it: as for --failure-output"),
         )
         .arg(
             choice("annotations", "WHEN", "auto", ["auto", "github", "never"])

@@ -38,6 +38,10 @@ pub mod standard_streams;
 #[doc(hidden)]
 pub mod template;
 #[doc(hidden)]
+#[allow(
+    clippy::new_without_default,
+    reason = "`Pieces::new` takes an allocator in the proved text, where there is no `Default` for it"
+)]
 pub mod test_report_engine;
 #[doc(hidden)]
 pub mod test_report_events;

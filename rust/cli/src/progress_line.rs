@@ -1,6 +1,7 @@
 //! The line on standard error that shows the progress of the run.
 
 use std::cell::RefCell;
+use std::collections::VecDeque;
 use std::io::{self, Stderr, Write};
 use std::time::{Duration, Instant};
 
@@ -91,6 +92,36 @@ impl<T: Write> ProgressLine<T> {
     }
 }
 
+/// When the running tests started. The time of a start is that of the first look at the run after it.
+#[derive(Debug, Default)]
+pub struct StartTimes {
+    /// How many tests had started at a look, and when that was. A look is here if a test had started since the
+    /// look before, until all tests that had started by then are over.
+    looks: VecDeque<(usize, Instant)>,
+
+    /// The number of tests that had started at the last look.
+    started: usize,
+}
+
+impl StartTimes {
+    /// Looks at the run, and returns for how many whole seconds the test has been running that started first. 0 if
+    /// no test is running. `started` tests have started, and `first` of them started before that test.
+    pub fn seconds(&mut self, started: usize, first: Option<usize>, now: Instant) -> u64 {
+        if self.started < started {
+            self.looks.push_back((started, now));
+            self.started = started;
+        }
+        let over = first.unwrap_or(started);
+        while self.looks.front().is_some_and(|look| look.0 <= over) {
+            self.looks.pop_front();
+        }
+        match self.looks.front() {
+            Some((_, start)) => now.saturating_duration_since(*start).as_secs(),
+            None => 0,
+        }
+    }
+}
+
 /// A writer that hides the line before it writes. Several of them share one line.
 #[derive(Debug)]
 pub struct Output<'a, W> {
@@ -175,6 +206,26 @@ mod tests {
     fn the_line_is_shown_again_after_text_above_it() {
         assert_eq!(due_times(1_000, &[5], &[50]), [5, 105]);
         assert_eq!(due_times(1_000, &[5], &[400]), [5, 400]);
+    }
+
+    #[test]
+    fn the_seconds_of_a_test_count_from_its_start() {
+        let (mut times, start) = (StartTimes::default(), Instant::now());
+        let mut seconds =
+            |at, started, first| times.seconds(started, first, start + Duration::from_millis(at));
+        // Two tests start, a third one a second later, and a fourth one.
+        assert_eq!(seconds(0, 2, Some(0)), 0);
+        assert_eq!(seconds(999, 2, Some(0)), 0);
+        assert_eq!(seconds(1_000, 3, Some(0)), 1);
+        assert_eq!(seconds(2_500, 4, Some(0)), 2);
+        // The first one ends, then the second and the third one.
+        assert_eq!(seconds(3_000, 4, Some(1)), 3);
+        assert_eq!(seconds(3_600, 4, Some(2)), 2);
+        assert_eq!(seconds(3_600, 4, Some(3)), 1);
+        // No test runs, and then another one starts.
+        assert_eq!(seconds(9_000, 4, None), 0);
+        assert_eq!(seconds(9_500, 5, Some(4)), 0);
+        assert_eq!(seconds(11_400, 5, Some(4)), 1);
     }
 
     #[test]

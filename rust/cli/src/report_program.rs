@@ -10,7 +10,6 @@ use crate::replaced_file::{append, replace};
 use crate::run_input::{Input, PassOn, RunReader, Streams};
 use crate::standard_streams::{StandardOutput, check_output};
 use crate::test_report_engine::fault::Fault;
-use crate::test_report_engine::pieces::Pieces;
 use crate::test_report_engine::report::Report;
 use crate::test_report_engine::status::exit_status;
 use crate::test_report_events::time::microseconds;
@@ -82,8 +81,9 @@ fn options_of(matches: &ArgMatches) -> Result<Options, Failure> {
         "whole" => OutputDisplay::Whole,
         _ => OutputDisplay::Auto,
     };
+    let limit = limit_of(matches)?;
     Ok(Options {
-        limit: limit_of(matches)?.unwrap_or_else(|| default_limit(output)),
+        limit: limit.unwrap_or_else(|| default_limit(output)),
         output,
         raw: matches.get_flag("raw"),
         color: match value(matches, "color") {
@@ -93,7 +93,9 @@ fn options_of(matches: &ArgMatches) -> Result<Options, Failure> {
         },
         status_level: status_level_of(matches),
         final_status_level: final_status_level_of(matches),
-        failure_output: failure_output_of(matches),
+        failure_output: display_of(matches, "failure-output"),
+        success_output: display_of(matches, "success-output"),
+        passed_limit: limit.unwrap_or(usize::MAX),
         slowest: matches.get_one("slowest").copied().unwrap_or(0),
         no_tests_pass: value(matches, "no-tests") == "pass",
     })
@@ -127,9 +129,9 @@ fn final_status_level_of(matches: &ArgMatches) -> FinalStatusLevel {
     }
 }
 
-/// Returns when it is shown why tests failed.
-fn failure_output_of(matches: &ArgMatches) -> TestOutputDisplay {
-    match value(matches, "failure-output") {
+/// Returns the display that an option names.
+fn display_of(matches: &ArgMatches, option: &str) -> TestOutputDisplay {
+    match value(matches, option) {
         "immediate-final" => TestOutputDisplay::ImmediateFinal,
         "final" => TestOutputDisplay::Final,
         "never" => TestOutputDisplay::Never,
@@ -178,18 +180,12 @@ fn has_annotations(matches: &ArgMatches) -> bool {
     }
 }
 
-/// Returns the state of the reading before the first file. It follows the progress of the run if a line on
-/// standard error shows it.
-fn pieces(matches: &ArgMatches) -> Pieces {
-    let shows_progress = match value(matches, "progress") {
+/// Returns true if a line on standard error shows the progress of the run.
+fn shows_progress(matches: &ArgMatches) -> bool {
+    match value(matches, "progress") {
         "always" => true,
         "never" => false,
         _ => io::stderr().is_terminal(),
-    };
-    if shows_progress {
-        Pieces::with_progress()
-    } else {
-        Pieces::without_progress()
     }
 }
 
@@ -255,13 +251,20 @@ fn report_in<F: Form>(
 ) -> Result<ExitCode, Failure> {
     let Settings { options, slow } = settings;
     let report = Report::with_files(form, file_forms(matches, options), slow);
-    let pieces = pieces(matches);
     let interrupt = catch_first_interrupt()?;
-    let has_reader = pieces.progress().is_some() || io::stderr().is_terminal();
+    let shows_progress = shows_progress(matches);
+    let has_reader = shows_progress || io::stderr().is_terminal();
     let line = RefCell::new(ProgressLine::new(io::stderr()));
     let mut streams = Streams::new(KeepError::new(StandardOutput::lock()), &line);
     let pass_on = pass_on(matches);
-    let reader = RunReader::new(report, pieces, &mut streams, pass_on, interrupt, has_reader);
+    let reader = RunReader::new(
+        report,
+        &mut streams,
+        pass_on,
+        interrupt,
+        shows_progress,
+        has_reader,
+    );
     let ended = reader.report(input);
     line.borrow_mut().hide();
     let Streams { output, others, .. } = streams;

@@ -8,11 +8,12 @@ use crate::others::Others;
 use crate::output_files::STANDARD_INPUT;
 use crate::program::{DEVICE_FAILED, Failure};
 use crate::program_io::std_device::{StdSink, StdSource};
-use crate::progress_line::{LONGEST_PAUSE, Output, ProgressLine};
+use crate::progress_line::{LONGEST_PAUSE, Output, ProgressLine, StartTimes};
 use crate::reading::Reading;
 use crate::standard_streams::{StandardError, StandardInput};
 use crate::test_report_engine::fault::Fault;
 use crate::test_report_engine::pieces::Pieces;
+use crate::test_report_engine::progress::progress_text;
 use crate::test_report_engine::report::Report;
 use crate::test_report_forms::files::FileTexts;
 use crate::test_report_forms::form::Form;
@@ -117,26 +118,33 @@ pub struct RunReader<'a, 'line, F: Form, W: Write> {
     pass_on: PassOn,
     interrupt: Interrupt,
 
+    /// True if the line of progress is wanted.
+    shows_progress: bool,
+    starts: StartTimes,
+
     /// The message after Ctrl-C, until it was written. It is absent from the start if nobody would read it.
     message: Option<&'static str>,
 }
 
 impl<'a, 'line, F: Form, W: Write> RunReader<'a, 'line, F, W> {
-    /// Returns a report that has read nothing. `has_reader` is true if a message on standard error would be read.
+    /// Returns a report that has read nothing. `shows_progress` is true if the line of progress is wanted, and
+    /// `has_reader` if a message on standard error would be read.
     pub fn new(
         report: Report<F>,
-        pieces: Pieces,
         streams: &'a mut Streams<'line, W>,
         pass_on: PassOn,
         interrupt: Interrupt,
+        shows_progress: bool,
         has_reader: bool,
     ) -> RunReader<'a, 'line, F, W> {
         RunReader {
             report,
-            pieces,
+            pieces: Pieces::new(),
             streams,
             pass_on,
             interrupt,
+            shows_progress,
+            starts: StartTimes::default(),
             message: has_reader.then_some(STILL_READING),
         }
     }
@@ -284,7 +292,7 @@ impl<'a, 'line, F: Form, W: Write> RunReader<'a, 'line, F, W> {
                 break;
             }
         }
-        if self.pieces.progress().is_some() {
+        if self.shows_progress && self.report.run().has_suite() {
             self.streams.line.borrow_mut().note_input();
         }
         Ok(())
@@ -306,12 +314,15 @@ impl<'a, 'line, F: Form, W: Write> RunReader<'a, 'line, F, W> {
         }
     }
 
-    /// Draws the line of progress if it is due.
+    /// Draws the line of progress if it is due. It is not before the first suite.
     fn draw(&mut self) {
-        if let Some(progress) = self.pieces.progress() {
-            let mut line = self.streams.line.borrow_mut();
-            line.refresh(Instant::now(), || progress.text());
-        }
+        let (run, now) = (self.report.run(), Instant::now());
+        let mut line = self.streams.line.borrow_mut();
+        line.refresh(now, || {
+            let first = run.first_running().map(|test| test.order);
+            let seconds = self.starts.seconds(run.tests_started(), first, now);
+            progress_text(run, seconds)
+        });
     }
 }
 

@@ -224,7 +224,8 @@ fn a_command_starts_with_the_default_action_of_both_signals() {
         let mut command = Command::new("sh");
         command
             .args(["-c", script, common::path_of("test-report"), signal])
-            .env("FAILED", FAILED);
+            .env("FAILED", FAILED)
+            .env_remove("GITHUB_ACTIONS");
         let output = command.output().expect("the program runs");
         let start = format!(
             "no line of the input is of a test run\n\

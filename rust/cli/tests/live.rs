@@ -13,6 +13,16 @@ const FAILED: &str = r#"{ "type": "suite", "event": "started", "test_count": 9 }
 { "type": "test", "name": "adds", "event": "failed", "stdout": "Error: no such currency\n" }
 "#;
 
+/// The last line of that suite.
+const ENDED: &str = r#"{ "type": "suite", "event": "failed", "passed": 0, "failed": 1, "ignored": 0, "measured": 0 }
+"#;
+
+/// A suite that does not say how many tests it has, and its first failed test.
+const UNKNOWN: &str = r#"{ "type": "suite", "event": "started" }
+{ "type": "test", "event": "started", "name": "adds" }
+{ "type": "test", "name": "adds", "event": "failed" }
+"#;
+
 /// A heading of cargo.
 const HEADING: &str = "     Running unittests src/lib.rs (deps/ledger-0123456789abcdef)\n";
 
@@ -88,15 +98,22 @@ fn drawn(text: &str) -> String {
 /// What takes the line of progress away.
 const HIDDEN: &str = "\r\u{1b}[K";
 
+/// Returns a text without the seconds of lines of progress.
+fn without_seconds(text: &str) -> String {
+    (1..60).fold(text.to_string(), |text, seconds| {
+        text.replace(&format!(" ({seconds} s)"), "")
+    })
+}
+
 #[test]
 fn the_line_of_progress_is_gone_at_the_end() {
     let cases = [
         ("".to_string(), None),
-        ("{}\n".to_string(), Some("0 of 0 tests, 0 failed")),
+        ("{}\n".to_string(), None),
         (FAILED.to_string(), Some("1 of 9 tests, 1 failed")),
         (
             [FAILED, STARTED].concat(),
-            Some("1 of 9 tests, 1 failed: a\\u{1b}[2J"),
+            Some("1 of 9 tests, 1 failed: suite 1 a\\u{1b}[2J"),
         ),
         (
             [HEADING, FAILED, STARTED].concat(),
@@ -112,13 +129,23 @@ fn the_line_of_progress_is_gone_at_the_end() {
         ),
         (
             [FIRST, RUNNING, NOT_RETRIED].concat(),
-            Some("1 of 3 tests, 0 failed: ledger::pays tests::at_once"),
+            Some("0 of 3 tests, 0 failed: ledger::pays tests::at_once"),
         ),
         (
-            [FIRST, RUNNING, FAILED].concat(),
-            Some("1 of 12 tests, 1 failed"),
+            [FIRST, RUNNING, FAILED, STARTED].concat(),
+            Some("1 of 12 tests, 1 failed: ledger::pays tests::at_once"),
         ),
-        (RETRIED.to_string(), Some("1 tests, 0 failed")),
+        ([FAILED, ENDED].concat(), Some("1 of 9 tests, 1 failed")),
+        (
+            [FAILED, ENDED, FAILED].concat(),
+            Some("2 of 18 tests, 2 failed"),
+        ),
+        (
+            [FAILED, STARTED, FAILED].concat(),
+            Some("3 of 18 tests, 3 failed"),
+        ),
+        (UNKNOWN.to_string(), Some("1 tests, 1 failed")),
+        (RETRIED.to_string(), None),
     ];
     for (input, wanted) in cases {
         for form in ["text", "names", "junit"] {
@@ -128,6 +155,7 @@ fn the_line_of_progress_is_gone_at_the_end() {
             assert_eq!(output.status.code(), Some(1), "{input}");
             let line = wanted.map(drawn).unwrap_or_default();
             // On a slow machine the line is written again, once a second.
+            let shown = without_seconds(&shown);
             let first = shown.trim_start_matches(line.as_str());
             let end = if line.is_empty() { "" } else { HIDDEN };
             assert!(shown.starts_with(&line), "{input}: {shown:?}");
@@ -169,9 +197,9 @@ fn the_line_of_progress_shows_the_last_change_while_no_line_comes() {
             .write_all(format!("{line}\n").as_bytes())
             .expect("the program reads");
     }
-    let line = drawn("40 of 41 tests, 0 failed: case_40");
-    let (start, stderr) = (Instant::now(), wait_for(running.stderr, &line));
-    let stderr = wait_for(stderr, &line);
+    let line = "40 of 41 tests, 0 failed: suite 1 case_40";
+    let (start, stderr) = (Instant::now(), wait_for(running.stderr, &drawn(line)));
+    let stderr = wait_for(stderr, &drawn(&format!("{line} (1 s)")));
     // The line comes at once, and then once a second.
     assert!(
         start.elapsed() > Duration::from_millis(500),
@@ -197,8 +225,38 @@ fn the_line_of_progress_is_shown_again_after_a_text() {
         .stdin
         .write_all(FAILED.as_bytes())
         .expect("the program reads");
-    let again = drawn("1 of 12 tests, 1 failed");
+    let again = drawn("1 of 12 tests, 1 failed: ledger::pays tests::at_once");
     let stderr = wait_for(stderr, &[HIDDEN, &again].concat());
+    drop((running.stdin, stderr));
+    running.child.wait().expect("the program ends");
+}
+
+#[test]
+fn the_line_of_progress_shows_the_test_that_has_been_running_longest() {
+    let mut running = start(&["--progress", "always"]);
+    let mut write = |line: &str| {
+        running
+            .stdin
+            .write_all(line.as_bytes())
+            .expect("the program reads");
+    };
+    write("{ \"type\": \"suite\", \"event\": \"started\", \"test_count\": 2 }\n");
+    write("{ \"type\": \"test\", \"event\": \"started\", \"name\": \"first\" }\n");
+    let stderr = wait_for(
+        running.stderr,
+        &drawn("0 of 2 tests, 0 failed: suite 1 first (1 s)"),
+    );
+    write("{ \"type\": \"test\", \"event\": \"started\", \"name\": \"second\" }\n");
+    let stderr = wait_for(
+        stderr,
+        &drawn("0 of 2 tests, 0 failed: suite 1 first (2 s)"),
+    );
+    write("{ \"type\": \"test\", \"event\": \"ok\", \"name\": \"first\" }\n");
+    let stderr = wait_for(stderr, "1 of 2 tests, 0 failed: suite 1 second");
+    let stderr = wait_for(
+        stderr,
+        &drawn("1 of 2 tests, 0 failed: suite 1 second (2 s)"),
+    );
     drop((running.stdin, stderr));
     running.child.wait().expect("the program ends");
 }

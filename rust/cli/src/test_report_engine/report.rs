@@ -6,7 +6,6 @@ use crate::program_io::transfer::write_all;
 use crate::test_report_engine::fault::Fault;
 use crate::test_report_engine::others::pass_rest;
 use crate::test_report_engine::pieces::Pieces;
-use crate::test_report_engine::progress::{Progress, take_line};
 use crate::test_report_events::line::Line;
 use crate::test_report_forms::entry::Entry;
 use crate::test_report_forms::files::{FileForms, FileTexts};
@@ -64,7 +63,7 @@ impl<F: Form> Report<F> {
         sink: &mut W,
         others: &mut O,
     ) -> Result<(), Fault> {
-        let mut pieces = Pieces::without_progress();
+        let mut pieces = Pieces::new();
         loop {
             let more = self.read_piece(source, &mut pieces, sink, others)?;
             if !more {
@@ -100,11 +99,11 @@ impl<F: Form> Report<F> {
         let n = source.read(&mut chunk).map_err(|_| Fault::Read)?;
         let mut line = std::mem::take(&mut pieces.line);
         if n == 0 {
-            self.end_input(line.as_slice(), None, &mut pieces.progress, sink, others)?;
+            self.end_input(line.as_slice(), None, sink, others)?;
             return Ok(false);
         }
         let bytes = &chunk[..n];
-        self.on_bytes(&mut line, &mut pieces.progress, bytes, sink, others)?;
+        self.on_bytes(&mut line, bytes, sink, others)?;
         pieces.line = line;
         Ok(true)
     }
@@ -133,13 +132,12 @@ impl<F: Form> Report<F> {
         others: &mut O,
     ) -> Result<(), Fault> {
         let line = std::mem::take(&mut pieces.line);
-        self.end_input(
-            line.as_slice(),
-            Some(end),
-            &mut pieces.progress,
-            sink,
-            others,
-        )
+        self.end_input(line.as_slice(), Some(end), sink, others)
+    }
+
+    /// Returns the run, up to the line that was taken last.
+    pub fn run(&self) -> &TestRun {
+        &self.run
     }
 
     /// Returns the texts of the files. Call it after the last file of the run was read.
@@ -165,7 +163,6 @@ impl<F: Form> Report<F> {
     fn on_bytes<W: Sink, O: Sink>(
         &mut self,
         begun: &mut Vec<u8>,
-        progress: &mut Option<Progress>,
         bytes: &[u8],
         sink: &mut W,
         others: &mut O,
@@ -174,7 +171,7 @@ impl<F: Form> Report<F> {
         while let Some(at) = rest.find_byte(b'\n') {
             let (end, after) = rest.split_at(at);
             begun.extend_from_slice(end);
-            self.on_line(begun.as_slice(), progress, sink, others)?;
+            self.on_line(begun.as_slice(), sink, others)?;
             begun.clear();
             rest = &after[1..];
         }
@@ -186,11 +183,10 @@ impl<F: Form> Report<F> {
     fn on_line<W: Sink, O: Sink>(
         &mut self,
         bytes: &[u8],
-        progress: &mut Option<Progress>,
         sink: &mut W,
         others: &mut O,
     ) -> Result<(), Fault> {
-        let notes = notes_of_line(&mut self.run, progress, bytes, others)?;
+        let notes = notes_of_line(&mut self.run, bytes, others)?;
         self.write(notes.as_slice(), sink)
     }
 
@@ -200,12 +196,11 @@ impl<F: Form> Report<F> {
         &mut self,
         begun: &[u8],
         command: Option<&CommandEnd>,
-        progress: &mut Option<Progress>,
         sink: &mut W,
         others: &mut O,
     ) -> Result<(), Fault> {
         if !begun.is_empty() {
-            self.on_line(begun, progress, sink, others)?;
+            self.on_line(begun, sink, others)?;
         }
         let notes = notes_of_end(&mut self.run, command)?;
         self.write(notes.as_slice(), sink)
@@ -233,18 +228,15 @@ impl<F: Form> Report<F> {
     }
 }
 
-/// Passes on what of a line is no event, takes the events of the line and, if the progress of the run is followed,
-/// updates it. Returns the notes that the events make known.
+/// Passes on what of a line is no event, and takes the events of the line. Returns the notes that they make known.
 fn notes_of_line<O: Sink>(
     run: &mut TestRun,
-    progress: &mut Option<Progress>,
     bytes: &[u8],
     others: &mut O,
 ) -> Result<Vec<Note>, RunError> {
     let line = Line::read(bytes);
     pass_rest(others, bytes, line.rest());
     let notes = run.on_line(&line)?;
-    take_line(progress, &line, notes.as_slice())?;
     Ok(notes)
 }
 

@@ -83,7 +83,11 @@ pub(crate) fn cause_of<'a>(entry: &'a Entry<'_>) -> Option<Cause<'a>> {
                 lacks_events: false,
             })
         }
-        Entry::Passed(_) | Entry::Skipped(_) | Entry::Failed { .. } | Entry::Suite(_) => None,
+        Entry::Passed(_)
+        | Entry::Flaky(_)
+        | Entry::Skipped(_)
+        | Entry::Failed { .. }
+        | Entry::Suite(_) => None,
     }
 }
 

@@ -14,6 +14,9 @@ pub enum Entry<'a> {
     /// A test passed.
     Passed(&'a TestNote),
 
+    /// A flaky test passed. With another entry it counts as passed or as failed.
+    Flaky(&'a TestNote),
+
     /// A test was skipped.
     Skipped(&'a TestNote),
 
@@ -50,7 +53,7 @@ impl<'a> Entry<'a> {
     pub fn of(note: &'a Note) -> Entry<'a> {
         match note {
             Note::Test(test) => match &test.outcome {
-                TestOutcome::Passed => Entry::Passed(test),
+                TestOutcome::Passed { .. } => Entry::Passed(test),
                 TestOutcome::Skipped { .. } => Entry::Skipped(test),
                 TestOutcome::Failed(failure) => Entry::Failed {
                     test,
@@ -58,6 +61,7 @@ impl<'a> Entry<'a> {
                     why: Why::of(test, failure),
                 },
             },
+            Note::Flaky(test) => Entry::Flaky(test),
             Note::Disagreement(disagreement) => Entry::Disagreement {
                 disagreement,
                 why: disagreement_why(disagreement),

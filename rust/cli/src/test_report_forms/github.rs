@@ -87,6 +87,7 @@ impl Form for GithubForm {
                 self.push_failed(test, failure, why, text);
             }
             Entry::Passed(_)
+            | Entry::Flaky(_)
             | Entry::Skipped(_)
             | Entry::Disagreement { .. }
             | Entry::NotRun(_)

@@ -9,7 +9,8 @@ use crate::test_report_forms::json_values::{
     failed_json, no_tests_json, open_suite_json, problem_json, report_json, suite_json, test_json,
 };
 use crate::test_report_forms::model::no_tests_ran;
-use crate::test_report_forms::open_suites::{OpenSuites, name_of};
+use crate::test_report_forms::open_suites::OpenSuites;
+use crate::test_report_forms::open_suites::name::name_of;
 use crate::test_report_forms::options::Options;
 use crate::test_report_run::note::{RunEnd, SuiteNote};
 use std::rc::Rc;
@@ -50,6 +51,7 @@ impl JsonForm {
             }
             Entry::Disagreement { .. } | Entry::NotRun(_) => self.on_cause(entry),
             Entry::Suite(suite) => self.on_suite(suite),
+            Entry::Flaky(_) => {}
         }
     }
 
@@ -77,7 +79,7 @@ impl JsonForm {
     fn take_suites(&mut self) -> Vec<String> {
         let open = std::mem::replace(&mut self.suites, OpenSuites::new());
         let mut suites = std::mem::take(&mut self.over);
-        for suite in open.list {
+        for suite in open.into_list() {
             suites.push(open_suite_json(&suite));
         }
         suites

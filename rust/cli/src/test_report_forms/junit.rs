@@ -10,7 +10,8 @@ use crate::test_report_forms::junit_case::{Case, OWN_NAME};
 use crate::test_report_forms::junit_template::JUNIT;
 use crate::test_report_forms::junit_values::junit_values;
 use crate::test_report_forms::model::no_tests_ran;
-use crate::test_report_forms::open_suites::{OpenSuites, Suite, name_of};
+use crate::test_report_forms::open_suites::name::name_of;
+use crate::test_report_forms::open_suites::{OpenSuites, Suite};
 use crate::test_report_forms::options::Options;
 use crate::test_report_run::note::{RunEnd, SuiteNote};
 use std::rc::Rc;
@@ -58,6 +59,7 @@ impl JunitForm {
             }
             Entry::Disagreement { .. } | Entry::NotRun(_) => self.on_cause(entry),
             Entry::Suite(suite) => self.on_suite(suite),
+            Entry::Flaky(_) => {}
         }
     }
 
@@ -116,7 +118,7 @@ impl JunitForm {
         let own = self.take_own(no_tests);
         let open = std::mem::replace(&mut self.suites, OpenSuites::new());
         let mut suites = std::mem::take(&mut self.over);
-        for suite in open.list {
+        for suite in open.into_list() {
             suites.push(suite);
         }
         push_own(&mut suites, own);

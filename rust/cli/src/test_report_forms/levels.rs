@@ -16,12 +16,11 @@ fn levels_of(options: Options) -> StatusLevels {
     }
 }
 
-/// Returns when something is shown of a test besides its line: `failures` says when it is shown why a failed test failed.
-/// Nothing is shown of another test.
-fn display_of(failures: TestOutputDisplay, finish: Finish) -> TestOutputDisplay {
+/// Returns when something is shown of a finished test besides its line: its output if it passed, or why it failed.
+fn display_of(options: Options, finish: Finish) -> TestOutputDisplay {
     match finish {
-        Finish::Passed => TestOutputDisplay::Never,
-        Finish::FlakyFailed | Finish::Failed | Finish::TimedOut => failures,
+        Finish::Passed => options.success_output,
+        Finish::FlakyFailed | Finish::Failed | Finish::TimedOut => options.failure_output,
     }
 }
 
@@ -55,7 +54,7 @@ pub(crate) fn finished_output(
     let test = own_test(finish, attempts, is_slow);
     let view = test.view();
     levels_of(options).compute_output_on_test_finished(
-        display_of(options.failure_output, finish),
+        display_of(options, finish),
         None,
         view.status_level(),
         view.final_status_level(),
@@ -72,6 +71,14 @@ pub(crate) fn skipped_output(options: Options) -> OutputOnTestFinished {
         FinalStatusLevel::Skip,
         &ExecutionResultDescription::Pass,
     )
+}
+
+/// Returns the same, but that nothing is shown under the line of a test that has nothing to show.
+pub(crate) fn shown_if(has: bool, shows: OutputOnTestFinished) -> OutputOnTestFinished {
+    OutputOnTestFinished {
+        show_immediate: shows.show_immediate && has,
+        ..shows
+    }
 }
 
 /// Returns true if a test has a line when it ends: the line is written, or something is shown under it.

@@ -2,8 +2,10 @@
 //! The list at the end of a report.
 
 use crate::test_report_forms::entry::Entry;
+use crate::test_report_forms::flaky_lines::{FlakyLine, FlakyLines};
 use crate::test_report_forms::levels::{finished_output, own_final_level, skipped_output};
 use crate::test_report_forms::options::Options;
+use crate::test_report_forms::passed_output::push_output_lines;
 use crate::test_report_forms::shown::{front, push_bracket, push_spaces, push_text};
 use crate::test_report_forms::slowest::Slowest;
 use crate::test_report_forms::status::{failed_status, listed_status, push_status};
@@ -27,7 +29,7 @@ pub(crate) struct ShortList {
     passed: String,
     skipped: String,
     slow: String,
-    flaky: String,
+    flaky: FlakyLines,
     failed: String,
     slowest: Slowest,
 }
@@ -39,7 +41,7 @@ impl ShortList {
             passed: String::new(),
             skipped: String::new(),
             slow: String::new(),
-            flaky: String::new(),
+            flaky: FlakyLines::new(),
             failed: String::new(),
             slowest: Slowest::new(most),
         }
@@ -49,18 +51,19 @@ impl ShortList {
     pub(crate) fn on_entry(&mut self, entry: &Entry<'_>, options: Options) {
         let mut item = String::new();
         push_item(&mut item, entry, options);
-        self.add(final_level_of(entry), item.as_str());
+        self.add(final_level_of(entry), ended_before(entry), item);
         add_slow(&mut self.slowest, entry, options);
     }
 
-    /// Adds a line to the part of the list for a level.
-    fn add(&mut self, level: FinalStatusLevel, line: &str) {
+    /// Adds the lines of a test to the part of the list for a level. `ended` is the number of tests that ended before
+    /// it.
+    fn add(&mut self, level: FinalStatusLevel, ended: usize, line: String) {
         match level {
-            FinalStatusLevel::Pass => self.passed.push_str(line),
-            FinalStatusLevel::Skip => self.skipped.push_str(line),
-            FinalStatusLevel::Slow => self.slow.push_str(line),
-            FinalStatusLevel::Flaky => self.flaky.push_str(line),
-            FinalStatusLevel::Fail => self.failed.push_str(line),
+            FinalStatusLevel::Pass => self.passed.push_str(line.as_str()),
+            FinalStatusLevel::Skip => self.skipped.push_str(line.as_str()),
+            FinalStatusLevel::Slow => self.slow.push_str(line.as_str()),
+            FinalStatusLevel::Flaky => self.flaky.insert(FlakyLine { ended, line }),
+            FinalStatusLevel::Fail => self.failed.push_str(line.as_str()),
             _ => {}
         }
     }
@@ -70,9 +73,9 @@ impl ShortList {
         text.push_str(self.passed.as_str());
         text.push_str(self.skipped.as_str());
         text.push_str(self.slow.as_str());
-        text.push_str(self.flaky.as_str());
+        self.flaky.push(text);
         text.push_str(self.failed.as_str());
-        for slow in self.slowest.tests() {
+        for slow in self.slowest.tests.values() {
             text.push_str(slow.line.as_str());
         }
     }
@@ -86,7 +89,22 @@ fn final_level_of(entry: &Entry<'_>) -> FinalStatusLevel {
         Entry::Failed { test, failure, .. } => {
             own_final_level(Finish::of_failure(&failure.kind), test.attempts, test.slow)
         }
-        Entry::Disagreement { .. } | Entry::NotRun(_) | Entry::Suite(_) => FinalStatusLevel::None,
+        Entry::Flaky(_) | Entry::Disagreement { .. } | Entry::NotRun(_) | Entry::Suite(_) => {
+            FinalStatusLevel::None
+        }
+    }
+}
+
+/// Returns the number of tests that ended before the test of an entry, or 0 if no line says that the test passed.
+fn ended_before(entry: &Entry<'_>) -> usize {
+    match entry {
+        Entry::Passed(test) => test.ended.unwrap_or(0),
+        Entry::Flaky(_)
+        | Entry::Skipped(_)
+        | Entry::Failed { .. }
+        | Entry::Disagreement { .. }
+        | Entry::NotRun(_)
+        | Entry::Suite(_) => 0,
     }
 }
 
@@ -98,18 +116,21 @@ fn push_item(text: &mut String, entry: &Entry<'_>, options: Options) {
         Entry::Failed { test, failure, why } => {
             push_failed(text, test, failure, why, options);
         }
-        Entry::Disagreement { .. } | Entry::NotRun(_) | Entry::Suite(_) => {}
+        Entry::Flaky(_) | Entry::Disagreement { .. } | Entry::NotRun(_) | Entry::Suite(_) => {}
     }
 }
 
-/// Appends the line of a test that passed, if the test is in the list.
+/// Appends the line of a test that passed, if the test is in the list, and its output, if that is shown there.
 fn push_passed(text: &mut String, test: &TestNote, options: Options) {
-    match finished_output(options, Finish::Passed, test.attempts, test.slow).store_final {
-        OutputStoreFinal::Yes { .. } => {
-            let status = listed_status(test.attempts, test.slow);
-            push_ended(text, test, status.as_str(), options);
-        }
-        OutputStoreFinal::No => {}
+    let OutputStoreFinal::Yes { display_output } =
+        finished_output(options, Finish::Passed, test.attempts, test.slow).store_final
+    else {
+        return;
+    };
+    let status = listed_status(test.attempts, test.slow);
+    push_ended(text, test, status.as_str(), options);
+    if display_output {
+        push_output_lines(text, &test.outcome, WHY_MARGIN, options);
     }
 }
 
@@ -172,7 +193,11 @@ fn add_slow(slowest: &mut Slowest, entry: &Entry<'_>, options: Options) {
         Entry::Passed(test) | Entry::Failed { test, .. } => {
             add_time(slowest, test, options);
         }
-        Entry::Skipped(_) | Entry::Disagreement { .. } | Entry::NotRun(_) | Entry::Suite(_) => {}
+        Entry::Flaky(_)
+        | Entry::Skipped(_)
+        | Entry::Disagreement { .. }
+        | Entry::NotRun(_)
+        | Entry::Suite(_) => {}
     }
 }
 

@@ -41,6 +41,8 @@
 //!     status_level: StatusLevel::Fail,
 //!     final_status_level: FinalStatusLevel::Slow,
 //!     failure_output: TestOutputDisplay::Immediate,
+//!     success_output: TestOutputDisplay::Never,
+//!     passed_limit: usize::MAX,
 //!     slowest: 0,
 //!     no_tests_pass: false,
 //! };
@@ -56,6 +58,7 @@ pub mod entry;
 mod explanation;
 mod failed_test;
 pub mod files;
+mod flaky_lines;
 pub mod form;
 pub mod github;
 pub mod html;
@@ -79,9 +82,10 @@ mod numbers;
 mod open_suites;
 pub mod options;
 mod page_template;
+mod passed_output;
 pub mod place;
 mod short;
-mod shown;
+pub mod shown;
 mod shown_why;
 mod skipped_test;
 mod slowest;

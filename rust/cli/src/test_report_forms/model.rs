@@ -164,7 +164,11 @@ fn keep_skipped(skipped: &mut Vec<SkippedTest>, entry: &Entry<'_>) {
 fn keep_time(slowest: &mut Slowest, entry: &Entry<'_>) {
     match entry {
         Entry::Passed(test) | Entry::Failed { test, .. } => keep_test(slowest, test),
-        Entry::Skipped(_) | Entry::Disagreement { .. } | Entry::NotRun(_) | Entry::Suite(_) => {}
+        Entry::Flaky(_)
+        | Entry::Skipped(_)
+        | Entry::Disagreement { .. }
+        | Entry::NotRun(_)
+        | Entry::Suite(_) => {}
     }
 }
 

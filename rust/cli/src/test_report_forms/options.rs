@@ -34,15 +34,22 @@ pub struct Options {
     pub color: bool,
 
     /// The form for people writes a line for each test of this level or a more important one when the test ends, and for
-    /// each test that failed if it shows why.
+    /// each test of which it shows why it failed or what it wrote.
     pub status_level: StatusLevel,
 
     /// The list at the end of the form for people has the tests of this level and of each more important one, and each
-    /// test that failed if it shows why.
+    /// test of which it shows why it failed or what it wrote.
     pub final_status_level: FinalStatusLevel,
 
     /// When the form for people shows why tests failed.
     pub failure_output: TestOutputDisplay,
+
+    /// When the form for people shows the output of tests that passed. Few runs have it.
+    pub success_output: TestOutputDisplay,
+
+    /// The greatest number of bytes that are shown of the output of a test that passed. They are counted in UTF-8,
+    /// before escapes. With `usize::MAX` all are shown.
+    pub passed_limit: usize,
 
     /// The number of slowest tests in the list at the end of the form for people.
     pub slowest: usize,

@@ -51,7 +51,7 @@ fn has_escape(c: char, rest: &str, at_front: bool, one_line: bool) -> bool {
 
 /// Appends the name of a suite or a test: at most its first 1,024 bytes, cut at a character, and `..` if it is
 /// longer.
-pub(crate) fn push_name(text: &mut String, name: &str) {
+pub fn push_name(text: &mut String, name: &str) {
     push_line(text, front(name, NAME_LIMIT));
     push_dots(text, name.len() > NAME_LIMIT);
 }
@@ -69,7 +69,7 @@ pub(crate) fn push_line(text: &mut String, line: &str) {
 }
 
 /// Appends a name and a space. Appends nothing if there is no name.
-pub(crate) fn push_name_and_space(text: &mut String, name: Option<&str>) {
+pub fn push_name_and_space(text: &mut String, name: Option<&str>) {
     if let Some(name) = name {
         {
             push_name(text, name);

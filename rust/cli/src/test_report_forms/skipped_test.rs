@@ -35,6 +35,6 @@ impl SkippedTest {
 pub(crate) fn skip_reason(outcome: &TestOutcome) -> Option<&str> {
     match outcome {
         TestOutcome::Skipped { reason } => text_of(reason),
-        TestOutcome::Passed | TestOutcome::Failed(_) => None,
+        TestOutcome::Passed { .. } | TestOutcome::Failed(_) => None,
     }
 }

@@ -1,6 +1,10 @@
 // Made by tools/erase from crates/test_report_forms/src/slowest.rt. Do not edit.
 //! The slowest tests of a run.
 
+mod changes;
+
+use std::collections::BTreeMap;
+
 /// The time of a test in microseconds, and the line that lists it.
 #[derive(Clone)]
 pub(crate) struct SlowTest {
@@ -11,48 +15,9 @@ pub(crate) struct SlowTest {
 /// The slowest tests so far, the slowest first. Of two with the same time the earlier one is first.
 #[derive(Clone)]
 pub(crate) struct Slowest {
-    tests: Vec<SlowTest>,
+    /// The tests. The key of a test is a number that falls as its time rises, and a number by which it is behind the
+    /// earlier ones with the same time.
+    pub(crate) tests: BTreeMap<(u64, usize), SlowTest>,
+
     most: usize,
-}
-
-impl Slowest {
-    /// Returns an empty list, which keeps at most `most` tests.
-    pub(crate) fn new(most: usize) -> Slowest {
-        Slowest {
-            tests: Vec::new(),
-            most,
-        }
-    }
-
-    /// Returns the slowest tests in order.
-    pub(crate) fn tests(&self) -> &[SlowTest] {
-        self.tests.as_slice()
-    }
-
-    /// Returns the slowest tests in order, by value.
-    pub(crate) fn into_tests(self) -> Vec<SlowTest> {
-        self.tests
-    }
-
-    /// Returns the position of the first test that took less time.
-    fn faster(&self, time: u64) -> Option<usize> {
-        self.tests.iter().position(|other| other.time < time)
-    }
-
-    /// Returns the position of a test that took this time.
-    fn place(&self, time: u64) -> usize {
-        self.faster(time).unwrap_or(self.tests.len())
-    }
-
-    /// Returns true if a test that took this time is one of the slowest.
-    pub(crate) fn takes(&self, time: u64) -> bool {
-        self.place(time) < self.most
-    }
-
-    /// Adds a test if it is one of the slowest so far.
-    pub(crate) fn add(&mut self, time: u64, line: String) {
-        let at = self.place(time);
-        self.tests.insert(at, SlowTest { time, line });
-        self.tests.truncate(self.most);
-    }
 }

@@ -4,9 +4,10 @@
 use crate::test_report_forms::cause::{Cause, cause_of};
 use crate::test_report_forms::entry::Entry;
 use crate::test_report_forms::form::Form;
-use crate::test_report_forms::levels::{finished_output, has_line, skipped_output};
+use crate::test_report_forms::levels::{finished_output, has_line, shown_if, skipped_output};
 use crate::test_report_forms::list::ShortList;
 use crate::test_report_forms::options::Options;
+use crate::test_report_forms::passed_output::{passed_output, push_output_lines};
 use crate::test_report_forms::shown::{push_bracket, push_indented};
 use crate::test_report_forms::status::{failed_status, passed_status, push_status};
 use crate::test_report_forms::summary::{outcome_text, push_summary};
@@ -43,7 +44,8 @@ impl TextForm {
             Entry::Failed { test, failure, why } => {
                 push_failed(text, test, failure, why, self.options);
             }
-            Entry::Passed(test) => push_passed(text, test, self.options),
+            Entry::Passed(test) => push_counted(text, test, self.options),
+            Entry::Flaky(test) => push_passed(text, test, self.options),
             Entry::Skipped(test) => push_skipped(text, test, self.options),
             Entry::Disagreement { .. } | Entry::NotRun(_) | Entry::Suite(_) => {
                 push_cause_of(entry, text, self.options);
@@ -111,18 +113,28 @@ fn push_failed(
     push_why_lines(text, &shown, WHY_MARGIN, options);
 }
 
-/// Appends the line of a test that passed, if the levels show it.
+/// Appends what the levels show of a test that passed. Appends nothing for a flaky test: what is shown of it was written
+/// when it passed.
+fn push_counted(text: &mut String, test: &TestNote, options: Options) {
+    if test.attempts > 1 {
+        return;
+    }
+    push_passed(text, test, options);
+}
+
+/// Appends the line of a test that passed and its output, if the levels show them.
 fn push_passed(text: &mut String, test: &TestNote, options: Options) {
-    if !has_line(finished_output(
-        options,
-        Finish::Passed,
-        test.attempts,
-        test.slow,
-    )) {
+    let has_output = passed_output(&test.outcome).is_some();
+    let shows = finished_output(options, Finish::Passed, test.attempts, test.slow);
+    let shows = shown_if(has_output, shows);
+    if !has_line(shows) {
         return;
     }
     let status = passed_status(test.attempts);
     push_ended(text, test, status.as_str(), options);
+    if shows.show_immediate {
+        push_output_lines(text, &test.outcome, WHY_MARGIN, options);
+    }
 }
 
 /// Appends the line of a skipped test, if the levels show it.

@@ -27,7 +27,7 @@ use crate::test_report_forms::model::{ReportModel, SuiteRow, no_tests_ran};
 use crate::test_report_forms::numbers::Numbers;
 use crate::test_report_forms::shown::seconds_text;
 use crate::test_report_forms::skipped_test::SkippedTest;
-use crate::test_report_forms::slowest::SlowTest;
+use crate::test_report_forms::slowest::{SlowTest, Slowest};
 use crate::test_report_forms::summary::outcome_text;
 use crate::test_report_forms::whole_output::WholeOutput;
 use crate::test_report_run::note::{RunEnd, failed_count};
@@ -54,7 +54,7 @@ pub fn report_values(model: ReportModel, end: &RunEnd) -> Vec<Value> {
     );
     push_section(&mut values, "failures", failed_items(failed));
     push_section(&mut values, "suites", suite_items(suites));
-    push_section(&mut values, "slowest", slow_items(slowest.into_tests()));
+    push_section(&mut values, "slowest", slow_items(slowest));
     push_section(&mut values, "skips", skip_items(skipped));
     values
 }
@@ -295,19 +295,11 @@ fn slow_values(test: SlowTest, longest: u64) -> Vec<Value> {
     values
 }
 
-/// Returns the time of the slowest test, or 0 if there is none.
-fn longest_time(tests: &[SlowTest]) -> u64 {
-    match tests.first() {
-        Some(test) => test.time,
-        None => 0,
-    }
-}
-
 /// Returns the slowest tests.
-fn slow_items(tests: Vec<SlowTest>) -> Vec<Value> {
-    let longest = longest_time(tests.as_slice());
+fn slow_items(slowest: Slowest) -> Vec<Value> {
+    let longest = slowest.longest();
     let mut items = Vec::new();
-    for test in tests {
+    for test in slowest.tests.into_values() {
         push_item(&mut items, "slow", slow_values(test, longest));
     }
     items

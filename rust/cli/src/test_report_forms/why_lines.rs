@@ -15,7 +15,7 @@ pub(crate) fn push_why_lines(text: &mut String, why: &ShownWhy, margin: usize, o
 }
 
 /// Appends a line that says how many bytes are not shown. Appends nothing if all are shown.
-fn push_more(text: &mut String, more: usize, margin: usize) {
+pub(crate) fn push_more(text: &mut String, more: usize, margin: usize) {
     if more == 0 {
         return;
     }

@@ -31,7 +31,7 @@ fn failure_of(details: TestDetails<'_>) -> Failure {
 
 impl Suite {
     /// Takes the end of a test, and adds its note. `order` is the number of tests that started before it. A
-    /// test that passed after several attempts is kept, and has no note until its suite is over.
+    /// test that passed after several attempts is kept, and has another note when its suite is over.
     pub(crate) fn on_end(
         &mut self,
         test: OverTest,
@@ -50,11 +50,14 @@ impl Suite {
         if end == TestResult::Failed {
             return self.on_failed(test, details, notes);
         }
+        let output = owned(details.stdout);
+        let outcome = TestOutcome::Passed { output };
         if test.attempts > 1 {
+            notes.push(Note::Flaky(self.test_note(test.duplicate(), outcome)));
             return self.on_flaky(test, order, details);
         }
         count(&mut self.stats, Finish::Passed, 1, test.slow)?;
-        notes.push(self.note(test, TestOutcome::Passed));
+        notes.push(self.note(test, outcome));
         Ok(())
     }
 

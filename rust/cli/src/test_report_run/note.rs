@@ -11,6 +11,9 @@ pub enum Note {
     /// A test passed, failed or was skipped.
     Test(TestNote),
 
+    /// A test passed after several attempts. Whether it counts as passed becomes known when its suite ends.
+    Flaky(TestNote),
+
     /// Lines of the run contradict each other, a damaged line says a failure, a file has no event, or the command
     /// of the run failed.
     Disagreement(Disagreement),
@@ -52,7 +55,10 @@ pub struct TestNote {
 #[derive(Clone, Debug)]
 pub enum TestOutcome {
     /// The test passed. It is flaky if it took several attempts.
-    Passed,
+    Passed {
+        /// The output of the test, if its line has some.
+        output: Option<String>,
+    },
 
     /// The test was skipped.
     Skipped {

@@ -161,7 +161,8 @@ impl Suite {
             } else {
                 let (attempts, slow) = (flaky.test.attempts, flaky.test.slow);
                 count(&mut self.stats, Finish::Passed, attempts, slow)?;
-                notes.push(self.note(flaky.test, TestOutcome::Passed));
+                let output = flaky.stdout;
+                notes.push(self.note(flaky.test, TestOutcome::Passed { output }));
             }
         }
         Ok(())

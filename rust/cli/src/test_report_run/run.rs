@@ -3,6 +3,7 @@
 
 mod command;
 mod lines;
+pub mod progress;
 mod suites;
 mod test_lines;
 
@@ -260,7 +261,7 @@ impl TestRun {
                     self.causes = one_more(self.causes)?;
                 }
             }
-            Note::NotRun(_) => {}
+            Note::Flaky(_) | Note::NotRun(_) => {}
             Note::Suite(suite) => self.totals.add(suite)?,
         }
         Ok(())

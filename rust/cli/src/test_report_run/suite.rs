@@ -31,6 +31,19 @@ pub(crate) struct OverTest {
     pub(crate) slow: bool,
 }
 
+impl OverTest {
+    /// Returns the test once more.
+    pub(crate) fn duplicate(&self) -> OverTest {
+        OverTest {
+            name: self.name.clone(),
+            attempts: self.attempts,
+            time: self.time,
+            ended: self.ended,
+            slow: self.slow,
+        }
+    }
+}
+
 /// A test that passed after several attempts. The last line of its suite may still count it as failed.
 #[derive(Clone)]
 pub(crate) struct FlakyTest {
@@ -160,6 +173,11 @@ impl Suite {
         self.name.shown()
     }
 
+    /// Returns the text of this name.
+    pub(crate) fn shown_text(&self) -> Option<&str> {
+        self.name.shown_text()
+    }
+
     /// Returns true if the suite has this key, or has no key if `key` is `None`.
     pub(crate) fn has_key(&self, key: Option<&str>) -> bool {
         match (&self.name.key, key) {
@@ -171,7 +189,12 @@ impl Suite {
 
     /// Returns the note of a test of the suite.
     pub(crate) fn note(&self, test: OverTest, outcome: TestOutcome) -> Note {
-        Note::Test(TestNote {
+        Note::Test(self.test_note(test, outcome))
+    }
+
+    /// Returns what is known of a test of the suite.
+    pub(crate) fn test_note(&self, test: OverTest, outcome: TestOutcome) -> TestNote {
+        TestNote {
             suite: self.shown_name(),
             name: test.name,
             attempts: test.attempts,
@@ -179,7 +202,7 @@ impl Suite {
             ended: test.ended,
             slow: test.slow,
             outcome,
-        })
+        }
     }
 
     /// Returns the numbers of tests of the suite. `left` is the number of running tests. Fails only if the number

@@ -70,6 +70,11 @@ impl SuiteName {
     pub(crate) fn shown(&self) -> Option<Rc<String>> {
         self.shown.clone()
     }
+
+    /// Returns the text of the name, or `None` for the tests outside of a suite.
+    pub(crate) fn shown_text(&self) -> Option<&str> {
+        self.shown.as_ref().map(|shown| shown.as_str())
+    }
 }
 
 /// Returns the name that texts give a suite: its key, or else the heading, or else the part of its first

@@ -27,11 +27,13 @@ pub fn path_of(program: &str) -> &'static str {
     }
 }
 
-/// Returns a program with arguments, and with pipes as its standard input, output and error.
+/// Returns a program with arguments, and with pipes as its standard input, output and error. It does not see that it
+/// runs in a workflow on GitHub, where the text has annotations.
 pub fn command<A: AsRef<OsStr>>(program: &str, arguments: &[A]) -> Command {
     let mut command = Command::new(path_of(program));
     command
         .args(arguments)
+        .env_remove("GITHUB_ACTIONS")
         .stdin(Stdio::piped())
         .stdout(Stdio::piped())
         .stderr(Stdio::piped());

@@ -25,6 +25,8 @@ fn reported(input: &str) -> String {
         status_level: StatusLevel::Fail,
         final_status_level: FinalStatusLevel::Slow,
         failure_output: TestOutputDisplay::Immediate,
+        success_output: TestOutputDisplay::Never,
+        passed_limit: usize::MAX,
         slowest: 0,
         no_tests_pass: false,
     });

@@ -177,8 +177,8 @@ fn slow_tests_have_a_level_and_a_number() {
     let wanted = "PASS [   1.000s] suite 1 told\n\
         PASS [  60.000s] suite 1 long\n\
         PASS [  59.999s] suite 1 short\n\
-        FAIL suite 1 failed\n    why\n\
         FLAKY 2/2 [   0.500s] suite 1 flaky\n\
+        FAIL suite 1 failed\n    why\n\
         ------------\n     \
         Summary [ 121.499s] 5 tests run: 4 passed (1 flaky, 3 slow), 1 failed (0 timed out, 0 crashed), 1 skipped, 0 not run\n        \
         SLOW [   1.000s] suite 1 told\n        \

@@ -19,6 +19,11 @@ impl OpenSuites {
         }
     }
 
+    /// Returns true if a suite has started.
+    pub(crate) fn has_started(&self) -> bool {
+        self.started > 0
+    }
+
     /// Opens a suite. `others` are the other lines of the file before it. After an error suites may be missing.
     pub(crate) fn open(
         &mut self,

@@ -25,7 +25,7 @@ impl TestRun {
         if self.command_ended_well() {
             self.causes = self.causes.saturating_sub(held.len());
         } else {
-            push_reports(held, notes);
+            push_reports(held, self.has_event, notes);
         }
     }
 
@@ -57,9 +57,10 @@ impl TestRun {
     }
 }
 
-/// Appends failures of cargo that disagree.
-fn push_reports(reports: Vec<CargoReport>, notes: &mut Vec<Note>) {
-    for report in reports {
+/// Appends failures of cargo that disagree. `has_event` is true if a line of the file is an event.
+fn push_reports(reports: Vec<CargoReport>, has_event: bool, notes: &mut Vec<Note>) {
+    for mut report in reports {
+        report.lacks_events = report.lacks_events && !has_event;
         notes.push(Note::Disagreement(Disagreement::Cargo(report)));
     }
 }

@@ -70,10 +70,15 @@ impl Running {
         self.mark_named(name)
     }
 
-    /// Returns the name of the test that started last.
-    pub fn last_name(&self) -> Option<&str> {
-        let (_, test) = self.tests.last_key_value()?;
-        Some(test.name.as_str())
+    /// Returns the number of tests that started.
+    pub(crate) fn started(&self) -> usize {
+        self.started
+    }
+
+    /// Returns the test that started first.
+    pub(crate) fn first(&self) -> Option<&RunningTest> {
+        let (_, test) = self.tests.first_key_value()?;
+        Some(test)
     }
 
     /// Removes the tests of a suite, and returns them in the order in which they started.
