@@ -297,8 +297,12 @@ def levels():
         hidden = ["--status-level", level, "--final-status-level", "none"]
         yield Row(f"--status-level {level}, a flaky test", hidden, text, 1, Parts([], ["FLAKY", "SKIP"]))
     for level in ("retry", "slow", "leak", "pass", "skip", "all"):
-        wanted = Parts(["FLAKY 2/2 suite 1 lends\n" + rule], ["SKIP"] if level in ("retry", "slow", "leak", "pass") else [])
+        skipped = "SKIP suite 1 waits\n" if level in ("skip", "all") else ""
+        wanted = Parts(["FLAKY 2/2 suite 1 lends\n" + skipped + "FAIL suite 1 pays\n    Error\n" + rule])
         yield Row(f"--status-level {level}, a flaky test", ["--status-level", level], text, 1, wanted)
+    both = ["FLAKY 2/2 suite 1 lends\nFAIL suite 1 lends (2 attempts)\n    flaky, and set to fail\n" + rule, "        FAIL suite 1 lends: "]
+    set_to_fail = started(1) + flaky("lends") + ended("failed", 0, 1)
+    yield Row("a flaky test that is set to fail", ["--status-level", "retry"], set_to_fail, 1, Parts(both, ["   FLAKY"]))
     for level in ("skip", "all"):
         yield Row(f"--status-level {level}, a skipped test", ["--status-level", level], text, 1, Parts(["SKIP suite 1 waits\nFAIL"]))
     for level in ("none", "fail"):
@@ -325,7 +329,20 @@ def levels():
     slow = "     SLOWEST [   0.250s] suite 1 pays\noutcome"
     yield Row("--slowest 2", ["--slowest", "2"], timed, 1, Parts([slow]))
     yield Row("--slowest 0", ["--slowest", "0"], timed, 1, Parts([rule], ["SLOWEST"]))
-    for option in ("--status-level", "--final-status-level", "--failure-output", "--slowest"):
+    output = passed("adds").replace('"name"', '"stdout":"one\\r\\ntwo  \\n\\n","name"')
+    text = started(2) + output + passed("pays") + ended("ok", 2, 0)
+    head, below, listed = "PASS suite 1 adds\n", "    one\n    two\n", "        PASS suite 1 adds\n"
+    margin, other = " " * 13 + "one\n" + " " * 13 + "two\n", ["PASS suite 1 pays"]
+    for when, wanted in [
+        ("immediate", Parts([head + below + rule], [*other, listed])),
+        ("immediate-final", Parts([head + below + rule, listed + margin + "        PASS suite 1 pays\noutcome"])),
+        ("final", Parts([rule, listed + margin + "        PASS suite 1 pays\noutcome"])),
+        ("never", Parts([rule], ["PASS", "one"])),
+    ]:
+        yield Row(f"--success-output {when}", ["--success-output", when], text, 0, wanted)
+    limited = Parts([head + "    one\n    (4 more bytes)\n" + rule])
+    yield Row("--limit of an output of a test that passed", ["--success-output", "immediate", "--limit", "3"], text, 0, limited)
+    for option in ("--status-level", "--final-status-level", "--failure-output", "--success-output", "--slowest"):
         yield Row(f"an unknown value of {option}", [option, "late"], "", 2, "", Parts(["error: "]))
 
 

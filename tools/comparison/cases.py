@@ -18,7 +18,8 @@ REFUSED = [
     ["--format="], ["--format", "Text"], ["--format", "text", "--format", "text"], ["--no-tests", "warn"],
     ["--no-tests"], ["--color", "yes"], ["--progress", "yes"], ["--color=always", "--color=always"], ["--junit"], ["--html"],
     ["--markdown"], ["--json"], ["--junit", "a", "--junit", "b"], ["--form", "text"],
-    ["--status-level", "flaky"], ["--final-status-level", "loud"], ["--failure-output="], ["--slowest", "-1"],
+    ["--status-level", "flaky"], ["--final-status-level", "loud"], ["--failure-output="], ["--success-output", "auto"],
+    ["--slowest", "-1"],
 ]
 FORMS = ["text", "github", "names", "junit", "html", "markdown", "json"]
 LIMITS = [0, 1, 2, 10, 50, 68, 100, 1000, 4096, 2**64 - 1]
@@ -31,7 +32,8 @@ OPTIONS = [
     (0.2, "json", ["run.json", "old.txt"]),
     (0.2, "status-level", ["none", "fail", "retry", "slow", "leak", "pass", "skip", "all"]),
     (0.2, "final-status-level", ["none", "fail", "flaky", "retry", "slow", "skip", "leak", "pass", "all"]),
-    (0.2, "failure-output", ["immediate", "immediate-final", "final", "never"]), (0.2, "slowest", [0, 1, 5, 2**64 - 1]),
+    (0.2, "failure-output", ["immediate", "immediate-final", "final", "never"]),
+    (0.2, "success-output", ["immediate", "immediate-final", "final", "never"]), (0.2, "slowest", [0, 1, 5, 2**64 - 1]),
 ]
 WORDS = [["frob"], ["count", "count"], ["extract", "count"], ["Count"], ["-"], [""], ["--nothing"], ["coun"],
          ["extract", ""], [b"caf\xe9"], ["count", b"\xff"]]

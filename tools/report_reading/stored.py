@@ -12,7 +12,7 @@ RULE = "------------"
 WHY = "    "
 LISTED = re.compile(r" *(?:FAIL|TIMEOUT|CRASH) (.*)")
 SLOWEST = re.compile(r" *SLOWEST (\[ *[0-9.]+s\] ).*")
-LEVELS = ["--status-level", "--final-status-level", "--failure-output"]
+LEVELS = ["--status-level", "--final-status-level", "--failure-output", "--success-output"]
 COLOR = re.compile("\x1b\\[[0-9;]*m")
 
 

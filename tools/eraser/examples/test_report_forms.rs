@@ -22,6 +22,8 @@ let options = Options {
     status_level: StatusLevel::Fail,
     final_status_level: FinalStatusLevel::Slow,
     failure_output: TestOutputDisplay::Immediate,
+    success_output: TestOutputDisplay::Never,
+    passed_limit: usize::MAX,
     slowest: 0,
     no_tests_pass: false,
 };
