@@ -31,6 +31,7 @@ pub mod JunitCauses
 pub mod KeyedLines
 pub mod LineParts
 pub mod Lines
+pub mod ListLines
 pub mod MarkdownLaws
 pub mod NotRun
 pub mod Numerals
