@@ -17,8 +17,8 @@ pub(crate) struct SlowTest {
 /// The slowest tests so far, the slowest first. Of two with the same time the earlier one is first.
 #[derive(Drop)]
 pub(crate) struct Slowest {
-    /// The tests. The key of a test is a number that falls as its time rises, and a number by which it is behind the
-    /// earlier ones with the same time.
+    /// The tests by two numbers. The first one is lower for a slower test, so that the slowest test comes first. Of tests
+    /// with the same time, the second one is lower for the test that was added earlier.
     pub(crate) tests: BTreeMap<(u64, usize), SlowTest>,
 
     most: usize,

@@ -80,16 +80,15 @@ TextHasNoCommands = (o : Options) (entries : List EntryView) (end : RunEnd) → 
 abbrev pub AreCommands : List ℕ → Type 0
 AreCommands text = (commands : List (List ℕ)) × All IsCommand commands × (slice_split is_line_end text ≡ commands ++ [] ∷ [])
 
--- what the form for people with annotations writes of an entry: the text, and behind it the command, if the entry has one
+-- the text of an entry for people, and its command behind it, if it has one
 abbrev pub annotated_line : Options → Options → EntryView → List ℕ
 annotated_line o a e = text_line o e ++ github_line a e
 
--- what it writes of entries and at the end
+-- the text with commands for a list of entries and the end
 abbrev pub annotated_of_run : Options → Options → List EntryView → RunEnd → List ℕ
 annotated_of_run o a entries end = flat_map (annotated_line o a) entries ++ (text_last o entries end ++ github_last end)
 
--- What the form for people with annotations writes of the entries of notes and at the end is texts that have no command, each with commands behind it
--- or none, if `raw` is false.
+-- If `raw` is false, the form for people with annotations writes parts: each is a text without commands, and whole commands behind it, if there are any.
 abbrev pub AnnotatedHasOwnCommands : Type 0
 AnnotatedHasOwnCommands = (o a : Options) (entries : List EntryView) (end : RunEnd) → o.raw ≡ false → All (λ e. (n : NoteView) × IsEntryOf n e) entries
     → (parts : List (List ℕ × List ℕ)) × All (λ p. HasNoCommands p.0 × AreCommands p.1) parts

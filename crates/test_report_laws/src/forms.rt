@@ -9,8 +9,10 @@ ghost use Rattle.test_report_laws.specs.Lines.{GithubNamesCauses, NamesNamesTest
 
 /// Every line that the form for GitHub writes of entries of notes (`IsEntryOf`) is a command for an error or a
 /// notice: `::`, the name of the command, properties or none, `::` and a message. The value of a property has no
-/// comma, no colon and no end of a line. A carriage return ends a line, too. What `AnnotatedForm` without `raw` writes is
-/// texts that are no commands of a CI system, as those of `no_commands`, each with such commands behind it or none.
+/// comma, no colon and no end of a line. A carriage return ends a line, too.
+///
+/// `AnnotatedForm` without `raw` writes parts. Each part is a text without commands (as for `no_commands`), and behind it
+/// whole commands, if there are any.
 pub fn only_commands()
     ensures github { OnlyCommands }
     ensures annotated { AnnotatedHasOwnCommands }

@@ -33,12 +33,12 @@ pub struct Options {
     /// True if the form for people colours the words for results.
     pub color: bool,
 
-    /// The form for people writes a line for each test of this level or a more important one when the test ends, and for
-    /// each test of which it shows why it failed or what it wrote.
+    /// The form for people writes a line for each test of this level or a more important one when the test ends. It also
+    /// writes the line of each test whose reason or output it shows then.
     pub status_level: StatusLevel,
 
     /// The list at the end of the form for people has the tests of this level and of each more important one, and each
-    /// test of which it shows why it failed or what it wrote.
+    /// test whose reason or output it shows there.
     pub final_status_level: FinalStatusLevel,
 
     /// When the form for people shows why tests failed.
