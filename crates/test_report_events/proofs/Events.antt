@@ -6,7 +6,7 @@ use Rattle.std.proofs.lemmas.Slice.Eq.{bytes_eq-Decides}
 use Rattle.std.specs.Str.{bytes_eq}
 use Rattle.serde_json.specs.Data.{Data}
 use Rattle.test_report_events.proofs.Times.{one-time}
-use Rattle.test_report_events.specs.Event.{EventView, SuiteEndView, TestEndView, SuiteStarts, SuiteEnds, TestStarts, TestEnds, TestIsSlow, OtherLine, HeadingLine, CargoFails, Prints, DamagedLine, CommandStarts, CommandOver}
+use Rattle.test_report_events.specs.Event.{EventView, SuiteEndView, TestEndView, SuiteStarts, SuiteEnds, TestStarts, TestEnds, TestIsSlow, OtherLine, HeadingLine, CargoFails, Prints, DamagedLine, CommandStarts, CommandOver, Cancels}
 use Rattle.test_report_events.specs.Said.{EndsAs, HasEvent, HasName, HasType, HasVerdict, IsOther, ObjectSays, Says, text_of}
 use Rattle.test_report_events.specs.Table.{bench_result, is_text, object_said, suite_end_said, suite_said, test_end_said, test_said, typed_said}
 use Rattle.test_report_events.specs.declared.event.TestResult.{TestResult}
@@ -157,8 +157,9 @@ module _ (d : Data) (time : Option ℕ) where
   object-only (CargoFails failure text plain) h = absurd h
   object-only (Prints text plain) h = absurd h
   object-only (DamagedLine text) h = absurd h
-  object-only CommandStarts h = absurd h
+  object-only (CommandStarts names) h = absurd h
   object-only (CommandOver end) h = absurd h
+  object-only (Cancels reason) h = absurd h
 
 -- an object of a line says one event
 pub one-object : (line : List ℕ) (d : Data) (a b : EventView) → ObjectSays line d a → ObjectSays line d b → a ≡ b

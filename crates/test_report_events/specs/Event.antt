@@ -1,6 +1,7 @@
 -- What a line of a test run says.
 use Rattle.std.specs.Prelude.{ℕ, List, ◌++◌, codes, Bool, Option, Some, None, option_map}
 use Rattle.std.specs.Fmt.{decimal}
+use Rattle.run_events_results.specs.declared.results.CancelReason.{CancelReason}
 use Rattle.test_report_events.specs.declared.event.CargoFailure.{CargoFailure}
 use Rattle.test_report_events.specs.declared.event.Event.{Event}
 use Rattle.test_report_events.specs.declared.event.Event.TheVariants as event
@@ -45,7 +46,11 @@ pub data CommandView : Type 0 where
   -- it ended with this exit status
   WithStatus : ℕ → CommandView
 
--- what a line says, or what is known of the command whose output the lines are: no line says the last two
+-- the name of each suite, by the path of its binary
+abbrev pub SuiteNames : Type 0
+SuiteNames = List (List ℕ × List ℕ)
+
+-- what a line says, or what is known of the run from elsewhere. No line says the last three
 pub data EventView : Type 0 where
   -- a suite with this key and number of tests starts
   SuiteStarts : Option (List ℕ) → Option ℕ → EventView
@@ -67,10 +72,12 @@ pub data EventView : Type 0 where
   Prints : List ℕ → List ℕ → EventView
   -- a damaged line says that a test or a suite failed: its text
   DamagedLine : List ℕ → EventView
-  -- the command starts whose output the next lines are
-  CommandStarts : EventView
+  -- the command starts whose output the next lines are. The suites of the binaries with these paths have these names
+  CommandStarts : SuiteNames → EventView
   -- the command has ended
   CommandOver : CommandView → EventView
+  -- the run is cancelled for this reason
+  Cancels : CancelReason → EventView
 
 -- the text of a key: `CRATE::BINARY`, and `@stress-N` if there is an index
 abbrev pub key_text : List ℕ → List ℕ → Option ℕ → List ℕ

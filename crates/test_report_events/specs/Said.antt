@@ -2,7 +2,7 @@
 use Rattle.std.specs.Prelude.{◌≡◌, ◌≢◌, ◌⊎◌, ℕ, List, [], ◌∷◌, codes, Bool, true, false, Option, Some, None, IsSome, MatchOption, nat_le, option_and_then, if◌then◌else◌}
 use Rattle.serde_json.specs.Data.{Data}
 use Rattle.serde_json.specs.Find.{as_number, as_str, as_u64, get}
-use Rattle.test_report_events.specs.Event.{EventView, SuiteStarts, SuiteEnds, TestStarts, TestEnds, TestIsSlow, OtherLine, HeadingLine, CargoFails, Prints, DamagedLine, CommandStarts, CommandOver, key_text}
+use Rattle.test_report_events.specs.Event.{EventView, SuiteStarts, SuiteEnds, TestStarts, TestEnds, TestIsSlow, OtherLine, HeadingLine, CargoFails, Prints, DamagedLine, CommandStarts, CommandOver, Cancels, key_text}
 use Rattle.test_report_events.specs.Time.{GivesTime}
 use Rattle.test_report_events.specs.declared.event.TestResult.{TestResult}
 use Rattle.test_report_events.specs.declared.event.TestResult.TheVariants.{Ok, Failed, Ignored}
@@ -112,8 +112,9 @@ Says time d (HeadingLine suite path) = ⊥
 Says time d (CargoFails failure text plain) = ⊥
 Says time d (Prints text plain) = ⊥
 Says time d (DamagedLine text) = ⊥
-Says time d CommandStarts = ⊥
+Says time d (CommandStarts names) = ⊥
 Says time d (CommandOver end) = ⊥
+Says time d (Cancels reason) = ⊥
 
 -- what an object says that was read from this line
 abbrev pub ObjectSays : List ℕ → Data → EventView → Type 0

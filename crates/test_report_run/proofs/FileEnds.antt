@@ -5,7 +5,7 @@ use Rattle.std.proofs.lemmas.List.Sums.{fold-append, sum_by-append}
 use Rattle.test_report_run.specs.Note.{NoteView}
 use Rattle.test_report_run.specs.Over.{early_notes}
 use Rattle.test_report_run.specs.Run.{RunState, Step, all_ended_early, begun, command_notes, ended_early, file_end, file_notes, after_file, held_told, is_disagreement, is_new_cause, learned, no_event_notes, settled, step, tests_in, with_note, without_tests}
-use Rattle.test_report_run.specs.Suite.{SuiteState, outside_start}
+use Rattle.test_report_run.specs.Suite.{SuiteState, cancelled_by, outside_start}
 use Rattle.test_report_run.specs.declared.note.RunEnd.{RunEnd}
 use Rattle.test_report_run.specs.declared.suite.Suite.{Suite}
 use Rattle.test_report_run.proofs.Runs.{boxed_state}
@@ -21,7 +21,8 @@ with_before old t = step t.run (old ++ t.notes)
 
 ended-before : (old : List NoteView) (t : Step) (s : SuiteState) → ended_early (with_before old t) s ≡ with_before old (ended_early t s)
 ended-before old t s =
-    ap (λ (notes : List NoteView). step (without_tests t.run s) notes) (append_assoc old t.notes (early_notes t.run.others s (tests_in t.run s)))
+    ap (λ (notes : List NoteView). step (without_tests t.run s) notes)
+    (append_assoc old t.notes (early_notes t.run.others (cancelled_by t.run.cancel s) (tests_in t.run s)))
 
 all-before : (old : List NoteView) (t : Step) (suites : List SuiteState)
     → fold ended_early (with_before old t) suites ≡ with_before old (fold ended_early t suites)

@@ -14,12 +14,12 @@ use Rattle.test_report_run.proofs.Places.{remove-set}
 use Rattle.test_report_run.specs.Run.{RunState, Step, ended_at, ended_early, heard, last_place, opened, running_ends, started_again, step, stray_ends, suite_at, suite_place, test_over, tests_in, with_suite_at, without_tests}
 use Rattle.test_report_run.specs.Running.{RunningView, ended_at as test_at}
 use Rattle.test_report_run.specs.Name.{before_dollar}
-use Rattle.test_report_run.specs.Suite.{SuiteState, has_key, joined_by, state_of, with_line}
+use Rattle.test_report_run.specs.Suite.{SuiteState, cancelled_by, has_key, joined_by, state_of, with_line}
 use Rattle.test_report_run.specs.declared.others.EventPlace.{EventPlace}
 use Rattle.test_report_run.specs.declared.suite.Suite.{Suite}
 
 pub ended-early : (old run : RunState) (s : SuiteState) (tests : List RunningView) (notes after : List NoteView) → tests ≡ tests_in old s
-    → run ≡ without_tests old s → after ≡ notes ++ early_notes old.others s tests → step run after ≡ ended_early (step old notes) s
+    → run ≡ without_tests old s → after ≡ notes ++ early_notes old.others (cancelled_by old.cancel s) tests → step run after ≡ ended_early (step old notes) s
 ended-early old run s tests notes after running same told = rw (told, running, same)
 
 -- what a box of a suite keeps
@@ -51,7 +51,8 @@ with_suite-at r run suites at place old inside changed event f same after within
 -- a suite is over by its last line
 pub suite-over : (r r1 r2 : RunState) (e : SuiteEndView) (at : ℕ) (s : SuiteState) → at < length r.suites
     → (with_line (suite_at r (Some at)) e).open_lines == 0 ≡ true → r1 ≡ with_suite_at r (Some at) (with_line (suite_at r (Some at)) e)
-    → s ≡ suite_at r1 (Some at) → r2 ≡ record r1 { suites = remove r1.suites at } → ended_at r e at ≡ step (without_tests r2 s) (last_notes s (tests_in r2 s))
+    → s ≡ suite_at r1 (Some at) → r2 ≡ record r1 { suites = remove r1.suites at }
+    → ended_at r e at ≡ step (without_tests r2 s) (last_notes (cancelled_by r2.cancel s) (tests_in r2 s))
 suite-over r r1 r2 e at s inside over line out left =
     let w : SuiteState = with_line (suite_at r (Some at)) e in
     let is : s ≡ heard r w = out ∙ ap (λ (x : RunState). suite_at x (Some at)) line ∙ get_or-set_same r.suites at (heard r w) r.outside inside in
@@ -59,9 +60,9 @@ suite-over r r1 r2 e at s inside over line out left =
     left ∙ ap (λ (x : RunState). record x { suites = remove x.suites at }) line
     ∙ ap (λ (suites : List SuiteState). record r { suites = suites }) (remove-set r.suites at (heard r w)) in
     let old : RunState = record r { suites = remove r.suites at } in
-    ap (λ b. cond b (step (without_tests old w) (last_notes w (tests_in old w))) (step (with_suite_at r (Some at) w) [])) over
-    ∙ sym (ap (λ (x : RunState). step (without_tests x s) (last_notes s (tests_in x s))) rest
-    ∙ ap (λ (x : SuiteState). step (without_tests old x) (last_notes x (tests_in old x))) is)
+    ap (λ b. cond b (step (without_tests old w) (last_notes (cancelled_by old.cancel w) (tests_in old w))) (step (with_suite_at r (Some at) w) [])) over
+    ∙ sym (ap (λ (x : RunState). step (without_tests x s) (last_notes (cancelled_by x.cancel s) (tests_in x s))) rest
+    ∙ ap (λ (x : SuiteState). step (without_tests old x) (last_notes (cancelled_by old.cancel x) (tests_in old x))) is)
 
 -- a suite without a key ends early when another one starts
 pub no-key : (key : Option (String Global)) → is_some key ≡ false → is_some (text_view key) ≡ false

@@ -1,6 +1,6 @@
 -- Kinds of events.
 use Rattle.std.specs.Prelude.{Bool, true, false}
-use Rattle.test_report_events.specs.Event.{EventView, SuiteStarts, SuiteEnds, TestStarts, TestEnds, TestIsSlow, OtherLine, HeadingLine, CargoFails, Prints, DamagedLine, CommandStarts, CommandOver}
+use Rattle.test_report_events.specs.Event.{EventView, SuiteStarts, SuiteEnds, TestStarts, TestEnds, TestIsSlow, OtherLine, HeadingLine, CargoFails, Prints, DamagedLine, CommandStarts, CommandOver, Cancels}
 
 -- the line is an event of a harness
 abbrev pub is_event : EventView → Bool
@@ -14,8 +14,9 @@ is_event (HeadingLine name path) = false
 is_event (CargoFails f line plain) = false
 is_event (Prints line plain) = false
 is_event (DamagedLine text) = false
-is_event CommandStarts = false
+is_event (CommandStarts names) = false
 is_event (CommandOver end) = false
+is_event (Cancels reason) = false
 
 -- a heading, an event or a failure comes after all that may say why cargo failed before it
 abbrev pub is_after_report : EventView → Bool
@@ -29,5 +30,6 @@ is_after_report (HeadingLine name path) = true
 is_after_report (CargoFails f line plain) = true
 is_after_report (Prints line plain) = false
 is_after_report (DamagedLine text) = false
-is_after_report CommandStarts = false
+is_after_report (CommandStarts names) = false
 is_after_report (CommandOver end) = false
+is_after_report (Cancels reason) = false

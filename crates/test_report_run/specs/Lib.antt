@@ -18,4 +18,5 @@ pub mod Run
 pub mod Running
 pub mod Said
 pub mod Suite
+pub mod SuiteNames
 pub mod Totals

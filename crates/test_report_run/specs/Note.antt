@@ -1,6 +1,7 @@
 -- What becomes known of a run.
 use Rattle.std.specs.Prelude.{◌==◌, ℕ, List, Bool, false, true, map, None, Option, Some, option_map, String, string_bytes}
 use Rattle.std.specs.declared.alloc.Global.{Global}
+use Rattle.run_events_results.specs.declared.results.CancelReason.{CancelReason}
 use Rattle.run_events_stats.specs.declared.stats.RunStats.{RunStats}
 use Rattle.test_report_events.specs.Event.{BySignal, CommandView, NotStarted, WithStatus}
 use Rattle.test_report_events.specs.declared.event.TestResult.{TestResult}
@@ -60,6 +61,7 @@ pub record TestNoteView : Type 0 where
   pub time : Option ℕ
   pub ended : Option ℕ
   pub slow : Bool
+  pub cancel : Option CancelReason
   pub outcome : OutcomeView
 
 -- A failure of cargo: its line, the prints before it, the line in which cargo names the cause, and whether it lacks events: it is the first failure of
@@ -148,6 +150,7 @@ test_view t = record {
   time = t.time;
   ended = t.ended;
   slow = t.slow;
+  cancel = t.cancel;
   outcome = outcome_view t.outcome;
 }
 

@@ -15,9 +15,9 @@ use Rattle.test_report_run.specs.declared.counted.Finish.TheVariants as finish
 use Rattle.test_report_run.specs.declared.last_line.Explanation.{Explanation}
 use Rattle.test_report_run.specs.declared.over.Rest.{Rest}
 
--- a test without end is over
-abbrev pub over_of : RunningView → OverView
-over_of t = record { name = t.name; attempts = 1; time = None; ended = None; slow = t.slow }
+-- a test of the suite without end is over
+abbrev pub over_of : SuiteState → RunningView → OverView
+over_of s t = record { name = t.name; attempts = 1; time = None; ended = None; slow = t.slow; cancel = s.cancel }
 
 -- a failure that no line reports
 abbrev pub bare_failure : KindView → FailureView
@@ -25,7 +25,7 @@ bare_failure kind = record { kind = kind; stdout = None; message = None; reason 
 
 -- this test without end fails so
 abbrev pub failed_note : SuiteState → KindView → RunningView → NoteView
-failed_note s kind t = test_note s (over_of t) (Fails (bare_failure kind))
+failed_note s kind t = test_note s (over_of s t) (Fails (bare_failure kind))
 
 -- these tests without end fail so
 abbrev pub failed_notes : SuiteState → KindView → List RunningView → List NoteView
@@ -70,7 +70,7 @@ flaky_outcome true f = Fails record { kind = IsFlaky; stdout = f.stdout; message
 
 -- what becomes known of a flaky test when its suite ends
 abbrev pub flaky_note : SuiteState → Bool → FlakyView → NoteView
-flaky_note s failed f = test_note s f.test (flaky_outcome failed f)
+flaky_note s failed f = test_note s (record f.test { cancel = s.cancel }) (flaky_outcome failed f)
 
 -- what becomes known of all flaky tests of a suite
 abbrev pub flaky_notes : SuiteState → Bool → List NoteView
@@ -151,7 +151,7 @@ rest_of s e tests = record {
 
 -- this test without end was skipped
 abbrev pub skipped_note : SuiteState → RunningView → NoteView
-skipped_note s t = test_note s (over_of t) (IsSkipped None)
+skipped_note s t = test_note s (over_of s t) (IsSkipped None)
 
 -- what becomes known when a suite ends with its last line while these tests run
 abbrev pub last_notes : SuiteState → List RunningView → List NoteView

@@ -1,8 +1,11 @@
 -- A run, line by line.
 use Rattle.std.specs.Prelude.{◌+◌, ◌-◌, ◌++◌, ◌==◌, ◌∷◌, ◌||◌, ◌&&◌, [], ℕ, List, Bool, true, false, codes, filter, is_some, length, map, nat_eq, nat_le, nat_lt, not, if◌then◌else◌, slice_index_or, slice_set, Option, Some, None, option_and_then, option_map, string_bytes}
+use Rattle.std.specs.Map.{lookup}
 use Rattle.std.specs.List.{count_by, fold, position, remove, starts_with}
-use Rattle.std.specs.Option.{option_map_or, option_or}
-use Rattle.test_report_events.specs.Event.{BySignal, CommandView, EventView, NotStarted, SuiteEndView, TestEndView, SuiteStarts, SuiteEnds, TestStarts, TestEnds, TestIsSlow, OtherLine, HeadingLine, CargoFails, Prints, DamagedLine, CommandStarts, CommandOver, WithStatus}
+use Rattle.std.specs.Option.{option_map_or, option_or, unwrap_or}
+use Rattle.std.specs.Str.{bytes_eq}
+use Rattle.run_events_results.specs.declared.results.CancelReason.{CancelReason}
+use Rattle.test_report_events.specs.Event.{BySignal, Cancels, CommandView, EventView, NotStarted, SuiteEndView, SuiteNames, TestEndView, SuiteStarts, SuiteEnds, TestStarts, TestEnds, TestIsSlow, OtherLine, HeadingLine, CargoFails, Prints, DamagedLine, CommandStarts, CommandOver, WithStatus}
 use Rattle.test_report_events.specs.declared.event.CargoFailure.{CargoFailure}
 use Rattle.test_report_events.specs.declared.event.CargoFailure.TheVariants.{Build, Tests, Run}
 use Rattle.test_report_events.specs.declared.event.TestResult.TheVariants.{Ok, Failed, Ignored}
@@ -17,7 +20,8 @@ use Rattle.test_report_run.specs.Others.{OthersView, after_failure, after_headin
 use Rattle.test_report_run.specs.Prints.{cut, lines_of}
 use Rattle.test_report_run.specs.Running.{RunningView, is_of, is_same, place_of_end, running_at, tests_of, with_slow}
 use Rattle.test_report_run.specs.Name.{before_dollar}
-use Rattle.test_report_run.specs.Suite.{OverView, SuiteState, has_key, joined_by, outside_start, state_of, suite_start, with_line, with_start}
+use Rattle.test_report_run.specs.Suite.{OverView, SuiteState, cancelled_by, has_key, joined_by, outside_start, state_of, suite_start, with_line, with_start}
+use Rattle.test_report_run.specs.SuiteNames.{names_of}
 use Rattle.test_report_run.specs.Totals.{ending, no_suites, with_suite}
 use Rattle.test_report_run.specs.declared.note.RunEnd.{RunEnd}
 use Rattle.test_report_run.specs.declared.run.TestRun.{TestRun}
@@ -45,6 +49,9 @@ pub record RunState : Type 0 where
   -- the lines are the output of a command, and how it ended
   pub of_command : Bool
   pub command : Option CommandView
+  -- the names that are known of the suites of the command, and why the run is cancelled, if it is
+  pub names : SuiteNames
+  pub cancel : Option CancelReason
   -- the tests that run, how many tests started, and how many ended
   pub running : List RunningView
   pub tests_started : ℕ
@@ -76,6 +83,8 @@ run_state r = record {
   held = map cargo_view r.held.items;
   of_command = r.of_command;
   command = option_map command_view r.command;
+  names = names_of r.names;
+  cancel = r.cancel;
   running = tests_of r.running;
   tests_started = r.running.started;
   ended = r.ended;
@@ -103,6 +112,8 @@ run_start slow = record {
   held = [];
   of_command = false;
   command = None;
+  names = [];
+  cancel = None;
   running = [];
   tests_started = 0;
   ended = 0;
@@ -161,7 +172,7 @@ without_tests r s = record r { running = filter (λ t. not (is_of s.number t)) r
 
 -- a suite that was open ends early
 abbrev pub ended_early : Step → SuiteState → Step
-ended_early t s = step (without_tests t.run s) (t.notes ++ early_notes t.run.others s (tests_in t.run s))
+ended_early t s = step (without_tests t.run s) (t.notes ++ early_notes t.run.others (cancelled_by t.run.cancel s) (tests_in t.run s))
 
 -- the run with one more open suite
 abbrev pub opened : RunState → Option (List ℕ) → Option ℕ → RunState
@@ -197,7 +208,7 @@ stray_suite_notes e = if counts_tests e then Disagrees (StraySuiteEnds e.key e.f
 abbrev pub ended_at : RunState → SuiteEndView → ℕ → Step
 ended_at r e at =
     let s = with_line (suite_at r (Some at)) e in
-    if s.open_lines == 0 then step (without_tests (record r { suites = remove r.suites at }) s) (last_notes s (tests_in r s))
+    if s.open_lines == 0 then step (without_tests (record r { suites = remove r.suites at }) s) (last_notes (cancelled_by r.cancel s) (tests_in r s))
     else step (with_suite_at r (Some at) s) []
 
 -- a last line of a suite
@@ -227,6 +238,7 @@ running_over r e test attempts = record {
   time = e.time;
   ended = Some r.ended;
   slow = test.slow || is_long r e.time;
+  cancel = r.cancel;
 }
 
 -- the position of the open suite with this number
@@ -246,7 +258,7 @@ running_ends r e at attempts = test_over (record r { running = remove r.running 
 
 -- what is known of a test that ends and was not running
 abbrev pub stray_over : RunState → TestEndView → OverView
-stray_over r e = record { name = e.name; attempts = 1; time = e.time; ended = Some r.ended; slow = is_long r e.time }
+stray_over r e = record { name = e.name; attempts = 1; time = e.time; ended = Some r.ended; slow = is_long r e.time; cancel = r.cancel }
 
 -- the end of a test that was not running is counted in its suite
 abbrev pub stray_counted : RunState → TestEndView → RunState
@@ -282,12 +294,16 @@ slow_at r at = record (heard_at r (place_of_number r (running_at r.running at).s
 abbrev pub test_is_slow : RunState → List ℕ → RunState
 test_is_slow r name = option_map_or (λ place. slow_at r place.0) (place_of_end r.running name) r
 
+-- the name that a heading gives the suites after it: the known name of the path, or else its own
+abbrev pub name_by_heading : RunState → List ℕ → Option (List ℕ) → List ℕ
+name_by_heading r name path = unwrap_or (option_and_then (λ p. lookup (bytes_eq p) r.names) path) (shown_by r.headings name path)
+
 -- a heading
 abbrev pub headed : RunState → List ℕ → Option (List ℕ) → RunState
 headed r name path = record r {
   others = after_heading r.others;
   headings = with_heading r.headings name path;
-  heading = Some (shown_by r.headings name path);
+  heading = Some (name_by_heading r name path);
 }
 
 -- a failed test or a disagreement before it explains a failure of cargo
@@ -348,8 +364,9 @@ told r (HeadingLine name path) = step (headed r name path) []
 told r (CargoFails f line plain) = step (cargo_fails r f plain) []
 told r (Prints line plain) = step (printed r line plain) []
 told r (DamagedLine text) = step r (Disagrees (IsDamaged (cut text)) ∷ [])
-told r CommandStarts = step (record r { of_command = true }) []
+told r (CommandStarts names) = step (record r { of_command = true; names = names }) []
 told r (CommandOver end) = step (record r { command = Some end }) []
+told r (Cancels reason) = step (record r { cancel = Some reason }) []
 
 -- the test failed
 abbrev pub has_failed : OutcomeView → Bool
@@ -413,8 +430,9 @@ marked r OtherLine = record r { recent = []; has_event = true }
 marked r (HeadingLine name path) = record r { recent = [] }
 marked r (Prints line plain) = r
 marked r (DamagedLine text) = r
-marked r CommandStarts = r
+marked r (CommandStarts names) = r
 marked r (CommandOver end) = r
+marked r (Cancels reason) = r
 
 -- the run after a line, before its notes are counted, and what the line makes known
 abbrev pub told_at : RunState → EventView → Step
@@ -499,6 +517,7 @@ begun r = record r {
   recent = [];
   of_command = false;
   command = None;
+  names = [];
   causes_at_file = r.causes;
   causes_at_cargo = r.causes;
 }

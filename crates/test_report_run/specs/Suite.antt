@@ -3,6 +3,7 @@ use Rattle.std.specs.Prelude.{◌+◌, ◌-◌, [], ℕ, List, Bool, false, is_n
 use Rattle.std.specs.BTreeMap.{values}
 use Rattle.std.specs.Option.{option_map_or, option_or}
 use Rattle.std.specs.Str.{bytes_eq}
+use Rattle.run_events_results.specs.declared.results.CancelReason.{CancelReason}
 use Rattle.run_events_stats.specs.Counters.{counters_of, nothing_known, with_test}
 use Rattle.run_events_stats.specs.declared.stats.RunStats.{RunStats}
 use Rattle.test_report_events.specs.Event.{SuiteEndView}
@@ -28,6 +29,7 @@ pub record OverView : Type 0 where
   pub time : Option ℕ
   pub ended : Option ℕ
   pub slow : Bool
+  pub cancel : Option CancelReason
 
 -- a flaky test that passed at last
 pub record FlakyView : Type 0 where
@@ -54,10 +56,12 @@ pub record SuiteState : Type 0 where
   -- the place of the first print after its first line, and that of its last event
   pub start : PrintPlace
   pub last_event : EventPlace
+  -- why the run was cancelled before the suite was over, if it was. The run sets it when the suite is over
+  pub cancel : Option CancelReason
 
 -- what is known of a test that is over
 abbrev pub over_view : OverTest → OverView
-over_view t = record { name = string_bytes t.name; attempts = t.attempts; time = t.time; ended = t.ended; slow = t.slow }
+over_view t = record { name = string_bytes t.name; attempts = t.attempts; time = t.time; ended = t.ended; slow = t.slow; cancel = t.cancel }
 
 -- what is known of a flaky test
 abbrev pub flaky_view : FlakyTest → FlakyView
@@ -85,6 +89,7 @@ state_of s = record {
   time = s.time;
   start = s.start;
   last_event = s.last_event;
+  cancel = s.cancel;
 }
 
 -- a suite of which one first line was read, after these other lines
@@ -105,11 +110,16 @@ suite_start number key heading count others = record {
   time = None;
   start = print_place others;
   last_event = event_place others;
+  cancel = None;
 }
 
 -- the tests of a file that start outside of a suite, before the first of them
 abbrev pub outside_start : SuiteState
 outside_start = suite_start None None None None no_others
+
+-- the suite with this cancel reason of the run, or none
+abbrev pub cancelled_by : Option CancelReason → SuiteState → SuiteState
+cancelled_by why s = record s { cancel = why }
 
 -- the suite with one more first line
 abbrev pub joined_by : SuiteState → Option ℕ → SuiteState
@@ -145,6 +155,7 @@ test_of s t outcome = record {
   time = t.time;
   ended = t.ended;
   slow = t.slow;
+  cancel = t.cancel;
   outcome = outcome;
 }
 

@@ -3,6 +3,7 @@
 ghost use Rattle.std.specs.Prelude.{◌≡◌};
 ghost use Rattle.test_report_run.specs.Suite.{failed_of};
 
+use run_events_results::results::CancelReason;
 use run_events_stats::outcome::RunOutcome;
 use run_events_stats::stats::RunStats;
 use std::rc::Rc;
@@ -49,6 +50,9 @@ pub struct TestNote {
 
     /// True if the test was slow: a line says so, or its time is at least that of a slow test.
     pub slow: bool,
+
+    /// The reason why the run had been cancelled when this became known, if it had been.
+    pub cancel: Option<CancelReason>,
 
     /// Whether the test passed, failed or was skipped.
     pub outcome: TestOutcome,

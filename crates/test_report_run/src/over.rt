@@ -33,19 +33,6 @@ pub(crate) struct Rest {
     pub(crate) time: Option<u64>,
 }
 
-/// Returns a test that has no line of its end.
-fn over(test: RunningTest) -> OverTest
-    ensures { over_view result ≡ spec.over_of (running_test_view test) }
-{
-    OverTest {
-        name: test.name,
-        attempts: 1,
-        time: None,
-        ended: None,
-        slow: test.slow,
-    }
-}
-
 /// Returns a copy of how a test crashed, which shares the text of the prints.
 fn copy_of(alloc: Global, crash: &Crash) -> Result<Crash, AllocError>
     ensures { IfOk result (λ copy. crash_view copy ≡ crash_view crash.now) }
@@ -69,6 +56,30 @@ fn copy_of(alloc: Global, crash: &Crash) -> Result<Crash, AllocError>
 }
 
 impl Suite {
+    /// Returns a test of the suite with the cancel reason of the suite.
+    fn known_now(&self, test: OverTest) -> OverTest
+        ensures { over_view result ≡ record (over_view test) { cancel = self.now.cancel } }
+    {
+        OverTest {
+            cancel: self.cancel,
+            ..test
+        }
+    }
+
+    /// Returns a test of the suite that has no line of its end.
+    fn over(&self, test: RunningTest) -> OverTest
+        ensures { over_view result ≡ spec.over_of (state_of self.now) (running_test_view test) }
+    {
+        OverTest {
+            name: test.name,
+            attempts: 1,
+            time: None,
+            ended: None,
+            slow: test.slow,
+            cancel: self.cancel,
+        }
+    }
+
     /// Ends the suite without a last line, and adds its notes. `left` are its running tests, which crashed. `others`
     /// are the lines of the file that are no events.
     pub(crate) fn end_early(
@@ -176,7 +187,7 @@ impl Suite {
             message: None,
             reason: None,
         };
-        notes.push(self.note(over(test), TestOutcome::Failed(failure))?)?;
+        notes.push(self.note(self.over(test), TestOutcome::Failed(failure))?)?;
         Ok(())
     }
 
@@ -220,7 +231,8 @@ impl Suite {
                 let (attempts, slow) = (flaky.test.attempts, flaky.test.slow);
                 count(&mut self.stats, Finish::Passed, attempts, slow)?;
                 let output = flaky.stdout;
-                notes.push(self.note(flaky.test, TestOutcome::Passed { output })?)?;
+                let test = self.known_now(flaky.test);
+                notes.push(self.note(test, TestOutcome::Passed { output })?)?;
             }
         }
         Ok(())
@@ -242,7 +254,8 @@ impl Suite {
             message: flaky.message,
             reason: None,
         };
-        notes.push(self.note(flaky.test, TestOutcome::Failed(failure))?)?;
+        let test = self.known_now(flaky.test);
+        notes.push(self.note(test, TestOutcome::Failed(failure))?)?;
         Ok(())
     }
 
@@ -323,7 +336,7 @@ impl Suite {
     {
         for test in tests {
             let outcome = TestOutcome::Skipped { reason: None };
-            notes.push(self.note(over(test), outcome)?)?;
+            notes.push(self.note(self.over(test), outcome)?)?;
         }
         Ok(())
     }

@@ -23,7 +23,9 @@ use crate::others::Others;
 use crate::run::lines::push_damaged;
 use crate::running::Running;
 use crate::suite::Suite;
+use crate::suite_names::SuiteNames;
 use crate::totals::Totals;
+use run_events_results::results::CancelReason;
 use std::alloc::{AllocError, Global};
 use std::rc::Rc;
 use test_report_events::event::Event;
@@ -66,6 +68,12 @@ pub struct TestRun {
     /// How the command ended.
     command: Option<CommandEnd>,
 
+    /// The names that are known of the suites of the command.
+    names: SuiteNames,
+
+    /// Why the run is cancelled, if it is.
+    cancel: Option<CancelReason>,
+
     running: Running,
     ended: usize,
     totals: Totals,
@@ -100,6 +108,8 @@ impl TestRun {
             held: Vec::new(alloc),
             of_command: false,
             command: None,
+            names: SuiteNames::new(alloc),
+            cancel: None,
             running: Running::new(alloc),
             ended: 0,
             totals: Totals::new(),
@@ -190,6 +200,7 @@ impl TestRun {
         self.recent = LongestEnd::new(alloc);
         self.of_command = false;
         self.command = None;
+        self.names = SuiteNames::new(alloc);
         self.causes_at_file = self.causes;
         self.causes_at_cargo = self.causes;
     }

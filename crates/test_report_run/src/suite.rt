@@ -13,6 +13,7 @@ use crate::note::{Note, TestNote, TestOutcome, failed_count};
 use crate::others::{EventPlace, Others, PrintPlace};
 use crate::said::{Said, sum};
 use crate::suite_name::SuiteName;
+use run_events_results::results::CancelReason;
 use run_events_stats::stats::RunStats;
 use std::alloc::{AllocError, Global};
 use std::rc::Rc;
@@ -35,6 +36,9 @@ pub(crate) struct OverTest {
 
     /// True if the test was slow.
     pub(crate) slow: bool,
+
+    /// The reason why the run had been cancelled when the test became known, if it had been.
+    pub(crate) cancel: Option<CancelReason>,
 }
 
 impl OverTest {
@@ -48,6 +52,7 @@ impl OverTest {
             time: self.time,
             ended: self.ended,
             slow: self.slow,
+            cancel: self.cancel,
         })
     }
 }
@@ -102,6 +107,9 @@ pub(crate) struct Suite {
 
     /// The place of its last event.
     pub(crate) last_event: EventPlace,
+
+    /// Why the run was cancelled before the suite was over, if it was. The run sets it when the suite is over.
+    pub(crate) cancel: Option<CancelReason>,
 }
 
 impl Suite {
@@ -170,6 +178,7 @@ impl Suite {
             time: None,
             start,
             last_event,
+            cancel: None,
         }
     }
 
@@ -266,6 +275,7 @@ impl Suite {
             time: test.time,
             ended: test.ended,
             slow: test.slow,
+            cancel: test.cancel,
             outcome,
         })
     }

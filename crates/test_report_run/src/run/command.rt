@@ -1,23 +1,36 @@
 //! The command whose output the lines of a run are.
 
 ghost use Rattle.std.specs.Prelude.{◌≡◌, ◌++◌, ◌||◌, IfOk, OnOk, map, option_map};
-ghost use Rattle.test_report_events.specs.Event.{CommandOver, CommandStarts};
+ghost use Rattle.test_report_events.specs.Event.{Cancels, CommandOver, CommandStarts};
 ghost use Rattle.test_report_run.specs.Note.{CargoSays, Disagrees, cargo_view, command_view, ended_well, note_view, was_not_started};
 ghost use Rattle.test_report_run.specs.Run as spec;
 ghost use Rattle.test_report_run.specs.Run.{run_state};
+ghost use Rattle.test_report_run.specs.SuiteNames.{names_of};
 
 use crate::error::RunError;
 use crate::note::{CargoReport, CommandEnd, Disagreement, Note};
 use crate::run::TestRun;
+use crate::suite_names::SuiteNames;
+use run_events_results::results::CancelReason;
 use std::alloc::{AllocError, Global};
 
 impl TestRun {
     /// Notes that the next lines, up to the next call of `end_file`, are the output of a command. Failures that cargo
-    /// reports in them wait for the end of the command: if it ended with status 0, they were prints.
-    pub fn on_command_started(&mut self)
-        ensures takes { run_state self.new ≡ spec.after (run_state self.old) CommandStarts }
+    /// reports in them wait for the end of the command: if it ended with status 0, they were prints. The suites after
+    /// a heading have the name in `names` of the path in the heading, if there is one.
+    pub fn on_command_started(&mut self, names: SuiteNames)
+        ensures takes { run_state self.new ≡ spec.after (run_state self.old) (CommandStarts (names_of names)) }
     {
         self.of_command = true;
+        self.names = names;
+    }
+
+    /// Notes that the run is cancelled for this reason, also if it was for another one. The notes of the tests that
+    /// become known from now on have it. Nothing else of the run changes.
+    pub fn on_cancelled(&mut self, reason: CancelReason)
+        ensures takes { run_state self.new ≡ spec.after (run_state self.old) (Cancels reason) }
+    {
+        self.cancel = Some(reason);
     }
 
     /// Notes how the command ended whose output was read. Call it before `end_file`, which returns what this makes

@@ -1,11 +1,13 @@
 //! Headings, failures of cargo, prints, and damaged lines.
 
 ghost use Rattle.std.specs.List.{starts_with};
-ghost use Rattle.std.specs.Prelude.{◌≡◌, ◌++◌, ◌∷◌, [], OnOk, map, nat_eq, option_map};
-ghost use Rattle.test_report_run.specs.Note.{Disagrees, IsDamaged, note_view};
+ghost use Rattle.std.specs.Map.{lookup};
+ghost use Rattle.std.specs.Prelude.{◌≡◌, ◌++◌, ◌∷◌, [], IfOk, OnOk, map, nat_eq, option_and_then, option_map};
+ghost use Rattle.test_report_run.specs.Note.{Disagrees, IsDamaged, note_view, text_view};
 ghost use Rattle.test_report_run.specs.Prints.{cut};
 ghost use Rattle.test_report_run.specs.Run as spec;
 ghost use Rattle.test_report_run.specs.Run.{run_state};
+ghost use Rattle.std.specs.Str.{bytes_eq};
 
 use crate::cuts::shortened;
 use crate::error::{RunError, one_more};
@@ -30,9 +32,21 @@ impl TestRun {
             (option_map (λ path. path.now) path.entry)) }
     {
         self.others.on_heading(alloc)?;
-        let name = self.headings.on_heading(alloc, name, path)?;
+        let own = self.headings.on_heading(alloc, name, path)?;
+        let name = self.known_name(alloc, path)?.unwrap_or(own);
         self.heading = Some(Rc::new(alloc, name)?);
         Ok(())
+    }
+
+    /// Returns the name that is known of the suites of the binary with this path.
+    fn known_name(&self, alloc: Global, path: Option<&str>) -> Result<Option<String>, AllocError>
+        ensures { IfOk result (λ known. text_view known ≡ option_and_then
+            (λ p. lookup (bytes_eq p) (run_state self.now).names) (option_map (λ path. path.now) path.entry)) }
+    {
+        match path.and_then(|path| self.names.get(path)) {
+            Some(name) => Ok(Some(String::from_str(alloc, name)?)),
+            None => Ok(None),
+        }
     }
 
     /// Takes a print.

@@ -8,7 +8,7 @@ ghost use Rattle.test_report_run.specs.Over.{last_notes};
 ghost use Rattle.test_report_run.specs.Run as spec;
 ghost use Rattle.test_report_run.specs.Run.{run_state};
 ghost use Rattle.test_report_run.specs.Running.{is_same};
-ghost use Rattle.test_report_run.specs.Suite.{has_key, joined_by, state_of, with_line};
+ghost use Rattle.test_report_run.specs.Suite.{cancelled_by, has_key, joined_by, state_of, with_line};
 
 use crate::error::{RunError, one_more};
 use crate::note::{Disagreement, Note};
@@ -177,15 +177,17 @@ impl TestRun {
     fn end_suite(
         &mut self,
         alloc: Global,
-        suite: Suite,
+        mut suite: Suite,
         notes: &mut Vec<Note>,
     ) -> Result<(), RunError>
         ensures takes { OnOk result (run_state self.new
             ≡ spec.without_tests (run_state self.old) (state_of suite)) }
         ensures tells { OnOk result (map note_view notes.new.items ≡ map note_view notes.old.items
-            ++ last_notes (state_of suite) (spec.tests_in (run_state self.old) (state_of suite))) }
+            ++ last_notes (cancelled_by self.old.cancel (state_of suite))
+            (spec.tests_in (run_state self.old) (state_of suite))) }
     {
         let left = self.running.take_suite(alloc, suite.name.number)?;
+        suite.cancel = self.cancel;
         suite.end(alloc, left, notes)
     }
 
@@ -193,13 +195,14 @@ impl TestRun {
     pub(crate) fn end_early(
         &mut self,
         alloc: Global,
-        suite: Suite,
+        mut suite: Suite,
         notes: &mut Vec<Note>,
     ) -> Result<(), RunError>
         ensures { OnOk result (spec.step (run_state self.new) (map note_view notes.new.items)
             ≡ spec.ended_early (spec.step (run_state self.old) (map note_view notes.old.items)) (state_of suite)) }
     {
         let left = self.running.take_suite(alloc, suite.name.number)?;
+        suite.cancel = self.cancel;
         suite.end_early(alloc, &self.others, left, notes)
     }
 

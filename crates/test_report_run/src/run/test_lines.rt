@@ -167,6 +167,7 @@ impl TestRun {
             time: details.time,
             ended: Some(self.ended),
             slow,
+            cancel: self.cancel,
         };
         let event = self.others.event_place();
         match place {
@@ -240,6 +241,7 @@ impl TestRun {
             time: details.time,
             ended: Some(self.ended),
             slow,
+            cancel: self.cancel,
         };
         let event = self.others.event_place();
         match self.suite_of(name) {
