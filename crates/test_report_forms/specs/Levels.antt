@@ -1,5 +1,5 @@
 -- What the form for people shows of a test, by the levels of the layer.
-use Rattle.std.specs.Prelude.{◌&&◌, ◌||◌, ◌++◌, ℕ, Bool, List, [], if◌then◌else◌, max, None, unwrap_or}
+use Rattle.std.specs.Prelude.{◌&&◌, ◌||◌, ◌++◌, ℕ, Bool, List, [], if◌then◌else◌, max, Option, unwrap_or}
 use Rattle.run_events_levels.specs.Level.{final_level_of, level_of}
 use Rattle.run_events_levels.specs.TestView.{TestView}
 use Rattle.run_events_levels.specs.Visibility.{asked_of, visibility}
@@ -11,6 +11,7 @@ use Rattle.run_events_levels.specs.declared.levels.OutputStoreFinal.TheVariants 
 use Rattle.run_events_levels.specs.declared.levels.StatusLevel.{StatusLevel}
 use Rattle.run_events_levels.specs.declared.levels.StatusLevel.TheVariants as level
 use Rattle.run_events_levels.specs.declared.levels.StatusLevels.{StatusLevels}
+use Rattle.run_events_results.specs.declared.results.CancelReason.{CancelReason}
 use Rattle.run_events_results.specs.declared.results.ExecutionResultDescription.TheVariants as described
 use Rattle.run_events_settings.specs.declared.config.TestOutputDisplay.{TestOutputDisplay}
 use Rattle.run_events_settings.specs.declared.config.TestOutputDisplay.TheVariants as display
@@ -47,15 +48,15 @@ own_level how attempts slow = unwrap_or (level_of (own_view how attempts slow)) 
 abbrev pub own_final_level : Finish → ℕ → Bool → FinalStatusLevel
 own_final_level how attempts slow = unwrap_or (final_level_of (own_view how attempts slow)) final.Fail
 
--- what is shown of it, and what is stored for the list at the end
-unfoldable pub finished_output : Options → Finish → ℕ → Bool → OutputOnTestFinished
-finished_output o how attempts slow =
+-- what is shown of it if the run was cancelled for this reason, or not cancelled, and what is stored for the list at the end
+unfoldable pub finished_output : Options → Finish → ℕ → Bool → Option CancelReason → OutputOnTestFinished
+finished_output o how attempts slow why =
     visibility (asked_of (levels_of o) (display_of o how) (own_level how attempts slow) (own_final_level how attempts slow)
-    (own_view how attempts slow).result) None
+    (own_view how attempts slow).result) why
 
 -- what is shown of a skipped test, and what is stored for the list at the end
-unfoldable pub skipped_output : Options → OutputOnTestFinished
-skipped_output o = visibility (asked_of (levels_of o) display.Never level.Skip final.Skip described.Pass) None
+unfoldable pub skipped_output : Options → Option CancelReason → OutputOnTestFinished
+skipped_output o why = visibility (asked_of (levels_of o) display.Never level.Skip final.Skip described.Pass) why
 
 -- the same, but nothing is shown under the line of a test that has nothing to show
 abbrev pub shown_if : Bool → OutputOnTestFinished → OutputOnTestFinished

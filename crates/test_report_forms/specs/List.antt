@@ -88,11 +88,11 @@ failed_line o t word short = list_line o word t ++ (codes ": " ++ (shown_text o.
 -- the lines of an entry in the list
 abbrev pub item : Options → EntryView → List ℕ
 item o (TestPassed t) =
-    listed_text (finished_output o Passed t.attempts t.slow).store_final (ended_line o t (listed_word t.attempts t.slow))
+    listed_text (finished_output o Passed t.attempts t.slow t.cancel).store_final (ended_line o t (listed_word t.attempts t.slow))
     (output_lines 13 o t.outcome)
-item o (TestSkipped t) = listed_text (skipped_output o).store_final (ended_line o t (codes "SKIP")) []
+item o (TestSkipped t) = listed_text (skipped_output o t.cancel).store_final (ended_line o t (codes "SKIP")) []
 item o (TestFailed t f w) =
-    listed_text (finished_output o (finish_for f.kind) t.attempts t.slow).store_final (failed_line o t (failed_word f.kind) w.short)
+    listed_text (finished_output o (finish_for f.kind) t.attempts t.slow t.cancel).store_final (failed_line o t (failed_word f.kind) w.short)
     (why_lines 13 o (text_why o t f w))
 item o _ = []
 

@@ -40,12 +40,12 @@ ended_text shows head below = if has_line shows then head ++ (if shows.show_imme
 -- a failed test, with why it failed
 unfoldable pub failed_text : Options → TestNoteView → FailureView → WhyView → List ℕ
 failed_text o t f w =
-    ended_text (finished_output o (finish_for f.kind) t.attempts t.slow) (failed_head o t (failed_word f.kind)) (why_lines 4 o (text_why o t f w))
+    ended_text (finished_output o (finish_for f.kind) t.attempts t.slow t.cancel) (failed_head o t (failed_word f.kind)) (why_lines 4 o (text_why o t f w))
 
 -- a test that passed, with its output
 unfoldable pub passed_text : Options → TestNoteView → List ℕ
 passed_text o t =
-    ended_text (shown_if (has_output t.outcome) (finished_output o Passed t.attempts t.slow)) (ended_head o t (passed_word t.attempts))
+    ended_text (shown_if (has_output t.outcome) (finished_output o Passed t.attempts t.slow t.cancel)) (ended_head o t (passed_word t.attempts))
     (output_lines 4 o t.outcome)
 
 -- a test that passed, if it is not flaky: what is written of a flaky one was written when it passed
@@ -54,7 +54,7 @@ counted_text o t = if nat_lt 1 t.attempts then [] else passed_text o t
 
 -- a skipped test
 unfoldable pub skipped_text : Options → TestNoteView → List ℕ
-skipped_text o t = ended_text (skipped_output o) (ended_head o t (codes "SKIP")) []
+skipped_text o t = ended_text (skipped_output o t.cancel) (ended_head o t (codes "SKIP")) []
 
 -- how cargo writes lines of a harness
 unfoldable pub cargo_advice : List ℕ

@@ -10,8 +10,9 @@ use crate::text::TextForm;
 use std::alloc::{AllocError, Global};
 use test_report_run::note::RunEnd;
 
-/// The form for people with the annotations of [`GithubForm`] between its lines: the annotation of an entry comes after
-/// the text of the entry, and the notice after the last line. So one log is read by people and by GitHub.
+/// The form for people with the annotations of [`GithubForm`] between its lines: the annotations of the entries that one
+/// line of the input makes known come after the texts of all these entries, and the notice after the last line. So one
+/// log is read by people and by GitHub.
 #[derive(Drop)]
 pub struct AnnotatedForm {
     text: TextForm,
@@ -38,7 +39,9 @@ impl Form for AnnotatedForm {
     ghost use Rattle.test_report_forms.specs.KeptList.{IsListOf};
     ghost use Rattle.test_report_forms.specs.Text.{text_last, text_line};
 
-    ghost line = { λ form entry. text_line form.text.options entry ++ github_line form.github.options entry };
+    ghost line = { λ form entry. text_line form.text.options entry };
+
+    ghost line_end = { λ form entry. github_line form.github.options entry };
 
     ghost last = { λ form entries end. text_last form.text.options entries end ++ github_last end };
 
@@ -49,9 +52,10 @@ impl Form for AnnotatedForm {
         alloc: Global,
         entry: &Entry<'_>,
         text: &mut String,
+        behind: &mut String,
     ) -> Result<(), AllocError> {
-        self.text.on_entry(alloc, entry, text)?;
-        self.github.on_entry(alloc, entry, text)
+        self.text.on_entry(alloc, entry, text, behind)?;
+        self.github.on_entry(alloc, entry, behind, text)
     }
 
     fn on_end(&mut self, alloc: Global, end: &RunEnd, text: &mut String) -> Result<(), AllocError> {

@@ -100,7 +100,12 @@ fn take_entry<F: Form>(
         → text_of F.last form.new entries end ≡ text_of F.last form.old entries end) }
 {
     match form {
-        Some(form) => form.on_entry(alloc, entry, &mut String::new(alloc)),
+        Some(form) => form.on_entry(
+            alloc,
+            entry,
+            &mut String::new(alloc),
+            &mut String::new(alloc),
+        ),
         None => Ok(()),
     }
 }

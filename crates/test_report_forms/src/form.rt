@@ -14,25 +14,33 @@ pub trait Form {
     /// The text of an entry, which is written at once.
     ghost line: { Self → EntryView → List ℕ };
 
+    /// The text of an entry that is written after the texts of all entries that the same line of the input makes known.
+    ghost line_end: { Self → EntryView → List ℕ };
+
     /// The text that is written at the end of a run, given all its entries.
     ghost last: { Self → List EntryView → RunEnd → List ℕ };
 
     /// The form has taken these entries, in this order.
     ghost Knows: { Self → List EntryView → Type 0 };
 
-    /// Takes the next entry, and appends its text. The only error is that memory runs out. After an error nothing
-    /// is promised about the form and the text.
+    /// Takes the next entry, and appends its text. Text that belongs after the texts of all entries of the same
+    /// line of the input goes to `behind`. The only error is that memory runs out. After an error nothing is
+    /// promised about the form, the text and `behind`.
     fn on_entry(
         &mut self,
         alloc: Global,
         entry: &Entry<'_>,
         text: &mut String,
+        behind: &mut String,
     ) -> Result<(), AllocError>
         ensures writes { OnOk result (string_bytes text.new
             ≡ string_bytes text.old ++ line self.old (entry_view entry.now)) }
+        ensures behind { OnOk result (string_bytes behind.new
+            ≡ string_bytes behind.old ++ line_end self.old (entry_view entry.now)) }
         ensures knows { OnOk result ((entries : List EntryView)
             → Knows self.old entries → Knows self.new (entries ++ entry_view entry.now ∷ [])) }
         ensures same_line { OnOk result (line self.new ≡ line self.old) }
+        ensures same_line_end { OnOk result (line_end self.new ≡ line_end self.old) }
         ensures same_last { OnOk result (last self.new ≡ last self.old) };
 
     /// Appends the text that is written at the end of the run. Errors are those of `on_entry`.

@@ -131,6 +131,8 @@ impl Form for GithubForm {
 
     ghost line = { λ form entry. github_line form.options entry };
 
+    ghost line_end = { λ form entry. [] };
+
     ghost last = { λ form entries end. github_last end };
 
     ghost Knows = { λ form entries. Unit {0} };
@@ -140,6 +142,7 @@ impl Form for GithubForm {
         alloc: Global,
         entry: &Entry<'_>,
         text: &mut String,
+        _: &mut String,
     ) -> Result<(), AllocError> {
         match entry {
             Entry::Failed { test, failure, why } => {

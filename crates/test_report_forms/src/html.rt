@@ -41,6 +41,8 @@ impl Form for HtmlForm {
 
     ghost line = { λ form entry. [] };
 
+    ghost line_end = { λ form entry. [] };
+
     ghost last = { λ form entries end. html_of form.model.options entries end };
 
     ghost Knows = { λ form entries. IsModelOf page_limits form.model entries };
@@ -49,6 +51,7 @@ impl Form for HtmlForm {
         &mut self,
         alloc: Global,
         entry: &Entry<'_>,
+        _: &mut String,
         _: &mut String,
     ) -> Result<(), AllocError> {
         self.model.on_entry(alloc, entry)

@@ -152,6 +152,8 @@ impl Form for JsonForm {
 
     ghost line = { λ form entry. [] };
 
+    ghost line_end = { λ form entry. [] };
+
     ghost last = { λ form entries end. spec.json_written form.options entries end };
 
     ghost Knows = { λ form entries. IsStateOf form (spec.json_state form.options entries) };
@@ -160,6 +162,7 @@ impl Form for JsonForm {
         &mut self,
         alloc: Global,
         entry: &Entry<'_>,
+        _: &mut String,
         _: &mut String,
     ) -> Result<(), AllocError> {
         self.take(alloc, entry)

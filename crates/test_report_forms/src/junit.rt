@@ -228,6 +228,8 @@ impl Form for JunitForm {
 
     ghost line = { λ form entry. [] };
 
+    ghost line_end = { λ form entry. [] };
+
     ghost last = { λ form entries end. spec.junit_of form.options entries end };
 
     ghost Knows = { λ form entries. junit_view form ≡ spec.junit_state form.options entries };
@@ -236,6 +238,7 @@ impl Form for JunitForm {
         &mut self,
         alloc: Global,
         entry: &Entry<'_>,
+        _: &mut String,
         _: &mut String,
     ) -> Result<(), AllocError> {
         self.take(alloc, entry)

@@ -9,7 +9,7 @@ use run_events_levels::levels::{
     FinalStatusLevel, OutputOnTestFinished, StatusLevel, StatusLevels,
 };
 use run_events_levels::view::FinishedTest;
-use run_events_results::results::ExecutionResultDescription;
+use run_events_results::results::{CancelReason, ExecutionResultDescription};
 use run_events_settings::config::TestOutputDisplay;
 use test_report_run::counted::{Finish, finished_test};
 
@@ -59,35 +59,38 @@ pub(crate) fn own_final_level(finish: Finish, attempts: usize, is_slow: bool) ->
         .final_status_level()
 }
 
-/// Returns what is shown of a finished test, and what is stored for the list at the end.
+/// Returns what is shown of a finished test, and what is stored for the list at the end. `cancel` is the
+/// reason why the run had been cancelled when the test became known, if it had been. The layer shows no more for a more
+/// severe reason.
 #[tactic(auto, unfolding(crate::specs::Levels::finished_output))]
 pub(crate) fn finished_output(
     options: Options,
     finish: Finish,
     attempts: usize,
     is_slow: bool,
+    cancel: Option<CancelReason>,
 ) -> OutputOnTestFinished
-    ensures { result ≡ spec.finished_output options finish attempts is_slow }
+    ensures { result ≡ spec.finished_output options finish attempts is_slow cancel }
 {
     let test = own_test(finish, attempts, is_slow);
     let view = test.view();
     levels_of(options).compute_output_on_test_finished(
         display_of(options, finish),
-        None,
+        cancel,
         view.status_level(),
         view.final_status_level(),
         view.result,
     )
 }
 
-/// Returns what is shown of a skipped test, and what is stored for the list at the end.
+/// Returns what is shown of a skipped test, and what is stored for the list at the end, as `finished_output` does.
 #[tactic(auto, unfolding(crate::specs::Levels::skipped_output))]
-pub(crate) fn skipped_output(options: Options) -> OutputOnTestFinished
-    ensures { result ≡ spec.skipped_output options }
+pub(crate) fn skipped_output(options: Options, cancel: Option<CancelReason>) -> OutputOnTestFinished
+    ensures { result ≡ spec.skipped_output options cancel }
 {
     levels_of(options).compute_output_on_test_finished(
         TestOutputDisplay::Never,
-        None,
+        cancel,
         StatusLevel::Skip,
         FinalStatusLevel::Skip,
         &ExecutionResultDescription::Pass,

@@ -198,7 +198,7 @@ fn push_passed(
     options: Options,
 ) -> Result<(), AllocError>
     ensures { OnOk result (string_bytes text.new ≡ string_bytes text.old ++ listed_text
-        (finished_output options Finish.Passed test.now.attempts test.now.slow).store_final
+        (finished_output options Finish.Passed test.now.attempts test.now.slow test.now.cancel).store_final
         (spec.ended_line options (test_view test.now) (spec.listed_word test.now.attempts test.now.slow))
         (output_lines 13 options (outcome_view test.now.outcome))) }
 {
@@ -207,7 +207,9 @@ fn push_passed(
         Finish::Passed,
         test.attempts,
         test.slow,
-    ).store_final
+        test.cancel,
+    )
+    .store_final
     else {
         return Ok(());
     };
@@ -222,9 +224,9 @@ fn push_passed(
 /// Appends the line of a skipped test, if the test is in the list.
 fn push_skipped(text: &mut String, test: &TestNote, options: Options) -> Result<(), AllocError>
     ensures { OnOk result (string_bytes text.new ≡ string_bytes text.old ++ listed_text
-        (skipped_output options).store_final (spec.ended_line options (test_view test.now) (codes "SKIP")) []) }
+        (skipped_output options test.now.cancel).store_final (spec.ended_line options (test_view test.now) (codes "SKIP")) []) }
 {
-    match skipped_output(options).store_final {
+    match skipped_output(options, test.cancel).store_final {
         OutputStoreFinal::Yes { .. } => push_ended(text, test, "SKIP", options),
         OutputStoreFinal::No => Ok(()),
     }
@@ -248,6 +250,7 @@ fn push_failed(
         Finish::of_failure(&failure.kind),
         test.attempts,
         test.slow,
+        test.cancel,
     )
     .store_final
     {

@@ -38,6 +38,8 @@ impl Form for MarkdownForm {
 
     ghost line = { λ form entry. [] };
 
+    ghost line_end = { λ form entry. [] };
+
     ghost last = { λ form entries end. markdown_of form.model.options entries end };
 
     ghost Knows = { λ form entries. IsModelOf summary_limits form.model entries };
@@ -46,6 +48,7 @@ impl Form for MarkdownForm {
         &mut self,
         alloc: Global,
         entry: &Entry<'_>,
+        _: &mut String,
         _: &mut String,
     ) -> Result<(), AllocError> {
         self.model.on_entry(alloc, entry)

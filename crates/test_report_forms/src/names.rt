@@ -16,6 +16,8 @@ impl Form for NamesForm {
 
     ghost line = { λ form entry. names_line entry };
 
+    ghost line_end = { λ form entry. [] };
+
     ghost last = { λ form entries end. [] };
 
     ghost Knows = { λ form entries. Unit {0} };
@@ -25,6 +27,7 @@ impl Form for NamesForm {
         _: Global,
         entry: &Entry<'_>,
         text: &mut String,
+        _: &mut String,
     ) -> Result<(), AllocError> {
         match entry {
             Entry::Failed { test, .. } => {

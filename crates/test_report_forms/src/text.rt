@@ -144,6 +144,7 @@ fn push_failed(
         Finish::of_failure(&failure.kind),
         test.attempts,
         test.slow,
+        test.cancel,
     );
     if !has_line(shows) {
         return Ok(());
@@ -186,7 +187,13 @@ fn push_passed(
         ++ spec.passed_text options (test_view test.now)) }
 {
     let has_output = passed_output(&test.outcome).is_some();
-    let shows = finished_output(options, Finish::Passed, test.attempts, test.slow);
+    let shows = finished_output(
+        options,
+        Finish::Passed,
+        test.attempts,
+        test.slow,
+        test.cancel,
+    );
     let shows = shown_if(has_output, shows);
     if !has_line(shows) {
         return Ok(());
@@ -205,7 +212,7 @@ fn push_skipped(text: &mut String, test: &TestNote, options: Options) -> Result<
     ensures { OnOk result (string_bytes text.new ≡ string_bytes text.old
         ++ spec.skipped_text options (test_view test.now)) }
 {
-    if !has_line(skipped_output(options)) {
+    if !has_line(skipped_output(options, test.cancel)) {
         return Ok(());
     }
     push_ended(text, test, "SKIP", options)
@@ -288,6 +295,8 @@ impl Form for TextForm {
 
     ghost line = { λ form entry. text_line form.options entry };
 
+    ghost line_end = { λ form entry. [] };
+
     ghost last = { λ form entries end. text_last form.options entries end };
 
     ghost Knows = { λ form entries. IsListOf form.list form.options entries };
@@ -297,6 +306,7 @@ impl Form for TextForm {
         alloc: Global,
         entry: &Entry<'_>,
         text: &mut String,
+        _: &mut String,
     ) -> Result<(), AllocError> {
         self.push_entry(alloc, entry, text)?;
         self.list.on_entry(alloc, entry, self.options)

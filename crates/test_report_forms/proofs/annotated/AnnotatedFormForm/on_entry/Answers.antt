@@ -1,19 +1,12 @@
-use Rattle.std.proofs.Common.{◌∙◌, ◌++◌, ℕ, List, ap}
+use Rattle.std.proofs.Common.{◌++◌, ℕ, List, ap}
 use Rattle.std.proofs.lemmas.Result.{on_ok_weaker}
 use Rattle.test_report_forms.specs.Entry.{EntryView}
-use Rattle.test_report_forms.specs.Github.{github_last, github_line}
-use Rattle.test_report_forms.specs.Text.{text_line}
+use Rattle.test_report_forms.specs.Github.{github_last}
 use Rattle.test_report_forms.proofs.annotated.AnnotatedFormForm.on_entry.Goals as goal
 use Rattle.test_report_run.specs.declared.note.RunEnd.{RunEnd}
 
 pub returns-clause-same_line : goal.returns-clause-same_line
-returns-clause-same_line c =
-    on_ok_weaker c.on_entry-2.result
-    (λ same.
-    ap {B = EntryView → List ℕ} (λ (f : EntryView → List ℕ) (entry : EntryView). f entry ++ github_line c.on_entry-2.new.self.options entry)
-    c.in_ok-on_entry.ensures.same_line
-    ∙ ap {B = EntryView → List ℕ} (λ (g : EntryView → List ℕ) (entry : EntryView). text_line c.args.self.now.text.options entry ++ g entry) same)
-    c.on_entry-2.ensures.same_line
+returns-clause-same_line c = on_ok_weaker c.on_entry-2.result (λ same. c.in_ok-on_entry.ensures.same_line) c.on_entry-2.ensures.same_line
 
 pub returns-clause-same_last : goal.returns-clause-same_last
 returns-clause-same_last c =
