@@ -1,7 +1,7 @@
 -- What a report reads of an input.
 use Rattle.std.proofs.Common.{◌≡◌, ◌∙◌, ◌-◌, ◌<◌, ℕ, List, [], ◌∷◌, ◌++◌, None, Option, Some, ap, append_assoc, arith, drop, length, map, refl, subst, sym, take}
 use Rattle.std.specs.Prelude.{◌==◌, Bool, false, slice_index, true}
-use Rattle.test_report_events.specs.Event.{CommandOver, CommandStarts, CommandView, EventView}
+use Rattle.test_report_events.specs.Event.{CommandOver, CommandStarts, CommandView, EventView, SuiteNames}
 use Rattle.test_report_events.specs.Laws.{OneReadingOfLine}
 use Rattle.test_report_events.specs.Line.{LineSays}
 use Rattle.test_report_forms.specs.Entry.{EntryView}
@@ -17,11 +17,7 @@ use Rattle.test_report_engine.specs.Reading.{AppendsLinesStart, LeadsTo, ReadsIn
 use Rattle.test_report_engine.specs.Report.{after_end, after_line, end_notes, line_notes, notes_of, notes_of_input, run_after, run_after_input, run_of}
 use Rattle.test_report_engine.specs.declared.report.Report.{Report}
 use Rattle.test_report_engine.proofs.Lines.{divided-at, events-cut, events-line, events-none, feedless-front, joined, one-events, with-feed, without-feed}
-use Rattle.test_report_engine.proofs.Notes.{starts-front, starts-none, starts-then, writes-from, writes-then}
-
--- the notes of a line, and those of the rest of its input
-notes-line : (r : RunState) (e : List EventView) (es : List (List EventView)) → notes_of_input r (e ∷ es) ≡ line_notes r e ++ notes_of_input (after_line r e) es
-notes-line r e es = append_assoc (line_notes r e) (notes_of (after_line r e) es) (end_notes (run_after (after_line r e) es))
+use Rattle.test_report_engine.proofs.Notes.{starts-empty, starts-front, starts-none, starts-then, writes-empty, writes-from, writes-then}
 
 -- a line that has begun, with its end and the rest
 pub line-rest : (begun end bytes rest : List ℕ) → bytes ≡ begun ++ end → with_feed bytes ++ rest ≡ begun ++ (with_feed end ++ rest)
@@ -41,125 +37,148 @@ end-runs : (old new : TestRun) → run_state new ≡ after_file (run_state old) 
 unfolding run_of after_end
 end-runs old new is = is
 
--- a run has learned how its command ended, if its lines are the output of one. This makes nothing known yet
-pub record LearnsEnd (command : Option CommandView) (old new : TestRun) : Type 0 where
-  pub run_is : run_of new ≡ run_after (run_of old) (events_after command)
-  pub tells : notes_of (run_of old) (events_after command) ≡ []
+-- a run has learned how its command ended, if its lines are the output of one
+abbrev pub LearnsEnd : Option CommandView → TestRun → TestRun → Type 0
+LearnsEnd command old new = run_of new ≡ run_after (run_of old) (events_after command)
 
 pub learns-none : (old new : TestRun) → new ≡ old → LearnsEnd None old new
-learns-none old new is = record { run_is = ap run_of is; tells = refl }
+learns-none old new is = ap run_of is
 
 pub learns-end : (old new : TestRun) (end : CommandView) → run_state new ≡ spec.after (run_state old) (CommandOver end) → LearnsEnd (Some end) old new
-unfolding run_of after_line line_notes
-learns-end old new end is = record { run_is = is; tells = refl }
+unfolding run_of after_line
+learns-end old new end is = is
 
 -- what the end of an input makes known, after the end of its command
 pub over-tells : (command : Option CommandView) (old run : TestRun) (notes : List NoteView) → LearnsEnd command old run → notes ≡ file_notes (run_state run)
-    → notes ≡ notes_of_input (run_of old) (events_after command)
-over-tells command old run notes learns is =
-    end-tells run notes is ∙ ap end_notes learns.run_is
-    ∙ ap (λ ns. ns ++ end_notes (run_after (run_of old) (events_after command))) (sym learns.tells)
+    → notes ≡ end_notes (run_after (run_of old) (events_after command))
+over-tells command old run notes learns is = end-tells run notes is ∙ ap end_notes learns
+
+-- the end of a command makes nothing known
+over-none : (r : RunState) (end : CommandView) → line_notes r (CommandOver end ∷ []) ≡ []
+unfolding line_notes
+over-none r end = refl
+
+-- so what is written of the end of an input is what is written of it and of the end of its command
+starts-over : (command : Option CommandView) (f : List EntryView → List ℕ) (r : RunState) (b w : Option (List ℕ)) → f [] ≡ []
+    → AppendsLinesStart f (end_notes (run_after r (events_after command)) ∷ []) b w → AppendsLinesStart f (notes_of_input r (events_after command)) b w
+starts-over None f r b w none starts = starts
+starts-over (Some end) f r b w none starts =
+    let ended : List NoteView = end_notes (run_after r (events_after (Some end))) in
+    subst (λ ns. AppendsLinesStart f (ns ∷ (ended ∷ [])) b w) (sym (over-none r end)) (starts-empty f (ended ∷ []) b w none starts)
 
 -- and the run after it
 pub over-runs : (command : Option CommandView) (old run new : TestRun) → LearnsEnd command old run → run_state new ≡ after_file (run_state run)
     → run_of new ≡ run_after_input (run_of old) (events_after command)
-over-runs command old run new learns is = end-runs run new is ∙ ap after_end learns.run_is
+over-runs command old run new learns is = end-runs run new is ∙ ap after_end learns
 
 -- the start of a command makes nothing known
-start-tells : (r : RunState) → line_notes r (CommandStarts ∷ []) ≡ []
+start-tells : (r : RunState) (names : SuiteNames) → line_notes r (CommandStarts names ∷ []) ≡ []
 unfolding line_notes
-start-tells r = refl
+start-tells r names = refl
 
-pub start-runs : (old new : TestRun) → run_state new ≡ spec.after (run_state old) CommandStarts → run_of new ≡ after_line (run_of old) (CommandStarts ∷ [])
+pub start-runs : (old new : TestRun) (names : SuiteNames) → run_state new ≡ spec.after (run_state old) (CommandStarts names)
+    → run_of new ≡ after_line (run_of old) (CommandStarts names ∷ [])
 unfolding run_of after_line
-start-runs old new is = is
+start-runs old new names is = is
 
--- so what it and its output make known is what the output alone makes known
-pub start-notes : (old new : TestRun) (es : List (List EventView)) → run_state new ≡ spec.after (run_state old) CommandStarts
-    → notes_of_input (run_of old) ((CommandStarts ∷ []) ∷ es) ≡ notes_of_input (run_of new) es
-start-notes old new es is =
-    let then : RunState = after_line (run_of old) (CommandStarts ∷ []) in
-    notes-line (run_of old) (CommandStarts ∷ []) es ∙ ap (λ ns. ns ++ notes_of_input then es) (start-tells (run_of old))
-    ∙ ap (λ r. notes_of_input r es) (sym (start-runs old new is))
+-- so what it and its output make known is an empty list, and what the output alone makes known
+pub start-notes : (old new : TestRun) (names : SuiteNames) (es : List (List EventView)) → run_state new ≡ spec.after (run_state old) (CommandStarts names)
+    → notes_of_input (run_of old) ((CommandStarts names ∷ []) ∷ es) ≡ [] ∷ notes_of_input (run_of new) es
+start-notes old new names es is =
+    let then : RunState = after_line (run_of old) (CommandStarts names ∷ []) in
+    ap (λ ns. ns ∷ notes_of_input then es) (start-tells (run_of old) names) ∙ ap (λ r. [] ∷ notes_of_input r es) (sym (start-runs old new names is))
 
 module _ (one-reading-of-line : OneReadingOfLine) where
   -- a line of which a beginning is written
-  pub line-start : (f : EntryView → List ℕ) (old new : TestRun) (bytes : List ℕ) (slice items : List Note) (b w : Option (List ℕ))
-      → TakesLine old new bytes (map note_view items) → slice ≡ items → AppendsLinesStart f (map note_view slice) b w
-      → (es : List EventView) → LineSays bytes es → AppendsLinesStart f (line_notes (run_of old) es) b w
+  pub line-start : (f : List EntryView → List ℕ) (old new : TestRun) (bytes : List ℕ) (slice items : List Note) (b w : Option (List ℕ))
+      → TakesLine old new bytes (map note_view items) → slice ≡ items → AppendsLinesStart f (map note_view slice ∷ []) b w
+      → (es : List EventView) → LineSays bytes es → AppendsLinesStart f (line_notes (run_of old) es ∷ []) b w
   line-start f old new bytes slice items b w takes same starts es other =
-      subst (λ ns. AppendsLinesStart f ns b w)
+      subst (λ ns. AppendsLinesStart f (ns ∷ []) b w)
       (ap (map note_view) same ∙ takes.tells ∙ ap (line_notes (run_of old)) (one-reading-of-line bytes takes.events es takes.says other)) starts
 
 -- nothing is written of a line
-pub line-none : (f : EntryView → List ℕ) (r : RunState) (bytes : List ℕ) (b : Option (List ℕ)) (e : List EventView) → LineSays bytes e
-    → AppendsLinesStart f (line_notes r e) b b
-line-none f r bytes b e says = starts-none f (line_notes r e) b
+pub line-none : (f : List EntryView → List ℕ) (r : RunState) (bytes : List ℕ) (b : Option (List ℕ)) (e : List EventView) → LineSays bytes e
+    → AppendsLinesStart f (line_notes r e ∷ []) b b
+line-none f r bytes b e says = starts-none f (line_notes r e ∷ []) b
 
--- notes of which a beginning is written
-pub notes-start : (f : EntryView → List ℕ) (notes : List NoteView) (slice items : List Note) (b w : Option (List ℕ))
-    → map note_view items ≡ notes → slice ≡ items → AppendsLinesStart f (map note_view slice) b w → AppendsLinesStart f notes b w
-notes-start f notes slice items b w tells same starts = subst (λ ns. AppendsLinesStart f ns b w) (ap (map note_view) same ∙ tells) starts
+-- notes of the end of an input, of which a beginning is written
+pub notes-start : (command : Option CommandView) (f : List EntryView → List ℕ) (r : RunState) (slice items : List Note) (b w : Option (List ℕ)) → f [] ≡ []
+    → map note_view items ≡ end_notes (run_after r (events_after command)) → slice ≡ items → AppendsLinesStart f (map note_view slice ∷ []) b w
+    → AppendsLinesStart f (notes_of_input r (events_after command)) b w
+notes-start command f r slice items b w none tells same starts =
+    starts-over command f r b w none (subst (λ ns. AppendsLinesStart f (ns ∷ []) b w) (ap (map note_view) same ∙ tells) starts)
 
 -- nothing is read of an input
-pub input-none : (command : Option CommandView) {F : Type 0} (line : F → EntryView → List ℕ) (old : Report F) (input : List ℕ) (b : Option (List ℕ))
+pub input-none : (command : Option CommandView) {F : Type 0} (line : F → List EntryView → List ℕ) (old : Report F) (input : List ℕ) (b : Option (List ℕ))
     → ReadsStart command line old input b b
 input-none command line old input b events are = starts-none (line old.form) (notes_of_input (run_of old.run) (events ++ events_after command)) b
 
 -- a line of which a beginning is written
-pub input-line-start : (command : Option CommandView) {F : Type 0} (line : F → EntryView → List ℕ) (old : Report F) (bytes rest : List ℕ)
+pub input-line-start : (command : Option CommandView) {F : Type 0} (line : F → List EntryView → List ℕ) (old : Report F) (bytes rest : List ℕ)
     (b w : Option (List ℕ)) → IsOneLine bytes
-    → ((es : List EventView) → LineSays bytes es → AppendsLinesStart (line old.form) (line_notes (run_of old.run) es) b w)
+    → ((es : List EventView) → LineSays bytes es → AppendsLinesStart (line old.form) (line_notes (run_of old.run) es ∷ []) b w)
     → ReadsStart command line old (with_feed bytes ++ rest) b w
 input-line-start command line old bytes rest b w one starts events are =
     let first = events-cut bytes rest events one are in
     let r : RunState = run_of old.run in
     let others : List (List EventView) = first.others ++ events_after command in
     subst (λ ns. AppendsLinesStart (line old.form) ns b w)
-    (sym (ap (λ es. notes_of_input r (es ++ events_after command)) first.is ∙ notes-line r first.own others))
-    (starts-front (line old.form) (line_notes r first.own) (notes_of_input (after_line r first.own) others) b w (starts first.own first.says))
+    (sym (ap (λ es. notes_of_input r (es ++ events_after command)) first.is))
+    (starts-front (line old.form) (line_notes r first.own ∷ []) (notes_of_input (after_line r first.own) others) b w (starts first.own first.says))
 
 module _ (one-reading-of-line : OneReadingOfLine) where
   -- the end of an input, of which a beginning is written
-  pub input-end-start : (command : Option CommandView) {F : Type 0} (line : F → EntryView → List ℕ) (old : Report F) (b w : Option (List ℕ))
+  pub input-end-start : (command : Option CommandView) {F : Type 0} (line : F → List EntryView → List ℕ) (old : Report F) (b w : Option (List ℕ))
       → AppendsLinesStart (line old.form) (notes_of_input (run_of old.run) (events_after command)) b w → ReadsStart command line old [] b w
   input-end-start command line old b w starts events are =
       subst (λ es. AppendsLinesStart (line old.form) (notes_of_input (run_of old.run) (es ++ events_after command)) b w)
       (one-events one-reading-of-line [] [] events events-none are) starts
 
 -- a last line
-pub last-start : (command : Option CommandView) {F : Type 0} (line : F → EntryView → List ℕ) (old : Report F) (bytes : List ℕ) (b w : Option (List ℕ))
+pub last-start : (command : Option CommandView) {F : Type 0} (line : F → List EntryView → List ℕ) (old : Report F) (bytes : List ℕ) (b w : Option (List ℕ))
     → IsOneLine bytes → 0 < length bytes → ReadsStart command line old (with_feed bytes ++ []) b w → ReadsStart command line old bytes b w
 last-start command line old bytes b w one some starts events are = starts events (with-feed bytes events one some are)
 
-module _ {F : Type 0} (line : F → EntryView → List ℕ) (last : F → List EntryView → RunEnd → List ℕ) (Knows : F → List EntryView → Type 0) where
+module _ {F : Type 0} (line : F → List EntryView → List ℕ) (last : F → List EntryView → RunEnd → List ℕ) (Knows : F → List EntryView → Type 0) where
   -- a line whose notes are written
   pub line-read : (old new : Report F) (run : TestRun) (bytes : List ℕ) (slice items : List Note) (b w : Option (List ℕ))
       → TakesLine old.run run bytes (map note_view items) → slice ≡ items → new.run ≡ run
-      → WritesNotes line last Knows (record { run = run; form = old.form; files = old.files }) new (map note_view slice) b w
+      → WritesNotes line last Knows (record { run = run; form = old.form; files = old.files }) new (map note_view slice ∷ []) b w
       → ReadsLine line last Knows old new bytes b w
   line-read old new run bytes slice items b w takes same same_run writes = record {
     events = takes.events;
     says = takes.says;
     run_is = ap run_of same_run ∙ takes.run_is;
     writes =
-        subst (λ ns. WritesNotes line last Knows old new ns b w) (ap (map note_view) same ∙ takes.tells)
-        (writes-from line last Knows old new run (map note_view slice) b w writes);
+        subst (λ ns. WritesNotes line last Knows old new (ns ∷ []) b w) (ap (map note_view) same ∙ takes.tells)
+        (writes-from line last Knows old new run (map note_view slice ∷ []) b w writes);
   }
 
+  -- what was written of the end of an input was written of it and of the end of its command
+  writes-over : (command : Option CommandView) (old new : Report F) (r : RunState) (b w : Option (List ℕ)) → line old.form [] ≡ []
+      → WritesNotes line last Knows old new (end_notes (run_after r (events_after command)) ∷ []) b w
+      → WritesNotes line last Knows old new (notes_of_input r (events_after command)) b w
+  writes-over None old new r b w none writes = writes
+  writes-over (Some end) old new r b w none writes =
+      let ended : List NoteView = end_notes (run_after r (events_after (Some end))) in
+      subst (λ ns. WritesNotes line last Knows old new (ns ∷ (ended ∷ [])) b w) (sym (over-none r end))
+      (writes-empty line last Knows old new (ended ∷ []) b w none writes)
+
   -- the end of an input whose notes are written
-  pub end-read : (command : Option CommandView) (old new : Report F) (run : TestRun) (slice items : List Note) (b w : Option (List ℕ))
-      → map note_view items ≡ notes_of_input (run_of old.run) (events_after command)
+  pub end-read : (command : Option CommandView) (old new : Report F) (run : TestRun) (slice items : List Note) (b w : Option (List ℕ)) → line old.form [] ≡ []
+      → map note_view items ≡ end_notes (run_after (run_of old.run) (events_after command))
       → run_of run ≡ run_after_input (run_of old.run) (events_after command) → slice ≡ items → new.run ≡ run
-      → WritesNotes line last Knows (record { run = run; form = old.form; files = old.files }) new (map note_view slice) b w
+      → WritesNotes line last Knows (record { run = run; form = old.form; files = old.files }) new (map note_view slice ∷ []) b w
       → ReadsInput line last Knows command old new [] b w
-  end-read command old new run slice items b w tells takes same same_run writes = record {
+  end-read command old new run slice items b w none tells takes same same_run writes = record {
     events = [];
     say = events-none;
     run_is = ap run_of same_run ∙ takes;
     writes =
-        subst (λ ns. WritesNotes line last Knows old new ns b w) (ap (map note_view) same ∙ tells)
-        (writes-from line last Knows old new run (map note_view slice) b w writes);
+        writes-over command old new (run_of old.run) b w none
+        (subst (λ ns. WritesNotes line last Knows old new (ns ∷ []) b w) (ap (map note_view) same ∙ tells)
+        (writes-from line last Knows old new run (map note_view slice ∷ []) b w writes));
   }
 
   -- a line, and then the rest
@@ -176,8 +195,8 @@ module _ {F : Type 0} (line : F → EntryView → List ℕ) (last : F → List E
         run_is = others.run_is ∙ ap (λ s. run_after_input s es) first.run_is;
         writes =
             subst (λ ns. WritesNotes line last Knows old new ns b w)
-            (ap (λ s. line_notes r e ++ notes_of_input s es) first.run_is ∙ sym (notes-line r e es))
-            (writes-then line last Knows old mid new (line_notes r e) (notes_of_input (run_of mid.run) es) b m w first.writes others.writes);
+            (ap (λ s. line_notes r e ∷ notes_of_input s es) first.run_is)
+            (writes-then line last Knows old mid new (line_notes r e ∷ []) (notes_of_input (run_of mid.run) es) b m w first.writes others.writes);
       }
 
   -- bytes, and then others
@@ -243,7 +262,7 @@ module _ {F : Type 0} (line : F → EntryView → List ℕ) (last : F → List E
       → front ≡ take at rest → back ≡ drop at rest → at < length rest
       → ((k : ℕ) → k < at → ¬ ((slice_index rest k == 10) ≡ true)) → (slice_index rest at == 10) ≡ true
       → line_then ≡ y ++ front
-      → ((es : List EventView) → LineSays line_then es → AppendsLinesStart (line mid.form) (line_notes (run_of mid.run) es) m w)
+      → ((es : List EventView) → LineSays line_then es → AppendsLinesStart (line mid.form) (line_notes (run_of mid.run) es ∷ []) m w)
       → ReadsStart command line old (x ++ (bytes ++ after)) b w
   bytes-line-start command old mid x y line_then bytes rest front back after b m w at takes one is_front is_back within before feed is starts =
       let line_one : IsOneLine line_then = subst IsOneLine (sym is) (joined y front one (feedless-front rest front at is_front within before)) in
@@ -254,7 +273,7 @@ module _ {F : Type 0} (line : F → EntryView → List ℕ) (last : F → List E
       bytes-starts command old mid x y bytes rest after b m w takes
       (subst (λ l. ReadsStart command line mid l m w) whole (input-line-start command line mid line_then (then ++ after) m w line_one starts))
 
-module _ (one-reading-of-line : OneReadingOfLine) (one_entry : OneEntry) {F : Type 0} (line : F → EntryView → List ℕ)
+module _ (one-reading-of-line : OneReadingOfLine) (one_entry : OneEntry) {F : Type 0} (line : F → List EntryView → List ℕ)
     (last : F → List EntryView → RunEnd → List ℕ) (Knows : F → List EntryView → Type 0) where
   -- a line, and then a beginning of the rest
   pub input-line-then : (command : Option CommandView) (old mid : Report F) (bytes rest : List ℕ) (b m w : Option (List ℕ)) → IsOneLine bytes
@@ -264,12 +283,12 @@ module _ (one-reading-of-line : OneReadingOfLine) (one_entry : OneEntry) {F : Ty
       let first = events-cut bytes rest events one are in
       let es : List (List EventView) = first.others ++ events_after command in
       let same : read.events ≡ first.own = one-reading-of-line bytes read.events first.own read.says first.says in
-      let notes : line_notes r read.events ++ notes_of_input (run_of mid.run) es ≡ notes_of_input r (events ++ events_after command) =
-      ap (λ s. line_notes r read.events ++ notes_of_input s es) read.run_is
-      ∙ ap (λ e. line_notes r e ++ notes_of_input (after_line r e) es) same
-      ∙ sym (ap (λ l. notes_of_input r (l ++ events_after command)) first.is ∙ notes-line r first.own es) in
+      let notes : line_notes r read.events ∷ notes_of_input (run_of mid.run) es ≡ notes_of_input r (events ++ events_after command) =
+      ap (λ s. line_notes r read.events ∷ notes_of_input s es) read.run_is
+      ∙ ap (λ e. line_notes r e ∷ notes_of_input (after_line r e) es) same
+      ∙ sym (ap (λ l. notes_of_input r (l ++ events_after command)) first.is) in
       subst (λ ns. AppendsLinesStart (line old.form) ns b w) notes
-      (starts-then one_entry line last Knows old mid (line_notes r read.events) (notes_of_input (run_of mid.run) es) b m w read.writes
+      (starts-then one_entry line last Knows old mid (line_notes r read.events ∷ []) (notes_of_input (run_of mid.run) es) b m w read.writes
       (starts first.others first.say))
 
   -- a last line

@@ -156,7 +156,7 @@ module _ (one-reading-of-line : OneReadingOfLine) where
   pub one-input : (input : InputView) (a b : List (List EventView)) → AreEventsOf input a → AreEventsOf input b → a ≡ b
   one-input input a b p q =
       let same : p.own ≡ q.own = one-events input.bytes p.own q.own p.say q.say in
-      p.are ∙ ap (λ own. events_before input.command ++ (own ++ events_after input.command)) same ∙ sym q.are
+      p.are ∙ ap (λ own. events_before input.names input.command ++ (own ++ events_after input.command)) same ∙ sym q.are
 
 -- a line that is not empty is one
 pub not_empty-one : (line : List ℕ) → 0 < length line → not_empty line ≡ line ∷ []

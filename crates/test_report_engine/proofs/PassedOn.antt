@@ -162,7 +162,7 @@ one-lines line one = All-cons IsOneLine line [] one (All-nil IsOneLine)
 feeds-more : (lines : List (List ℕ)) (line : List ℕ) → flat_map with_feed (lines ++ line ∷ []) ≡ flat_map with_feed lines ++ (with_feed line ++ [])
 feeds-more lines line = flat_map-append with_feed lines (line ∷ [])
 
-module _ {F : Type 0} (line : F → EntryView → List ℕ) where
+module _ {F : Type 0} (line : F → List EntryView → List ℕ) where
   -- the first lines of an input were passed on
   start-at : (command : Option CommandView) (old : Report F) (input rest : List ℕ) (ended : List (List ℕ)) (s t : SinkState) (b w : Option (List ℕ))
       → All IsOneLine ended
@@ -241,7 +241,7 @@ module _ {F : Type 0} (line : F → EntryView → List ℕ) where
   pub bytes-line-stop : (command : Option CommandView) (old mid : Report F) (x y bytes rest next after : List ℕ) (s t u : SinkState)
       (b m w : Option (List ℕ))
       → GetsBytes line old mid x y bytes s t b m → IsOneLine next → y ++ rest ≡ with_feed next ++ after → GetsOthers (next ∷ []) t u
-      → ((es : List EventView) → LineSays next es → AppendsLinesStart (line mid.form) (line_notes (run_of mid.run) es) m w)
+      → ((es : List EventView) → LineSays next es → AppendsLinesStart (line mid.form) (line_notes (run_of mid.run) es ∷ []) m w)
       → GetsStart command line old (x ++ (bytes ++ rest)) s u b w
   bytes-line-stop command old mid x y bytes rest next after s t u b m w takes one is gets starts =
       let fs : List ℕ = flat_map with_feed takes.ended in
@@ -259,7 +259,7 @@ module _ {F : Type 0} (line : F → EntryView → List ℕ) where
   -- a line was passed on, or nothing, and a beginning of what it makes known was written
   pub last-stop : (command : Option CommandView) (old : Report F) (bytes : List ℕ) (s t : SinkState) (b w : Option (List ℕ)) → IsOneLine bytes
       → 0 < length bytes → ((t ≡ s) × (w ≡ b)) ⊎ GetsOthers (bytes ∷ []) s t
-      → ((es : List EventView) → LineSays bytes es → AppendsLinesStart (line old.form) (line_notes (run_of old.run) es) b w)
+      → ((es : List EventView) → LineSays bytes es → AppendsLinesStart (line old.form) (line_notes (run_of old.run) es ∷ []) b w)
       → GetsStart command line old bytes s t b w
   last-stop command old bytes s t b w one some (inl (same, none)) starts =
       subst (λ u. GetsStart command line old bytes s u b w) (sym same)
@@ -341,7 +341,7 @@ module _ {F : Type 0} (line : F → EntryView → List ℕ) where
       → front ≡ take at rest → back ≡ drop at rest → at < length rest
       → ((k : ℕ) → k < at → ¬ ((slice_index rest k == 10) ≡ true)) → (slice_index rest at == 10) ≡ true
       → next ≡ y ++ front → ((u ≡ t) × (w ≡ m)) ⊎ GetsOthers (next ∷ []) t u
-      → ((es : List EventView) → LineSays next es → AppendsLinesStart (line mid.form) (line_notes (run_of mid.run) es) m w)
+      → ((es : List EventView) → LineSays next es → AppendsLinesStart (line mid.form) (line_notes (run_of mid.run) es ∷ []) m w)
       → GetsStart command line old (x ++ (bytes ++ after)) s u b w
   front-line-stop command old mid x y next bytes rest front back after s t u b m w at gone one cut rest_is within all feed is (inl (same, none)) starts =
       subst (λ n. GetsStart command line old (x ++ (bytes ++ after)) s n b w) (sym same)
@@ -402,7 +402,7 @@ module _ {F : Type 0} (line : F → EntryView → List ℕ) where
             (takes.written None (flat_map with_feed rest.first) w rest.written);
       }
 
-module _ (one-reading-of-line : OneReadingOfLine) (one_entry : OneEntry) {F : Type 0} (line : F → EntryView → List ℕ)
+module _ (one-reading-of-line : OneReadingOfLine) (one_entry : OneEntry) {F : Type 0} (line : F → List EntryView → List ℕ)
     (last : F → List EntryView → RunEnd → List ℕ) (Knows : F → List EntryView → Type 0) where
   -- bytes that are a last line
   pub ends-gets-line : (old mid new : Report F) (bytes : List ℕ) (s t u : SinkState) (b m w : Option (List ℕ)) → IsOneLine bytes → 0 < length bytes
@@ -449,7 +449,7 @@ module _ (one-reading-of-line : OneReadingOfLine) (one_entry : OneEntry) {F : Ty
       }
 
 -- a beginning of what the next bytes pass on
-pub rest-gets : {F : Type 0} (line : F → EntryView → List ℕ) (old : Report F) (x y bytes : List ℕ) (m n : Option (List ℕ)) (s t : SinkState)
+pub rest-gets : {F : Type 0} (line : F → List EntryView → List ℕ) (old : Report F) (x y bytes : List ℕ) (m n : Option (List ℕ)) (s t : SinkState)
     (v w : Option (List ℕ)) → y ≡ x → Consumes m n bytes
     → ((command : Option CommandView) (rest : List ℕ) → GetsStart command line old (y ++ (bytes ++ rest)) s t v w)
     → IfSome m (λ rest. GetsAnyStart line old x rest s t v w)
@@ -460,7 +460,7 @@ rest-gets line old x y bytes (Some xs) (Some ys) s t v w same consumed starts =
     (starts command ys)
 
 -- a beginning of what the end of an input passes on
-pub rest-end-gets : {F : Type 0} (line : F → EntryView → List ℕ) (old : Report F) (x y : List ℕ) (k : ℕ) (bytes : List ℕ) (m n : Option (List ℕ))
+pub rest-end-gets : {F : Type 0} (line : F → List EntryView → List ℕ) (old : Report F) (x y : List ℕ) (k : ℕ) (bytes : List ℕ) (m n : Option (List ℕ))
     (s t : SinkState) (v w : Option (List ℕ)) → Consumes m n (take k bytes) → k ≡ 0 → IsAtEnd n → y ≡ x → GetsStart None line old y s t v w
     → IfSome m (λ rest. GetsAnyStart line old x rest s t v w)
 rest-end-gets line old x y k bytes None n s t v w consumed none end same starts = tt

@@ -6,7 +6,7 @@ use Rattle.std.proofs.lemmas.List.Concat.{flat_map-append}
 use Rattle.std.specs.Io.KnownBytes.{Appends, Consumes, IsAtEnd}
 use Rattle.std.specs.List.{AllZip, flat_map}
 use Rattle.program_io.specs.Transfer.{AppendsStart}
-use Rattle.test_report_events.specs.Event.{CommandStarts, CommandView, EventView}
+use Rattle.test_report_events.specs.Event.{CommandStarts, CommandView, EventView, SuiteNames}
 use Rattle.test_report_events.specs.Laws.{OneReadingOfLine}
 use Rattle.test_report_forms.specs.Entry.{EntryView, IsEntryOf}
 use Rattle.test_report_forms.specs.Files.{FilesKnow, FilesSay}
@@ -19,12 +19,12 @@ use Rattle.test_report_run.specs.declared.note.RunEnd.{RunEnd}
 use Rattle.test_report_run.specs.declared.run.TestRun.{TestRun}
 use Rattle.test_report_engine.specs.Lines.{AreEventsOf, InputView, events_after, file, output}
 use Rattle.test_report_engine.specs.Reading.{AppendsLinesStart, BreaksOff, BreaksOffEnd, FilesHaveRead, Finishes, HasRead, ReadsAnyStart, ReadsInput, ReadsOneMore, ReadsPiece, ReadsSome, ReadsStart, StartsCommand, WritesNotes, piece_size}
-use Rattle.test_report_engine.specs.Report.{AreEntriesOf, AreTexts, IsReport, notes_of_input, notes_of_inputs, run_after_input, run_after_inputs, run_of}
+use Rattle.test_report_engine.specs.Report.{AreEntriesOf, AreTexts, IsReport, all_entries, notes_of_input, notes_of_inputs, run_after_input, run_after_inputs, run_of}
 use Rattle.test_report_engine.specs.declared.report.Report.{Report}
 use Rattle.test_report_engine.proofs.Inputs.{input-none, leads-then, start-notes, start-runs}
 use Rattle.test_report_engine.proofs.Lines.{one-input}
 use Rattle.test_report_engine.proofs.Lists.{zip-append, zip-one, zip-split}
-use Rattle.test_report_engine.proofs.Notes.{writes-from}
+use Rattle.test_report_engine.proofs.Notes.{one-lists, starts-empty, writes-empty, writes-from}
 
 -- the run after inputs and one more, and what they make known
 inputs-run : (r : RunState) (es : List (List (List EventView))) (e : List (List EventView))
@@ -40,8 +40,9 @@ inputs-notes r (x ∷ es) e =
     ∙ sym (append_assoc (notes_of_input r x) (notes_of_inputs (run_after_input r x) es) (notes_of_input (run_after_inputs (run_after_input r x) es) e))
 
 -- the entries of inputs and of one more
-pub entries-more : (slow : ℕ) (inputs : List InputView) (input : InputView) (entries more : List EntryView) (r s : RunState) (events : List (List EventView))
-    → AreEntriesOf slow inputs entries r → AreEventsOf input events → AllZip IsEntryOf (notes_of_input r events) more → s ≡ run_after_input r events
+pub entries-more : (slow : ℕ) (inputs : List InputView) (input : InputView) (entries more : List (List EntryView)) (r s : RunState)
+    (events : List (List EventView)) → AreEntriesOf slow inputs entries r → AreEventsOf input events
+    → AllZip (AllZip IsEntryOf) (notes_of_input r events) more → s ≡ run_after_input r events
     → AreEntriesOf slow (inputs ++ input ∷ []) (entries ++ more) s
 entries-more slow inputs input entries more r s events are say zip run_is =
     let notes : notes_of_inputs (run_start slow) are.events ++ notes_of_input r events ≡ notes_of_inputs (run_start slow) (are.events ++ events ∷ []) =
@@ -50,18 +51,18 @@ entries-more slow inputs input entries more r s events are say zip run_is =
       events = are.events ++ events ∷ [];
       say = zip-append AreEventsOf inputs (input ∷ []) are.events (events ∷ []) are.say (say, tt);
       are =
-          subst (λ ns. AllZip IsEntryOf ns (entries ++ more)) notes
-          (zip-append IsEntryOf (notes_of_inputs (run_start slow) are.events) (notes_of_input r events) entries more are.are zip);
+          subst (λ ns. AllZip (AllZip IsEntryOf) ns (entries ++ more)) notes
+          (zip-append (AllZip IsEntryOf) (notes_of_inputs (run_start slow) are.events) (notes_of_input r events) entries more are.are zip);
       run_is = run_is ∙ ap (λ x. run_after_input x events) are.run_is ∙ sym (inputs-run (run_start slow) are.events events);
     }
 
 -- the entries of inputs and of one more, where those of the inputs are known
-pub record OneMore (input : InputView) (known entries : List EntryView) (r : RunState) : Type 0 where
-  pub more : List EntryView
+pub record OneMore (input : InputView) (known entries : List (List EntryView)) (r : RunState) : Type 0 where
+  pub more : List (List EntryView)
   pub is : entries ≡ known ++ more
   pub events : List (List EventView)
   pub say : AreEventsOf input events
-  pub are : AllZip IsEntryOf (notes_of_input r events) more
+  pub are : AllZip (AllZip IsEntryOf) (notes_of_input r events) more
 
 module _ (one-reading-of-line : OneReadingOfLine) (one_entry : OneEntry) where
   -- inputs tell one list of events for each
@@ -69,29 +70,30 @@ module _ (one-reading-of-line : OneReadingOfLine) (one_entry : OneEntry) where
   one-inputs inputs a b p q = zip-one AreEventsOf (one-input one-reading-of-line) inputs a b p q
 
   -- inputs have at most one list of entries, and one run after them
-  pub one-entries : (slow : ℕ) (inputs : List InputView) (a b : List EntryView) (r s : RunState) → AreEntriesOf slow inputs a r
+  pub one-entries : (slow : ℕ) (inputs : List InputView) (a b : List (List EntryView)) (r s : RunState) → AreEntriesOf slow inputs a r
       → AreEntriesOf slow inputs b s → (a ≡ b) × (r ≡ s)
   one-entries slow inputs a b r s p q =
       let same : p.events ≡ q.events = one-inputs inputs p.events q.events p.say q.say in (
-        zip-one IsEntryOf one_entry (notes_of_inputs (run_start slow) p.events) a b p.are
-            (subst (λ es. AllZip IsEntryOf (notes_of_inputs (run_start slow) es) b) (sym same) q.are),
+        one-lists one_entry (notes_of_inputs (run_start slow) p.events) a b p.are
+            (subst (λ es. AllZip (AllZip IsEntryOf) (notes_of_inputs (run_start slow) es) b) (sym same) q.are),
         p.run_is ∙ ap (run_after_inputs (run_start slow)) same ∙ sym q.run_is,
       )
 
-  more-at : (slow : ℕ) (inputs : List InputView) (input : InputView) (known entries : List EntryView) (r : RunState) (front back : List (List (List EventView)))
+  more-at : (slow : ℕ) (inputs : List InputView) (input : InputView) (known entries : List (List EntryView)) (r : RunState)
+      (front back : List (List (List EventView)))
       → AreEntriesOf slow inputs known r → AllZip AreEventsOf inputs front → AllZip AreEventsOf (input ∷ []) back
-      → AllZip IsEntryOf (notes_of_inputs (run_start slow) (front ++ back)) entries → OneMore input known entries r
+      → AllZip (AllZip IsEntryOf) (notes_of_inputs (run_start slow) (front ++ back)) entries → OneMore input known entries r
   more-at slow inputs input known entries r front [] are say last zip = absurd last
   more-at slow inputs input known entries r front (e ∷ (x ∷ xs)) are say last zip = absurd last.1
   more-at slow inputs input known entries r front (e ∷ []) are say last zip =
       let same : front ≡ are.events = one-inputs inputs front are.events say are.say in
-      let first : List NoteView = notes_of_inputs (run_start slow) are.events in
+      let first : List (List NoteView) = notes_of_inputs (run_start slow) are.events in
       let notes : notes_of_inputs (run_start slow) (front ++ e ∷ []) ≡ first ++ notes_of_input r e =
       inputs-notes (run_start slow) front e
       ∙ ap (λ es. notes_of_inputs (run_start slow) es ++ notes_of_input (run_after_inputs (run_start slow) es) e) same
       ∙ ap (λ x. first ++ notes_of_input x e) (sym are.run_is) in
-      let split = zip-split IsEntryOf first (notes_of_input r e) entries (subst (λ ns. AllZip IsEntryOf ns entries) notes zip) in
-      let fronts : split.front ≡ known = zip-one IsEntryOf one_entry first split.front known split.first are.are in
+      let split = zip-split (AllZip IsEntryOf) first (notes_of_input r e) entries (subst (λ ns. AllZip (AllZip IsEntryOf) ns entries) notes zip) in
+      let fronts : split.front ≡ known = one-lists one_entry first split.front known split.first are.are in
       record {
         more = split.back;
         is = split.is ∙ ap (λ l. l ++ split.back) fronts;
@@ -100,20 +102,21 @@ module _ (one-reading-of-line : OneReadingOfLine) (one_entry : OneEntry) where
         are = split.second;
       }
 
-  pub one-more : (slow : ℕ) (inputs : List InputView) (input : InputView) (known entries : List EntryView) (r s : RunState) → AreEntriesOf slow inputs known r
-      → AreEntriesOf slow (inputs ++ input ∷ []) entries s → OneMore input known entries r
+  pub one-more : (slow : ℕ) (inputs : List InputView) (input : InputView) (known entries : List (List EntryView)) (r s : RunState)
+      → AreEntriesOf slow inputs known r → AreEntriesOf slow (inputs ++ input ∷ []) entries s → OneMore input known entries r
   one-more slow inputs input known entries r s are all =
       let split = zip-split AreEventsOf inputs (input ∷ []) all.events all.say in
       more-at slow inputs input known entries r split.front split.back are split.first split.second
-      (subst (λ es. AllZip IsEntryOf (notes_of_inputs (run_start slow) es) entries) split.is all.are)
+      (subst (λ es. AllZip (AllZip IsEntryOf) (notes_of_inputs (run_start slow) es) entries) split.is all.are)
 
   -- inputs have at most one report, and one end of the run
-  pub one-report : (slow : ℕ) (line : EntryView → List ℕ) (last : List EntryView → RunEnd → List ℕ) (inputs : List InputView) (a b : List ℕ) (d e : RunEnd)
+  pub one-report : (slow : ℕ) (line : List EntryView → List ℕ) (last : List EntryView → RunEnd → List ℕ) (inputs : List InputView) (a b : List ℕ) (d e : RunEnd)
       → IsReport slow line last inputs a d → IsReport slow line last inputs b e → (a ≡ b) × (d ≡ e)
   one-report slow line last inputs a b d e p q =
       let one = one-entries slow inputs p.entries q.entries p.run q.run p.are q.are in
       let end : d ≡ e = p.end_is ∙ ap end_of one.1 ∙ sym q.end_is in (
-        p.is ∙ ap (λ es. flat_map line es ++ last es d) one.0 ∙ ap (λ x. flat_map line q.entries ++ last q.entries x) end ∙ sym q.is,
+        p.is ∙ ap (λ es. flat_map line es ++ last (all_entries es) d) one.0
+            ∙ ap (λ x. flat_map line q.entries ++ last (all_entries q.entries) x) end ∙ sym q.is,
         end,
       )
 
@@ -136,7 +139,7 @@ nothing-left x y xs ys k bytes consumed none end same =
     same ∙ (sym (append-nil x) ∙ ap (λ l. x ++ l) (sym (left-none xs ys k bytes consumed none end)))
 
 -- nothing is read of what is left
-pub rest-none : {F : Type 0} (line : F → EntryView → List ℕ) (old : Report F) (x : List ℕ) (m b : Option (List ℕ))
+pub rest-none : {F : Type 0} (line : F → List EntryView → List ℕ) (old : Report F) (x : List ℕ) (m b : Option (List ℕ))
     → IfSome m (λ rest. ReadsAnyStart line old x rest b b)
 rest-none line old x None b = tt
 rest-none line old x (Some xs) b = λ command over. input-none command line old (x ++ xs) b
@@ -149,7 +152,8 @@ reads-some k bytes m n consumed some within size =
     (take k bytes, consumed, grind arith, grind arith)
 
 -- a beginning of what the next bytes make known
-pub rest-starts : {F : Type 0} (line : F → EntryView → List ℕ) (old : Report F) (x y bytes : List ℕ) (m n v w : Option (List ℕ)) → y ≡ x → Consumes m n bytes
+pub rest-starts : {F : Type 0} (line : F → List EntryView → List ℕ) (old : Report F) (x y bytes : List ℕ) (m n v w : Option (List ℕ)) → y ≡ x
+    → Consumes m n bytes
     → ((command : Option CommandView) (rest : List ℕ) → ReadsStart command line old (y ++ (bytes ++ rest)) v w)
     → IfSome m (λ rest. ReadsAnyStart line old x rest v w)
 rest-starts line old x y bytes None n v w same consumed starts = tt
@@ -159,7 +163,7 @@ rest-starts line old x y bytes (Some xs) (Some ys) v w same consumed starts =
     (starts command ys)
 
 -- a beginning of what the end of an input makes known
-pub rest-end-starts : {F : Type 0} (line : F → EntryView → List ℕ) (old : Report F) (x y : List ℕ) (k : ℕ) (bytes : List ℕ) (m n v w : Option (List ℕ))
+pub rest-end-starts : {F : Type 0} (line : F → List EntryView → List ℕ) (old : Report F) (x y : List ℕ) (k : ℕ) (bytes : List ℕ) (m n v w : Option (List ℕ))
     → Consumes m n (take k bytes) → k ≡ 0 → IsAtEnd n → y ≡ x → ReadsStart None line old y v w → IfSome m (λ rest. ReadsAnyStart line old x rest v w)
 rest-end-starts line old x y k bytes None n v w consumed none end same starts = tt
 rest-end-starts line old x y k bytes (Some xs) None v w consumed none end same starts = absurd consumed
@@ -167,7 +171,7 @@ rest-end-starts line old x y k bytes (Some xs) (Some ys) v w consumed none end s
     λ command over. subst (λ o. ReadsStart o line old (x ++ xs) v w) (sym (over (left-none xs ys k bytes consumed none end)))
     (subst (λ l. ReadsStart None line old l v w) (nothing-left x y xs ys k bytes consumed none end same) starts)
 
-module _ {F : Type 0} (line : F → EntryView → List ℕ) (last : F → List EntryView → RunEnd → List ℕ) (Knows : F → List EntryView → Type 0) where
+module _ {F : Type 0} (line : F → List EntryView → List ℕ) (last : F → List EntryView → RunEnd → List ℕ) (Knows : F → List EntryView → Type 0) where
   -- a report took the events of an input, and what they make known was appended
   pub record TakesInput (old new : Report F) (input : InputView) (b w : Option (List ℕ)) : Type 0 where
     pub events : List (List EventView)
@@ -186,19 +190,21 @@ module _ {F : Type 0} (line : F → EntryView → List ℕ) (last : F → List E
   }
 
   -- those of the output of a command, before which it was told that the command starts
-  pub output-taken : (old new : Report F) (run : TestRun) (bytes : List ℕ) (end : CommandView) (b w : Option (List ℕ))
-      → run_state run ≡ after (run_state old.run) CommandStarts
+  pub output-taken : (old new : Report F) (run : TestRun) (names : SuiteNames) (bytes : List ℕ) (end : CommandView) (b w : Option (List ℕ))
+      → line old.form [] ≡ []
+      → run_state run ≡ after (run_state old.run) (CommandStarts names)
       → ReadsInput line last Knows (Some end) (record { run = run; form = old.form; files = old.files }) new bytes b w
-      → TakesInput old new (output bytes end) b w
-  output-taken old new run bytes end b w starts read =
+      → TakesInput old new (output names bytes end) b w
+  output-taken old new run names bytes end b w none starts read =
       let es : List (List EventView) = read.events ++ events_after (Some end) in
       record {
-        events = (CommandStarts ∷ []) ∷ es;
+        events = (CommandStarts names ∷ []) ∷ es;
         say = record { own = read.events; say = read.say; are = refl };
-        run_is = read.run_is ∙ ap (λ r. run_after_input r es) (start-runs old.run run starts);
+        run_is = read.run_is ∙ ap (λ r. run_after_input r es) (start-runs old.run run names starts);
         writes =
-            subst (λ ns. WritesNotes line last Knows old new ns b w) (sym (start-notes old.run run es starts))
-            (writes-from line last Knows old new run (notes_of_input (run_of run) es) b w read.writes);
+            subst (λ ns. WritesNotes line last Knows old new ns b w) (sym (start-notes old.run run names es starts))
+            (writes-empty line last Knows old new (notes_of_input (run_of run) es) b w none
+            (writes-from line last Knows old new run (notes_of_input (run_of run) es) b w read.writes));
       }
 
   -- a report read one more input
@@ -206,14 +212,14 @@ module _ {F : Type 0} (line : F → EntryView → List ℕ) (last : F → List E
       → ReadsOneMore line last Knows old new input b w
   reads-more old new input b w read slow form inputs written has =
       let took = read.writes.1 in
-      let f : EntryView → List ℕ = line form in
+      let f : List EntryView → List ℕ = line form in
       let more : read.writes.0 ≡ flat_map f took.entries = took.is ∙ ap (λ g. flat_map g took.entries) has.line_is in (
         read.writes.0,
         record {
           entries = has.entries ++ took.entries;
           are = entries-more slow inputs input has.entries took.entries (run_of old.run) (run_of new.run) read.events has.are read.say took.are read.run_is;
           is = ap (λ x. x ++ read.writes.0) has.is ∙ ap (λ x. flat_map f has.entries ++ x) more ∙ sym (flat_map-append f has.entries took.entries);
-          knows = took.form.knows has.entries has.knows;
+          knows = subst (Knows new.form) (sym (flat_map-append (λ line. line) has.entries took.entries)) (took.form.knows (all_entries has.entries) has.knows);
           line_is = took.form.line_is ∙ has.line_is;
           last_is = took.form.last_is ∙ has.last_is;
         },
@@ -228,7 +234,7 @@ module _ {F : Type 0} (line : F → EntryView → List ℕ) (last : F → List E
       record {
         entries = has.entries ++ took.entries;
         are = entries-more slow inputs input has.entries took.entries (run_of old.run) (run_of new.run) read.events has.are read.say took.are read.run_is;
-        know = took.files.know has.entries has.know;
+        know = subst (FilesKnow new.files) (sym (flat_map-append (λ line. line) has.entries took.entries)) (took.files.know (all_entries has.entries) has.know);
         say = λ entries end texts say. has.say entries end texts (took.files.say entries end texts say);
       }
 
@@ -289,7 +295,8 @@ module _ {F : Type 0} (line : F → EntryView → List ℕ) (last : F → List E
     entries = has.entries;
     run = run_of report.run;
     are = has.are;
-    say = subst (λ e. FilesSay files has.entries e texts) (end-known report.run end end_is) (has.say has.entries end texts (say has.entries has.know));
+    say = subst (λ e. FilesSay files (all_entries has.entries) e texts) (end-known report.run end end_is)
+        (has.say (all_entries has.entries) end texts (say (all_entries has.entries) has.know));
   }
 
   -- the end of a report
@@ -302,7 +309,8 @@ module _ {F : Type 0} (line : F → EntryView → List ℕ) (last : F → List E
       entries = has.entries;
       run = run_of report.run;
       are = has.are;
-      is = ap (λ x. x ++ text) has.is ∙ ap (λ x. flat_map (line form) has.entries ++ x) (is has.entries has.knows ∙ ap (λ f. f has.entries end) has.last_is);
+      is = ap (λ x. x ++ text) has.is ∙ ap (λ x. flat_map (line form) has.entries ++ x) (is (all_entries has.entries) has.knows
+          ∙ ap (λ f. f (all_entries has.entries) end) has.last_is);
       end_is = end-known report.run end end_is;
     },
     appends,
@@ -312,14 +320,14 @@ module _ {F : Type 0} (line : F → EntryView → List ℕ) (last : F → List E
   pub ends-off-none : (report : Report F) (b : Option (List ℕ)) → BreaksOffEnd line last Knows report b b
   ends-off-none report b slow form inputs written more end has is = ([], more, refl, Appends-nil b)
 
-module _ (one-reading-of-line : OneReadingOfLine) (one_entry : OneEntry) {F : Type 0} (line : F → EntryView → List ℕ)
+module _ (one-reading-of-line : OneReadingOfLine) (one_entry : OneEntry) {F : Type 0} (line : F → List EntryView → List ℕ)
     (last : F → List EntryView → RunEnd → List ℕ) (Knows : F → List EntryView → Type 0) where
   -- a beginning of what one more input makes known
   pub breaks-off : (old : Report F) (input : InputView) (b w : Option (List ℕ))
       → ((events : List (List EventView)) → AreEventsOf input events → AppendsLinesStart (line old.form) (notes_of_input (run_of old.run) events) b w)
       → BreaksOff line last Knows old input b w
   breaks-off old input b w starts slow form inputs written more has lines =
-      let f : EntryView → List ℕ = line form in
+      let f : List EntryView → List ℕ = line form in
       let one = one-more one-reading-of-line one_entry slow inputs input has.entries lines.entries (run_of old.run) lines.run has.are lines.are in
       let whole : written ++ more ≡ written ++ flat_map f one.more =
       lines.is ∙ ap (flat_map f) one.is ∙ flat_map-append f has.entries one.more ∙ ap (λ x. x ++ flat_map f one.more) (sym has.is) in
@@ -334,25 +342,27 @@ module _ (one-reading-of-line : OneReadingOfLine) (one_entry : OneEntry) {F : Ty
       subst (λ es. AppendsLinesStart (line old.form) (notes_of_input (run_of old.run) es) b w) (sym are.are) (starts are.own are.say))
 
   -- of the output of a command, before which it was told that the command starts
-  output-breaks : (old : Report F) (run : TestRun) (bytes : List ℕ) (end : CommandView) (b w : Option (List ℕ))
-      → run_state run ≡ after (run_state old.run) CommandStarts
+  output-breaks : (old : Report F) (run : TestRun) (names : SuiteNames) (bytes : List ℕ) (end : CommandView) (b w : Option (List ℕ))
+      → line old.form [] ≡ []
+      → run_state run ≡ after (run_state old.run) (CommandStarts names)
       → ReadsStart (Some end) line (record { run = run; form = old.form; files = old.files }) bytes b w
-      → BreaksOff line last Knows old (output bytes end) b w
-  output-breaks old run bytes end b w is starts =
-      breaks-off old (output bytes end) b w (λ events are.
+      → BreaksOff line last Knows old (output names bytes end) b w
+  output-breaks old run names bytes end b w none is starts =
+      breaks-off old (output names bytes end) b w (λ events are.
       subst (λ ns. AppendsLinesStart (line old.form) ns b w)
-      (sym (ap (notes_of_input (run_of old.run)) are.are ∙ start-notes old.run run (are.own ++ events_after (Some end)) is))
-      (starts are.own are.say))
+      (sym (ap (notes_of_input (run_of old.run)) are.are ∙ start-notes old.run run names (are.own ++ events_after (Some end)) is))
+      (starts-empty (line old.form) (notes_of_input (run_of run) (are.own ++ events_after (Some end))) b w none (starts are.own are.say)))
 
   -- a report was told that a command starts
-  pub starts_command : (old : Report F) (run : TestRun) → run_state run ≡ after (run_state old.run) CommandStarts
-      → StartsCommand line last Knows old (record { run = run; form = old.form; files = old.files })
-  starts_command old run is = record {
-    reads = λ bytes end then b w read. reads-more line last Knows old then (output bytes end) b w
-        (output-taken line last Knows old then run bytes end b w is read);
-    files = λ bytes end then b w read. files-more line last Knows old then (output bytes end) b w
-        (output-taken line last Knows old then run bytes end b w is read);
-    breaks_off = λ bytes end b w starts. output-breaks old run bytes end b w is starts;
+  pub starts_command : (old : Report F) (run : TestRun) (names : SuiteNames) → line old.form [] ≡ []
+      → run_state run ≡ after (run_state old.run) (CommandStarts names)
+      → StartsCommand line last Knows names old (record { run = run; form = old.form; files = old.files })
+  starts_command old run names none is = record {
+    reads = λ bytes end then b w read. reads-more line last Knows old then (output names bytes end) b w
+        (output-taken line last Knows old then run names bytes end b w none is read);
+    files = λ bytes end then b w read. files-more line last Knows old then (output names bytes end) b w
+        (output-taken line last Knows old then run names bytes end b w none is read);
+    breaks_off = λ bytes end b w starts. output-breaks old run names bytes end b w none is starts;
   }
 
   -- pieces, and a beginning of what comes of the rest

@@ -1,7 +1,7 @@
 -- The lines of an input, and the events that they say.
 use Rattle.std.specs.Prelude.{◌≡◌, ◌≢◌, ℕ, List, [], ◌∷◌, ◌++◌, All, Option, Some, None}
 use Rattle.std.specs.List.{AllZip, flat_map}
-use Rattle.test_report_events.specs.Event.{CommandOver, CommandStarts, CommandView, EventView}
+use Rattle.test_report_events.specs.Event.{CommandOver, CommandStarts, CommandView, EventView, SuiteNames}
 use Rattle.test_report_events.specs.Line.{LineSays}
 
 -- the line has no line feed
@@ -31,23 +31,24 @@ pub record AreLineEvents (bytes : List ℕ) (events : List (List EventView)) : T
   pub are_lines : AreLines bytes lines
   pub say : AllZip LineSays lines events
 
--- an input of a report: its bytes and, if a command wrote them, how that command ended
+-- an input of a report: its bytes and, if a command wrote them, the names that were known of its suites, and how it ended
 pub record InputView : Type 0 where
   pub bytes : List ℕ
+  pub names : SuiteNames
   pub command : Option CommandView
 
 -- a file with these bytes
 abbrev pub file : List ℕ → InputView
-file bytes = record { bytes = bytes; command = None }
+file bytes = record { bytes = bytes; names = []; command = None }
 
--- the output of a command that ended so
-abbrev pub output : List ℕ → CommandView → InputView
-output bytes end = record { bytes = bytes; command = Some end }
+-- the output of a command that ended so, whose suites have these names
+abbrev pub output : SuiteNames → List ℕ → CommandView → InputView
+output names bytes end = record { bytes = bytes; names = names; command = Some end }
 
 -- what comes before the events of the lines of an input: the start of its command
-abbrev pub events_before : Option CommandView → List (List EventView)
-events_before None = []
-events_before (Some end) = (CommandStarts ∷ []) ∷ []
+abbrev pub events_before : SuiteNames → Option CommandView → List (List EventView)
+events_before names None = []
+events_before names (Some end) = (CommandStarts names ∷ []) ∷ []
 
 -- what comes after them: how the command ended
 abbrev pub events_after : Option CommandView → List (List EventView)
@@ -58,4 +59,4 @@ events_after (Some end) = (CommandOver end ∷ []) ∷ []
 pub record AreEventsOf (input : InputView) (events : List (List EventView)) : Type 0 where
   pub own : List (List EventView)
   pub say : AreLineEvents input.bytes own
-  pub are : events ≡ events_before input.command ++ (own ++ events_after input.command)
+  pub are : events ≡ events_before input.names input.command ++ (own ++ events_after input.command)

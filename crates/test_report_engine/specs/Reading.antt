@@ -3,7 +3,7 @@ use Rattle.std.specs.Prelude.{◌≡◌, ◌<◌, ◌≤◌, ℕ, List, [], ◌�
 use Rattle.std.specs.Io.KnownBytes.{Appends, Consumes}
 use Rattle.std.specs.List.{AllZip, flat_map}
 use Rattle.program_io.specs.Transfer.{AppendsStart}
-use Rattle.test_report_events.specs.Event.{CommandView, EventView}
+use Rattle.test_report_events.specs.Event.{CommandView, EventView, SuiteNames}
 use Rattle.test_report_events.specs.Line.{LineSays}
 use Rattle.test_report_forms.specs.Entry.{EntryView, IsEntryOf}
 use Rattle.test_report_forms.specs.Files.{FilesKnow, FilesSay}
@@ -13,7 +13,7 @@ use Rattle.test_report_run.specs.Note.{NoteView}
 use Rattle.test_report_run.specs.declared.note.RunEnd.{RunEnd}
 use Rattle.test_report_run.specs.declared.run.TestRun.{TestRun}
 use Rattle.test_report_engine.specs.Lines.{AreLineEvents, InputView, events_after, output}
-use Rattle.test_report_engine.specs.Report.{AreEntriesOf, AreLinesOf, IsReport, after_line, line_notes, notes_of_input, run_after_input, run_of}
+use Rattle.test_report_engine.specs.Report.{AreEntriesOf, AreLinesOf, IsReport, after_line, all_entries, line_notes, notes_of_input, run_after_input, run_of}
 use Rattle.test_report_engine.specs.declared.report.Report.{Report}
 
 -- what one state of the forms of files says of a run is what another says
@@ -27,9 +27,9 @@ pub record FilesTake (old new : FileForms) (entries : List EntryView) : Type 0 w
 
 -- a report whose forms of files were these at first has read these inputs. A test is slow from this time on
 pub record FilesHaveRead {F : Type 0} (slow : ℕ) (files : FileForms) (report : Report F) (inputs : List InputView) : Type 0 where
-  pub entries : List EntryView
+  pub entries : List (List EntryView)
   pub are : AreEntriesOf slow inputs entries (run_of report.run)
-  pub know : FilesKnow report.files entries
+  pub know : FilesKnow report.files (all_entries entries)
   pub say : SaysAs report.files files
 
 -- the most bytes that are read at once
@@ -40,19 +40,20 @@ piece_size = 16384
 abbrev pub ReadsSome : Option (List ℕ) → Option (List ℕ) → Type 0
 ReadsSome at_first left = (bytes : List ℕ) × Consumes at_first left bytes × (0 < length bytes) × (length bytes ≤ piece_size)
 
--- a beginning of the lines of these notes was appended
-abbrev pub AppendsLinesStart : (EntryView → List ℕ) → List NoteView → Option (List ℕ) → Option (List ℕ) → Type 0
-AppendsLinesStart line notes before behind = (entries : List EntryView) → AllZip IsEntryOf notes entries → AppendsStart before behind (flat_map line entries)
+-- a beginning of the texts of these notes was appended. The notes of each line are a list
+abbrev pub AppendsLinesStart : (List EntryView → List ℕ) → List (List NoteView) → Option (List ℕ) → Option (List ℕ) → Type 0
+AppendsLinesStart line notes before behind =
+    (entries : List (List EntryView)) → AllZip (AllZip IsEntryOf) notes entries → AppendsStart before behind (flat_map line entries)
 
--- a beginning of the line of each entry of an input was appended: of the bytes that are left of it, and that a report is to read. If it is the output
+-- a beginning of the texts of the entries of an input was appended: of the bytes that are left of it, and that a report is to read. If it is the output
 -- of a command, the command ends so
-abbrev pub ReadsStart : Option CommandView → {F : Type 0} → (F → EntryView → List ℕ) → Report F → List ℕ → Option (List ℕ) → Option (List ℕ) → Type 0
+abbrev pub ReadsStart : Option CommandView → {F : Type 0} → (F → List EntryView → List ℕ) → Report F → List ℕ → Option (List ℕ) → Option (List ℕ) → Type 0
 ReadsStart command line report rest before behind =
     (events : List (List EventView)) → AreLineEvents rest events
     → AppendsLinesStart (line report.form) (notes_of_input (run_of report.run) (events ++ events_after command)) before behind
 
 -- the same, however the command will end while bytes are left; after the last one there is none
-abbrev pub ReadsAnyStart : {F : Type 0} → (F → EntryView → List ℕ) → Report F → List ℕ → List ℕ → Option (List ℕ) → Option (List ℕ) → Type 0
+abbrev pub ReadsAnyStart : {F : Type 0} → (F → List EntryView → List ℕ) → Report F → List ℕ → List ℕ → Option (List ℕ) → Option (List ℕ) → Type 0
 ReadsAnyStart line report begun rest before behind =
     (command : Option CommandView) → (rest ≡ [] → command ≡ None) → ReadsStart command line report (begun ++ rest) before behind
 
@@ -63,13 +64,13 @@ pub record TakesLine (old new : TestRun) (bytes : List ℕ) (notes : List NoteVi
   pub run_is : run_of new ≡ after_line (run_of old) events
   pub tells : notes ≡ line_notes (run_of old) events
 
-module _ {F : Type 0} (line : F → EntryView → List ℕ) (last : F → List EntryView → RunEnd → List ℕ) (Knows : F → List EntryView → Type 0) where
+module _ {F : Type 0} (line : F → List EntryView → List ℕ) (last : F → List EntryView → RunEnd → List ℕ) (Knows : F → List EntryView → Type 0) where
   -- a report whose form was this at first has read these inputs, and written this. A test is slow from this time on
   pub record HasRead (slow : ℕ) (form : F) (report : Report F) (inputs : List InputView) (written : List ℕ) : Type 0 where
-    pub entries : List EntryView
+    pub entries : List (List EntryView)
     pub are : AreEntriesOf slow inputs entries (run_of report.run)
     pub is : written ≡ flat_map (line form) entries
-    pub knows : Knows report.form entries
+    pub knows : Knows report.form (all_entries entries)
     pub line_is : line report.form ≡ line form
     pub last_is : last report.form ≡ last form
 
@@ -79,16 +80,16 @@ module _ {F : Type 0} (line : F → EntryView → List ℕ) (last : F → List E
     pub line_is : line new ≡ line old
     pub last_is : last new ≡ last old
 
-  -- a report took these notes, and these are their lines
-  pub record TakesNotes (old new : Report F) (notes : List NoteView) (text : List ℕ) : Type 0 where
-    pub entries : List EntryView
-    pub are : AllZip IsEntryOf notes entries
+  -- a report took these notes, and this is their text. The notes of each line are a list
+  pub record TakesNotes (old new : Report F) (notes : List (List NoteView)) (text : List ℕ) : Type 0 where
+    pub entries : List (List EntryView)
+    pub are : AllZip (AllZip IsEntryOf) notes entries
     pub is : text ≡ flat_map (line old.form) entries
-    pub form : FormTakes old.form new.form entries
-    pub files : FilesTake old.files new.files entries
+    pub form : FormTakes old.form new.form (all_entries entries)
+    pub files : FilesTake old.files new.files (all_entries entries)
 
-  -- a report took these notes, and their lines were appended
-  abbrev pub WritesNotes : Report F → Report F → List NoteView → Option (List ℕ) → Option (List ℕ) → Type 0
+  -- a report took these notes, and their text was appended
+  abbrev pub WritesNotes : Report F → Report F → List (List NoteView) → Option (List ℕ) → Option (List ℕ) → Type 0
   WritesNotes old new notes before behind = (text : List ℕ) × TakesNotes old new notes text × Appends before behind text
 
   -- a report took the events of a line, and what they make known was appended
@@ -96,7 +97,7 @@ module _ {F : Type 0} (line : F → EntryView → List ℕ) (last : F → List E
     pub events : List EventView
     pub says : LineSays bytes events
     pub run_is : run_of new.run ≡ after_line (run_of old.run) events
-    pub writes : WritesNotes old new (line_notes (run_of old.run) events) before behind
+    pub writes : WritesNotes old new (line_notes (run_of old.run) events ∷ []) before behind
 
   -- a report took the events of the bytes that are left of an input, and what they make known was appended. If the input is the output of a command,
   -- the command ended so
@@ -132,16 +133,17 @@ module _ {F : Type 0} (line : F → EntryView → List ℕ) (last : F → List E
       (slow : ℕ) (form : F) (inputs : List InputView) (written more : List ℕ) → HasRead slow form old inputs written
       → AreLinesOf slow (line form) (inputs ++ input ∷ []) (written ++ more) → AppendsStart before behind more
 
-  -- a report is ready for the output of a command: what it reads of it up to the end of the command is then one more input
-  pub record StartsCommand (old new : Report F) : Type 0 where
+  -- a report is ready for the output of a command whose suites have these names: what it reads of it up to the end of the command is then one more
+  -- input
+  pub record StartsCommand (names : SuiteNames) (old new : Report F) : Type 0 where
     pub reads : (bytes : List ℕ) (end : CommandView) (last : Report F) (before behind : Option (List ℕ))
-        → ReadsInput (Some end) new last bytes before behind → ReadsOneMore old last (output bytes end) before behind
+        → ReadsInput (Some end) new last bytes before behind → ReadsOneMore old last (output names bytes end) before behind
     pub files : (bytes : List ℕ) (end : CommandView) (last : Report F) (before behind : Option (List ℕ))
         → ReadsInput (Some end) new last bytes before behind
         → (slow : ℕ) (files : FileForms) (inputs : List InputView) → FilesHaveRead slow files old inputs
-        → FilesHaveRead slow files last (inputs ++ output bytes end ∷ [])
+        → FilesHaveRead slow files last (inputs ++ output names bytes end ∷ [])
     pub breaks_off : (bytes : List ℕ) (end : CommandView) (before behind : Option (List ℕ))
-        → ReadsStart (Some end) line new bytes before behind → BreaksOff old (output bytes end) before behind
+        → ReadsStart (Some end) line new bytes before behind → BreaksOff old (output names bytes end) before behind
 
   -- the end of the report was appended, and this is the end of the run
   abbrev pub Finishes : Report F → RunEnd → Option (List ℕ) → Option (List ℕ) → Type 0

@@ -2,15 +2,18 @@
 
 ghost use Rattle.std.specs.Prelude.{◌≡◌, ◌≢◌, ◌↔◌, ◌⊎◌, ◌++◌, ◌∷◌, [], ℕ, true, false, List, None, Option, Some, IfErr, IfOk, IfSome, OnOk, OnErr, IsErrOf, map, option_map, string_bytes};
 ghost use Rattle.std.specs.Io.KnownBytes.{IsAtEnd};
-ghost use Rattle.test_report_events.specs.Event.{CommandView, EventView};
+ghost use Rattle.test_report_events.specs.Event.{Cancels, CommandView, EventView};
 ghost use Rattle.test_report_events.specs.Line.{LineSays};
 ghost use Rattle.test_report_forms.specs.Files.{FilesKnow};
+ghost use Rattle.test_report_forms.specs.Form.{lines};
 ghost use Rattle.test_report_forms.specs.declared.files.FileForms.{FileForms};
 ghost use Rattle.test_report_run.specs.Note.{command_view, note_view};
+ghost use Rattle.test_report_run.specs.Run.{after, run_state};
+ghost use Rattle.test_report_run.specs.SuiteNames.{names_of};
 ghost use Rattle.test_report_engine.specs.Lines.{InputView, IsOneLine, events_after, file};
 ghost use Rattle.test_report_engine.specs.Others.{GetsOthers, sink_state};
 ghost use Rattle.test_report_engine.specs.Reading.{TakesLine};
-ghost use Rattle.test_report_engine.specs.Report.{AreTexts, line_notes, notes_of_input, run_after_input, run_of};
+ghost use Rattle.test_report_engine.specs.Report.{AreTexts, end_notes, line_notes, run_after, run_after_input, run_of};
 ghost use Rattle.test_report_engine.specs.declared.fault.Fault.TheVariants as faults;
 
 use crate::fault::Fault;
@@ -19,6 +22,7 @@ use crate::pieces::Pieces;
 use bstr::ByteSlice;
 use program_io::device::{Sink, Source};
 use program_io::transfer::write_all;
+use run_events_results::results::CancelReason;
 use std::alloc::{AllocError, Global};
 use test_report_events::line::Line;
 use test_report_forms::entry::Entry;
@@ -27,6 +31,7 @@ use test_report_forms::form::Form;
 use test_report_run::error::RunError;
 use test_report_run::note::{CommandEnd, Note, RunEnd};
 use test_report_run::run::TestRun;
+use test_report_run::suite_names::SuiteNames;
 
 /// The number of bytes that are read at once.
 const CHUNK: usize = 16_384;
@@ -46,7 +51,7 @@ impl<F: Form + Drop> Report<F> {
     /// Returns a report that has read and written nothing. A test whose time is at least `slow` microseconds is
     /// slow.
     pub fn new(alloc: Global, form: F, slow: u64) -> Report<F>
-        ensures reads { F.Knows form [] → reading.HasRead F.line F.last F.Knows slow form result [] [] }
+        ensures reads { F.Knows form [] → reading.HasRead (lines F.line F.line_end) F.last F.Knows slow form result [] [] }
     {
         Report::with_files(alloc, form, FileForms::none(), slow)
     }
@@ -55,7 +60,7 @@ impl<F: Form + Drop> Report<F> {
     /// `file_texts` returns them after the last file of the run. A test whose time is at least `slow` microseconds
     /// is slow.
     pub fn with_files(alloc: Global, form: F, files: FileForms, slow: u64) -> Report<F>
-        ensures reads { F.Knows form [] → reading.HasRead F.line F.last F.Knows slow form result [] [] }
+        ensures reads { F.Knows form [] → reading.HasRead (lines F.line F.line_end) F.last F.Knows slow form result [] [] }
         ensures files { FilesKnow files [] → reading.FilesHaveRead slow files result [] }
     {
         Report {
@@ -94,20 +99,20 @@ impl<F: Form + Drop> Report<F> {
         ensures end { OnOk result (IsAtEnd (R.left source.new)) }
         ensures flushed { OnOk result (W.flushed sink.old ≡ true → W.flushed sink.new ≡ true) }
         ensures reads { OnOk result (IfSome (R.left source.old)
-            (λ input. reading.ReadsOneMore F.line F.last F.Knows self.old self.new (file input)
+            (λ input. reading.ReadsOneMore (lines F.line F.line_end) F.last F.Knows self.old self.new (file input)
             (W.written sink.old) (W.written sink.new))) }
         ensures files { OnOk result (IfSome (R.left source.old)
             (λ input. (slow : ℕ) (files : FileForms) (inputs : List InputView)
             → reading.FilesHaveRead slow files self.old inputs
             → reading.FilesHaveRead slow files self.new (inputs ++ file input ∷ []))) }
         ensures breaks_off { OnErr result (IfSome (R.left source.old)
-            (λ input. reading.BreaksOff F.line F.last F.Knows self.old (file input)
+            (λ input. reading.BreaksOff (lines F.line F.line_end) F.last F.Knows self.old (file input)
             (W.written sink.old) (W.written sink.new))) }
         ensures others { OnOk result (IfSome (R.left source.old)
             (λ input. second.GetsInput input (sink_state O.failed O.flushed O.written others.old)
             (sink_state O.failed O.flushed O.written others.new))) }
         ensures others_start { OnErr result (IfSome (R.left source.old)
-            (λ input. second.GetsStart None F.line self.old input (sink_state O.failed O.flushed O.written others.old)
+            (λ input. second.GetsStart None (lines F.line F.line_end) self.old input (sink_state O.failed O.flushed O.written others.old)
             (sink_state O.failed O.flushed O.written others.new) (W.written sink.old) (W.written sink.new))) }
     {
         test_report_events::laws::one_reading_of_line();
@@ -155,16 +160,16 @@ impl<F: Form + Drop> Report<F> {
         ensures empty { IfOk result (λ more. more ≡ false → pieces.new.line.items ≡ []) }
         ensures flushed { OnOk result (W.flushed sink.old ≡ true → W.flushed sink.new ≡ true) }
         ensures some { IfOk result (λ more. more ≡ true → reading.ReadsSome (R.left source.old) (R.left source.new)) }
-        ensures piece { IfOk result (λ more. more ≡ true → reading.ReadsPiece F.line F.last F.Knows
+        ensures piece { IfOk result (λ more. more ≡ true → reading.ReadsPiece (lines F.line F.line_end) F.last F.Knows
             self.old self.new pieces.old.line.items pieces.new.line.items (R.left source.old) (R.left source.new)
             (W.written sink.old) (W.written sink.new)) }
         ensures rest { IfOk result (λ more. more ≡ false → IfSome (R.left source.old)
-            (λ rest. reading.ReadsInput F.line F.last F.Knows None self.old self.new (pieces.old.line.items ++ rest)
+            (λ rest. reading.ReadsInput (lines F.line F.line_end) F.last F.Knows None self.old self.new (pieces.old.line.items ++ rest)
             (W.written sink.old) (W.written sink.new))) }
         ensures breaks_off { OnErr result (IfSome (R.left source.old)
-            (λ rest. reading.ReadsAnyStart F.line self.old pieces.old.line.items rest
+            (λ rest. reading.ReadsAnyStart (lines F.line F.line_end) self.old pieces.old.line.items rest
             (W.written sink.old) (W.written sink.new))) }
-        ensures others_piece { IfOk result (λ more. more ≡ true → second.GetsPiece F.line self.old self.new
+        ensures others_piece { IfOk result (λ more. more ≡ true → second.GetsPiece (lines F.line F.line_end) self.old self.new
             pieces.old.line.items pieces.new.line.items (R.left source.old) (R.left source.new)
             (sink_state O.failed O.flushed O.written others.old)
             (sink_state O.failed O.flushed O.written others.new) (W.written sink.old) (W.written sink.new)) }
@@ -173,7 +178,7 @@ impl<F: Form + Drop> Report<F> {
             (sink_state O.failed O.flushed O.written others.old)
             (sink_state O.failed O.flushed O.written others.new))) }
         ensures others_start { OnErr result (IfSome (R.left source.old)
-            (λ rest. second.GetsAnyStart F.line self.old pieces.old.line.items rest
+            (λ rest. second.GetsAnyStart (lines F.line F.line_end) self.old pieces.old.line.items rest
             (sink_state O.failed O.flushed O.written others.old)
             (sink_state O.failed O.flushed O.written others.new) (W.written sink.old) (W.written sink.new))) }
     {
@@ -194,14 +199,28 @@ impl<F: Form + Drop> Report<F> {
     }
 
     /// Notes that the output of a command is read next. Call it before the first piece of the output, and
-    /// `end_command` after the last one.
+    /// `end_command` after the last one. The suites after a heading have the name in `names` of the path in the
+    /// heading, if there is one.
     #[tactic(auto, using(crate::proofs::Reports::starts_command))]
-    pub fn start_command(&mut self)
-        ensures starts { reading.StartsCommand F.line F.last F.Knows self.old self.new }
+    pub fn start_command(&mut self, names: SuiteNames)
+        ensures starts { reading.StartsCommand (lines F.line F.line_end) F.last F.Knows (names_of names)
+            self.old self.new }
     {
         test_report_events::laws::one_reading_of_line();
         test_report_forms::laws::one_entry();
-        self.run.on_command_started();
+        self.run.on_command_started(names);
+    }
+
+    /// Notes that the run is cancelled for this reason. Of the tests that become known from now on, `TextForm` and
+    /// `AnnotatedForm` show as much as the levels of the layer show for this reason.
+    ///
+    /// The promises of the other calls about whole inputs hold only if `cancel` was not called.
+    pub fn cancel(&mut self, reason: CancelReason)
+        ensures run { run_state self.new.run ≡ after (run_state self.old.run) (Cancels reason) }
+        ensures form { self.new.form ≡ self.old.form }
+        ensures files { self.new.files ≡ self.old.files }
+    {
+        self.run.on_cancelled(reason);
     }
 
     /// Takes the rest of the last line of the output of a command, and how the command ended. If this makes something
@@ -228,14 +247,14 @@ impl<F: Form + Drop> Report<F> {
         ensures errors { IfErr result (λ e. e ≢ faults.Read) }
         ensures flushed { OnOk result (W.flushed sink.old ≡ true → W.flushed sink.new ≡ true) }
         ensures empty { OnOk result (pieces.new.line.items ≡ []) }
-        ensures rest { OnOk result (reading.ReadsInput F.line F.last F.Knows (Some (command_view end.now))
+        ensures rest { OnOk result (reading.ReadsInput (lines F.line F.line_end) F.last F.Knows (Some (command_view end.now))
             self.old self.new pieces.old.line.items (W.written sink.old) (W.written sink.new)) }
-        ensures breaks_off { OnErr result (reading.ReadsStart (Some (command_view end.now)) F.line self.old
+        ensures breaks_off { OnErr result (reading.ReadsStart (Some (command_view end.now)) (lines F.line F.line_end) self.old
             pieces.old.line.items (W.written sink.old) (W.written sink.new)) }
         ensures others { OnOk result (second.GetsInput pieces.old.line.items
             (sink_state O.failed O.flushed O.written others.old)
             (sink_state O.failed O.flushed O.written others.new)) }
-        ensures others_start { OnErr result (second.GetsStart (Some (command_view end.now)) F.line self.old
+        ensures others_start { OnErr result (second.GetsStart (Some (command_view end.now)) (lines F.line F.line_end) self.old
             pieces.old.line.items (sink_state O.failed O.flushed O.written others.old)
             (sink_state O.failed O.flushed O.written others.new) (W.written sink.old) (W.written sink.new)) }
     {
@@ -256,8 +275,8 @@ impl<F: Form + Drop> Report<F> {
             → reading.FilesHaveRead slow files self.old inputs → AreTexts slow files inputs texts) }
         ensures errors { IfErr result (λ e. e ≡ faults.OutOfMemory) }
         ensures same { (slow : ℕ) (form : F) (inputs : List InputView) (written : List ℕ)
-            → reading.HasRead F.line F.last F.Knows slow form self.old inputs written
-            → reading.HasRead F.line F.last F.Knows slow form self.new inputs written }
+            → reading.HasRead (lines F.line F.line_end) F.last F.Knows slow form self.old inputs written
+            → reading.HasRead (lines F.line F.line_end) F.last F.Knows slow form self.new inputs written }
     {
         let end = self.run.end();
         Ok(self.files.texts(alloc, &end)?)
@@ -274,9 +293,9 @@ impl<F: Form + Drop> Report<F> {
         ensures write { IsErrOf result faults.Write ↔ (W.failed sink.new ≡ true) }
         ensures errors { IfErr result (λ e. (e ≡ faults.Write) ⊎ (e ≡ faults.OutOfMemory)) }
         ensures flushed { OnOk result (W.flushed sink.new ≡ true) }
-        ensures finishes { IfOk result (λ end. reading.Finishes F.line F.last F.Knows self end
+        ensures finishes { IfOk result (λ end. reading.Finishes (lines F.line F.line_end) F.last F.Knows self end
             (W.written sink.old) (W.written sink.new)) }
-        ensures breaks_off { OnErr result (reading.BreaksOffEnd F.line F.last F.Knows self
+        ensures breaks_off { OnErr result (reading.BreaksOffEnd (lines F.line F.line_end) F.last F.Knows self
             (W.written sink.old) (W.written sink.new)) }
     {
         test_report_events::laws::one_reading_of_line();
@@ -303,14 +322,14 @@ impl<F: Form + Drop> Report<F> {
         ensures write { IsErrOf result faults.Write ↔ (W.failed sink.new ≡ true) }
         ensures errors { IfErr result (λ e. e ≢ faults.Read) }
         ensures flushed { OnOk result (W.flushed sink.old ≡ true → W.flushed sink.new ≡ true) }
-        ensures leads { OnOk result (reading.LeadsTo F.line F.last F.Knows self.old self.new
+        ensures leads { OnOk result (reading.LeadsTo (lines F.line F.line_end) F.last F.Knows self.old self.new
             begun.old.items begun.new.items bytes.now (W.written sink.old) (W.written sink.new)) }
-        ensures starts { OnErr result ((command : Option CommandView) (rest : List ℕ) → reading.ReadsStart command F.line self.old
+        ensures starts { OnErr result ((command : Option CommandView) (rest : List ℕ) → reading.ReadsStart command (lines F.line F.line_end) self.old
             (begun.old.items ++ (bytes.now ++ rest)) (W.written sink.old) (W.written sink.new)) }
-        ensures others { OnOk result (second.GetsBytes F.line self.old self.new begun.old.items begun.new.items bytes.now
+        ensures others { OnOk result (second.GetsBytes (lines F.line F.line_end) self.old self.new begun.old.items begun.new.items bytes.now
             (sink_state O.failed O.flushed O.written others.old)
             (sink_state O.failed O.flushed O.written others.new) (W.written sink.old) (W.written sink.new)) }
-        ensures others_start { OnErr result ((command : Option CommandView) (rest : List ℕ) → second.GetsStart command F.line self.old
+        ensures others_start { OnErr result ((command : Option CommandView) (rest : List ℕ) → second.GetsStart command (lines F.line F.line_end) self.old
             (begun.old.items ++ (bytes.now ++ rest)) (sink_state O.failed O.flushed O.written others.old)
             (sink_state O.failed O.flushed O.written others.new) (W.written sink.old) (W.written sink.new)) }
     {
@@ -340,10 +359,10 @@ impl<F: Form + Drop> Report<F> {
         ensures write { IsErrOf result faults.Write ↔ (W.failed sink.new ≡ true) }
         ensures errors { IfErr result (λ e. e ≢ faults.Read) }
         ensures flushed { OnOk result (W.flushed sink.old ≡ true → W.flushed sink.new ≡ true) }
-        ensures reads { OnOk result (reading.ReadsLine F.line F.last F.Knows self.old self.new bytes.now
+        ensures reads { OnOk result (reading.ReadsLine (lines F.line F.line_end) F.last F.Knows self.old self.new bytes.now
             (W.written sink.old) (W.written sink.new)) }
         ensures starts { OnErr result ((events : List EventView) → LineSays bytes.now events
-            → reading.AppendsLinesStart (F.line self.old.form) (line_notes (run_of self.old.run) events)
+            → reading.AppendsLinesStart (lines F.line F.line_end self.old.form) (line_notes (run_of self.old.run) events ∷ [])
             (W.written sink.old) (W.written sink.new)) }
         ensures others { OnOk result (GetsOthers (bytes.now ∷ [])
             (sink_state O.failed O.flushed O.written others.old)
@@ -373,17 +392,17 @@ impl<F: Form + Drop> Report<F> {
         ensures write { IsErrOf result faults.Write ↔ (W.failed sink.new ≡ true) }
         ensures errors { IfErr result (λ e. e ≢ faults.Read) }
         ensures flushed { OnOk result (W.flushed sink.old ≡ true → W.flushed sink.new ≡ true) }
-        ensures reads { OnOk result (reading.ReadsInput F.line F.last F.Knows
+        ensures reads { OnOk result (reading.ReadsInput (lines F.line F.line_end) F.last F.Knows
             (option_map (λ end. command_view end.now) command.entry) self.old self.new begun.now
             (W.written sink.old) (W.written sink.new)) }
         ensures starts { OnErr result (reading.ReadsStart
-            (option_map (λ end. command_view end.now) command.entry) F.line self.old begun.now
+            (option_map (λ end. command_view end.now) command.entry) (lines F.line F.line_end) self.old begun.now
             (W.written sink.old) (W.written sink.new)) }
         ensures others { OnOk result (second.GetsInput begun.now
             (sink_state O.failed O.flushed O.written others.old)
             (sink_state O.failed O.flushed O.written others.new)) }
         ensures others_start { OnErr result (second.GetsStart
-            (option_map (λ end. command_view end.now) command.entry) F.line self.old begun.now
+            (option_map (λ end. command_view end.now) command.entry) (lines F.line F.line_end) self.old begun.now
             (sink_state O.failed O.flushed O.written others.old)
             (sink_state O.failed O.flushed O.written others.new) (W.written sink.old) (W.written sink.new)) }
     {
@@ -396,17 +415,17 @@ impl<F: Form + Drop> Report<F> {
         self.write(alloc, notes.as_slice(), sink)
     }
 
-    /// Writes the text of notes, and flushes the sink if there is text.
+    /// Writes the text of the notes of a line, or of the end of an input, and flushes the sink if there is text.
     fn write<W: Sink>(&mut self, alloc: Global, notes: &[Note], sink: &mut W) -> Result<(), Fault>
         requires sink_works { W.failed sink.old ≡ false }
         ensures write { IsErrOf result faults.Write ↔ (W.failed sink.new ≡ true) }
         ensures errors { IfErr result (λ e. e ≢ faults.Read) }
         ensures flushed { OnOk result (W.flushed sink.old ≡ true → W.flushed sink.new ≡ true) }
         ensures same_run { self.new.run ≡ self.old.run }
-        ensures writes { OnOk result (reading.WritesNotes F.line F.last F.Knows self.old self.new
-            (map note_view notes.now) (W.written sink.old) (W.written sink.new)) }
-        ensures starts { OnErr result (reading.AppendsLinesStart (F.line self.old.form)
-            (map note_view notes.now) (W.written sink.old) (W.written sink.new)) }
+        ensures writes { OnOk result (reading.WritesNotes (lines F.line F.line_end) F.last F.Knows self.old self.new
+            (map note_view notes.now ∷ []) (W.written sink.old) (W.written sink.new)) }
+        ensures starts { OnErr result (reading.AppendsLinesStart (lines F.line F.line_end self.old.form)
+            (map note_view notes.now ∷ []) (W.written sink.old) (W.written sink.new)) }
     {
         test_report_forms::laws::one_entry();
         let text = self.lines_of(alloc, notes)?;
@@ -417,18 +436,21 @@ impl<F: Form + Drop> Report<F> {
         Ok(())
     }
 
-    /// Passes notes to the forms, and returns the text that is written at once.
+    /// Passes the notes of a line, or of the end of an input, to the forms, and returns the text that is written at
+    /// once: the text of each note, and then what the form writes after these texts.
     fn lines_of(&mut self, alloc: Global, notes: &[Note]) -> Result<String, AllocError>
         ensures same_run { self.new.run ≡ self.old.run }
-        ensures takes { IfOk result (λ text. reading.TakesNotes F.line F.last F.Knows self.old self.new
-            (map note_view notes.now) (string_bytes text)) }
+        ensures takes { IfOk result (λ text. reading.TakesNotes (lines F.line F.line_end) F.last F.Knows self.old self.new
+            (map note_view notes.now ∷ []) (string_bytes text)) }
     {
         let mut text = String::new(alloc);
+        let mut behind = String::new(alloc);
         for note in notes {
             let entry = Entry::of(alloc, note)?;
             self.files.on_entry(alloc, &entry)?;
-            self.form.on_entry(alloc, &entry, &mut text)?;
+            self.form.on_entry(alloc, &entry, &mut text, &mut behind)?;
         }
+        text.push_str(behind.as_str())?;
         Ok(text)
     }
 }
@@ -463,8 +485,8 @@ fn notes_of_end(
 ) -> Result<Vec<Note>, RunError>
     ensures takes { OnOk result (run_of run.new ≡ run_after_input (run_of run.old)
         (events_after (option_map (λ end. command_view end.now) command.entry))) }
-    ensures tells { IfOk result (λ notes. map note_view notes.items ≡ notes_of_input (run_of run.old)
-        (events_after (option_map (λ end. command_view end.now) command.entry))) }
+    ensures tells { IfOk result (λ notes. map note_view notes.items ≡ end_notes (run_after (run_of run.old)
+        (events_after (option_map (λ end. command_view end.now) command.entry)))) }
 {
     if let Some(end) = command {
         run.on_command_ended(end)?;

@@ -4,19 +4,21 @@ use Rattle.test_report_engine.proofs.Lines.{empty-line, feedless, joined}
 use Rattle.test_report_engine.proofs.Notes.{on_err}
 use Rattle.test_report_engine.proofs.PassedOn.{front-end, front-line, front-line-stop, front-none, front-stop}
 use Rattle.test_report_engine.specs.Lines.{IsOneLine}
+use Rattle.test_report_forms.specs.Form.{lines}
 use Rattle.test_report_engine.proofs.report.Report.on_bytes.Goals as goal
 
 pub returns-in_err-extend_from_slice-clause-starts : goal.returns-in_err-extend_from_slice-clause-starts
 returns-in_err-extend_from_slice-clause-starts g c =
     on_err c.from_residual.result
-    (λ command after. bytes-starts g.F.Form.line g.F.Form.last g.F.Form.Knows command
+    (λ command after. bytes-starts (lines g.F.Form.line g.F.Form.line_end) g.F.Form.last g.F.Form.Knows command
     c.args.self.now c.loop-at.self c.args.begun.now.items c.loop-at.begun.items c.args.bytes.now
-    c.loop-at.rest.now after _ _ _ c.loop-at.invariant.takes (input-none command g.F.Form.line c.loop-at.self _ _))
+    c.loop-at.rest.now after _ _ _ c.loop-at.invariant.takes (input-none command (lines g.F.Form.line g.F.Form.line_end) c.loop-at.self _ _))
 
 pub returns-in_err-on_line-clause-starts : goal.returns-in_err-on_line-clause-starts
 returns-in_err-on_line-clause-starts g c =
     on_err c.from_residual-in_err-on_line.result
-    (λ command after. bytes-line-start g.F.Form.line g.F.Form.last g.F.Form.Knows command c.args.self.now c.loop-at.self c.args.begun.now.items
+    (λ command after. bytes-line-start (lines g.F.Form.line g.F.Form.line_end) g.F.Form.last g.F.Form.Knows command c.args.self.now c.loop-at.self
+    c.args.begun.now.items
     c.loop-at.begun.items
     c.as_slice.result.now c.args.bytes.now c.loop-at.rest.now _ _ after _ _ _ c.in-Some.at c.loop-at.invariant.takes c.loop-at.invariant.one_line
     c.split_at.ensures.front c.split_at.ensures.back c.in-Some.ensures.0.high (λ k below. c.in-Some.ensures.0.before k (omega arith) below) c.in-Some.ensures.1
@@ -28,14 +30,14 @@ loop-at-preserved g c = record {
   one_line = subst IsOneLine (sym c.clear.ensures.items) empty-line;
   flushed = λ held. c.in_ok-on_line.ensures.flushed (c.loop-at.invariant.flushed held);
   takes =
-      bytes-line c.one_reading_of_line.ensures c.one_entry.ensures g.F.Form.line g.F.Form.last g.F.Form.Knows
+      bytes-line c.one_reading_of_line.ensures c.one_entry.ensures (lines g.F.Form.line g.F.Form.line_end) g.F.Form.last g.F.Form.Knows
       c.args.self.now c.loop-at.self c.on_line.new.self c.args.begun.now.items c.loop-at.begun.items _
       c.as_slice.result.now c.args.bytes.now c.loop-at.rest.now _ _ _ _ _ c.in-Some.at c.loop-at.invariant.takes c.loop-at.invariant.one_line
       c.split_at.ensures.front c.split_at.ensures.back c.in-Some.ensures.0.high
       (λ k below. c.in-Some.ensures.0.before k (omega arith) below) c.in-Some.ensures.1
       (c.as_slice.ensures.value ∙ c.in_ok-extend_from_slice.ensures.items) c.clear.ensures.items c.in_ok-on_line.ensures.reads;
   gets =
-      front-line c.one_reading_of_line.ensures c.one_entry.ensures g.F.Form.line g.F.Form.last g.F.Form.Knows
+      front-line c.one_reading_of_line.ensures c.one_entry.ensures (lines g.F.Form.line g.F.Form.line_end) g.F.Form.last g.F.Form.Knows
       c.args.self.now c.loop-at.self c.on_line.new.self c.args.begun.now.items c.loop-at.begun.items _
       c.as_slice.result.now c.args.bytes.now c.loop-at.rest.now _ _ _ _ _ _ _ _ c.in-Some.at c.loop-at.invariant.gets c.loop-at.invariant.one_line
       c.split_at.ensures.front c.split_at.ensures.back c.in-Some.ensures.0.high
@@ -47,9 +49,9 @@ loop-at-preserved g c = record {
 pub returns-in_err-extend_from_slice-2-clause-starts : goal.returns-in_err-extend_from_slice-2-clause-starts
 returns-in_err-extend_from_slice-2-clause-starts g c =
     on_err c.from_residual-in_err-extend_from_slice-2.result
-    (λ command after. bytes-starts g.F.Form.line g.F.Form.last g.F.Form.Knows command
+    (λ command after. bytes-starts (lines g.F.Form.line g.F.Form.line_end) g.F.Form.last g.F.Form.Knows command
     c.args.self.now c.loop-at.self c.args.begun.now.items c.loop-at.begun.items c.args.bytes.now
-    c.loop-at.rest.now after _ _ _ c.loop-at.invariant.takes (input-none command g.F.Form.line c.loop-at.self _ _))
+    c.loop-at.rest.now after _ _ _ c.loop-at.invariant.takes (input-none command (lines g.F.Form.line g.F.Form.line_end) c.loop-at.self _ _))
 
 pub returns-clause-one_line : goal.returns-clause-one_line
 returns-clause-one_line g c =
@@ -59,7 +61,8 @@ returns-clause-one_line g c =
 
 pub returns-clause-leads : goal.returns-clause-leads
 returns-clause-leads g c =
-    bytes-rest g.F.Form.line g.F.Form.last g.F.Form.Knows c.args.self.now c.loop-at.self c.args.begun.now.items c.loop-at.begun.items _ c.args.bytes.now
+    bytes-rest (lines g.F.Form.line g.F.Form.line_end) g.F.Form.last g.F.Form.Knows c.args.self.now c.loop-at.self c.args.begun.now.items c.loop-at.begun.items
+    _ c.args.bytes.now
     c.loop-at.rest.now _ _ c.loop-at.invariant.takes c.in_ok-extend_from_slice-2.ensures.items
 
 pub loop-at-init : goal.loop-at-init
@@ -70,22 +73,24 @@ loop-at-init g c = record {
   takes = record {
     done = [];
     are = refl;
-    leads = leads-begun g.F.Form.line g.F.Form.last g.F.Form.Knows c.args.self.now c.args.begun.now.items c.args.begun.now.items [] _
+    leads = leads-begun (lines g.F.Form.line g.F.Form.line_end) g.F.Form.last g.F.Form.Knows c.args.self.now c.args.begun.now.items c.args.begun.now.items [] _
         (sym (append-nil c.args.begun.now.items));
   };
-  gets = front-none g.F.Form.line c.args.self.now c.args.begun.now.items c.args.bytes.now _ _;
+  gets = front-none (lines g.F.Form.line g.F.Form.line_end) c.args.self.now c.args.begun.now.items c.args.bytes.now _ _;
 }
 
 pub returns-in_err-extend_from_slice-clause-others_start : goal.returns-in_err-extend_from_slice-clause-others_start
 returns-in_err-extend_from_slice-clause-others_start g c =
     on_err c.from_residual.result
-    (λ command after. front-stop g.F.Form.line command c.args.self.now c.loop-at.self c.args.begun.now.items c.loop-at.begun.items c.args.bytes.now
+    (λ command after. front-stop (lines g.F.Form.line g.F.Form.line_end) command c.args.self.now c.loop-at.self c.args.begun.now.items c.loop-at.begun.items
+    c.args.bytes.now
     c.loop-at.rest.now after _ _ _ _ c.loop-at.invariant.gets)
 
 pub returns-in_err-on_line-clause-others_start : goal.returns-in_err-on_line-clause-others_start
 returns-in_err-on_line-clause-others_start g c =
     on_err c.from_residual-in_err-on_line.result
-    (λ command after. front-line-stop g.F.Form.line command c.args.self.now c.loop-at.self c.args.begun.now.items c.loop-at.begun.items c.as_slice.result.now
+    (λ command after. front-line-stop (lines g.F.Form.line g.F.Form.line_end) command c.args.self.now c.loop-at.self c.args.begun.now.items
+    c.loop-at.begun.items c.as_slice.result.now
     c.args.bytes.now c.loop-at.rest.now _ _ after _ _ _ _ _ _ c.in-Some.at c.loop-at.invariant.gets c.loop-at.invariant.one_line
     c.split_at.ensures.front c.split_at.ensures.back c.in-Some.ensures.0.high (λ k below. c.in-Some.ensures.0.before k (omega arith) below) c.in-Some.ensures.1
     (c.as_slice.ensures.value ∙ c.in_ok-extend_from_slice.ensures.items) c.in_err-on_line.ensures.others_start c.in_err-on_line.ensures.starts)
@@ -93,10 +98,11 @@ returns-in_err-on_line-clause-others_start g c =
 pub returns-in_err-extend_from_slice-2-clause-others_start : goal.returns-in_err-extend_from_slice-2-clause-others_start
 returns-in_err-extend_from_slice-2-clause-others_start g c =
     on_err c.from_residual-in_err-extend_from_slice-2.result
-    (λ command after. front-stop g.F.Form.line command c.args.self.now c.loop-at.self c.args.begun.now.items c.loop-at.begun.items c.args.bytes.now
+    (λ command after. front-stop (lines g.F.Form.line g.F.Form.line_end) command c.args.self.now c.loop-at.self c.args.begun.now.items c.loop-at.begun.items
+    c.args.bytes.now
     c.loop-at.rest.now after _ _ _ _ c.loop-at.invariant.gets)
 
 pub returns-clause-others : goal.returns-clause-others
 returns-clause-others g c =
-    front-end g.F.Form.line c.args.self.now c.loop-at.self c.args.begun.now.items c.loop-at.begun.items _ c.args.bytes.now
+    front-end (lines g.F.Form.line g.F.Form.line_end) c.args.self.now c.loop-at.self c.args.begun.now.items c.loop-at.begun.items _ c.args.bytes.now
     c.loop-at.rest.now _ _ _ _ c.loop-at.invariant.gets c.in_ok-extend_from_slice-2.ensures.items

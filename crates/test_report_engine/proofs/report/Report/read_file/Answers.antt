@@ -6,22 +6,25 @@ use Rattle.test_report_engine.proofs.Inputs.{leads-begun}
 use Rattle.test_report_engine.proofs.PassedOn.{bytes-none, gets-more, gets-rest, gets-stop, rest-start-none}
 use Rattle.test_report_engine.proofs.Notes.{on_err}
 use Rattle.test_report_engine.proofs.Reports.{pieces-break, pieces-files, pieces-more, pieces-reads, rest-none}
+use Rattle.test_report_forms.specs.Form.{lines}
 use Rattle.test_report_engine.proofs.report.Report.read_file.Goals as goal
 
 pub returns-in_err-more-clause-breaks_off : goal.returns-in_err-more-clause-breaks_off
 returns-in_err-more-clause-breaks_off g c =
     on_err c.from_residual.result
-    (pieces-break c.one_reading_of_line.ensures c.one_entry.ensures g.F.Form.line g.F.Form.last g.F.Form.Knows
+    (pieces-break c.one_reading_of_line.ensures c.one_entry.ensures (lines g.F.Form.line g.F.Form.line_end) g.F.Form.last g.F.Form.Knows
     c.args.self.now c.loop-piece.self c.loop-piece.pieces.line.items _ _ _ _ _ c.loop-piece.invariant.reads c.in_err-more.ensures.breaks_off)
 
 pub returns-then-not-more-clause-reads : goal.returns-then-not-more-clause-reads
 returns-then-not-more-clause-reads g c =
-    pieces-reads g.F.Form.line g.F.Form.last g.F.Form.Knows c.args.self.now c.loop-piece.self c.read_piece.new.self c.loop-piece.pieces.line.items
+    pieces-reads (lines g.F.Form.line g.F.Form.line_end) g.F.Form.last g.F.Form.Knows c.args.self.now c.loop-piece.self c.read_piece.new.self
+    c.loop-piece.pieces.line.items
     _ _ _ _ _ c.loop-piece.invariant.reads (c.in_ok-more.ensures.rest (search rules))
 
 pub returns-then-not-more-clause-files : goal.returns-then-not-more-clause-files
 returns-then-not-more-clause-files g c =
-    pieces-files g.F.Form.line g.F.Form.last g.F.Form.Knows c.args.self.now c.loop-piece.self c.read_piece.new.self c.loop-piece.pieces.line.items
+    pieces-files (lines g.F.Form.line g.F.Form.line_end) g.F.Form.last g.F.Form.Knows c.args.self.now c.loop-piece.self c.read_piece.new.self
+    c.loop-piece.pieces.line.items
     _ _ _ _ _ c.loop-piece.invariant.reads (c.in_ok-more.ensures.rest (search rules))
 
 pub loop-piece-preserved : goal.loop-piece-preserved
@@ -30,34 +33,36 @@ loop-piece-preserved g c = record {
   sink_works = search rules;
   flushed = λ held. c.in_ok-more.ensures.flushed (c.loop-piece.invariant.flushed held);
   reads =
-      pieces-more g.F.Form.line g.F.Form.last g.F.Form.Knows c.args.self.now c.loop-piece.self c.read_piece.new.self c.loop-piece.pieces.line.items _
+      pieces-more (lines g.F.Form.line g.F.Form.line_end) g.F.Form.last g.F.Form.Knows c.args.self.now c.loop-piece.self c.read_piece.new.self
+      c.loop-piece.pieces.line.items _
       _ _ _ _ _ _ c.loop-piece.invariant.reads (c.in_ok-more.ensures.piece (search rules));
   gets =
-      gets-more g.F.Form.line c.args.self.now c.loop-piece.self c.read_piece.new.self c.loop-piece.pieces.line.items _ _ _ _ _ _ _ _ _ _
+      gets-more (lines g.F.Form.line g.F.Form.line_end) c.args.self.now c.loop-piece.self c.read_piece.new.self c.loop-piece.pieces.line.items _ _ _ _ _ _ _ _
+      _ _
       c.loop-piece.invariant.gets (c.in_ok-more.ensures.others_piece (search rules));
 }
 
 pub returns-clause-breaks_off : goal.returns-clause-breaks_off
 returns-clause-breaks_off g c =
-    pieces-break c.one_reading_of_line.ensures c.one_entry.ensures g.F.Form.line g.F.Form.last g.F.Form.Knows
+    pieces-break c.one_reading_of_line.ensures c.one_entry.ensures (lines g.F.Form.line g.F.Form.line_end) g.F.Form.last g.F.Form.Knows
     c.args.self.now c.loop-piece.self c.loop-piece.pieces.line.items _ _ _ _ _ c.loop-piece.invariant.reads
-    (rest-none g.F.Form.line c.loop-piece.self c.loop-piece.pieces.line.items _ _)
+    (rest-none (lines g.F.Form.line g.F.Form.line_end) c.loop-piece.self c.loop-piece.pieces.line.items _ _)
 
 pub returns-in_err-more-clause-others_start : goal.returns-in_err-more-clause-others_start
 returns-in_err-more-clause-others_start g c =
     on_err c.from_residual.result
-    (gets-stop g.F.Form.line c.args.self.now c.loop-piece.self c.loop-piece.pieces.line.items _ _ _ _ _ _ _ _
+    (gets-stop (lines g.F.Form.line g.F.Form.line_end) c.args.self.now c.loop-piece.self c.loop-piece.pieces.line.items _ _ _ _ _ _ _ _
     c.loop-piece.invariant.gets c.in_err-more.ensures.others_start)
 
 pub returns-then-not-more-clause-others : goal.returns-then-not-more-clause-others
 returns-then-not-more-clause-others g c =
-    gets-rest g.F.Form.line c.args.self.now c.loop-piece.self c.loop-piece.pieces.line.items _ _ _ _ _ _ _
+    gets-rest (lines g.F.Form.line g.F.Form.line_end) c.args.self.now c.loop-piece.self c.loop-piece.pieces.line.items _ _ _ _ _ _ _
     c.loop-piece.invariant.gets (c.in_ok-more.ensures.others_rest (search rules))
 
 pub returns-clause-others_start : goal.returns-clause-others_start
 returns-clause-others_start g c =
-    gets-stop g.F.Form.line c.args.self.now c.loop-piece.self c.loop-piece.pieces.line.items _ _ _ _ _ _ _ _
-    c.loop-piece.invariant.gets (rest-start-none g.F.Form.line c.loop-piece.self c.loop-piece.pieces.line.items _ _ _)
+    gets-stop (lines g.F.Form.line g.F.Form.line_end) c.args.self.now c.loop-piece.self c.loop-piece.pieces.line.items _ _ _ _ _ _ _ _
+    c.loop-piece.invariant.gets (rest-start-none (lines g.F.Form.line g.F.Form.line_end) c.loop-piece.self c.loop-piece.pieces.line.items _ _ _)
 
 pub loop-piece-init : goal.loop-piece-init
 loop-piece-init g c = record {
@@ -65,18 +70,20 @@ loop-piece-init g c = record {
   sink_works = c.requires.sink_works;
   flushed = λ held. held;
   reads =
-      subst (λ y. ReadsPiece g.F.Form.line g.F.Form.last g.F.Form.Knows c.args.self.now c.args.self.now [] y (g.R.Source.left c.args.source.now)
+      subst (λ y. ReadsPiece (lines g.F.Form.line g.F.Form.line_end) g.F.Form.last g.F.Form.Knows c.args.self.now c.args.self.now [] y
+      (g.R.Source.left c.args.source.now)
       (g.R.Source.left c.args.source.now) (g.W.Sink.written c.args.sink.now) (g.W.Sink.written c.args.sink.now))
       (sym c.new-pieces.ensures) (record {
         bytes = [];
         consumed = Consumes-nil (g.R.Source.left c.args.source.now);
-        leads = leads-begun g.F.Form.line g.F.Form.last g.F.Form.Knows c.args.self.now [] [] [] _ refl;
+        leads = leads-begun (lines g.F.Form.line g.F.Form.line_end) g.F.Form.last g.F.Form.Knows c.args.self.now [] [] [] _ refl;
       });
   gets =
-      subst (λ y. GetsPiece g.F.Form.line c.args.self.now c.args.self.now [] y (g.R.Source.left c.args.source.now) (g.R.Source.left c.args.source.now)
+      subst (λ y. GetsPiece (lines g.F.Form.line g.F.Form.line_end) c.args.self.now c.args.self.now [] y (g.R.Source.left c.args.source.now)
+      (g.R.Source.left c.args.source.now)
       (sink_state g.O.Sink.failed g.O.Sink.flushed g.O.Sink.written c.args.others.now)
       (sink_state g.O.Sink.failed g.O.Sink.flushed g.O.Sink.written c.args.others.now)
       (g.W.Sink.written c.args.sink.now) (g.W.Sink.written c.args.sink.now))
       (sym c.new-pieces.ensures)
-      ([], Consumes-nil (g.R.Source.left c.args.source.now), bytes-none g.F.Form.line c.args.self.now [] _ _);
+      ([], Consumes-nil (g.R.Source.left c.args.source.now), bytes-none (lines g.F.Form.line g.F.Form.line_end) c.args.self.now [] _ _);
 }
